@@ -1,0 +1,5 @@
+pub mod HostActions
+pub mod RuleNames
+pub mod Seen
+pub mod StatusText
+pub mod Surface
