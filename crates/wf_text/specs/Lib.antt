@@ -1,4 +1,5 @@
 pub mod HostActions
+pub mod Precedence
 pub mod RuleNames
 pub mod Seen
 pub mod StatusText

@@ -8,12 +8,16 @@ pub mod digits;
 pub mod faults;
 pub mod numbers;
 pub mod place;
+pub mod precedence;
 pub mod rules;
 pub mod status_text;
+#[cfg(test)]
+mod tests;
 
 pub use categories::Category;
 pub use digits::{hex_text, number_text};
 pub use faults::{NoMemory, PhaseFault};
 pub use numbers::{MethodId, StatusId, StructId};
 pub use place::Place;
+pub use precedence::{is_before, sooner};
 pub use rules::{Refusal, Rule, rule_name};

@@ -1,0 +1,85 @@
+-- Which of two refusals decides: the one at the least place, and of one place the rule that is named first.
+use Rattle.std.specs.Prelude.{ℕ, Bool, List, [], ◌∷◌, Option, Some, None, ◌≡◌, false, nat_eq, nat_lt, if◌then◌else◌}
+use Rattle.wf_text.specs.declared.rules.Refusal.{Refusal}
+use Rattle.wf_text.specs.declared.rules.Rule.{Rule}
+use Rattle.wf_text.specs.declared.rules.Rule.TheVariants.{S1, S2, S3, S4, S5, S6, N1, N2, N3, N4, N5, N6, N7, N8, N9, T1, T2, T3, T4, T5, E1, E2, E3, E4, E5, B1, B2, B3, B4, B5, B6, B7, B8, B9, B10, B11, B12, L1, L2, L3, L4, L5, L6, L7, L8, L9}
+
+-- The rules' order: by letter in the order of the phases, the limits last, then by number.
+abbrev pub rank : Rule → ℕ
+rank S1 = 0
+rank S2 = 1
+rank S3 = 2
+rank S4 = 3
+rank S5 = 4
+rank S6 = 5
+rank N1 = 6
+rank N2 = 7
+rank N3 = 8
+rank N4 = 9
+rank N5 = 10
+rank N6 = 11
+rank N7 = 12
+rank N8 = 13
+rank N9 = 14
+rank T1 = 15
+rank T2 = 16
+rank T3 = 17
+rank T4 = 18
+rank T5 = 19
+rank E1 = 20
+rank E2 = 21
+rank E3 = 22
+rank E4 = 23
+rank E5 = 24
+rank B1 = 25
+rank B2 = 26
+rank B3 = 27
+rank B4 = 28
+rank B5 = 29
+rank B6 = 30
+rank B7 = 31
+rank B8 = 32
+rank B9 = 33
+rank B10 = 34
+rank B11 = 35
+rank B12 = 36
+rank L1 = 37
+rank L2 = 38
+rank L3 = 39
+rank L4 = 40
+rank L5 = 41
+rank L6 = 42
+rank L7 = 43
+rank L8 = 44
+rank L9 = 45
+
+-- Below, where two numbers that are the same leave it to what comes next.
+abbrev pub then_by : ℕ → ℕ → Bool → Bool
+then_by a b next = if nat_eq a b then next else nat_lt a b
+
+-- The first refusal decides over the second: by file, line and column, then by rule.
+unfoldable pub is_before : Refusal → Refusal → Bool
+is_before r s =
+    then_by r.at.file s.at.file
+    (then_by r.at.line s.at.line (then_by r.at.col s.at.col (nat_lt (rank r.rule) (rank s.rule))))
+
+-- What decides of what was found so far and what is found now.
+abbrev pub sooner : Option Refusal → Option Refusal → Option Refusal
+sooner found None = found
+sooner None (Some s) = Some s
+sooner (Some r) (Some s) = if is_before s r then Some s else Some r
+
+-- What decides of what was found so far and a whole list.
+abbrev pub soonest : Option Refusal → List (Option Refusal) → Option Refusal
+soonest found [] = found
+soonest found (r ∷ rs) = soonest (sooner found r) rs
+
+-- Of the refusals that a package gives cause for, none decides over this one.
+pub record IsFirst (Breaks : Refusal → Type 0) (r : Refusal) : Type 0 where
+  pub breaks : Breaks r
+  pub first : (s : Refusal) → Breaks s → is_before s r ≡ false
+
+-- The refusal that decides, and none exactly where there is no cause for any.
+abbrev pub Decides : (Refusal → Type 0) → Option Refusal → Type 0
+Decides Breaks None = (s : Refusal) → Breaks s → ⊥
+Decides Breaks (Some r) = IsFirst Breaks r
