@@ -1,0 +1,3 @@
+pub mod Unfolds
+pub mod Invariants
+pub mod Raises
