@@ -1,0 +1,5 @@
+pub mod Bits
+pub mod CLaws
+pub mod Ends
+pub mod ExtremeLaws
+pub mod RangeLaws

@@ -1,0 +1,5 @@
+pub mod CArithmetic
+pub mod Extremes
+pub mod Ranges
+pub mod Spans
+pub mod Trials
