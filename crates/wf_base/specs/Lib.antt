@@ -1,0 +1,5 @@
+pub mod BaseOps
+pub mod BaseTable
+pub mod Effects
+pub mod HostRun
+pub mod LawfulActions
