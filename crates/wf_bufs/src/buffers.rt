@@ -1,0 +1,331 @@
+// A buffer: bytes that one side writes and the other reads. It keeps `ri <= wi <= capacity`.
+
+ghost use Rattle.std.specs.Prelude.{◌≡◌, ℕ, ◌+◌, ◌-◌, ◌<◌, ◌≤◌, ◌^◌, nat_lt, nat_le, ◌&&◌, min, List, [], ◌∷◌, length, vec_len, Option, IfOk, MatchBool};
+ghost use Rattle.wf_base.specs.BaseOps.{Buffer, capacity, empty_buffer, unread_at, skipped, reader_length, reader_position, writer_length, writer_position, overwritten, appended, put, put_count, close, compact, with_cell, placed};
+
+use std::alloc::Global;
+use std::marker::Model;
+use wf_text::NoMemory;
+
+/// An io buffer of a fixed number of bytes, its cells. The bytes in front of `ri` were read, those from `ri` to
+/// `wi` are unread, and the cells from `wi` on are free. `pos` is the place of the first cell in the stream.
+#[derive(Drop)]
+pub struct Buf {
+    cells: Vec<u8>,
+    ri: u64,
+    wi: u64,
+    pos: u64,
+    closed: bool,
+}
+
+impl Model for Buf {
+    ghost use Rattle.std.specs.Prelude.{◌≤◌, length};
+    ghost use Rattle.wf_base.specs.BaseOps.{Buffer};
+
+    ghost Value = { Buffer };
+
+    ghost view = { λ buf. record { cells = buf.cells.items; ri = buf.ri; wi = buf.wi; pos = buf.pos; closed = buf.closed } };
+
+    ghost invariant = { λ buf. (buf.ri ≤ buf.wi) × (buf.wi ≤ length buf.cells.items) };
+}
+
+impl Buf {
+    /// A buffer of `cap` bytes, each 0, of which nothing is written.
+    pub fn new(alloc: Global, cap: u32) -> Result<Buf, NoMemory>
+        ensures { IfOk result (λ buf. buf ≡ empty_buffer cap) }
+    {
+        match vec![in alloc; 0; cap as usize] {
+            Ok(cells) => Ok(Buf {
+                cells,
+                ri: 0,
+                wi: 0,
+                pos: 0,
+                closed: false,
+            }),
+            Err(_) => Err(NoMemory),
+        }
+    }
+
+    /// A buffer in the same state.
+    pub fn copy(&self, alloc: Global) -> Result<Buf, NoMemory>
+        ensures { IfOk result (λ buf. buf ≡ self.now) }
+    {
+        match Vec::from_slice(alloc, self.cells.as_slice()) {
+            Ok(cells) => Ok(Buf {
+                cells,
+                ri: self.ri,
+                wi: self.wi,
+                pos: self.pos,
+                closed: self.closed,
+            }),
+            Err(_) => Err(NoMemory),
+        }
+    }
+
+    /// The number of the cell that is read next.
+    pub fn ri(&self) -> u64
+        ensures { result ≡ self.now.ri }
+    {
+        self.ri
+    }
+
+    /// The number of the cell that is written next.
+    pub fn wi(&self) -> u64
+        ensures { result ≡ self.now.wi }
+    {
+        self.wi
+    }
+
+    /// The place of the first cell in the stream.
+    pub fn pos(&self) -> u64
+        ensures { result ≡ self.now.pos }
+    {
+        self.pos
+    }
+
+    /// Whether nothing more will be written.
+    pub fn is_closed(&self) -> bool
+        ensures { result ≡ self.now.closed }
+    {
+        self.closed
+    }
+
+    /// All cells, as many as the capacity.
+    pub fn bytes(&self) -> &[u8]
+        ensures cells { result.now ≡ self.now.cells }
+        ensures read { self.now.ri ≤ self.now.wi }
+        ensures written { self.now.wi ≤ capacity self.now }
+    {
+        self.cells.as_slice()
+    }
+
+    /// How many bytes are unread.
+    pub fn reader_length(&self) -> u64
+        ensures { result ≡ reader_length self.now }
+    {
+        self.wi - self.ri
+    }
+
+    /// The place in the stream of the byte that is read next, at most 2^64 - 1.
+    pub fn reader_position(&self) -> u64
+        ensures { result ≡ reader_position self.now }
+    {
+        self.pos.saturating_add(self.ri)
+    }
+
+    /// How many bytes can be written: none where the buffer is closed.
+    pub fn writer_length(&self) -> u64
+        ensures { result ≡ writer_length self.now }
+    {
+        if self.closed {
+            0
+        } else {
+            self.cells.len() as u64 - self.wi
+        }
+    }
+
+    /// The place in the stream of the byte that is written next, at most 2^64 - 1.
+    pub fn writer_position(&self) -> u64
+        ensures { result ≡ writer_position self.now }
+    {
+        self.pos.saturating_add(self.wi)
+    }
+
+    /// Takes the next unread byte; None, and nothing is taken, exactly where there is none.
+    pub fn take_u8(&mut self) -> Option<u8>
+        ensures byte { result ≡ unread_at 0 self.old }
+        ensures after { self.new ≡ skipped 1 self.old }
+    {
+        if self.ri == self.wi {
+            return None;
+        }
+        let byte = self.cells[self.ri as usize];
+        self.ri += 1;
+        Some(byte)
+    }
+
+    /// The unread byte with number `k`, from 0; None exactly where there are not so many.
+    pub fn peek(&self, k: u64) -> Option<u8>
+        ensures { result ≡ unread_at k self.now }
+    {
+        if k < self.wi - self.ri {
+            Some(self.cells[(self.ri + k) as usize])
+        } else {
+            None
+        }
+    }
+
+    /// Takes `n` bytes, or all unread ones where they are fewer, and answers how many.
+    pub fn skip(&mut self, n: u64) -> u64
+        ensures count { result ≡ min n (reader_length self.old) }
+        ensures after { self.new ≡ skipped n self.old }
+    {
+        let count = n.min(self.wi - self.ri);
+        self.ri += count;
+        count
+    }
+
+    /// Appends a byte; false, and the buffer stays, exactly where it is full or closed.
+    pub fn give_u8(&mut self, b: u8) -> bool
+        ensures room { result ≡ nat_lt 0 (writer_length self.old) }
+        ensures after { MatchBool result (self.new ≡ appended (b ∷ []) self.old) (self.new ≡ self.old) }
+    {
+        if self.writer_length() == 0 {
+            return false;
+        }
+        overwrite(self.cells.as_mut_slice(), self.wi as usize, &[b]);
+        self.wi += 1;
+        true
+    }
+
+    /// Appends the first of the bytes, as many as fit, and answers how many: none where the buffer is closed.
+    pub fn put(&mut self, bytes: &[u8]) -> usize
+        ensures count { result ≡ put_count bytes.now self.old }
+        ensures after { self.new ≡ put bytes.now self.old }
+    {
+        let count = bytes.len().min(self.writer_length() as usize);
+        let (fitting, _) = bytes.split_at(count);
+        overwrite(self.cells.as_mut_slice(), self.wi as usize, fitting);
+        self.wi += count as u64;
+        count
+    }
+
+    /// Nothing more will be written.
+    pub fn close(&mut self)
+        ensures { self.new ≡ close self.old }
+    {
+        self.closed = true;
+    }
+
+    /// Moves the unread bytes to the front, and leaves all other cells.
+    pub fn compact(&mut self)
+        ensures { self.new ≡ compact self.old }
+    {
+        self.cells
+            .copy_within(self.ri as usize..self.wi as usize, 0);
+        self.pos = self.pos.saturating_add(self.ri);
+        self.wi -= self.ri;
+        self.ri = 0;
+    }
+
+    /// Sets cell `k`; false, and the buffer stays, exactly where `k` isn't below the capacity.
+    pub fn set_cell(&mut self, k: u64, b: u8) -> bool
+        ensures within { result ≡ nat_lt k (capacity self.old) }
+        ensures after { MatchBool result (self.new ≡ with_cell k b self.old) (self.new ≡ self.old) }
+    {
+        if k >= self.cells.len() as u64 {
+            return false;
+        }
+        self.cells[k as usize] = b;
+        true
+    }
+
+    /// Sets all but the cells; false, and the buffer stays, exactly where `ri <= wi <= capacity` fails.
+    pub fn place(&mut self, ri: u64, wi: u64, pos: u64, closed: bool) -> bool
+        ensures lawful { result ≡ (nat_le ri wi && nat_le wi (capacity self.old)) }
+        ensures after { MatchBool result (self.new ≡ placed ri wi pos closed self.old) (self.new ≡ self.old) }
+    {
+        if ri > wi || wi > self.cells.len() as u64 {
+            return false;
+        }
+        self.ri = ri;
+        self.wi = wi;
+        self.pos = pos;
+        self.closed = closed;
+        true
+    }
+}
+
+// Writes bytes over the cells from `at` on.
+fn overwrite(cells: &mut [u8], at: usize, bytes: &[u8])
+    requires { at + length bytes.now ≤ length cells.old }
+    ensures { cells.new ≡ overwritten at bytes.now cells.old }
+{
+    let (_, rest) = cells.split_at_mut(at);
+    let (front, _) = rest.split_at_mut(bytes.len());
+    front.copy_from_slice(bytes);
+}
+
+#[cfg(test)]
+mod tests {
+    use super::*;
+    use std::test::Fail;
+
+    fn stands(buf: &Buf, ri: u64, wi: u64, pos: u64) -> bool {
+        buf.ri() == ri && buf.wi() == wi && buf.pos() == pos
+    }
+
+    fn lengths(buf: &Buf, unread: u64, room: u64) -> bool {
+        buf.reader_length() == unread && buf.writer_length() == room
+    }
+
+    fn positions(buf: &Buf, reader: u64, writer: u64) -> bool {
+        buf.reader_position() == reader && buf.writer_position() == writer
+    }
+
+    fn holds(buf: &Buf, cells: &[u8]) -> bool {
+        buf.bytes() == cells
+    }
+
+    // Three bytes of four are written, all but the last are read, and the buffer is filled and compacted.
+    #[test]
+    fn bytes_go_through(rt: HostRuntime) -> Result<(), Fail> {
+        let mut buf = Buf::new(rt.alloc(), 4)?;
+        assert_eq!(rt; buf.put(b"ABC"), 3);
+        assert!(rt; lengths(&buf, 3, 1) && positions(&buf, 0, 3));
+        assert_eq!(rt; buf.take_u8(), Some(65));
+        assert_eq!(rt; buf.peek(1), Some(67));
+        assert_eq!(rt; buf.peek(2), None);
+        assert_eq!(rt; buf.skip(1), 1);
+        assert!(rt; buf.give_u8(68) && stands(&buf, 2, 4, 0));
+        buf.compact();
+        assert!(rt; stands(&buf, 0, 2, 2) && holds(&buf, b"CDCD"));
+        assert!(rt; lengths(&buf, 2, 2) && positions(&buf, 2, 4));
+        Ok(())
+    }
+
+    #[test]
+    fn a_full_buffer_takes_no_more(rt: HostRuntime) -> Result<(), Fail> {
+        let mut buf = Buf::new(rt.alloc(), 1)?;
+        assert_eq!(rt; buf.put(b"AB"), 1);
+        assert!(rt; !buf.give_u8(67) && stands(&buf, 0, 1, 0) && holds(&buf, b"A"));
+        assert_eq!(rt; buf.skip(9), 1);
+        assert_eq!(rt; buf.take_u8(), None);
+        assert!(rt; stands(&buf, 1, 1, 0));
+        Ok(())
+    }
+
+    #[test]
+    fn a_buffer_without_cells_holds_nothing(rt: HostRuntime) -> Result<(), Fail> {
+        let mut buf = Buf::new(rt.alloc(), 0)?;
+        assert_eq!(rt; buf.put(b"A"), 0);
+        assert!(rt; !buf.give_u8(65) && !buf.set_cell(0, 65) && lengths(&buf, 0, 0));
+        assert_eq!(rt; buf.peek(0), None);
+        buf.compact();
+        assert!(rt; stands(&buf, 0, 0, 0));
+        Ok(())
+    }
+
+    #[test]
+    fn a_closed_buffer_is_only_read(rt: HostRuntime) -> Result<(), Fail> {
+        let mut buf = Buf::new(rt.alloc(), 4)?;
+        assert_eq!(rt; buf.put(b"A"), 1);
+        buf.close();
+        assert_eq!(rt; buf.put(b"B"), 0);
+        assert!(rt; buf.is_closed() && !buf.give_u8(66) && lengths(&buf, 1, 0));
+        assert_eq!(rt; buf.take_u8(), Some(65));
+        Ok(())
+    }
+
+    #[test]
+    fn places_end_at_the_largest_number(rt: HostRuntime) -> Result<(), Fail> {
+        let mut buf = Buf::new(rt.alloc(), 2)?;
+        assert!(rt; buf.place(1, 2, u64::MAX, false) && positions(&buf, u64::MAX, u64::MAX));
+        buf.compact();
+        assert!(rt; stands(&buf, 0, 1, u64::MAX));
+        assert!(rt; !buf.place(2, 1, 0, false) && !buf.place(0, 3, 0, true));
+        assert!(rt; stands(&buf, 0, 1, u64::MAX) && !buf.is_closed());
+        assert!(rt; buf.set_cell(1, 9) && holds(&buf, &[0, 9]));
+        Ok(())
+    }
+}

@@ -1,0 +1,258 @@
+// The buffers and byte arrays of a host.
+
+ghost use Rattle.std.specs.Prelude.{◌≡◌, ℕ, ◌<◌, List, [], ◌∷◌, ◌++◌, length, Some, slice_get, slice_set, IfOk, OnErr, OnOk, MatchBool, nat_lt};
+ghost use Rattle.std.specs.Borrow.{sem};
+ghost use Rattle.wf_bufs.specs.Lending.{LendsBuffer, LendsArray};
+
+use crate::buffers::Buf;
+use std::alloc::Global;
+use std::marker::Model;
+use wf_text::NoMemory;
+
+/// Buffers, by number from 0.
+#[derive(Drop)]
+pub struct BufList {
+    items: Vec<Buf>,
+}
+
+impl Model for BufList {
+    ghost use Rattle.std.specs.Prelude.{List};
+    ghost use Rattle.wf_base.specs.BaseOps.{Buffer};
+
+    ghost Value = { List Buffer };
+
+    ghost view = { λ list. list.items.items };
+}
+
+/// Bytes that a host passes as a slice. Their number is fixed.
+#[derive(Drop)]
+pub struct ByteArray {
+    cells: Vec<u8>,
+}
+
+impl Model for ByteArray {
+    ghost use Rattle.std.specs.Prelude.{List, ℕ};
+
+    ghost Value = { List ℕ };
+
+    ghost view = { λ array. array.cells.items };
+}
+
+/// Byte arrays, by number from 0.
+#[derive(Drop)]
+pub struct ByteArrays {
+    items: Vec<ByteArray>,
+}
+
+impl Model for ByteArrays {
+    ghost use Rattle.std.specs.Prelude.{List, ℕ};
+
+    ghost Value = { List (List ℕ) };
+
+    ghost view = { λ list. list.items.items };
+}
+
+/// What the calls of a host read and write.
+#[derive(Drop)]
+pub struct Bufs {
+    pub bufs: BufList,
+    pub arrays: ByteArrays,
+}
+
+impl BufList {
+    /// No buffers.
+    pub fn new(alloc: Global) -> BufList
+        ensures { result ≡ [] }
+    {
+        BufList {
+            items: Vec::new(alloc),
+        }
+    }
+
+    /// Adds a buffer behind the others. Where memory is refused the list stays, and the buffer is dropped.
+    pub fn push(&mut self, buf: Buf) -> Result<(), NoMemory>
+        ensures added { OnOk result (self.new ≡ self.old ++ buf ∷ []) }
+        ensures stays { OnErr result (self.new ≡ self.old) }
+    {
+        match self.items.push(buf) {
+            Ok(()) => Ok(()),
+            Err(_) => Err(NoMemory),
+        }
+    }
+
+    /// How many buffers there are.
+    pub fn len(&self) -> usize
+        ensures { result ≡ length self.now }
+    {
+        self.items.len()
+    }
+
+    /// Buffer `k`.
+    pub fn at(&self, k: usize) -> &Buf
+        requires { k < length self.now }
+        ensures { slice_get self.now k ≡ Some result.now }
+    {
+        &self.items[k]
+    }
+
+    /// Buffer `k`, to be changed.
+    pub fn at_mut(&mut self, k: usize) -> &mut Buf
+        requires { k < length self.old }
+        ensures* writes_back { sem 𝓛 (LendsBuffer self.entry k result) }
+        ensures value { slice_get self.old k ≡ Some result.now }
+    {
+        &mut self.items[k]
+    }
+
+    /// Buffers in the same states.
+    pub fn copy(&self, alloc: Global) -> Result<BufList, NoMemory>
+        ensures { IfOk result (λ list. list ≡ self.now) }
+    {
+        let mut list = BufList::new(alloc);
+        for buf in &self.items {
+            list.push(buf.copy(alloc)?)?;
+        }
+        Ok(list)
+    }
+}
+
+impl ByteArray {
+    /// A byte array with these bytes.
+    pub fn new(alloc: Global, bytes: &[u8]) -> Result<ByteArray, NoMemory>
+        ensures { IfOk result (λ array. array ≡ bytes.now) }
+    {
+        match Vec::from_slice(alloc, bytes) {
+            Ok(cells) => Ok(ByteArray { cells }),
+            Err(_) => Err(NoMemory),
+        }
+    }
+
+    /// The bytes.
+    pub fn bytes(&self) -> &[u8]
+        ensures { result.now ≡ self.now }
+    {
+        self.cells.as_slice()
+    }
+
+    /// Sets byte `k`; false, and the bytes stay, exactly where `k` isn't below their number.
+    pub fn set_byte(&mut self, k: u64, b: u8) -> bool
+        ensures within { result ≡ nat_lt k (length self.old) }
+        ensures after { MatchBool result (self.new ≡ slice_set self.old k b) (self.new ≡ self.old) }
+    {
+        if k >= self.cells.len() as u64 {
+            return false;
+        }
+        self.cells[k as usize] = b;
+        true
+    }
+}
+
+impl ByteArrays {
+    /// No byte arrays.
+    pub fn new(alloc: Global) -> ByteArrays
+        ensures { result ≡ [] }
+    {
+        ByteArrays {
+            items: Vec::new(alloc),
+        }
+    }
+
+    /// Adds a byte array behind the others. Where memory is refused the list stays, and the array is dropped.
+    pub fn push(&mut self, array: ByteArray) -> Result<(), NoMemory>
+        ensures added { OnOk result (self.new ≡ self.old ++ array ∷ []) }
+        ensures stays { OnErr result (self.new ≡ self.old) }
+    {
+        match self.items.push(array) {
+            Ok(()) => Ok(()),
+            Err(_) => Err(NoMemory),
+        }
+    }
+
+    /// How many byte arrays there are.
+    pub fn len(&self) -> usize
+        ensures { result ≡ length self.now }
+    {
+        self.items.len()
+    }
+
+    /// Byte array `k`.
+    pub fn at(&self, k: usize) -> &ByteArray
+        requires { k < length self.now }
+        ensures { slice_get self.now k ≡ Some result.now }
+    {
+        &self.items[k]
+    }
+
+    /// Byte array `k`, to be changed.
+    pub fn at_mut(&mut self, k: usize) -> &mut ByteArray
+        requires { k < length self.old }
+        ensures* writes_back { sem 𝓛 (LendsArray self.entry k result) }
+        ensures value { slice_get self.old k ≡ Some result.now }
+    {
+        &mut self.items[k]
+    }
+
+    /// Byte arrays with the same bytes.
+    pub fn copy(&self, alloc: Global) -> Result<ByteArrays, NoMemory>
+        ensures { IfOk result (λ list. list ≡ self.now) }
+    {
+        let mut list = ByteArrays::new(alloc);
+        for array in &self.items {
+            list.push(ByteArray::new(alloc, array.bytes())?)?;
+        }
+        Ok(list)
+    }
+}
+
+impl Bufs {
+    /// Buffers and byte arrays in the same states.
+    pub fn copy(&self, alloc: Global) -> Result<Bufs, NoMemory>
+        ensures { IfOk result (λ host. host ≡ self.now) }
+    {
+        let bufs = self.bufs.copy(alloc)?;
+        let arrays = self.arrays.copy(alloc)?;
+        Ok(Bufs { bufs, arrays })
+    }
+}
+
+#[cfg(test)]
+mod tests {
+    use super::*;
+    use std::test::Fail;
+
+    // A byte array's bytes, the second of three set to 9.
+    fn set_second(alloc: Global) -> Result<ByteArrays, Fail>
+        ensures { IfOk result (λ list. length list ≡ 1) }
+    {
+        let mut list = ByteArrays::new(alloc);
+        list.push(ByteArray::new(alloc, &[1, 2, 3])?)?;
+        let array = list.at_mut(0);
+        let _set = array.set_byte(1, 9);
+        let _past = array.set_byte(3, 9);
+        Ok(list)
+    }
+
+    #[test]
+    fn a_byte_is_set(rt: HostRuntime) -> Result<(), Fail> {
+        let list = set_second(rt.alloc())?;
+        assert!(rt; list.at(0).bytes() == [1, 9, 3].as_slice());
+        Ok(())
+    }
+
+    fn filled(alloc: Global) -> Result<BufList, Fail>
+        ensures { IfOk result (λ list. length list ≡ 2) }
+    {
+        let mut list = BufList::new(alloc);
+        list.push(Buf::new(alloc, 1)?)?;
+        list.push(Buf::new(alloc, 2)?)?;
+        list.at_mut(1).close();
+        Ok(list)
+    }
+
+    #[test]
+    fn one_buffer_is_closed(rt: HostRuntime) -> Result<(), Fail> {
+        let list = filled(rt.alloc())?;
+        assert!(rt; list.at(1).is_closed() && !list.at(0).is_closed());
+        Ok(())
+    }
+}
