@@ -1,0 +1,11 @@
+pub mod ByteClasses
+pub mod GapSizes
+pub mod NumberValues
+pub mod PieceLaws
+pub mod PieceLemmas
+pub mod Reading
+pub mod ReadingOn
+pub mod SpellingLaws
+pub mod SymbolTable
+pub mod Tables
+pub mod WordTable

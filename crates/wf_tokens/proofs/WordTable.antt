@@ -1,0 +1,92 @@
+-- The table of words: every word is in it.
+use Rattle.std.proofs.Common.{◌≡◌, ℕ, Bool, true, ◌&&◌, Option, Some, None, List, refl, sym, nat_eq, IfSome}
+use Rattle.std.specs.List.{find, list_all}
+use Rattle.std.specs.Cmp.Lexicographic.{pointwise, same_text}
+use Rattle.wf_tokens.specs.declared.words.Word.{Word}
+use Rattle.wf_tokens.specs.declared.words.Word.TheVariants as word
+use Rattle.wf_tokens.specs.declared.words.TheConstants.{WORDS}
+use Rattle.wf_tokens.specs.Words.{word_text}
+use Rattle.wf_tokens.specs.Runs.{begins, is_letter, is_run}
+use Rattle.wf_tokens.proofs.Tables.{found-passes}
+
+abbrev pub found : List ℕ → Option Word
+found text = find (λ word. pointwise nat_eq (word_text word) text) WORDS
+
+pub if_found : (text : List ℕ) (o : Option Word) → o ≡ found text → IfSome o (λ word. text ≡ word_text word)
+if_found text None h = tt
+if_found text (Some word) h = sym (same_text (word_text word) text (sym (found-passes (λ (w : Word). pointwise nat_eq (word_text w) text) WORDS word (sym h))))
+
+-- Two words that are written alike are one.
+pub word_back : (word : Word) → found (word_text word) ≡ Some word
+word_back word.And = refl
+word_back word.Args = refl
+word_back word.Array = refl
+word_back word.As = refl
+word_back word.Assert = refl
+word_back word.Base = refl
+word_back word.Break = refl
+word_back word.Const = refl
+word_back word.Continue = refl
+word_back word.Else = refl
+word_back word.Endwhile = refl
+word_back word.False = refl
+word_back word.Func = refl
+word_back word.If = refl
+word_back word.Inv = refl
+word_back word.Not = refl
+word_back word.Nothing = refl
+word_back word.Ok = refl
+word_back word.Or = refl
+word_back word.Post = refl
+word_back word.Pre = refl
+word_back word.Pri = refl
+word_back word.Pub = refl
+word_back word.Return = refl
+word_back word.Slice = refl
+word_back word.Status = refl
+word_back word.Struct = refl
+word_back word.This = refl
+word_back word.True = refl
+word_back word.Var = refl
+word_back word.Via = refl
+word_back word.While = refl
+word_back word.Yield = refl
+
+-- A word is a run that begins with a letter.
+abbrev pub is_word_run : List ℕ → Bool
+is_word_run text = begins is_letter text && list_all is_run text
+
+pub word_runs : (word : Word) → is_word_run (word_text word) ≡ true
+word_runs word.And = refl
+word_runs word.Args = refl
+word_runs word.Array = refl
+word_runs word.As = refl
+word_runs word.Assert = refl
+word_runs word.Base = refl
+word_runs word.Break = refl
+word_runs word.Const = refl
+word_runs word.Continue = refl
+word_runs word.Else = refl
+word_runs word.Endwhile = refl
+word_runs word.False = refl
+word_runs word.Func = refl
+word_runs word.If = refl
+word_runs word.Inv = refl
+word_runs word.Not = refl
+word_runs word.Nothing = refl
+word_runs word.Ok = refl
+word_runs word.Or = refl
+word_runs word.Post = refl
+word_runs word.Pre = refl
+word_runs word.Pri = refl
+word_runs word.Pub = refl
+word_runs word.Return = refl
+word_runs word.Slice = refl
+word_runs word.Status = refl
+word_runs word.Struct = refl
+word_runs word.This = refl
+word_runs word.True = refl
+word_runs word.Var = refl
+word_runs word.Via = refl
+word_runs word.While = refl
+word_runs word.Yield = refl
