@@ -1,0 +1,13 @@
+pub mod BaseStatuses
+pub mod Mentions
+pub mod Operators
+pub mod ParsedParts
+pub mod ParsedTree
+pub mod ParsedTrees
+pub mod Same
+pub mod TypedInvariant
+pub mod TypedPackage
+pub mod TypedTree
+pub mod TypedTrees
+pub mod Value
+pub mod WellTyped

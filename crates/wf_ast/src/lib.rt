@@ -1,0 +1,36 @@
+// The trees of a package. The parsed tree is what a package's files say by the grammar: names are texts, and
+// every place that a rule of names or types may refuse stands in it. In the resolved tree every name stands for
+// what it names, and in the typed tree each expression has a type. Other crates see them as mathematical
+// trees, which are functions of lists of nodes.
+#![tactic(auto)]
+
+pub mod declarations;
+pub mod laws;
+pub mod numbers;
+pub mod operators;
+pub mod parsed;
+pub mod parsed_package;
+pub mod resolved;
+pub mod sequences;
+#[cfg(test)]
+mod tests;
+pub mod texts;
+pub mod things;
+pub mod typed;
+pub mod typed_nodes;
+pub mod types;
+pub mod variables;
+
+pub use declarations::{Method, Struct, Var};
+pub use numbers::{ExprId, StmtId, TextId};
+pub use operators::Op;
+pub use parsed::Clause;
+pub use parsed_package::Package;
+pub use resolved::{Arm, AxiomRef, Block, Callee, Expr, ExprNode, LoopHead, Stmt, StmtNode};
+pub use sequences::Sequence;
+pub use things::Thing;
+pub use typed::Typed;
+pub use typed_nodes::TypedNodes;
+pub use types::Ty;
+pub use variables::{ArgId, ConstId, FieldId, LocalId};
+pub use wf_text::{MethodId, StatusId, StructId};

@@ -1,0 +1,185 @@
+// A typed package, as other crates read it: every name is resolved and every expression has a type.
+
+ghost use Rattle.std.specs.Prelude.{◌≡◌, ℕ, ◌<◌, length, slice_get, Some, None, Option, IsTrue, option_map};
+ghost use Rattle.wf_ast.specs.TypedInvariant.{IsTyped, parts_below, node_fits, stmt_below};
+ghost use Rattle.wf_ast.specs.TypedTrees.{tree_of, made_or_number, type_of_node, constant_of_node, place_of_node, signs_of_node};
+
+use crate::declarations::{Method, Struct};
+use crate::numbers::{ExprId, StmtId, TextId};
+use crate::resolved::{Block, Expr, Stmt};
+use crate::typed_nodes::TypedNodes;
+use crate::types::Ty;
+use std::marker::Model;
+use wf_text::{MethodId, Place, StatusId, StructId};
+
+/// A package that keeps the rules of names, types and effects.
+#[derive(Drop)]
+pub struct Typed {
+    nodes: TypedNodes,
+}
+
+impl Model for Typed {
+    ghost use Rattle.wf_ast.specs.declared.typed_nodes.TypedNodes.{TypedNodes};
+    ghost use Rattle.wf_ast.specs.TypedInvariant.{IsTyped};
+
+    ghost Value = { TypedNodes };
+
+    ghost view = { λ t. t.nodes };
+
+    ghost invariant = { λ t. IsTyped t.nodes };
+}
+
+impl Typed {
+    /// The package that these nodes make.
+    pub fn new(nodes: TypedNodes) -> Typed
+        requires { IsTyped nodes }
+        ensures { result ≡ nodes }
+    {
+        Typed { nodes }
+    }
+
+    /// The package's name.
+    pub fn package(&self) -> &[u8]
+        ensures { result.now ≡ self.now.package }
+    {
+        self.nodes.package.as_slice()
+    }
+
+    /// How many statuses there are: ok, the base statuses and the package's own.
+    pub fn statuses(&self) -> u32
+        ensures { result ≡ length self.now.statuses }
+    {
+        self.nodes.statuses.as_slice().len() as u32
+    }
+
+    /// How many structs the package has.
+    pub fn structs(&self) -> u32
+        ensures { result ≡ length self.now.structs }
+    {
+        self.nodes.structs.as_slice().len() as u32
+    }
+
+    /// How many methods the package has.
+    pub fn methods(&self) -> u32
+        ensures { result ≡ length self.now.methods }
+    {
+        self.nodes.methods.as_slice().len() as u32
+    }
+
+    /// The struct with this number.
+    pub fn structure(&self, s: StructId) -> &Struct
+        requires { s.0 < length self.now.structs }
+        ensures { slice_get self.now.structs s.0 ≡ Some result.now }
+    {
+        &self.nodes.structs.as_slice()[s.0 as usize]
+    }
+
+    /// The declaration of the method with this number.
+    pub fn method(&self, m: MethodId) -> &Method
+        requires { m.0 < length self.now.methods }
+        ensures { slice_get self.now.methods m.0 ≡ Some result.now }
+    {
+        &self.nodes.methods.as_slice()[m.0 as usize]
+    }
+
+    /// The body of the method with this number.
+    pub fn body(&self, m: MethodId) -> &Block
+        requires { m.0 < length self.now.methods }
+        ensures { slice_get self.now.bodies m.0 ≡ Some result.now }
+    {
+        &self.nodes.bodies.as_slice()[m.0 as usize]
+    }
+
+    /// The text that a caller sees of the status with this number.
+    pub fn status_text(&self, s: StatusId) -> &[u8]
+        requires { s.0 < length self.now.statuses }
+        ensures { slice_get self.now.statuses s.0 ≡ Some result.now }
+    {
+        self.nodes.statuses.as_slice()[s.0 as usize].as_slice()
+    }
+
+    /// A name, or the text of an axiom.
+    pub fn text(&self, t: TextId) -> &[u8]
+        requires { t.0 < length self.now.texts }
+        ensures { slice_get self.now.texts t.0 ≡ Some result.now }
+    {
+        self.nodes.texts.as_slice()[t.0 as usize].as_slice()
+    }
+
+    /// The type of an expression; a constant without a width has 64 bits.
+    pub fn type_of(&self, e: ExprId) -> Ty
+        requires { e.0 < length self.now.exprs }
+        ensures { result ≡ type_of_node self.now e.0 }
+    {
+        self.nodes.types.as_slice()[e.0 as usize]
+    }
+
+    /// The number of a constant numeric expression, and None exactly for every other expression.
+    pub fn constant(&self, e: ExprId) -> Option<u64>
+        requires { e.0 < length self.now.exprs }
+        ensures { result ≡ constant_of_node self.now e.0 }
+    {
+        self.nodes.constants.as_slice()[e.0 as usize]
+    }
+
+    /// The node of an expression. Its tree is made of the trees of its parts, which have smaller numbers and are
+    /// of the kinds that it wants.
+    pub fn expr(&self, e: ExprId) -> &Expr
+        requires { e.0 < length self.now.exprs }
+        ensures node { option_map (λ node. node.expr) (slice_get self.now.exprs e.0) ≡ Some result.now }
+        ensures made { tree_of self.now e ≡ made_or_number (tree_of self.now) (place_of_node self.now e.0) (signs_of_node self.now e.0) (type_of_node self.now e.0) (constant_of_node self.now e.0) result.now }
+        ensures below { IsTrue (parts_below e.0 result.now) }
+        ensures kinds { IsTrue (node_fits self.now (type_of_node self.now e.0) (constant_of_node self.now e.0) result.now) }
+    {
+        &self.nodes.exprs.as_slice()[e.0 as usize].expr
+    }
+
+    /// The place of an expression.
+    pub fn expr_place(&self, e: ExprId) -> Place
+        requires { e.0 < length self.now.exprs }
+        ensures { result ≡ place_of_node self.now e.0 }
+    {
+        self.nodes.exprs.as_slice()[e.0 as usize].at
+    }
+
+    /// The places of an expression's operator signs, in order.
+    pub fn signs(&self, e: ExprId) -> &[Place]
+        requires { e.0 < length self.now.exprs }
+        ensures { result.now ≡ signs_of_node self.now e.0 }
+    {
+        self.nodes.exprs.as_slice()[e.0 as usize].signs.as_slice()
+    }
+
+    /// The node of a statement. Its parts are there, and those that are statements have smaller numbers.
+    pub fn stmt(&self, s: StmtId) -> &Stmt
+        requires { s.0 < length self.now.stmts }
+        ensures node { option_map (λ node. node.stmt) (slice_get self.now.stmts s.0) ≡ Some result.now }
+        ensures below { IsTrue (stmt_below self.now s.0 result.now) }
+    {
+        &self.nodes.stmts.as_slice()[s.0 as usize].stmt
+    }
+
+    /// The place of a statement's first token.
+    pub fn stmt_place(&self, s: StmtId) -> Place
+        requires { s.0 < length self.now.stmts }
+        ensures { option_map (λ node. node.at) (slice_get self.now.stmts s.0) ≡ Some result }
+    {
+        self.nodes.stmts.as_slice()[s.0 as usize].at
+    }
+
+    /// The second place that rules name in a statement: of a call that of its method's name, of a loop that of its
+    /// body's closing brace, and of every other statement its first token's again.
+    pub fn inner_place(&self, s: StmtId) -> Place
+        requires { s.0 < length self.now.stmts }
+        ensures { option_map (λ node. node.inner) (slice_get self.now.stmts s.0) ≡ Some result }
+    {
+        self.nodes.stmts.as_slice()[s.0 as usize].inner
+    }
+
+    /// The methods in an order in which each stands behind those that it calls.
+    pub fn order(&self) -> &[u32]
+        ensures { result.now ≡ self.now.order }
+    {
+        self.nodes.order.as_slice()
+    }
+}

@@ -1,0 +1,30 @@
+// The parts of a typed package.
+
+use crate::declarations::{Method, Struct};
+use crate::resolved::{Block, ExprNode, StmtNode};
+use crate::sequences::Sequence;
+use crate::types::Ty;
+
+/// A package whose names are resolved and whose expressions have types.
+#[derive(Drop)]
+pub struct TypedNodes {
+    /// The package's name.
+    pub package: Sequence<u8>,
+    /// The text that a caller sees of each status, by number: ok's, which is empty, the base statuses' and the
+    /// package's own.
+    pub statuses: Sequence<Sequence<u8>>,
+    /// Names, and the texts of axioms, by number.
+    pub texts: Sequence<Sequence<u8>>,
+    pub exprs: Sequence<ExprNode>,
+    /// The type of each expression; a constant without a width has 64 bits.
+    pub types: Sequence<Ty>,
+    /// Of each expression: its number, where it is numeric and constant.
+    pub constants: Sequence<Option<u64>>,
+    pub stmts: Sequence<StmtNode>,
+    pub structs: Sequence<Struct>,
+    pub methods: Sequence<Method>,
+    /// The body of each method.
+    pub bodies: Sequence<Block>,
+    /// The numbers of all methods, each behind those that it calls.
+    pub order: Sequence<u32>,
+}
