@@ -1,0 +1,10 @@
+pub mod Back
+pub mod BackMore
+pub mod Completes
+pub mod Forward
+pub mod ForwardMore
+pub mod Live
+pub mod OpLemmas
+pub mod Refusal
+pub mod BracketLaws
+pub mod LimitLaws
