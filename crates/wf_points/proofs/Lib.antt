@@ -1,0 +1,15 @@
+pub mod Bodies
+pub mod Combine
+pub mod Counting
+pub mod Frame
+pub mod Inits
+pub mod Lists
+pub mod Lists2
+pub mod MoreTurns
+pub mod Numbers
+pub mod Points
+pub mod Refusals
+pub mod Rests
+pub mod Stays
+pub mod Unnamed
+pub mod Weights

@@ -1,0 +1,12 @@
+pub mod Demo
+pub mod DemoNodes
+pub mod Entry
+pub mod Examples
+pub mod Laws
+pub mod Packages
+pub mod Remaining
+pub mod Rows
+pub mod SourceCall
+pub mod SourceState
+pub mod SourceStep
+pub mod World
