@@ -1,0 +1,12 @@
+pub mod Arena
+pub mod Growth
+pub mod Items
+pub mod Lawful
+pub mod Lines
+pub mod Names
+pub mod Parts
+pub mod PenLemmas
+pub mod Progress
+pub mod Spelled
+pub mod SpelledCode
+pub mod Trees

@@ -1,0 +1,16 @@
+use Rattle.std.proofs.Common.{refl}
+use Rattle.std.proofs.lemmas.Option.{slice_get_read}
+use Rattle.c_text.proofs.Growth.{unit_tree-at}
+use Rattle.c_text.proofs.unit.Unit.item.Goals as goal
+
+pub returns-clause-tree : goal.returns-clause-tree
+returns-clause-tree c =
+    let within = rw (← c.self.view_is) at c.requires in
+    let is = slice_get_read c.self.inside.items.items _ c.args.i.0 c.index.result.now refl within c.index.ensures in
+    rw (← c.self.view_is) (unit_tree-at _ c.args.i.0 c.index.result.now is)
+
+pub returns-clause-fits : goal.returns-clause-fits
+returns-clause-fits c =
+    let within = rw (← c.self.view_is) at c.requires in
+    let is = slice_get_read c.self.inside.items.items _ c.args.i.0 c.index.result.now refl within c.index.ensures in
+    rw (← c.self.view_is) (c.self.invariant.items c.args.i.0 c.index.result.now is)

@@ -1,0 +1,28 @@
+// The C tree: what the compiler writes and the C reader reads. The grammar of the C subset, the printed layout
+// and the meaning of C stand in specs/; a unit is an arena of nodes, a part with a smaller number than its whole.
+#![tactic(auto)]
+
+pub mod ids;
+pub mod kinds;
+pub mod laws;
+pub mod lists;
+pub mod nodes;
+mod pens;
+mod print_code;
+mod print_exprs;
+mod print_items;
+pub mod printing;
+pub mod tokens;
+pub mod unit;
+
+pub use ids::{CExprId, CItemId, CNameId, CStmtId, CStringId};
+pub use kinds::{CNumber, COp, CUint, CUnary, Linkage, Otherwise};
+pub use laws::printed_is_a_text;
+pub use lists::CList;
+pub use nodes::{CArg, CCall, CExpr, CField, CFieldType, CItem, CLocal, CParam, CStmt, CType};
+pub use printing::{print, print_len};
+pub use tokens::{CMark, CWord};
+pub use unit::Unit;
+
+#[cfg(test)]
+mod tests;

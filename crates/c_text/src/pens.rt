@@ -1,0 +1,160 @@
+// Where a printed text goes. The printer writes a text over any pen, in pieces of any length; one pen counts the
+// bytes, the other hands them to a sink in pieces of at most 4,096 bytes.
+
+ghost use Rattle.std.specs.Prelude.{◌≡◌, ℕ, ◌-◌, ◌^◌, ◌<◌, ◌≤◌, ◌++◌, ◌∷◌, [], None, IsNone, List};
+ghost use Rattle.c_text.specs.CPens.{Wrote, pen_state, failed_at};
+
+use wf_outside::{Sink, SinkFault};
+
+/// What a text is written with. `ready` is what a write asks of the pen, and `writes` tells of two states of it
+/// that these bytes were written from the one to the other.
+pub trait Pen {
+    ghost ready: { Self → Type 0 };
+
+    ghost writes: { Self → Self → List ℕ → Type 0 };
+
+    /// Writes a piece of the text. A pen that can't write drops it, and keeps in mind why.
+    fn write(&mut self, piece: &[u8])
+        requires { ready self.old }
+        ensures ready { ready self.new }
+        ensures writes { writes self.old self.new piece.now };
+
+    ghost nothing: { (a : Self) → ready a → writes a a [] };
+
+    ghost joined: { (a b c : Self) (x y : List ℕ) → writes a b x → writes b c y → writes a c (x ++ y) };
+}
+
+/// Counts the bytes of a text, up to 2^64 - 1.
+pub struct LengthPen {
+    pub count: u64,
+}
+
+impl Pen for LengthPen {
+    ghost ready = { λ pen. pen.count < 2 ^ 64 };
+
+    ghost writes = { λ old new bytes. new.count ≡ min (old.count + length bytes) (2 ^ 64 - 1) };
+
+    ghost use Rattle.std.specs.Prelude.{min, ◌-◌, ◌+◌, ◌^◌, ◌<◌, length, ◌≡◌};
+    ghost use Rattle.std.proofs.Common.{arith, length-append};
+
+    ghost nothing = { λ a ready. Prim.omega (arith, ready) };
+
+    ghost joined = { λ a b c x y first second. Prim.omega (arith, first, second, length-append x y) };
+
+    fn write(&mut self, piece: &[u8]) {
+        self.count = self.count.saturating_add(piece.len() as u64);
+    }
+}
+
+/// Hands a text to a sink in pieces of at most 4,096 bytes. Behind the first fault nothing more is put.
+#[derive(Drop)]
+pub struct SinkPen<'a, O: Sink> {
+    out: &'a mut O,
+    buffer: [u8; 4096],
+    filled: usize,
+    fault: Option<SinkFault>,
+}
+
+impl<'a, O: Sink> SinkPen<'a, O> {
+    /// A pen that has written nothing.
+    pub fn new(out: &'a mut O) -> SinkPen<'a, O>
+        requires { O.faults out.old < 2 ^ 64 - 1 }
+        ensures same { result.out.ghost_name ≡ out.entry.ghost_name }
+        ensures out { result.out.now ≡ out.old }
+        ensures empty { result.filled ≡ 0 }
+        ensures fine { result.fault ≡ None }
+    {
+        SinkPen {
+            out,
+            buffer: [0; 4096],
+            filled: 0,
+            fault: None,
+        }
+    }
+
+    /// Puts the waiting bytes, where no put has failed.
+    fn flush(&mut self)
+        requires filled { self.old.filled ≤ 4096 }
+        requires countable { IsNone self.old.fault → O.faults self.old.out.now < 2 ^ 64 - 1 }
+        ensures same { self.new.out.ghost_name ≡ self.old.out.ghost_name }
+        ensures filled { self.new.filled ≤ 4096 }
+        ensures countable { IsNone self.new.fault → O.faults self.new.out.now < 2 ^ 64 - 1 }
+        ensures empty { IsNone self.new.fault → self.new.filled ≡ 0 }
+        ensures writes { Wrote (pen_state (O.written self.old.out.now) (O.room self.old.out.now) (O.longest self.old.out.now) (O.faults self.old.out.now) self.old.buffer self.old.filled self.old.fault) (pen_state (O.written self.new.out.now) (O.room self.new.out.now) (O.longest self.new.out.now) (O.faults self.new.out.now) self.new.buffer self.new.filled self.new.fault) [] }
+    {
+        if self.fault.is_none() {
+            match self.out.put(&self.buffer[..self.filled]) {
+                Ok(()) => self.filled = 0,
+                Err(fault) => self.fault = Some(fault),
+            }
+        }
+    }
+
+    /// Puts the waiting bytes where no further one fits behind them.
+    fn make_room(&mut self)
+        requires filled { self.old.filled ≤ 4096 }
+        requires countable { IsNone self.old.fault → O.faults self.old.out.now < 2 ^ 64 - 1 }
+        ensures same { self.new.out.ghost_name ≡ self.old.out.ghost_name }
+        ensures filled { self.new.filled ≤ 4096 }
+        ensures countable { IsNone self.new.fault → O.faults self.new.out.now < 2 ^ 64 - 1 }
+        ensures room { IsNone self.new.fault → self.new.filled < 4096 }
+        ensures writes { Wrote (pen_state (O.written self.old.out.now) (O.room self.old.out.now) (O.longest self.old.out.now) (O.faults self.old.out.now) self.old.buffer self.old.filled self.old.fault) (pen_state (O.written self.new.out.now) (O.room self.new.out.now) (O.longest self.new.out.now) (O.faults self.new.out.now) self.new.buffer self.new.filled self.new.fault) [] }
+    {
+        if self.filled == 4096 {
+            self.flush();
+        }
+    }
+
+    /// Writes one byte.
+    fn write_byte(&mut self, byte: u8)
+        requires filled { self.old.filled ≤ 4096 }
+        requires countable { IsNone self.old.fault → O.faults self.old.out.now < 2 ^ 64 - 1 }
+        ensures same { self.new.out.ghost_name ≡ self.old.out.ghost_name }
+        ensures filled { self.new.filled ≤ 4096 }
+        ensures countable { IsNone self.new.fault → O.faults self.new.out.now < 2 ^ 64 - 1 }
+        ensures writes { Wrote (pen_state (O.written self.old.out.now) (O.room self.old.out.now) (O.longest self.old.out.now) (O.faults self.old.out.now) self.old.buffer self.old.filled self.old.fault) (pen_state (O.written self.new.out.now) (O.room self.new.out.now) (O.longest self.new.out.now) (O.faults self.new.out.now) self.new.buffer self.new.filled self.new.fault) (byte ∷ []) }
+    {
+        self.make_room();
+        if self.fault.is_none() {
+            self.buffer[self.filled] = byte;
+            self.filled += 1;
+        }
+    }
+
+    /// Puts the waiting bytes, and answers the first fault.
+    pub fn finish(&mut self) -> Result<(), SinkFault>
+        requires filled { self.old.filled ≤ 4096 }
+        requires countable { IsNone self.old.fault → O.faults self.old.out.now < 2 ^ 64 - 1 }
+        ensures same { self.new.out.ghost_name ≡ self.old.out.ghost_name }
+        ensures answer { result ≡ failed_at self.new.fault }
+        ensures empty { IsNone self.new.fault → self.new.filled ≡ 0 }
+        ensures writes { Wrote (pen_state (O.written self.old.out.now) (O.room self.old.out.now) (O.longest self.old.out.now) (O.faults self.old.out.now) self.old.buffer self.old.filled self.old.fault) (pen_state (O.written self.new.out.now) (O.room self.new.out.now) (O.longest self.new.out.now) (O.faults self.new.out.now) self.new.buffer self.new.filled self.new.fault) [] }
+    {
+        self.flush();
+        match self.fault {
+            None => Ok(()),
+            Some(fault) => Err(fault),
+        }
+    }
+}
+
+impl<'a, O: Sink> Pen for SinkPen<'a, O> {
+    ghost use Rattle.std.specs.Prelude.{◌≡◌, ◌≤◌, ◌<◌, ◌-◌, ◌^◌, IsNone, refl};
+    ghost use Rattle.std.proofs.Common.{◌∙◌};
+    ghost use Rattle.c_text.specs.CPens.{Wrote, pen_state};
+    ghost use Rattle.c_text.specs.CPenLaws.{writes_nothing, writes_joined};
+
+    ghost ready = { λ pen. (pen.filled ≤ 4096) × (IsNone pen.fault → O.faults pen.out.now < 2 ^ 64 - 1) };
+
+    ghost writes = { λ old new bytes. (new.out.ghost_name ≡ old.out.ghost_name) × Wrote (pen_state (O.written old.out.now) (O.room old.out.now) (O.longest old.out.now) (O.faults old.out.now) old.buffer old.filled old.fault) (pen_state (O.written new.out.now) (O.room new.out.now) (O.longest new.out.now) (O.faults new.out.now) new.buffer new.filled new.fault) bytes };
+
+    ghost nothing = { λ a ready. (refl, writes_nothing (pen_state (O.written a.out.now) (O.room a.out.now) (O.longest a.out.now) (O.faults a.out.now) a.buffer a.filled a.fault)) };
+
+    ghost joined = { λ a b c x y first second. (second.0 ∙ first.0, writes_joined _ _ _ x y first.1 second.1) };
+
+    fn write(&mut self, piece: &[u8]) {
+        for byte in piece {
+            self.write_byte(*byte);
+        }
+    }
+}

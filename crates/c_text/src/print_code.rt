@@ -1,0 +1,265 @@
+// Prints blocks of statements, one statement a line.
+
+ghost use Rattle.std.specs.Prelude.{◌≡◌, ◌<◌, ◌+◌, ◌^◌, ◌++◌, length, ℕ, List, false, true, codes, IsTrue, IfNone, IfSome, MatchOption};
+ghost use Rattle.c_text.specs.CNodes.{bytes_at, expr_of, code_of, args_in, value_in};
+ghost use Rattle.c_text.specs.CFits.{HasCall};
+ghost use Rattle.c_text.specs.CTree.{finish};
+ghost use Rattle.c_text.specs.CLayout.{indented, expr_text, value_text, target_text, call_text, braced, tested, code_text};
+ghost use Rattle.c_text.specs.CLines.{IsIfAt, IsRest, is_branch};
+
+use crate::ids::{CExprId, CStmtId};
+use crate::kinds::Otherwise;
+use crate::nodes::{CCall, CStmt};
+use crate::pens::Pen;
+use crate::print_exprs::{call, expr, literal};
+use crate::unit::Unit;
+
+/// Prints the spaces at the front of a line.
+pub fn indent<P: Pen>(depth: usize, pen: &mut P)
+    requires { P.ready pen.old }
+    ensures ready { P.ready pen.new }
+    ensures writes { P.writes pen.old pen.new (indented depth) }
+{
+    for _ in 0..depth {
+        pen.write(b"    ");
+    }
+}
+
+/// Prints the value of a `return`, with a space in front.
+fn returned<P: Pen>(u: &Unit, value: Option<CExprId>, pen: &mut P)
+    requires has { IfSome value (λ e. e.0 < length u.now.exprs) }
+    requires ready { P.ready pen.old }
+    ensures ready { P.ready pen.new }
+    ensures writes { P.writes pen.old pen.new (value_text (value_in (expr_of u.now) value)) }
+{
+    if let Some(e) = value {
+        pen.write(b" ");
+        expr(u, e, pen);
+    }
+}
+
+/// Prints the target of a call, with a `=` behind it.
+fn kept_in<P: Pen>(u: &Unit, target: Option<CExprId>, pen: &mut P)
+    requires has { IfSome target (λ e. e.0 < length u.now.exprs) }
+    requires ready { P.ready pen.old }
+    ensures ready { P.ready pen.new }
+    ensures writes { P.writes pen.old pen.new (target_text (value_in (expr_of u.now) target)) }
+{
+    if let Some(e) = target {
+        expr(u, e, pen);
+        pen.write(b" = ");
+    }
+}
+
+/// Answers the rest of a block behind its first statement; none at the block's end.
+fn rest_of(u: &Unit, s: CStmtId) -> Option<CStmtId>
+    requires has { s.0 < length u.now.stmts }
+    ensures { MatchOption result (code_of u.now s.0 ≡ finish) (λ rest. (rest.0 < s.0) × IsRest (code_of u.now s.0) (code_of u.now rest.0)) }
+{
+    match u.stmt(s) {
+        CStmt::End => None,
+        CStmt::Block { rest, .. } => Some(*rest),
+        CStmt::Empty { rest } => Some(*rest),
+        CStmt::Assign { rest, .. } => Some(*rest),
+        CStmt::Call { rest, .. } => Some(*rest),
+        CStmt::Goto { rest, .. } => Some(*rest),
+        CStmt::If { rest, .. } => Some(*rest),
+        CStmt::While { rest, .. } => Some(*rest),
+        CStmt::Switch { rest, .. } => Some(*rest),
+        CStmt::Return { rest, .. } => Some(*rest),
+        CStmt::Case { rest, .. } => Some(*rest),
+        CStmt::Default { rest } => Some(*rest),
+        CStmt::Label { rest, .. } => Some(*rest),
+    }
+}
+
+/// Prints the statements of a block from `s` on, `depth` levels deep.
+#[cycle(print_code)]
+pub fn code<P: Pen>(u: &Unit, s: CStmtId, depth: usize, pen: &mut P)
+    requires has { s.0 < length u.now.stmts }
+    requires depth { depth + s.0 < 2 ^ 64 }
+    requires ready { P.ready pen.old }
+    ensures ready { P.ready pen.new }
+    ensures writes { P.writes pen.old pen.new (code_text (code_of u.now s.0) false depth) }
+{
+    let mut at = s;
+    while let Some(rest) = rest_of(u, at) {
+        indent(depth, pen);
+        line(u, at, depth, pen);
+        pen.write(b"\n");
+        at = rest;
+    }
+}
+
+/// Prints a block in braces, which stands `depth` levels deep.
+#[cycle(print_code)]
+fn braces<P: Pen>(u: &Unit, inner: CStmtId, depth: usize, pen: &mut P)
+    requires has { inner.0 < length u.now.stmts }
+    requires depth { depth + 1 + inner.0 < 2 ^ 64 }
+    requires ready { P.ready pen.old }
+    ensures ready { P.ready pen.new }
+    ensures writes { P.writes pen.old pen.new (braced (code_text (code_of u.now inner.0)) depth) }
+{
+    pen.write(b"{\n");
+    code(u, inner, depth + 1, pen);
+    indent(depth, pen);
+    pen.write(b"}");
+}
+
+/// Prints a word with its opening parenthesis, a condition and a block.
+#[cycle(print_code)]
+fn tested_block<P: Pen>(u: &Unit, head: (&[u8], CExprId), body: CStmtId, depth: usize, pen: &mut P)
+    requires test { head.1.0 < length u.now.exprs }
+    requires has { body.0 < length u.now.stmts }
+    requires depth { depth + 1 + body.0 < 2 ^ 64 }
+    requires ready { P.ready pen.old }
+    ensures ready { P.ready pen.new }
+    ensures writes { P.writes pen.old pen.new (tested head.entry.0.now (expr_of u.now head.entry.1.0) (code_text (code_of u.now body.0)) depth) }
+{
+    pen.write(head.0);
+    expr(u, head.1, pen);
+    pen.write(b") ");
+    braces(u, body, depth, pen);
+}
+
+/// The condition, the block and the `else` of an `if`; none where another statement stands there.
+fn if_parts(u: &Unit, s: CStmtId) -> Option<(CExprId, CStmtId, Otherwise, CStmtId)>
+    requires has { s.0 < length u.now.stmts }
+    ensures { MatchOption result (is_branch (code_of u.now s.0) ≡ false) (λ parts. IsIfAt u.now s.0 parts) }
+{
+    match u.stmt(s) {
+        CStmt::End => None,
+        CStmt::Block { .. } => None,
+        CStmt::Empty { .. } => None,
+        CStmt::Assign { .. } => None,
+        CStmt::Call { .. } => None,
+        CStmt::Goto { .. } => None,
+        CStmt::If {
+            test,
+            body,
+            otherwise,
+            other,
+            ..
+        } => Some((*test, *body, *otherwise, *other)),
+        CStmt::While { .. } => None,
+        CStmt::Switch { .. } => None,
+        CStmt::Return { .. } => None,
+        CStmt::Case { .. } => None,
+        CStmt::Default { .. } => None,
+        CStmt::Label { .. } => None,
+    }
+}
+
+/// Prints an `if` with its block, and an `else` with what stands behind it but for a further `if`, which it
+/// answers.
+#[cycle(print_code)]
+fn branch_arm<P: Pen>(u: &Unit, s: CStmtId, depth: usize, pen: &mut P) -> Option<CStmtId>
+    requires has { s.0 < length u.now.stmts }
+    requires branch { IsTrue (is_branch (code_of u.now s.0)) }
+    requires depth { depth + s.0 < 2 ^ 64 }
+    requires ready { P.ready pen.old }
+    ensures ready { P.ready pen.new }
+    ensures whole { IfNone result (P.writes pen.old pen.new (code_text (code_of u.now s.0) true depth)) }
+    ensures more { IfSome result (λ next. (next.0 < s.0) × IsTrue (is_branch (code_of u.now next.0)) × ((front : List ℕ) × P.writes pen.old pen.new front × (code_text (code_of u.now s.0) true depth ≡ front ++ code_text (code_of u.now next.0) true depth))) }
+{
+    let Some((test, body, otherwise, other)) = if_parts(u, s) else {
+        return None;
+    };
+    tested_block(u, (b"if (", test), body, depth, pen);
+    match otherwise {
+        Otherwise::Nothing => None,
+        Otherwise::Block => {
+            pen.write(b" else ");
+            braces(u, other, depth, pen);
+            None
+        }
+        Otherwise::If => {
+            pen.write(b" else ");
+            Some(other)
+        }
+    }
+}
+
+/// Prints an `if` with its whole chain of `else`.
+#[cycle(print_code)]
+fn branch_line<P: Pen>(u: &Unit, s: CStmtId, depth: usize, pen: &mut P)
+    requires has { s.0 < length u.now.stmts }
+    requires branch { IsTrue (is_branch (code_of u.now s.0)) }
+    requires depth { depth + s.0 < 2 ^ 64 }
+    requires ready { P.ready pen.old }
+    ensures ready { P.ready pen.new }
+    ensures writes { P.writes pen.old pen.new (code_text (code_of u.now s.0) true depth) }
+{
+    let mut at = s;
+    while let Some(next) = branch_arm(u, at, depth, pen) {
+        at = next;
+    }
+}
+
+/// Prints the first statement of a block without the front and the end of its line.
+#[cycle(print_code)]
+fn line<P: Pen>(u: &Unit, s: CStmtId, depth: usize, pen: &mut P)
+    requires has { s.0 < length u.now.stmts }
+    requires depth { depth + s.0 < 2 ^ 64 }
+    requires ready { P.ready pen.old }
+    ensures ready { P.ready pen.new }
+    ensures writes { P.writes pen.old pen.new (code_text (code_of u.now s.0) true depth) }
+{
+    match u.stmt(s) {
+        CStmt::End => {}
+        CStmt::Block { inner, .. } => braces(u, *inner, depth, pen),
+        CStmt::If { .. } => branch_line(u, s, depth, pen),
+        CStmt::While { test, body, .. } => tested_block(u, (b"while (", *test), *body, depth, pen),
+        CStmt::Switch { on, body, .. } => tested_block(u, (b"switch (", *on), *body, depth, pen),
+        CStmt::Empty { .. } => pen.write(b";"),
+        CStmt::Assign { target, value, .. } => assignment(u, *target, *value, pen),
+        CStmt::Call { target, call, .. } => call_line(u, *target, call, pen),
+        CStmt::Goto { label, .. } => {
+            pen.write(b"goto ");
+            pen.write(u.name(*label));
+            pen.write(b";");
+        }
+        CStmt::Return { value, .. } => {
+            pen.write(b"return");
+            returned(u, *value, pen);
+            pen.write(b";");
+        }
+        CStmt::Case { number, .. } => {
+            pen.write(b"case ");
+            literal(*number, pen);
+            pen.write(b":");
+        }
+        CStmt::Default { .. } => pen.write(b"default:"),
+        CStmt::Label { name, .. } => {
+            pen.write(u.name(*name));
+            pen.write(b":");
+        }
+    }
+}
+
+/// Prints `target = value;`.
+fn assignment<P: Pen>(u: &Unit, target: CExprId, value: CExprId, pen: &mut P)
+    requires target { target.0 < length u.now.exprs }
+    requires value { value.0 < length u.now.exprs }
+    requires ready { P.ready pen.old }
+    ensures ready { P.ready pen.new }
+    ensures writes { P.writes pen.old pen.new (expr_text (expr_of u.now target.0) ++ codes " = " ++ expr_text (expr_of u.now value.0) ++ codes ";") }
+{
+    expr(u, target, pen);
+    pen.write(b" = ");
+    expr(u, value, pen);
+    pen.write(b";");
+}
+
+/// Prints `call;` or `target = call;`.
+fn call_line<P: Pen>(u: &Unit, target: Option<CExprId>, called: &CCall, pen: &mut P)
+    requires target { IfSome target (λ e. e.0 < length u.now.exprs) }
+    requires has { HasCall u.now (length u.now.exprs) called.now }
+    requires ready { P.ready pen.old }
+    ensures ready { P.ready pen.new }
+    ensures writes { P.writes pen.old pen.new (target_text (value_in (expr_of u.now) target) ++ call_text (bytes_at u.now.names called.now.function.0) (args_in u.now.names (expr_of u.now) called.now.args) ++ codes ";") }
+{
+    kept_in(u, target, pen);
+    call(u, u.exprs(), called, pen);
+    pen.write(b";");
+}

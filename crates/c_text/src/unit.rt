@@ -1,0 +1,213 @@
+// A unit: the arena of a C text's nodes. A part has a smaller number than its whole, so each number stands for
+// a tree, and it keeps that tree while the unit grows.
+
+ghost use Rattle.std.specs.Prelude.{◌≡◌, ◌<◌, ◌++◌, ◌∷◌, [], length, Some, slice_get, IsTrue, IfOk, OnErr};
+ghost use Rattle.std.specs.Str.{bytes_eq};
+ghost use Rattle.c_text.specs.CNodes.{no_nodes, bytes_at, expr_of, code_of, unit_tree, made_expr, made_code, made_item};
+ghost use Rattle.c_text.specs.CFits.{FitsExpr, FitsStmt, FitsItem};
+ghost use Rattle.c_text.specs.CGrammar.{IsName, IsUnit};
+ghost use Rattle.c_text.specs.CSpelling.{is_string};
+ghost use Rattle.c_text.specs.CUnit.{AddsName};
+
+use crate::ids::{CExprId, CItemId, CNameId, CStmtId, CStringId};
+use crate::lists::CList;
+use crate::nodes::{CExpr, CItem, CStmt};
+use indexmap::IndexSet;
+use std::alloc::Global;
+use std::marker::Model;
+use wf_text::NoMemory;
+
+/// A C text as a tree. Its items stand in the text in the order in which they were added.
+#[derive(Drop)]
+pub struct Unit {
+    names: IndexSet<Vec<u8>>,
+    strings: Vec<CList<u8>>,
+    exprs: Vec<CExpr>,
+    stmts: Vec<CStmt>,
+    items: Vec<CItem>,
+    alloc: Global,
+}
+
+impl Model for Unit {
+    ghost use Rattle.std.specs.Prelude.{map};
+    ghost use Rattle.c_text.specs.CNodes.{Nodes};
+    ghost use Rattle.c_text.specs.CUnit.{IsSound};
+
+    ghost Value = { Nodes };
+
+    ghost view = { λ u. record { names = map (λ v. v.items) u.names.keys; strings = u.strings.items; exprs = u.exprs.items; stmts = u.stmts.items; items = u.items.items } };
+
+    ghost invariant = { λ u. IsSound (record { names = map (λ v. v.items) u.names.keys; strings = u.strings.items; exprs = u.exprs.items; stmts = u.stmts.items; items = u.items.items }) };
+}
+
+impl Unit {
+    /// An empty unit; nothing is allocated.
+    pub fn new(alloc: Global) -> Unit
+        ensures { result ≡ no_nodes }
+    {
+        Unit {
+            names: IndexSet::new(alloc),
+            strings: Vec::new(alloc),
+            exprs: Vec::new(alloc),
+            stmts: Vec::new(alloc),
+            items: Vec::new(alloc),
+            alloc,
+        }
+    }
+
+    /// Each unit is a tree of the C grammar.
+    pub fn is_lawful(&self)
+        ensures { IsUnit (unit_tree self.now) }
+    {
+        let _ = &self.items;
+    }
+
+    /// The number of items.
+    pub fn items(&self) -> usize
+        ensures { result ≡ length self.now.items }
+    {
+        self.items.len()
+    }
+
+    /// The number of expressions, which is above each expression's number.
+    pub fn exprs(&self) -> usize
+        ensures { result ≡ length self.now.exprs }
+    {
+        self.exprs.len()
+    }
+
+    /// The number of statements, which is above each statement's number.
+    pub fn stmts(&self) -> usize
+        ensures { result ≡ length self.now.stmts }
+    {
+        self.stmts.len()
+    }
+
+    /// The bytes of a name.
+    pub fn name(&self, n: CNameId) -> &[u8]
+        requires { n.0 < length self.now.names }
+        ensures { result.now ≡ bytes_at self.now.names n.0 }
+    {
+        match self.names.get_index(n.0) {
+            Some(name) => name.as_slice(),
+            None => &[],
+        }
+    }
+
+    /// The bytes of a string.
+    pub fn string(&self, s: CStringId) -> &[u8]
+        requires { s.0 < length self.now.strings }
+        ensures { result.now ≡ bytes_at self.now.strings s.0 }
+    {
+        self.strings[s.0].as_slice()
+    }
+
+    /// Whether two names are spelt alike.
+    pub fn same_name(&self, a: CNameId, b: CNameId) -> bool
+        requires first { a.0 < length self.now.names }
+        requires second { b.0 < length self.now.names }
+        ensures { result ≡ bytes_eq (bytes_at self.now.names a.0) (bytes_at self.now.names b.0) }
+    {
+        let _known = self.names.len();
+        a == b
+    }
+
+    /// An expression's node.
+    pub fn expr(&self, e: CExprId) -> &CExpr
+        requires { e.0 < length self.now.exprs }
+        ensures tree { expr_of self.now e.0 ≡ made_expr self.now.names (expr_of self.now) result.now }
+        ensures fits { FitsExpr self.now e.0 result.now }
+    {
+        &self.exprs[e.0]
+    }
+
+    /// A statement's node.
+    pub fn stmt(&self, s: CStmtId) -> &CStmt
+        requires { s.0 < length self.now.stmts }
+        ensures tree { code_of self.now s.0 ≡ made_code self.now.names (expr_of self.now) (code_of self.now) result.now }
+        ensures fits { FitsStmt self.now s.0 result.now }
+    {
+        &self.stmts[s.0]
+    }
+
+    /// An item's node.
+    pub fn item(&self, i: CItemId) -> &CItem
+        requires { i.0 < length self.now.items }
+        ensures tree { slice_get (unit_tree self.now) i.0 ≡ Some (made_item self.now result.now) }
+        ensures fits { FitsItem self.now result.now }
+    {
+        &self.items[i.0]
+    }
+
+    /// The number of a name, which is added where the unit doesn't have it yet. After `NoMemory` the unit is as
+    /// before.
+    pub fn add_name(&mut self, name: &[u8]) -> Result<CNameId, NoMemory>
+        requires { IsName name.now }
+        ensures ok { IfOk result (λ n. AddsName self.old self.new name.now n.0) }
+        ensures err { OnErr result (self.new ≡ self.old) }
+    {
+        let Ok(owned) = Vec::from_slice(self.alloc, name) else {
+            return Err(NoMemory);
+        };
+        let Ok((n, _)) = self.names.insert_full(owned) else {
+            return Err(NoMemory);
+        };
+        Ok(CNameId(n))
+    }
+
+    /// Adds a string. After `NoMemory` the unit is as before.
+    pub fn add_string(&mut self, bytes: &[u8]) -> Result<CStringId, NoMemory>
+        requires { IsTrue (is_string bytes.now) }
+        ensures ok { IfOk result (λ s. (s.0 ≡ length self.old.strings) × (self.new ≡ record self.old { strings = self.old.strings ++ bytes.now ∷ [] })) }
+        ensures err { OnErr result (self.new ≡ self.old) }
+    {
+        let s = self.strings.len();
+        let Ok(owned) = CList::from_slice(self.alloc, bytes) else {
+            return Err(NoMemory);
+        };
+        let Ok(()) = self.strings.push(owned) else {
+            return Err(NoMemory);
+        };
+        Ok(CStringId(s))
+    }
+
+    /// Adds an expression whose parts this unit has made. After `NoMemory` the unit is as before.
+    pub fn add_expr(&mut self, e: CExpr) -> Result<CExprId, NoMemory>
+        requires { FitsExpr self.old (length self.old.exprs) e }
+        ensures ok { IfOk result (λ id. (id.0 ≡ length self.old.exprs) × (self.new ≡ record self.old { exprs = self.old.exprs ++ e ∷ [] }) × (expr_of self.new id.0 ≡ made_expr self.old.names (expr_of self.old) e)) }
+        ensures err { OnErr result (self.new ≡ self.old) }
+    {
+        let id = self.exprs.len();
+        let Ok(()) = self.exprs.push(e) else {
+            return Err(NoMemory);
+        };
+        Ok(CExprId(id))
+    }
+
+    /// Adds a statement whose parts this unit has made. After `NoMemory` the unit is as before.
+    pub fn add_stmt(&mut self, s: CStmt) -> Result<CStmtId, NoMemory>
+        requires { FitsStmt self.old (length self.old.stmts) s }
+        ensures ok { IfOk result (λ id. (id.0 ≡ length self.old.stmts) × (self.new ≡ record self.old { stmts = self.old.stmts ++ s ∷ [] }) × (code_of self.new id.0 ≡ made_code self.old.names (expr_of self.old) (code_of self.old) s)) }
+        ensures err { OnErr result (self.new ≡ self.old) }
+    {
+        let id = self.stmts.len();
+        let Ok(()) = self.stmts.push(s) else {
+            return Err(NoMemory);
+        };
+        Ok(CStmtId(id))
+    }
+
+    /// Adds an item at the end of the text, whose parts this unit has made. After `NoMemory` the unit is as
+    /// before.
+    pub fn add_item(&mut self, i: CItem) -> Result<CItemId, NoMemory>
+        requires { FitsItem self.old i }
+        ensures ok { IfOk result (λ id. (id.0 ≡ length self.old.items) × (self.new ≡ record self.old { items = self.old.items ++ i ∷ [] }) × (unit_tree self.new ≡ unit_tree self.old ++ made_item self.old i ∷ [])) }
+        ensures err { OnErr result (self.new ≡ self.old) }
+    {
+        let id = self.items.len();
+        let Ok(()) = self.items.push(i) else {
+            return Err(NoMemory);
+        };
+        Ok(CItemId(id))
+    }
+}
