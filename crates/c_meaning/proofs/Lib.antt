@@ -1,0 +1,16 @@
+pub mod ApartCalls
+pub mod ApartFirst
+pub mod ApartSteps
+pub mod HostTyped
+pub mod Jumps
+pub mod KeptSteps
+pub mod Operators
+pub mod Raised
+pub mod ReachExprs
+pub mod ReachMemory
+pub mod ReachSteps
+pub mod Stores
+pub mod Text
+pub mod TypedLaws
+pub mod Untouched
+pub mod Weights

@@ -1,0 +1,201 @@
+-- The memory of C: objects, their fields and the cells of these (ISO/IEC 9899:1999, 6.2.4, 6.5.2, 6.5.6, 7.21). An
+-- object is named by its number. What isn't defined answers None.
+use Rattle.std.specs.Prelude.{ℕ, ◌+◌, ◌/◌, ◌%◌, ◌^◌, Bool, true, false, ◌&&◌, if◌then◌else◌, nat_eq, nat_lt, nat_le, List, [], ◌∷◌, ◌++◌, length, map, take, drop, slice_get, slice_set, slice_range, Option, Some, None, option_map, option_and_then, unwrap_or, ℤ, pos, negsuc, ◌+ℤ◌}
+use Rattle.std.specs.List.{list_any, list_all}
+use Rattle.wf_num.specs.declared.c_arithmetic.CTy.TheVariants.{Int, U32, U64}
+use Rattle.wf_num.specs.CArithmetic.{modulo}
+use Rattle.c_meaning.specs.CValues.{number, whole, is_nonzero, Pointer, Value, numeric, address, null_pointer}
+
+-- What the cells of a field hold. `uint64_t` and `size_t` are one kind of cell, and so are `uint8_t` and the bytes of
+-- a string.
+pub data CellType : Type 0 where
+  u8 : CellType
+  u16 : CellType
+  u32 : CellType
+  u64 : CellType
+  flag : CellType
+  pointer : CellType
+
+pub data Cell : Type 0 where
+  num : ℕ → Cell
+  null : Cell
+  at : Pointer → Cell
+  unset : Cell
+
+-- A field has cells of one type, or holds an object of its own, which is inside this one and has a greater number.
+pub data Field : Type 0 where
+  cells : CellType → List Cell → Field
+  part : (object : ℕ) → Field
+
+abbrev pub Object : Type 0
+Object = List Field
+
+-- Each object's number is its place.
+abbrev pub Memory : Type 0
+Memory = List Object
+
+-- How many bits a number's cell has, and how many bytes. Nothing says how many bytes a flag or a pointer has.
+abbrev pub bits_of : CellType → Option ℕ
+bits_of u8 = Some 8
+bits_of u16 = Some 16
+bits_of u32 = Some 32
+bits_of u64 = Some 64
+bits_of flag = None
+bits_of pointer = None
+
+abbrev pub bytes_of : CellType → Option ℕ
+bytes_of type = option_map (λ bits. bits / 8) (bits_of type)
+
+-- What a cell of a type holds once a value is assigned to it, with the conversion that this makes (6.3.1.2, 6.3.1.3,
+-- 6.3.2.3p3, 6.5.16.1p2). A number assigned to a pointer is the literal 0.
+abbrev pub cell_of : CellType → Value → Option Cell
+cell_of u8 (numeric n) = Some (num (modulo (whole n) (2 ^ 8)))
+cell_of u16 (numeric n) = Some (num (modulo (whole n) (2 ^ 16)))
+cell_of u32 (numeric n) = Some (num (modulo (whole n) (2 ^ 32)))
+cell_of u64 (numeric n) = Some (num (modulo (whole n) (2 ^ 64)))
+cell_of flag (numeric n) = Some (num (if is_nonzero n then 1 else 0))
+cell_of pointer (numeric n) = Some null
+cell_of pointer null_pointer = Some null
+cell_of pointer (address p) = Some (at p)
+cell_of type v = None
+
+-- The value of a cell, promoted (6.3.1.1p2). An unset one has none (6.3.2.1p2, 6.7.8p10).
+abbrev pub value_of : CellType → Cell → Option Value
+value_of type unset = None
+value_of u32 (num n) = Some (numeric (number U32 n))
+value_of u64 (num n) = Some (numeric (number U64 n))
+value_of pointer (num n) = None
+value_of type (num n) = Some (numeric (number Int n))
+value_of pointer null = Some null_pointer
+value_of pointer (at p) = Some (address p)
+value_of type cell = None
+
+abbrev pub field_at : Memory → (object field : ℕ) → Option Field
+field_at memory object field = option_and_then (λ fields. slice_get fields field) (slice_get memory object)
+
+-- The type of a field's cells, and the cells.
+abbrev pub cells_of : Field → Option (CellType × List Cell)
+cells_of (cells type them) = Some (type, them)
+cells_of (part object) = None
+
+abbrev pub cells_at : Memory → (object field : ℕ) → Option (CellType × List Cell)
+cells_at memory object field = option_and_then cells_of (field_at memory object field)
+
+-- The cell that a pointer names, with its type.
+abbrev pub cell_at : Memory → Pointer → Option (CellType × Cell)
+cell_at memory p = option_and_then (λ found. option_map (λ cell. (found.0, cell)) (slice_get found.1 p.index)) (cells_at memory p.object p.field)
+
+-- The object inside that a field holds.
+abbrev pub part_of : Field → Option ℕ
+part_of (cells type them) = None
+part_of (part object) = Some object
+
+abbrev pub part_at : Memory → (object field : ℕ) → Option ℕ
+part_at memory object field = option_and_then part_of (field_at memory object field)
+
+-- Reading a cell; undefined outside the field, and where the cell is unset.
+abbrev pub set_cell : Cell → Option Cell
+set_cell unset = None
+set_cell cell = Some cell
+
+abbrev pub load : Memory → Pointer → Option Cell
+load memory p = option_and_then (λ found. set_cell found.1) (cell_at memory p)
+
+abbrev pub loaded : Memory → Pointer → Option Value
+loaded memory p = option_and_then (λ found. value_of found.0 found.1) (cell_at memory p)
+
+-- Memory with another field in place of one.
+abbrev pub object_at : Memory → (object : ℕ) → Object
+object_at memory object = unwrap_or (slice_get memory object) []
+
+abbrev pub with_field : (object field : ℕ) → Field → Memory → Memory
+with_field object field now memory = slice_set memory object (slice_set (object_at memory object) field now)
+
+-- Writing a cell; undefined outside the field.
+abbrev pub written : Memory → Pointer → Cell → CellType × List Cell → Option Memory
+written memory p cell found = if nat_lt p.index (length found.1) then Some (with_field p.object p.field (cells found.0 (slice_set found.1 p.index cell)) memory) else None
+
+abbrev pub store : Memory → Pointer → Cell → Option Memory
+store memory p cell = option_and_then (written memory p cell) (cells_at memory p.object p.field)
+
+-- Assignment of a value to the cell that a pointer names.
+abbrev pub stored : Memory → Pointer → Value → Option Memory
+stored memory p v = option_and_then (λ cell. store memory p cell) (option_and_then (λ found. cell_of found.0 v) (cell_at memory p))
+
+-- A pointer moved by so many cells; undefined outside the field and one past it (6.5.6p8).
+abbrev pub within : ℕ → ℤ → Option ℕ
+within most (pos n) = if nat_le n most then Some n else None
+within most (negsuc n) = None
+
+abbrev pub moved_in : ℕ → Pointer → ℤ → Option Pointer
+moved_in most p z = option_map (λ index. record p { index = index }) (within most (pos p.index +ℤ z))
+
+abbrev pub offset : Memory → Pointer → ℤ → Option Pointer
+offset memory p z = option_and_then (λ found. moved_in (length found.1) p z) (cells_at memory p.object p.field)
+
+-- A pointer to a whole object counts as one to the only element of an array (6.5.6p7).
+abbrev pub offset_object : Pointer → ℤ → Option Pointer
+offset_object p z = moved_in 1 p z
+
+-- `memmove` (7.21.2.2): `bytes` bytes, which are whole cells that are set, come to stand at `to`, as they were before.
+-- Undefined beyond a field, at a part of a cell, and between cells of different types, but for 0 bytes.
+abbrev pub is_set : Cell → Bool
+is_set unset = false
+is_set cell = true
+
+abbrev pub same_type : CellType → CellType → Bool
+same_type u8 u8 = true
+same_type u16 u16 = true
+same_type u32 u32 = true
+same_type u64 u64 = true
+same_type flag flag = true
+same_type pointer pointer = true
+same_type a b = false
+
+-- How many cells of a type so many bytes are.
+abbrev pub whole_cells : CellType → ℕ → Option ℕ
+whole_cells type bytes = option_and_then (λ size. if nat_eq (bytes % size) 0 then Some (bytes / size) else None) (bytes_of type)
+
+abbrev pub copied : Memory → (to from : Pointer) → (count : ℕ) → (target source : CellType × List Cell) → Option Memory
+copied memory to from count target source =
+    if same_type target.0 source.0 && (nat_le (from.index + count) (length source.1) && (nat_le (to.index + count) (length target.1) && list_all is_set (slice_range source.1 from.index (from.index + count))))
+    then Some (with_field to.object to.field (cells target.0 (take to.index target.1 ++ (slice_range source.1 from.index (from.index + count) ++ drop (to.index + count) target.1))) memory)
+    else None
+
+abbrev pub exists : CellType × List Cell → ℕ → Bool
+exists found index = nat_le index (length found.1)
+
+abbrev pub moved : Memory → (to from : Pointer) → (bytes : ℕ) → (target source : CellType × List Cell) → Option Memory
+moved memory to from bytes target source =
+    if nat_eq bytes 0
+    then (if exists target to.index && exists source from.index then Some memory else None)
+    else option_and_then (λ count. copied memory to from count target source) (whole_cells source.0 bytes)
+
+abbrev pub move_bytes : Memory → (to from : Pointer) → (bytes : ℕ) → Option Memory
+move_bytes memory to from bytes = option_and_then (λ target. option_and_then (λ source. moved memory to from bytes target source) (cells_at memory from.object from.field)) (cells_at memory to.object to.field)
+
+-- `memset` of a whole object with 0 (7.21.6.1): numbers become zero, flags false and pointers null, in the object and in
+-- every object inside it. The objects inside have greater numbers, so all are met in one pass.
+abbrev pub zero_cell : CellType → Cell
+zero_cell pointer = null
+zero_cell type = num 0
+
+abbrev pub zero_field : Field → Field
+zero_field (cells type them) = cells type (map (λ _. zero_cell type) them)
+zero_field (part object) = part object
+
+abbrev pub parts_of : Object → List ℕ
+parts_of [] = []
+parts_of (cells type them ∷ fields) = parts_of fields
+parts_of (part object ∷ fields) = object ∷ parts_of fields
+
+abbrev pub contains : List ℕ → ℕ → Bool
+contains numbers k = list_any (nat_eq k) numbers
+
+abbrev pub zeroed_from : (number : ℕ) → (wanted : List ℕ) → Memory → Memory
+zeroed_from number wanted [] = []
+zeroed_from number wanted (object ∷ objects) =
+    (if contains wanted number then map zero_field object else object) ∷ zeroed_from (number + 1) (if contains wanted number then parts_of object ++ wanted else wanted) objects
+
+abbrev pub zeroed : Memory → (object : ℕ) → Option Memory
+zeroed memory object = if nat_lt object (length memory) then Some (zeroed_from 0 (object ∷ []) memory) else None
