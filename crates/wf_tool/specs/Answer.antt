@@ -1,0 +1,100 @@
+-- The answer of the program: for its words and what its inputs hold, how it ends and what it writes.
+use Rattle.std.specs.Prelude.{ℕ, List, [], ◌∷◌, length, take, Option, None, Some, IfSome, ◌≡◌, ◌≤◌, ◌<◌}
+use Rattle.std.specs.Io.KnownBytes.{Appends, Keeps}
+use Rattle.wf_text.specs.declared.rules.Refusal.{Refusal}
+use Rattle.wf_tool.specs.declared.ending.Ending.{Ending}
+use Rattle.wf_tool.specs.declared.ending.Ending.TheVariants.{Done, Refused, Usage, InputFault, OutputFault, ScriptRefused, NoMemory, Turns, TextRefused, Undefined}
+use Rattle.wf_tool.specs.Lines.{accepted_line, fault_line, refused_line, usage_line}
+use Rattle.wf_tool.specs.Verdict.{IsAccepted, IsRefused}
+use Rattle.wf_tool.specs.Words.{files_of}
+
+-- The words name this one file to be checked.
+abbrev pub NamesFile : List (List ℕ) → List ℕ → Type 0
+NamesFile words file = files_of words ≡ Some (file ∷ [])
+
+-- The file was refused, where its bytes are told.
+pub record CallsForRefusal (held : List ℕ → Option (List ℕ)) (words : List (List ℕ)) (line : List ℕ) : Type 0 where
+  pub file : List ℕ
+  pub refusal : Refusal
+  pub named : NamesFile words file
+  pub writes : line ≡ refused_line file refusal
+  pub verdict : IfSome (held file) (λ bytes. IsRefused bytes refusal)
+
+-- The file was accepted, where its bytes are told.
+pub record CallsForDone (held : List ℕ → Option (List ℕ)) (words : List (List ℕ)) (line : List ℕ) : Type 0 where
+  pub file : List ℕ
+  pub named : NamesFile words file
+  pub writes : line ≡ accepted_line
+  pub verdict : IfSome (held file) (λ bytes. IsAccepted bytes)
+
+-- An input failed: one that the words name, and the last failed one, where that is told.
+pub record CallsForFault (failed : Option (List ℕ)) (words : List (List ℕ)) (line : List ℕ) : Type 0 where
+  pub file : List ℕ
+  pub named : NamesFile words file
+  pub writes : line ≡ fault_line file
+  pub last : IfSome failed (λ name. name ≡ file)
+
+-- These words, over inputs that hold this and of which this failed last, call for this ending and this line. The
+-- other endings come with no line.
+abbrev pub CallFor : (held : List ℕ → Option (List ℕ)) → (failed : Option (List ℕ)) → (words : List (List ℕ)) → Ending → (line : List ℕ) → Type 0
+CallFor held failed words Done line = CallsForDone held words line
+CallFor held failed words Refused line = CallsForRefusal held words line
+CallFor held failed words Usage line = (files_of words ≡ None) × (line ≡ usage_line)
+CallFor held failed words InputFault line = CallsForFault failed words line
+CallFor held failed words OutputFault line = ⊥
+CallFor held failed words ScriptRefused line = ⊥
+CallFor held failed words NoMemory line = ⊥
+CallFor held failed words Turns line = ⊥
+CallFor held failed words TextRefused line = ⊥
+CallFor held failed words Undefined line = ⊥
+
+-- The inputs' count of faults rises where an input fault is the ending. It may have risen where memory or the
+-- output failed, and has not at every other ending.
+abbrev pub CountsInputs : (before now : ℕ) → Ending → Type 0
+CountsInputs before now InputFault = before < now
+CountsInputs before now OutputFault = before ≤ now
+CountsInputs before now NoMemory = before ≤ now
+CountsInputs before now _ = now ≡ before
+
+-- The sink's count rises where an output fault is the ending, and only there.
+abbrev pub CountsSink : (before now : ℕ) → Ending → Type 0
+CountsSink before now OutputFault = before < now
+CountsSink before now _ = now ≡ before
+
+-- What the words are answered from: what the inputs hold, the name that failed last, and the words themselves.
+pub record Asked : Type 0 where
+  pub held : List ℕ → Option (List ℕ)
+  pub failed : Option (List ℕ)
+  pub words : List (List ℕ)
+
+-- The sink, where it tells, has gained the line that is called for.
+pub record WritesLine (asked : Asked) (old new : Option (List ℕ)) (ending : Ending) : Type 0 where
+  pub line : List ℕ
+  pub calls : CallFor asked.held asked.failed asked.words ending line
+  pub wrote : Appends old new line
+
+-- The sink, where it tells, has gained the first bytes of a line that is called for. Where it tells a room, the
+-- room didn't hold the line.
+pub record WritesPart (asked : Asked) (before now : ℕ) (old new : Option (List ℕ)) (room : Option ℕ) : Type 0 where
+  pub ending : Ending
+  pub line : List ℕ
+  pub gone : ℕ
+  pub calls : CallFor asked.held asked.failed asked.words ending line
+  pub counts : CountsInputs before now ending
+  pub wrote : Appends old new (take gone line)
+  pub lacking : IfSome room (λ left. left < length line)
+
+-- What is written with each ending. `before` and `now` count the inputs' faults, `old` and `new` are the sink's
+-- bytes, and `room` is the room that it had.
+abbrev pub Writes : (asked : Asked) → (before now : ℕ) → (old new : Option (List ℕ)) → (room : Option ℕ) → Ending → Type 0
+Writes asked before now old new room OutputFault = WritesPart asked before now old new room
+Writes asked before now old new room NoMemory = Keeps old new
+Writes asked before now old new room ending = WritesLine asked old new ending
+
+-- With no fault, the ending and the line are those that the words and the told bytes call for; or memory was
+-- refused, and nothing was written.
+abbrev pub IsAnswered : (asked : Asked) → (old new : Option (List ℕ)) → Ending → Type 0
+IsAnswered asked old new InputFault = ⊥
+IsAnswered asked old new OutputFault = ⊥
+IsAnswered asked old new NoMemory = Keeps old new
+IsAnswered asked old new ending = WritesLine asked old new ending

@@ -1,0 +1,10 @@
+pub mod Answer
+pub mod Grammar
+pub mod Judged
+pub mod Lines
+pub mod Progress
+pub mod StatusRule
+pub mod Statuses
+pub mod TypeRules
+pub mod Verdict
+pub mod Words

@@ -1,0 +1,39 @@
+// The lines that the program writes.
+
+ghost use Rattle.std.specs.Prelude.{◌≡◌, IfOk, string_bytes};
+ghost use Rattle.wf_tool.specs.Lines.{accepted_line, fault_line, refused_line, usage_line};
+
+use std::alloc::{AllocError, Global};
+use wf_text::{Refusal, rule_name};
+
+/// What words get that are no command form.
+pub fn usage_line(alloc: Global) -> Result<String, AllocError>
+    ensures { IfOk result (λ line. string_bytes line ≡ usage_line) }
+{
+    String::from_str(alloc, "usage: wuffsc COMMAND PKG [SCRIPT] FILE\n")
+}
+
+/// What an accepted package gets.
+pub fn accepted_line(alloc: Global) -> Result<String, AllocError>
+    ensures { IfOk result (λ line. string_bytes line ≡ accepted_line) }
+{
+    String::from_str(alloc, "ok 0 methods\n")
+}
+
+/// `refused RULE FILE:LINE:COL`
+#[tactic(auto, unfolding(crate::specs::Lines::refused_line))]
+pub fn refused_line(alloc: Global, file: &str, refusal: Refusal) -> Result<String, AllocError>
+    ensures { IfOk result (λ line. string_bytes line ≡ refused_line file.now refusal) }
+{
+    let rule = rule_name(refusal.rule);
+    let line = refusal.at.line;
+    let col = refusal.at.col;
+    format!(in alloc; "refused {rule} {file}:{line}:{col}\n")
+}
+
+/// `input fault FILE`
+pub fn fault_line(alloc: Global, file: &str) -> Result<String, AllocError>
+    ensures { IfOk result (λ line. string_bytes line ≡ fault_line file.now) }
+{
+    format!(in alloc; "input fault {file}\n")
+}

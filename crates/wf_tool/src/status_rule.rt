@@ -1,0 +1,46 @@
+// The rule of status texts: one begins with `#`, `$` or `@`, has something behind it, and has no two `?` in a row.
+
+ghost use Rattle.std.specs.Prelude.{◌≡◌, ◌≤◌, length, false};
+ghost use Rattle.wf_tool.specs.StatusRule.{doubles_question, inside_quotes, is_kind, is_lawful_status};
+
+use wf_text::{Category, status_text};
+
+/// What stands between the quotes of a text.
+pub fn inside_quotes(text: &[u8]) -> &[u8]
+    ensures { result.now ≡ inside_quotes text.now }
+{
+    let (_, rest) = text.split_at(text.len().min(1));
+    let (inside, _) = rest.split_at(rest.len().saturating_sub(1));
+    inside
+}
+
+/// Whether a text, without its quotes, is a status text.
+pub fn is_lawful_status(text: &[u8]) -> bool
+    ensures { result ≡ is_lawful_status text.now }
+{
+    is_kind(status_text::category(text)) && text.len() > 1 && !doubles_question(text)
+}
+
+fn is_kind(category: Category) -> bool
+    ensures { result ≡ is_kind category }
+{
+    match category {
+        Category::Fine => false,
+        Category::Note | Category::Suspension | Category::Fault => true,
+    }
+}
+
+// Whether a `?` stands directly behind a `?`.
+fn doubles_question(text: &[u8]) -> bool
+    ensures { result ≡ doubles_question false text.now }
+{
+    let mut behind = false;
+    for byte in text {
+        let question = *byte == b'?';
+        if behind && question {
+            return true;
+        }
+        behind = question;
+    }
+    false
+}

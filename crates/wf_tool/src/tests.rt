@@ -1,0 +1,226 @@
+// The worked rows of `check`, over inputs and sinks in memory; faults; files that are cut or have a byte spoilt.
+
+use crate::ending::Ending;
+use crate::tool::wuffs_tool;
+use std::alloc::{AllocError, Global};
+use std::test::Fail;
+use wf_outside::{MemInputs, MemSink, PureInputs, PureSink};
+
+const SAMPLE: &[u8] =
+    b"pub status \"#not a digit\" // a status\npri const X : base.u8 = 0xF_F; pub const y:base.u64=0\n";
+
+const USAGE: &str = "usage: wuffsc COMMAND PKG [SCRIPT] FILE\n";
+
+// Words that spaces separate.
+fn words_of(alloc: Global, line: &str) -> Result<Vec<String>, AllocError> {
+    let mut words = Vec::new(alloc);
+    for word in line.split_whitespace() {
+        words.push(String::from_str(alloc, word)?)?;
+    }
+    Ok(words)
+}
+
+// One file under the name `k.wuffs`.
+fn one_file(alloc: Global, bytes: &[u8]) -> Result<Vec<(String, Vec<u8>)>, AllocError> {
+    let name = String::from_str(alloc, "k.wuffs")?;
+    let bytes = Vec::from_slice(alloc, bytes)?;
+    let mut held = Vec::new(alloc);
+    held.push((name, bytes))?;
+    Ok(held)
+}
+
+// How the program ends and what it writes, over one file, with inputs and a sink that fail where they are told to.
+fn outcome(
+    alloc: Global,
+    words: &str,
+    bytes: &[u8],
+    failing: &[u64],
+    gone: &[(u64, usize)],
+) -> Result<(Ending, Vec<u8>), AllocError> {
+    let words = words_of(alloc, words)?;
+    let failing = Vec::from_slice(alloc, failing)?;
+    let mut inputs = MemInputs::new(alloc, one_file(alloc, bytes)?, failing);
+    let gone = Vec::from_slice(alloc, gone)?;
+    let Ok(mut sink) = MemSink::new(alloc, gone, 200) else {
+        return Err(AllocError);
+    };
+    let ending = wuffs_tool(alloc, words.as_slice(), &mut inputs, &mut sink);
+    Ok((ending, Vec::from_slice(alloc, sink.written())?))
+}
+
+// Whether the program ends so and writes this, with no fault.
+fn answers(
+    alloc: Global,
+    words: &str,
+    bytes: &[u8],
+    ending: Ending,
+    line: &str,
+) -> Result<bool, AllocError> {
+    let (came, written) = outcome(alloc, words, bytes, &[], &[])?;
+    Ok(came == ending && written.as_slice() == line.as_bytes())
+}
+
+// Whether a file is accepted or refused, and nothing else.
+fn is_judged(alloc: Global, bytes: &[u8]) -> Result<bool, AllocError> {
+    let (ending, _) = outcome(alloc, "check k k.wuffs", bytes, &[], &[])?;
+    Ok(ending == Ending::Done || ending == Ending::Refused)
+}
+
+#[test]
+fn judges_files(rt: HostRuntime) -> Result<(), Fail> {
+    let rows: [(&[u8], &str); 22] = [
+        (b"", "ok 0 methods\n"),
+        (SAMPLE, "ok 0 methods\n"),
+        (b"pri const X : base.u8 = 256", "refused T5 k.wuffs:1:25\n"),
+        (b"pri const X : base.u8 = 255", "ok 0 methods\n"),
+        (b"pri const X : base.u8 256\n", "refused S5 k.wuffs:1:23\n"),
+        (b"pri const X\n", "refused S5 k.wuffs:1:12\n"),
+        (b"pri const X", "refused S5 k.wuffs:1:12\n"),
+        (b"pri const X : base.u8 =", "refused S5 k.wuffs:1:24\n"),
+        (
+            b"pri const X : base.bool = 1\n",
+            "refused T1 k.wuffs:1:15\n",
+        ),
+        (b"pri const X : base.u8 = $\n", "refused S1 k.wuffs:1:25\n"),
+        (b"pub status \"#a\n", "refused S2 k.wuffs:1:12\n"),
+        (b"pri const X : base.u8 = 01\n", "refused S3 k.wuffs:1:25\n"),
+        (
+            b"pri const X : base.u8 = 0b2\n",
+            "refused S3 k.wuffs:1:25\n",
+        ),
+        (
+            b"pri const X : base.u64 = 18446744073709551616\n",
+            "refused S4 k.wuffs:1:26\n",
+        ),
+        (
+            b"pub status \"a\"\npri const X : base.u8 = $",
+            "refused S1 k.wuffs:2:25\n",
+        ),
+        (
+            b"pub status \"a\"\npri const X : base.u8 = 256",
+            "refused T5 k.wuffs:1:12\n",
+        ),
+        (b"pub status \"#\"", "refused T5 k.wuffs:1:12\n"),
+        (b"pub status \"#a??\"", "refused T5 k.wuffs:1:12\n"),
+        (b"pub status \"#a?b?\"", "ok 0 methods\n"),
+        (b"pub struct s()", "refused N9 k.wuffs:1:5\n"),
+        (b"pub status ok", "refused N9 k.wuffs:1:12\n"),
+        (
+            b"pri const X : base.u16 = 65536; pub",
+            "refused S5 k.wuffs:1:36\n",
+        ),
+    ];
+    for (bytes, line) in rows {
+        let ending = if line.starts_with("ok") {
+            Ending::Done
+        } else {
+            Ending::Refused
+        };
+        let good = answers(rt.alloc(), "check k k.wuffs", bytes, ending, line)?;
+        assert!(rt; good, "{line}");
+    }
+    Ok(())
+}
+
+#[test]
+fn knows_its_words(rt: HostRuntime) -> Result<(), Fail> {
+    let lines = [
+        "",
+        "check",
+        "check k",
+        "frob k k.wuffs",
+        "check K k.wuffs",
+        "check base k.wuffs",
+        "check abcdefghijklmnopqrstuvwxyz0123456 k.wuffs",
+        "check k k.wuffs k.wuffs",
+    ];
+    for line in lines {
+        assert!(rt;
+            answers(rt.alloc(), line, b"", Ending::Usage, USAGE)?,
+            "{line}"
+        );
+    }
+    let longest = "check abcdefghijklmnopqrstuvwxyz_12345 k.wuffs";
+    assert!(rt; answers(rt.alloc(), longest, b"", Ending::Done, "ok 0 methods\n")?);
+    Ok(())
+}
+
+#[test]
+fn tells_faults(rt: HostRuntime) -> Result<(), Fail> {
+    let check = "check k k.wuffs";
+    let (ending, written) = outcome(rt.alloc(), check, SAMPLE, &[0], &[])?;
+    assert_eq!(rt; ending, Ending::InputFault);
+    assert_eq!(rt; written.as_slice(), b"input fault k.wuffs\n".as_slice());
+    let absent = "input fault other\n";
+    assert!(rt;
+        answers(
+            rt.alloc(),
+            "check k other",
+            SAMPLE,
+            Ending::InputFault,
+            absent
+        )?
+    );
+    let (ending, written) = outcome(rt.alloc(), check, SAMPLE, &[], &[(0, 1)])?;
+    assert_eq!(rt; ending, Ending::OutputFault);
+    assert_eq!(rt; written.as_slice(), b"o".as_slice());
+    Ok(())
+}
+
+// Whether a pure sink with this room ends the sample so, with these bytes written.
+fn fills(alloc: Global, room: usize, ending: Ending, line: &[u8]) -> Result<bool, AllocError> {
+    let words = words_of(alloc, "check k k.wuffs")?;
+    let mut inputs = PureInputs::new(one_file(alloc, SAMPLE)?);
+    let Ok(mut sink) = PureSink::with_room(alloc, room) else {
+        return Err(AllocError);
+    };
+    let came = wuffs_tool(alloc, words.as_slice(), &mut inputs, &mut sink);
+    Ok(came == ending && sink.written() == line)
+}
+
+#[test]
+fn keeps_to_the_room(rt: HostRuntime) -> Result<(), Fail> {
+    assert!(rt; fills(rt.alloc(), 13, Ending::Done, b"ok 0 methods\n")?);
+    assert!(rt; fills(rt.alloc(), 12, Ending::OutputFault, b"")?);
+    Ok(())
+}
+
+#[test]
+fn judges_spoilt_files(rt: HostRuntime) -> Result<(), Fail> {
+    for count in 0..SAMPLE.len() {
+        let (front, _) = SAMPLE.split_at(count);
+        assert!(rt; is_judged(rt.alloc(), front)?, "the first {count} bytes");
+    }
+    for spoilt in 0..SAMPLE.len() {
+        let mut bytes = Vec::new(rt.alloc());
+        for (place, byte) in SAMPLE.iter().enumerate() {
+            bytes.push(if place == spoilt { 0 } else { *byte })?;
+        }
+        assert!(rt;
+            is_judged(rt.alloc(), bytes.as_slice())?,
+            "byte {spoilt} is 0"
+        );
+    }
+    Ok(())
+}
+
+#[test]
+fn counts_endings(rt: HostRuntime) {
+    let endings = [
+        Ending::Done,
+        Ending::Refused,
+        Ending::Usage,
+        Ending::InputFault,
+        Ending::OutputFault,
+        Ending::ScriptRefused,
+        Ending::NoMemory,
+        Ending::Turns,
+        Ending::TextRefused,
+        Ending::Undefined,
+    ];
+    let mut status = 0u8;
+    for ending in endings {
+        assert_eq!(rt; ending.status(), status);
+        status = status.saturating_add(1);
+    }
+}
