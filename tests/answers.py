@@ -1,0 +1,83 @@
+#!/usr/bin/env python3
+"""Runs the built program on real files and compares what it writes and how it ends with answers written by hand.
+
+usage: answers.py PROGRAM [NAME]    only the answers whose name has NAME in it
+Each answer has a folder of its own, and nothing but its files. Prints what differs; the last line counts.
+"""
+import os
+import pathlib
+import subprocess
+import sys
+import tempfile
+
+USAGE = "usage: wuffsc COMMAND PKG [SCRIPT] FILE\n"
+
+# name, files, words, what is written, exit status
+ANSWERS = [
+    ("an empty file", {"e.wuffs": b""}, "check demo e.wuffs", "ok 0 methods\n", 0),
+    ("statuses and a constant", {"demo.wuffs": b'pub status "#not a digit"\npri const LIMIT : base.u32 = 429_496729\n'},
+     "check demo demo.wuffs", "ok 0 methods\n", 0),
+    ("the greatest number", {"m.wuffs": b"pri const MOST : base.u64 = 0xFFFF_FFFF_FFFF_FFFF"}, "check m m.wuffs", "ok 0 methods\n", 0),
+    ("a constant above its type", {"c.wuffs": b"// one line\npri const X : base.u8 = 256\n"}, "check c c.wuffs", "refused T5 c.wuffs:2:25\n", 1),
+    ("a status without a kind", {"s.wuffs": b'pub status "done"'}, "check s s.wuffs", "refused T5 s.wuffs:1:12\n", 1),
+    ("a status that could begin a trigraph", {"s.wuffs": b'pub status "#what??"'}, "check s s.wuffs", "refused T5 s.wuffs:1:12\n", 1),
+    ("a type that is no number", {"t.wuffs": b"pri const X : base.bool = 1\n"}, "check t t.wuffs", "refused T1 t.wuffs:1:15\n", 1),
+    ("a missing equals sign", {"t.wuffs": b"pri const X : base.u8 256\n"}, "check t t.wuffs", "refused S5 t.wuffs:1:23\n", 1),
+    ("a file that ends in a declaration", {"t.wuffs": b"pri const X"}, "check t t.wuffs", "refused S5 t.wuffs:1:12\n", 1),
+    ("a byte that is no token", {"t.wuffs": b"pri const X : base.u8 = @\n"}, "check t t.wuffs", "refused S1 t.wuffs:1:25\n", 1),
+    ("a text that isn't closed", {"t.wuffs": b'pub status "#a\n'}, "check t t.wuffs", "refused S2 t.wuffs:1:12\n", 1),
+    ("a leading zero", {"t.wuffs": b"pri const X : base.u8 = 01\n"}, "check t t.wuffs", "refused S3 t.wuffs:1:25\n", 1),
+    ("a binary number without digits", {"t.wuffs": b"pri const X : base.u8 = 0b\n"}, "check t t.wuffs", "refused S3 t.wuffs:1:25\n", 1),
+    ("a number of more than 64 bits", {"t.wuffs": b"pri const X : base.u64 = 18446744073709551616\n"},
+     "check t t.wuffs", "refused S4 t.wuffs:1:26\n", 1),
+    ("a megabyte of spaces", {"t.wuffs": b" " * 1048576}, "check t t.wuffs", "ok 0 methods\n", 0),
+    ("one byte more", {"t.wuffs": b" " * 1048577}, "check t t.wuffs", "refused L1 t.wuffs:1:1\n", 1),
+    ("a megabyte of one comment", {"t.wuffs": b"//" + b"x" * 1048574}, "check t t.wuffs", "ok 0 methods\n", 0),
+    ("a file that isn't there", {}, "check t t.wuffs", "input fault t.wuffs\n", 3),
+    ("a folder in place of a file", {"t.wuffs/x": b""}, "check t t.wuffs", "input fault t.wuffs\n", 3),
+    ("no words", {}, "", USAGE, 2),
+    ("an unknown command", {"t.wuffs": b""}, "chek t t.wuffs", USAGE, 2),
+    ("a package name in capitals", {"t.wuffs": b""}, "check T t.wuffs", USAGE, 2),
+    ("the package base", {"t.wuffs": b""}, "check base t.wuffs", USAGE, 2),
+    ("a package name of 33 bytes", {"t.wuffs": b""}, "check " + "a" * 33 + " t.wuffs", USAGE, 2),
+    ("a package name of 32 bytes", {"t.wuffs": b""}, "check " + "a" * 32 + " t.wuffs", "ok 0 methods\n", 0),
+]
+
+
+def run(program, files, words):
+    with tempfile.TemporaryDirectory() as folder:
+        for name, data in files.items():
+            path = pathlib.Path(folder, name)
+            path.parent.mkdir(exist_ok=True)
+            path.write_bytes(data)
+        ended = subprocess.run([program, *words.split()], cwd=folder, stdin=subprocess.DEVNULL, capture_output=True, timeout=60)
+        return ended.stdout.decode(errors="replace"), ended.returncode
+
+
+def main():
+    program = os.path.abspath(sys.argv[1])
+    wanted = sys.argv[2] if len(sys.argv) > 2 else ""
+    passed = failed = 0
+    for name, files, words, out, status in ANSWERS:
+        if wanted not in name:
+            continue
+        came = run(program, files, words)
+        if came == (out, status):
+            passed += 1
+        else:
+            failed += 1
+            print(f"{name}: {words[:80]}\n  wanted {(out, status)!r}\n  came   {came!r}")
+    # Standard output that takes nothing: the program ends with the status of an output fault.
+    if not wanted and os.path.exists("/dev/full"):
+        with open("/dev/full", "wb") as full:
+            status = subprocess.run([program], stdin=subprocess.DEVNULL, stdout=full, timeout=60).returncode
+        passed += status == 4
+        failed += status != 4
+        if status != 4:
+            print(f"a full output: wanted status 4, came {status}")
+    print(f"{passed} passed, {failed} failed")
+    return failed > 0
+
+
+if __name__ == "__main__":
+    sys.exit(main())
