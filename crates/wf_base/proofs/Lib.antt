@@ -1,2 +1,7 @@
 pub mod TableLemmas
-pub mod Examples
+pub mod TableExamples
+pub mod ReaderExamples
+pub mod WriterExamples
+pub mod SliceExamples
+pub mod BufferExamples
+pub mod StatusExamples

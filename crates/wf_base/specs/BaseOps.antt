@@ -1,5 +1,5 @@
 -- The base operations: what the base methods and the host do with a buffer, and what copies do with lists.
-use Rattle.std.specs.Prelude.{ℕ, ◌+◌, ◌-◌, ◌*◌, ◌^◌, ◌<◌, ◌≤◌, min, Bool, true, false, List, [], ◌∷◌, ◌++◌, length, take, drop, reverse, replicate, slice_get, slice_range, slice_set, Option, All, if◌then◌else◌}
+use Rattle.std.specs.Prelude.{ℕ, ◌+◌, ◌-◌, ◌*◌, ◌^◌, ◌<◌, ◌≤◌, min, nat_lt, nat_le, ◌&&◌, Bool, true, false, List, [], ◌∷◌, ◌++◌, length, take, drop, reverse, replicate, slice_get, slice_range, slice_set, Option, All, if◌then◌else◌}
 use Rattle.wf_text.specs.Seen.{SeenBuffer}
 
 -- `cells` are all bytes of the buffer, as many as it can hold. Those in front of `ri` were read, those from `ri` to
@@ -57,6 +57,14 @@ taken count buffer = take count (unread buffer)
 abbrev pub skipped : (count : ℕ) → Buffer → Buffer
 skipped count buffer = record buffer { ri = buffer.ri + min count (reader_length buffer) }
 
+-- How many bytes a skip still has to take behind those: 0 where it is done.
+abbrev pub left_to_skip : (count : ℕ) → Buffer → ℕ
+left_to_skip count buffer = count - reader_length buffer
+
+-- `worst_case` bytes are unread, and no more than those are to be taken.
+abbrev pub can_skip_fast : (actual worst_case : ℕ) → Buffer → Bool
+can_skip_fast actual worst_case buffer = nat_le actual worst_case && nat_le worst_case (reader_length buffer)
+
 -- The number that bytes spell, the lowest first.
 abbrev pub little_endian : List ℕ → ℕ
 little_endian [] = 0
@@ -80,6 +88,10 @@ overwritten at bytes cells = take at cells ++ (bytes ++ drop (at + length bytes)
 abbrev pub writer_length : Buffer → ℕ
 writer_length buffer = if buffer.closed then 0 else capacity buffer - buffer.wi
 
+-- A byte can be written.
+abbrev pub has_room : Buffer → Bool
+has_room buffer = nat_lt 0 (writer_length buffer)
+
 abbrev pub writer_position : Buffer → ℕ
 writer_position buffer = capped (buffer.pos + buffer.wi)
 
@@ -97,13 +109,14 @@ put bytes buffer = appended (take (writer_length buffer) bytes) buffer
 
 -- Copies.
 
--- A copy from one list to another: the first elements, as many as the shorter has.
-abbrev pub copied : {X : Type 0} → (source target : List X) → List X
-copied source target = overwritten 0 (take (length target) source) target
+-- The `count` elements from number `from` on, which a slice is.
+abbrev pub elements : {X : Type 0} → (from count : ℕ) → (cells : List X) → List X
+elements from count cells = take count (drop from cells)
 
--- A copy inside one list, of `count` elements. They are written as they were before, where both parts overlap too.
-abbrev pub copied_within : {X : Type 0} → (from to count : ℕ) → List X → List X
-copied_within from to count cells = overwritten to (slice_range cells from (from + count)) cells
+-- A copy to the `count` elements from number `from` on: the first elements of the source, as many as the shorter has.
+-- They are those that the source has before, where it is a part of the same cells too.
+abbrev pub copied : {X : Type 0} → (from count : ℕ) → (source cells : List X) → List X
+copied from count source cells = overwritten from (take count source) cells
 
 -- What a host does with a buffer besides.
 

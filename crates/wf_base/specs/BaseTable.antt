@@ -1,5 +1,5 @@
 -- The table of base methods.
-use Rattle.std.specs.Prelude.{◌≡◌, ℕ, List, [], ◌∷◌, Option, bytes_eq, find, codes}
+use Rattle.std.specs.Prelude.{◌≡◌, ℕ, ◌-◌, nat_eq, nat_le, Bool, List, [], ◌∷◌, ◌++◌, length, Option, bytes_eq, find, codes}
 use Rattle.wf_base.specs.declared.widths.Width.{Width}
 use Rattle.wf_base.specs.declared.widths.Width.TheVariants.{W8, W16, W32, W64}
 use Rattle.wf_base.specs.declared.marks.Mark.{Mark}
@@ -16,7 +16,7 @@ use Rattle.wf_base.specs.declared.base_methods.ReadForm.{ReadForm}
 use Rattle.wf_base.specs.declared.base_methods.ReadForm.TheVariants.{ReadU8, ReadU16Be, ReadU16Le, ReadU32Be, ReadU32Le, ReadU64Be, ReadU64Le}
 use Rattle.wf_base.specs.declared.base_methods.PeekForm.{PeekForm}
 use Rattle.wf_base.specs.declared.base_methods.PeekForm.TheVariants.{PeekU8, PeekU16Le, PeekU32Le}
-use Rattle.wf_base.specs.BaseOps.{little_endian, big_endian}
+use Rattle.wf_base.specs.BaseOps.{Buffer, reader_length, taken, peeked, little_endian, big_endian}
 
 abbrev pub bits_of : Width → ℕ
 bits_of W8 = 8
@@ -49,6 +49,18 @@ read_value ReadU32Le bytes = little_endian bytes
 read_value ReadU64Be bytes = big_endian bytes
 read_value ReadU64Le bytes = little_endian bytes
 
+-- How many bytes of the number lack, behind those that were kept.
+abbrev pub lacking : ReadForm → (kept : List ℕ) → ℕ
+lacking form kept = bytes_of (read_width form) - length kept
+
+-- The bytes of the number that a read then has: what was kept, and what it takes of those that lack.
+abbrev pub gathered : ReadForm → (kept : List ℕ) → Buffer → List ℕ
+gathered form kept buffer = kept ++ taken (lacking form kept) buffer
+
+-- All bytes of the number are there. Until they are, the read keeps them and suspends.
+abbrev pub is_whole : ReadForm → (bytes : List ℕ) → Bool
+is_whole form bytes = nat_eq (length bytes) (bytes_of (read_width form))
+
 abbrev pub name_of_read : ReadForm → List ℕ
 name_of_read ReadU8 = codes "read_u8"
 name_of_read ReadU16Be = codes "read_u16be"
@@ -62,6 +74,14 @@ abbrev pub peek_width : PeekForm → Width
 peek_width PeekU8 = W8
 peek_width PeekU16Le = W16
 peek_width PeekU32Le = W32
+
+-- All bytes of the number are unread, which a peek needs.
+abbrev pub can_peek : PeekForm → Buffer → Bool
+can_peek form buffer = nat_le (bytes_of (peek_width form)) (reader_length buffer)
+
+-- The number that they spell, the lowest byte first.
+abbrev pub peek_value : PeekForm → Buffer → ℕ
+peek_value form buffer = peeked (bytes_of (peek_width form)) buffer
 
 abbrev pub name_of_peek : PeekForm → List ℕ
 name_of_peek PeekU8 = codes "peek_u8"
