@@ -1,7 +1,7 @@
 // A buffer: bytes that one side writes and the other reads. It keeps `ri <= wi <= capacity`.
 
 ghost use Rattle.std.specs.Prelude.{◌≡◌, ℕ, ◌+◌, ◌-◌, ◌<◌, ◌≤◌, ◌^◌, nat_lt, nat_le, ◌&&◌, min, List, [], ◌∷◌, length, vec_len, Option, IfOk, MatchBool};
-ghost use Rattle.wf_base.specs.BaseOps.{Buffer, capacity, empty_buffer, unread_at, skipped, reader_length, reader_position, writer_length, writer_position, overwritten, appended, put, put_count, close, compact, with_cell, placed};
+ghost use Rattle.wf_base.specs.BaseOps.{Buffer, capacity, empty_buffer, unread_at, skipped, reader_length, reader_position, writer_length, has_room, writer_position, overwritten, appended, put, put_count, close, compact, with_cell, placed};
 
 use std::alloc::Global;
 use std::marker::Model;
@@ -167,7 +167,7 @@ impl Buf {
 
     /// Appends a byte; false, and the buffer stays, exactly where it is full or closed.
     pub fn give_u8(&mut self, b: u8) -> bool
-        ensures room { result ≡ nat_lt 0 (writer_length self.old) }
+        ensures room { result ≡ has_room self.old }
         ensures after { MatchBool result (self.new ≡ appended (b ∷ []) self.old) (self.new ≡ self.old) }
     {
         if self.writer_length() == 0 {
@@ -244,88 +244,4 @@ fn overwrite(cells: &mut [u8], at: usize, bytes: &[u8])
     let (_, rest) = cells.split_at_mut(at);
     let (front, _) = rest.split_at_mut(bytes.len());
     front.copy_from_slice(bytes);
-}
-
-#[cfg(test)]
-mod tests {
-    use super::*;
-    use std::test::Fail;
-
-    fn stands(buf: &Buf, ri: u64, wi: u64, pos: u64) -> bool {
-        buf.ri() == ri && buf.wi() == wi && buf.pos() == pos
-    }
-
-    fn lengths(buf: &Buf, unread: u64, room: u64) -> bool {
-        buf.reader_length() == unread && buf.writer_length() == room
-    }
-
-    fn positions(buf: &Buf, reader: u64, writer: u64) -> bool {
-        buf.reader_position() == reader && buf.writer_position() == writer
-    }
-
-    fn holds(buf: &Buf, cells: &[u8]) -> bool {
-        buf.bytes() == cells
-    }
-
-    // Three bytes of four are written, all but the last are read, and the buffer is filled and compacted.
-    #[test]
-    fn bytes_go_through(rt: HostRuntime) -> Result<(), Fail> {
-        let mut buf = Buf::new(rt.alloc(), 4)?;
-        assert_eq!(rt; buf.put(b"ABC"), 3);
-        assert!(rt; lengths(&buf, 3, 1) && positions(&buf, 0, 3));
-        assert_eq!(rt; buf.take_u8(), Some(65));
-        assert_eq!(rt; buf.peek(1), Some(67));
-        assert_eq!(rt; buf.peek(2), None);
-        assert_eq!(rt; buf.skip(1), 1);
-        assert!(rt; buf.give_u8(68) && stands(&buf, 2, 4, 0));
-        buf.compact();
-        assert!(rt; stands(&buf, 0, 2, 2) && holds(&buf, b"CDCD"));
-        assert!(rt; lengths(&buf, 2, 2) && positions(&buf, 2, 4));
-        Ok(())
-    }
-
-    #[test]
-    fn a_full_buffer_takes_no_more(rt: HostRuntime) -> Result<(), Fail> {
-        let mut buf = Buf::new(rt.alloc(), 1)?;
-        assert_eq!(rt; buf.put(b"AB"), 1);
-        assert!(rt; !buf.give_u8(67) && stands(&buf, 0, 1, 0) && holds(&buf, b"A"));
-        assert_eq!(rt; buf.skip(9), 1);
-        assert_eq!(rt; buf.take_u8(), None);
-        assert!(rt; stands(&buf, 1, 1, 0));
-        Ok(())
-    }
-
-    #[test]
-    fn a_buffer_without_cells_holds_nothing(rt: HostRuntime) -> Result<(), Fail> {
-        let mut buf = Buf::new(rt.alloc(), 0)?;
-        assert_eq!(rt; buf.put(b"A"), 0);
-        assert!(rt; !buf.give_u8(65) && !buf.set_cell(0, 65) && lengths(&buf, 0, 0));
-        assert_eq!(rt; buf.peek(0), None);
-        buf.compact();
-        assert!(rt; stands(&buf, 0, 0, 0));
-        Ok(())
-    }
-
-    #[test]
-    fn a_closed_buffer_is_only_read(rt: HostRuntime) -> Result<(), Fail> {
-        let mut buf = Buf::new(rt.alloc(), 4)?;
-        assert_eq!(rt; buf.put(b"A"), 1);
-        buf.close();
-        assert_eq!(rt; buf.put(b"B"), 0);
-        assert!(rt; buf.is_closed() && !buf.give_u8(66) && lengths(&buf, 1, 0));
-        assert_eq!(rt; buf.take_u8(), Some(65));
-        Ok(())
-    }
-
-    #[test]
-    fn places_end_at_the_largest_number(rt: HostRuntime) -> Result<(), Fail> {
-        let mut buf = Buf::new(rt.alloc(), 2)?;
-        assert!(rt; buf.place(1, 2, u64::MAX, false) && positions(&buf, u64::MAX, u64::MAX));
-        buf.compact();
-        assert!(rt; stands(&buf, 0, 1, u64::MAX));
-        assert!(rt; !buf.place(2, 1, 0, false) && !buf.place(0, 3, 0, true));
-        assert!(rt; stands(&buf, 0, 1, u64::MAX) && !buf.is_closed());
-        assert!(rt; buf.set_cell(1, 9) && holds(&buf, &[0, 9]));
-        Ok(())
-    }
 }

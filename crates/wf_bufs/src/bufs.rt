@@ -255,4 +255,18 @@ mod tests {
         assert!(rt; list.at(1).is_closed() && !list.at(0).is_closed());
         Ok(())
     }
+
+    // Buffers and byte arrays, copied one by one.
+    #[test]
+    fn a_copy_holds_the_same(rt: HostRuntime) -> Result<(), Fail> {
+        let host = Bufs {
+            bufs: filled(rt.alloc())?,
+            arrays: set_second(rt.alloc())?,
+        };
+        let copy = host.copy(rt.alloc())?;
+        assert!(rt; copy.bufs.len() == 2 && copy.arrays.len() == 1);
+        assert!(rt; copy.bufs.at(1).is_closed() && !copy.bufs.at(0).is_closed());
+        assert!(rt; copy.arrays.at(0).bytes() == [1, 9, 3].as_slice());
+        Ok(())
+    }
 }

@@ -3,6 +3,8 @@
 #![tactic(auto)]
 
 pub mod actions;
+#[cfg(test)]
+mod buffer_tests;
 pub mod buffers;
 pub mod bufs;
 pub mod calls;
