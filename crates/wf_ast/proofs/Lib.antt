@@ -1,6 +1,13 @@
 pub mod Accessors
 pub mod Arena
 pub mod Depends
+pub mod MentionLaws
+pub mod PlaceLemmas
+pub mod SameChains
+pub mod SameLaws
+pub mod SameParts
 pub mod SameValue
 pub mod TextLemmas
+pub mod TreeKinds
 pub mod TreeLemmas
+pub mod BaseMethodExamples

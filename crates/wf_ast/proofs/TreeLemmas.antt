@@ -16,6 +16,7 @@ use Rattle.wf_ast.specs.declared.parsed.Expr.{Expr}
 use Rattle.wf_ast.specs.declared.parsed.Expr.TheVariants as exprs
 use Rattle.wf_ast.specs.declared.parsed.Field.{Field}
 use Rattle.wf_ast.specs.declared.parsed.Given.{Given}
+use Rattle.wf_ast.specs.declared.parsed.Link.{Link}
 use Rattle.wf_ast.specs.declared.parsed.Prefix.{Prefix}
 use Rattle.wf_ast.specs.declared.parsed.Prefix.TheVariants as prefixes
 use Rattle.wf_ast.specs.declared.parsed.Stmt.{Stmt}
@@ -26,9 +27,9 @@ use Rattle.wf_ast.specs.declared.parsed.Target.TheVariants as targets
 use Rattle.wf_ast.specs.declared.parsed.TypeExpr.{TypeExpr}
 use Rattle.wf_ast.specs.declared.parsed.Via.{Via}
 use Rattle.wf_ast.specs.ParsedTree as tree
-use Rattle.wf_ast.specs.ParsedTree.{ExprTree, PartTree, ExprTrees, GivenTrees, CallTree, TypeTree, BoundsTree, TargetTree, ClauseTrees, ViaTree, StmtTree, BlockTree, ArmTrees, FieldTrees, ResultTree, DeclTree}
-use Rattle.wf_ast.specs.ParsedTrees.{expr_or, stmt_or, expr_at, part_at, exprs_at, given_at, bounds_at, core_at, prefixed, all_prefixed, type_at, expr_made, exprs_after, expr_trees, stmt_at, items_at, block_at, else_at, arms_at, stmt_made, stmts_after, stmt_trees}
-use Rattle.wf_ast.specs.ParsedParts.{Parsed, IsShaped, IsBelow, AreBelow, GivenBelow, PrefixBelow, BoundsBelow, TypeBelow, ExprParts, BlockBelow, ElseBelow, TargetBelow, ViaBelow, StmtParts, FieldsBelow, ResultBelow, DeclParts, ExprsOrdered, StmtsOrdered}
+use Rattle.wf_ast.specs.ParsedTree.{ExprTree, PartTree, LinkTrees, GivenTrees, CallTree, TypeTree, BoundsTree, TargetTree, ClauseTrees, ViaTree, StmtTree, BlockTree, ArmTrees, FieldTrees, ResultTree, DeclTree}
+use Rattle.wf_ast.specs.ParsedTrees.{expr_or, stmt_or, expr_at, part_at, links_at, given_at, bounds_at, core_at, prefixed, all_prefixed, type_at, expr_made, exprs_after, expr_trees, stmt_at, items_at, block_at, else_at, arms_at, stmt_made, stmts_after, stmt_trees}
+use Rattle.wf_ast.specs.ParsedParts.{Parsed, IsShaped, IsBelow, LinksBelow, GivenBelow, PrefixBelow, BoundsBelow, TypeBelow, ExprParts, BlockBelow, ElseBelow, TargetBelow, ViaBelow, StmtParts, FieldsBelow, ResultBelow, DeclParts, ExprsOrdered, StmtsOrdered}
 
 -- Lists.
 pub all_map : {X : Type 0} (P Q : X → Type 0) → ((x : X) → P x → Q x) → (xs : List X) → AllByRecursion P xs → AllByRecursion Q xs
@@ -59,9 +60,9 @@ pub part_at-same : (k : ℕ) (ts us : List ExprTree) → Agree k ts us → (e : 
 part_at-same k ts us a None h = refl
 part_at-same k ts us a (Some e) h = ap tree.present (expr_at-same k ts us a e h)
 
-pub exprs_at-same : (k : ℕ) (ts us : List ExprTree) → Agree k ts us → (es : List ExprId) → AreBelow k es → exprs_at ts es ≡ exprs_at us es
-exprs_at-same k ts us a [] h = refl
-exprs_at-same k ts us a (e ∷ es) h = let p = expr_at-same k ts us a e h.0 in let q = exprs_at-same k ts us a es h.1 in cc
+pub links_at-same : (k : ℕ) (ts us : List ExprTree) → Agree k ts us → (ls : List Link) → LinksBelow k ls → links_at ts ls ≡ links_at us ls
+links_at-same k ts us a [] h = refl
+links_at-same k ts us a (l ∷ ls) h = let p = expr_at-same k ts us a l.operand h.0 in let q = links_at-same k ts us a ls h.1 in cc
 
 pub given_at-same : (k : ℕ) (ts us : List ExprTree) → Agree k ts us → (gs : List Given) → GivenBelow k gs → given_at ts gs ≡ given_at us gs
 given_at-same k ts us a [] h = refl
@@ -97,7 +98,7 @@ expr_made-same k ts us a (exprs.Path path) at h = refl
 expr_made-same k ts us a (exprs.Index base place) at h = ap (λ e. tree.index base e at) (expr_at-same k ts us a place h)
 expr_made-same k ts us a (exprs.Slice base from to) at h = let p = part_at-same k ts us a from h.0 in let q = part_at-same k ts us a to h.1 in cc
 expr_made-same k ts us a (exprs.Call c) at h = ap (λ gs. tree.answer (tree.call c.on c.method c.mark gs)) (given_at-same k ts us a c.args h)
-expr_made-same k ts us a (exprs.Chain op parts) at h = ap (λ es. tree.chain op es at) (exprs_at-same k ts us a parts h)
+expr_made-same k ts us a (exprs.Chain op first links) at h = let p = expr_at-same k ts us a first h.0 in let q = links_at-same k ts us a links h.1 in cc
 expr_made-same k ts us a (exprs.Convert of to) at h = let p = expr_at-same k ts us a of h.0 in let q = type_at-same k ts us a to h.1 in cc
 expr_made-same k ts us a (exprs.Not of) at h = ap (λ e. tree.negation e at) (expr_at-same k ts us a of h)
 
@@ -323,6 +324,7 @@ IsShaped-expr p n true new s h e =
     let spot : length p.exprs ≡ 0 + length p.exprs = omega arith in
     let Q : ℕ → Type 0 = λ j. ExprParts j n.expr in
     let shaped : IsShaped (record p { exprs = longer }) = record {
+      texts = s.texts;
       exprs = exprs_push p.exprs 0 n s.exprs (subst Q spot h);
       stmts = StmtsOrdered-more (length p.exprs) (length longer) more p.stmts 0 s.stmts;
       decls = all_map (λ d. DeclParts (length p.exprs) (length p.stmts) d.decl) (λ d. DeclParts (length longer) (length p.stmts) d.decl)
@@ -339,6 +341,7 @@ IsShaped-stmt p n true new s h e =
     let spot : length p.stmts ≡ 0 + length p.stmts = omega arith in
     let Q : ℕ → Type 0 = λ j. StmtParts (length p.exprs) j n.stmt in
     let shaped : IsShaped (record p { stmts = longer }) = record {
+      texts = s.texts;
       exprs = s.exprs;
       stmts = stmts_push (length p.exprs) p.stmts 0 n s.stmts (subst Q spot h);
       decls = all_map (λ d. DeclParts (length p.exprs) (length p.stmts) d.decl) (λ d. DeclParts (length p.exprs) (length longer) d.decl)

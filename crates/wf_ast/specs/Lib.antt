@@ -4,7 +4,10 @@ pub mod Operators
 pub mod ParsedParts
 pub mod ParsedTree
 pub mod ParsedTrees
+pub mod Places
 pub mod Same
+pub mod SameNodes
+pub mod StatementOrder
 pub mod TypedInvariant
 pub mod TypedPackage
 pub mod TypedTree

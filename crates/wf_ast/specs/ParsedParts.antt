@@ -12,6 +12,7 @@ use Rattle.wf_ast.specs.declared.parsed.Expr.{Expr}
 use Rattle.wf_ast.specs.declared.parsed.Expr.TheVariants as exprs
 use Rattle.wf_ast.specs.declared.parsed.Field.{Field}
 use Rattle.wf_ast.specs.declared.parsed.Given.{Given}
+use Rattle.wf_ast.specs.declared.parsed.Link.{Link}
 use Rattle.wf_ast.specs.declared.parsed.Prefix.{Prefix}
 use Rattle.wf_ast.specs.declared.parsed.Prefix.TheVariants as prefixes
 use Rattle.wf_ast.specs.declared.parsed.Stmt.{Stmt}
@@ -43,8 +44,8 @@ abbrev pub IsBelow : ℕ → Option ExprId → Type 0
 IsBelow k None = ⊤
 IsBelow k (Some e) = e.0 < k
 
-abbrev pub AreBelow : ℕ → List ExprId → Type 0
-AreBelow k es = AllByRecursion (λ e. e.0 < k) es
+abbrev pub LinksBelow : ℕ → List Link → Type 0
+LinksBelow k ls = AllByRecursion (λ l. l.operand.0 < k) ls
 
 abbrev pub GivenBelow : ℕ → List Given → Type 0
 GivenBelow k gs = AllByRecursion (λ g. g.value.0 < k) gs
@@ -65,7 +66,7 @@ abbrev pub ExprParts : ℕ → Expr → Type 0
 ExprParts k (exprs.Index base place) = place.0 < k
 ExprParts k (exprs.Slice base from to) = IsBelow k from × IsBelow k to
 ExprParts k (exprs.Call c) = GivenBelow k c.args
-ExprParts k (exprs.Chain op parts) = AreBelow k parts
+ExprParts k (exprs.Chain op first links) = (first.0 < k) × LinksBelow k links
 ExprParts k (exprs.Convert of to) = (of.0 < k) × TypeBelow k to
 ExprParts k (exprs.Not of) = of.0 < k
 ExprParts k _ = ⊤
@@ -123,6 +124,7 @@ StmtsOrdered e k (n ∷ ns) = StmtParts e k n.stmt × StmtsOrdered e (k + 1) ns
 
 -- What is true of every package.
 pub record IsShaped (p : Parsed) : Type 0 where
+  pub texts : AreDistinct p.texts
   pub exprs : ExprsOrdered 0 p.exprs
   pub stmts : StmtsOrdered (length p.exprs) 0 p.stmts
   pub decls : AllByRecursion (λ d. DeclParts (length p.exprs) (length p.stmts) d.decl) p.decls

@@ -23,7 +23,7 @@ mutual
     slice : (base : Path) → (from : PartTree) → (to : PartTree) → (at : Place) → ExprTree
     answer : (call : CallTree) → ExprTree
     -- one operator between operands in order
-    chain : (op : Op) → (parts : ExprTrees) → (at : Place) → ExprTree
+    chain : (op : Op) → (first : ExprTree) → (links : LinkTrees) → (at : Place) → ExprTree
     convert : (of : ExprTree) → (to : TypeTree) → (at : Place) → ExprTree
     negation : (of : ExprTree) → (at : Place) → ExprTree
 
@@ -32,10 +32,10 @@ mutual
     absent : PartTree
     present : (part : ExprTree) → PartTree
 
-  -- expressions in order
-  pub data ExprTrees : Type 0 where
-    no_expr : ExprTrees
-    more_exprs : (first : ExprTree) → (others : ExprTrees) → ExprTrees
+  -- the operands of a chain behind its first, in order, each with the place of the sign in front of it
+  pub data LinkTrees : Type 0 where
+    no_link : LinkTrees
+    link : (sign : Place) → (operand : ExprTree) → (others : LinkTrees) → LinkTrees
 
   -- arguments by name, in order
   pub data GivenTrees : Type 0 where

@@ -19,6 +19,7 @@ use Rattle.wf_ast.specs.declared.parsed.Expr.{Expr}
 use Rattle.wf_ast.specs.declared.parsed.Expr.TheVariants as exprs
 use Rattle.wf_ast.specs.declared.parsed.Field.{Field}
 use Rattle.wf_ast.specs.declared.parsed.Given.{Given}
+use Rattle.wf_ast.specs.declared.parsed.Link.{Link}
 use Rattle.wf_ast.specs.declared.parsed.LoopClause.{LoopClause}
 use Rattle.wf_ast.specs.declared.parsed.Prefix.{Prefix}
 use Rattle.wf_ast.specs.declared.parsed.Prefix.TheVariants as prefixes
@@ -30,7 +31,7 @@ use Rattle.wf_ast.specs.declared.parsed.Target.TheVariants as targets
 use Rattle.wf_ast.specs.declared.parsed.TypeExpr.{TypeExpr}
 use Rattle.wf_ast.specs.declared.parsed.Via.{Via}
 use Rattle.wf_ast.specs.ParsedTree as tree
-use Rattle.wf_ast.specs.ParsedTree.{ExprTree, PartTree, ExprTrees, GivenTrees, CallTree, TypeTree, BoundsTree, TargetTree, ClauseTrees, ViaTree, StmtTree, BlockTree, ArmTrees, FieldTrees, ResultTree, DeclTree}
+use Rattle.wf_ast.specs.ParsedTree.{ExprTree, PartTree, LinkTrees, GivenTrees, CallTree, TypeTree, BoundsTree, TargetTree, ClauseTrees, ViaTree, StmtTree, BlockTree, ArmTrees, FieldTrees, ResultTree, DeclTree}
 
 -- The place of no token, and what a number stands for that names no node: no package has them.
 abbrev pub no_place : Place
@@ -52,9 +53,9 @@ abbrev pub part_at : List ExprTree → Option ExprId → PartTree
 part_at ts None = tree.absent
 part_at ts (Some e) = tree.present (expr_at ts e)
 
-abbrev pub exprs_at : List ExprTree → List ExprId → ExprTrees
-exprs_at ts [] = tree.no_expr
-exprs_at ts (e ∷ es) = tree.more_exprs (expr_at ts e) (exprs_at ts es)
+abbrev pub links_at : List ExprTree → List Link → LinkTrees
+links_at ts [] = tree.no_link
+links_at ts (l ∷ ls) = tree.link l.sign (expr_at ts l.operand) (links_at ts ls)
 
 abbrev pub given_at : List ExprTree → List Given → GivenTrees
 given_at ts [] = tree.no_given
@@ -95,7 +96,7 @@ expr_made ts (exprs.Path path) at = tree.path path
 expr_made ts (exprs.Index base place) at = tree.index base (expr_at ts place) at
 expr_made ts (exprs.Slice base from to) at = tree.slice base (part_at ts from) (part_at ts to) at
 expr_made ts (exprs.Call c) at = tree.answer (call_at ts c)
-expr_made ts (exprs.Chain op parts) at = tree.chain op (exprs_at ts parts) at
+expr_made ts (exprs.Chain op first links) at = tree.chain op (expr_at ts first) (links_at ts links) at
 expr_made ts (exprs.Convert of to) at = tree.convert (expr_at ts of) (type_at ts to) at
 expr_made ts (exprs.Not of) at = tree.negation (expr_at ts of) at
 

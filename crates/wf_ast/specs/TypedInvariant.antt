@@ -21,21 +21,25 @@ use Rattle.wf_ast.specs.declared.resolved.Stmt.TheVariants as stmts
 use Rattle.wf_ast.specs.declared.resolved.AxiomRef.{AxiomRef}
 use Rattle.wf_ast.specs.declared.resolved.Block as resolved
 use Rattle.wf_ast.specs.declared.typed_nodes.TypedNodes.{TypedNodes}
-use Rattle.wf_ast.specs.TypedTree.{equal, differs}
+use Rattle.wf_ast.specs.TypedTree.{equal, differs, ValueTree, numeric, logical, state, elements, io}
 use Rattle.wf_ast.specs.TypedTrees.{Sort, arithmetic, ordering, joining, sort_of, type_of_node, constant_of_node}
 use Rattle.wf_ast.specs.TypedPackage.{package_of}
+use Rattle.wf_ast.specs.StatementOrder.{stand_in_order}
 use Rattle.wf_ast.specs.BaseStatuses.{base_statuses}
 use Rattle.wf_ast.specs.Value.{same_category}
 use Rattle.wf_ast.specs.WellTyped.{well_typed, same_mark}
 
+-- What is sliced, and the ends that are there.
+abbrev pub cut_parts : ExprId → (from to : Option ExprId) → List ExprId
+cut_parts base None None = base ∷ []
+cut_parts base None (Some f) = base ∷ f ∷ []
+cut_parts base (Some e) None = base ∷ e ∷ []
+cut_parts base (Some e) (Some f) = base ∷ e ∷ f ∷ []
+
 -- The expressions, and the statements, inside a node.
 abbrev pub parts_of : Expr → List ExprId
 parts_of (exprs.Index base at) = base ∷ at ∷ []
-parts_of (exprs.Cut base from to) = base ∷ optional from (optional to [])
-  where
-    optional : Option ExprId → List ExprId → List ExprId
-    optional None es = es
-    optional (Some e) es = e ∷ es
+parts_of (exprs.Cut base from to) = cut_parts base from to
 parts_of (exprs.Chain op parts) = parts
 parts_of (exprs.Convert of to) = of ∷ []
 parts_of (exprs.Not of) = of ∷ []
@@ -123,6 +127,21 @@ is_given (gives.Num width) ty = is_numeric ty
 is_given gives.Flag ty = is_logical ty
 is_given gives.Nothing ty = false
 
+-- The tree is one of the kind that values of this type have.
+abbrev pub is_tree_of : Ty → ValueTree → Bool
+is_tree_of (types.Num width lo hi) (numeric t) = true
+is_tree_of types.Flag (logical t) = true
+is_tree_of types.Status (state t) = true
+is_tree_of (types.Slice width) (elements t) = true
+is_tree_of (types.Array width lo hi count) (elements t) = true
+is_tree_of types.Reader (io at a) = true
+is_tree_of types.Writer (io at a) = true
+is_tree_of ty t = false
+
+-- Each part's tree is of the kind of its type.
+abbrev pub parts_fit : TypedNodes → (ExprId → ValueTree) → Expr → Bool
+parts_fit nodes look expr = list_all (λ part. is_tree_of (type_of_node nodes part.0) (look part)) (parts_of expr)
+
 -- The kinds of the operands of an operator, and of what it gives.
 abbrev pub all_numeric : TypedNodes → List ExprId → Bool
 all_numeric nodes es = list_all (λ e. is_numeric (type_of_node nodes e.0)) es
@@ -166,8 +185,8 @@ node_fits nodes ty (Some value) expr = is_numeric ty && nat_lt value 18446744073
 abbrev pub has_kind_byte : List ℕ → Bool
 has_kind_byte text = not (same_category Fine (category_of text))
 
--- Every number names something; parts stand in front of their wholes, and have the kinds that these want; and the
--- package keeps the rules of types and effects.
+-- Every number names something; parts stand in front of their wholes, and have the kinds that these want; the package
+-- keeps the rules of types and effects; and the statements of each method stand in order of place.
 pub record IsTyped (nodes : TypedNodes) : Type 0 where
   pub exprs_ordered : each_numbered (λ e node. parts_below e node.expr) 0 nodes.exprs ≡ true
   pub stmts_ordered : each_numbered (λ s node. stmt_below nodes s node.stmt) 0 nodes.stmts ≡ true
@@ -177,8 +196,11 @@ pub record IsTyped (nodes : TypedNodes) : Type 0 where
   pub base_first : take 10 nodes.statuses ≡ base_statuses
   pub told : list_all has_kind_byte (drop 1 nodes.statuses) ≡ true
   pub few_statuses : length nodes.statuses < 2 ^ 32
+  pub few_exprs : length nodes.exprs < 2 ^ 32
+  pub few_stmts : length nodes.stmts < 2 ^ 32
   pub few_structs : length nodes.structs < 2 ^ 32
   pub few_methods : length nodes.methods < 2 ^ 32
   pub bodies_made : list_all (λ body. block_below (length nodes.stmts) body) nodes.bodies ≡ true
   pub kinds : each_numbered (λ e node. node_fits nodes (type_of_node nodes e) (constant_of_node nodes e) node.expr) 0 nodes.exprs ≡ true
   pub rules : well_typed (package_of nodes) ≡ true
+  pub placed : stand_in_order (package_of nodes) ≡ true

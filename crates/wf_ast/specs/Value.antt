@@ -8,7 +8,7 @@ use Rattle.wf_text.specs.declared.categories.Category.TheVariants.{Fine, Note, S
 use Rattle.wf_text.specs.StatusText.{category_of}
 use Rattle.wf_base.specs.BaseOps.{Buffer}
 use Rattle.wf_base.specs.BaseOps as ops
-use Rattle.wf_base.specs.BaseTable.{bytes_of, peek_width}
+use Rattle.wf_base.specs.BaseTable.{can_peek, peek_value}
 use Rattle.wf_ast.specs.TypedTree.{Path, Arith, plus, minus, times, divided, remainder, shift_left, shift_right, bits_and, bits_or, bits_xor, mod_plus, mod_minus, mod_times, mod_shift_left, sat_plus, sat_minus, Order, less, at_most, equal, differs, at_least, greater, Question, reader_length, reader_position, peek, writer_length, writer_position, NumTree, number, read, element, link, convert, length_of, asked, SliceTree, slice, array, cut, EndTree, absent, present, StatusTree, status, held, no_status, CondTree, truth, flag, compare, same_status, junction, negation, closed, has_category, ValueTree, numeric, logical, state, elements, io, lost}
 
 -- Where the elements of a slice stand: a byte array of the host by its number, an array in a field of a struct state, or
@@ -93,7 +93,7 @@ same_category a b = false
 abbrev pub told : Question → Buffer → Option ℕ
 told reader_length b = Some (ops.reader_length b)
 told reader_position b = Some (ops.reader_position b)
-told (peek form) b = only_if (nat_le (bytes_of (peek_width form)) (ops.reader_length b)) (Some (ops.peeked (bytes_of (peek_width form)) b))
+told (peek form) b = only_if (can_peek form b) (Some (peek_value form b))
 told writer_length b = Some (ops.writer_length b)
 told writer_position b = Some (ops.writer_position b)
 

@@ -1,5 +1,5 @@
 -- The rules of types and effects that a typed package keeps, over its trees. Each is a test that computes.
-use Rattle.std.specs.Prelude.{ℕ, zero, suc, ◌-◌, ◌^◌, Bool, true, false, not, ◌&&◌, ◌||◌, List, [], ◌∷◌, length, Option, None, Some, option_map, option_and_then, if◌then◌else◌, nat_eq, nat_lt, nat_le, slice_get, is_some, is_none}
+use Rattle.std.specs.Prelude.{ℕ, zero, suc, ◌-◌, ◌^◌, Bool, true, false, not, ◌&&◌, ◌||◌, List, [], ◌∷◌, length, Option, None, Some, option_map, option_and_then, if◌then◌else◌, nat_eq, nat_lt, nat_le, slice_get, is_some}
 use Rattle.std.specs.List.{list_all, list_any}
 use Rattle.wf_text.specs.StatusText.{category_of}
 use Rattle.wf_text.specs.declared.categories.Category.TheVariants.{Suspension}

@@ -6,11 +6,14 @@
 
 pub mod declarations;
 pub mod laws;
+mod mentioning;
 pub mod numbers;
 pub mod operators;
 pub mod parsed;
 pub mod parsed_package;
+mod parts;
 pub mod resolved;
+mod sameness;
 pub mod sequences;
 #[cfg(test)]
 mod tests;
@@ -22,11 +25,13 @@ pub mod types;
 pub mod variables;
 
 pub use declarations::{Method, Struct, Var};
+pub use mentioning::mentions;
 pub use numbers::{ExprId, StmtId, TextId};
 pub use operators::Op;
 pub use parsed::Clause;
 pub use parsed_package::Package;
 pub use resolved::{Arm, AxiomRef, Block, Callee, Expr, ExprNode, LoopHead, Stmt, StmtNode};
+pub use sameness::same;
 pub use sequences::Sequence;
 pub use things::Thing;
 pub use typed::Typed;

@@ -68,6 +68,13 @@ pub struct Call {
     pub args: Sequence<Given>,
 }
 
+/// An operator sign of a chain with the operand behind it.
+#[derive(Clone, Copy, Debug, PartialEq, Eq)]
+pub struct Link {
+    pub sign: Place,
+    pub operand: ExprId,
+}
+
 /// What a type may begin with: `slice`, or `array` with its length in brackets.
 #[derive(Clone, Copy, Debug, PartialEq, Eq)]
 pub enum Prefix {
@@ -120,10 +127,12 @@ pub enum Expr {
         to: Option<ExprId>,
     },
     Call(Call),
-    /// One operator between two or more operands, in order.
+    /// One operator between two or more operands, in order: the first, and each other one with the sign in front
+    /// of it.
     Chain {
         op: Op,
-        parts: Sequence<ExprId>,
+        first: ExprId,
+        links: Sequence<Link>,
     },
     Convert {
         of: ExprId,

@@ -149,4 +149,13 @@ impl Package {
     {
         self.decls.as_slice()
     }
+
+    /// A declaration of this package, by its place, from 0, among all.
+    pub fn decl(&self, number: usize) -> &DeclNode
+        requires { number < length self.now.decls }
+        ensures node { slice_get self.now.decls number ≡ Some result.now }
+        ensures parts { DeclParts (length self.now.exprs) (length self.now.stmts) result.now.decl }
+    {
+        &self.decls[number]
+    }
 }

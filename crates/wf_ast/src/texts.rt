@@ -19,6 +19,8 @@ impl Model for Texts {
     ghost Value = { List (List ℕ) };
 
     ghost view = { λ t. map (λ text. text.items) t.set.keys };
+
+    ghost invariant = { λ t. AreDistinct (map (λ text. text.items) t.set.keys) };
 }
 
 impl Texts {
@@ -38,6 +40,7 @@ impl Texts {
         requires { length self.old < 2 ^ 32 }
         ensures found { IfOk result (λ t. slice_get self.new t.0 ≡ Some text.now) }
         ensures joins { OnOk result (JoinsText self.old self.new text.now) }
+        ensures unique { AreDistinct self.new }
         ensures err { OnErr result (self.new ≡ self.old) }
     {
         let owned = Vec::from_slice(self.alloc, text)?;

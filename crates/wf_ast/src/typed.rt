@@ -1,7 +1,8 @@
 // A typed package, as other crates read it: every name is resolved and every expression has a type.
 
-ghost use Rattle.std.specs.Prelude.{◌≡◌, ℕ, ◌<◌, length, slice_get, Some, None, Option, IsTrue, option_map};
-ghost use Rattle.wf_ast.specs.TypedInvariant.{IsTyped, parts_below, node_fits, stmt_below};
+ghost use Rattle.std.specs.Prelude.{◌≡◌, ℕ, ◌<◌, ◌↔◌, length, slice_get, Some, None, Option, IsTrue, IfSome, IfNone, option_map};
+ghost use Rattle.wf_ast.specs.Places.{expr_places, stmt_places, IsFirstAt};
+ghost use Rattle.wf_ast.specs.TypedInvariant.{IsTyped, parts_below, node_fits, stmt_below, parts_fit};
 ghost use Rattle.wf_ast.specs.TypedTrees.{tree_of, made_or_number, type_of_node, constant_of_node, place_of_node, signs_of_node};
 
 use crate::declarations::{Method, Struct};
@@ -123,13 +124,14 @@ impl Typed {
     }
 
     /// The node of an expression. Its tree is made of the trees of its parts, which have smaller numbers and are
-    /// of the kinds that it wants.
+    /// of the kinds that it wants and that their types have.
     pub fn expr(&self, e: ExprId) -> &Expr
         requires { e.0 < length self.now.exprs }
         ensures node { option_map (λ node. node.expr) (slice_get self.now.exprs e.0) ≡ Some result.now }
         ensures made { tree_of self.now e ≡ made_or_number (tree_of self.now) (place_of_node self.now e.0) (signs_of_node self.now e.0) (type_of_node self.now e.0) (constant_of_node self.now e.0) result.now }
         ensures below { IsTrue (parts_below e.0 result.now) }
         ensures kinds { IsTrue (node_fits self.now (type_of_node self.now e.0) (constant_of_node self.now e.0) result.now) }
+        ensures parts { IsTrue (parts_fit self.now (tree_of self.now) result.now) }
     {
         &self.nodes.exprs.as_slice()[e.0 as usize].expr
     }
@@ -176,10 +178,46 @@ impl Typed {
         self.nodes.stmts.as_slice()[s.0 as usize].inner
     }
 
+    /// The expression with this place, and None exactly where none has it. Where several have it, as the two nodes of
+    /// `x` in `x += 1`, the target and an operand, it is the one with the least number.
+    pub fn expr_at(&self, at: Place) -> Option<ExprId>
+        ensures some { IfSome result (λ e. IsFirstAt (expr_places self.now) at e.0) }
+        ensures none { IfNone result ((e : ℕ) → slice_get (expr_places self.now) e ≡ Some at → ⊥) }
+    {
+        let nodes = self.nodes.exprs.as_slice();
+        for e in 0..nodes.len() {
+            if same_place(nodes[e].at, at) {
+                return Some(ExprId(e as u32));
+            }
+        }
+        None
+    }
+
+    /// The statement whose first token has this place, and None exactly where there is none. Where several have it, it
+    /// is the one with the least number.
+    pub fn stmt_at(&self, at: Place) -> Option<StmtId>
+        ensures some { IfSome result (λ s. IsFirstAt (stmt_places self.now) at s.0) }
+        ensures none { IfNone result ((s : ℕ) → slice_get (stmt_places self.now) s ≡ Some at → ⊥) }
+    {
+        let nodes = self.nodes.stmts.as_slice();
+        for s in 0..nodes.len() {
+            if same_place(nodes[s].at, at) {
+                return Some(StmtId(s as u32));
+            }
+        }
+        None
+    }
+
     /// The methods in an order in which each stands behind those that it calls.
     pub fn order(&self) -> &[u32]
         ensures { result.now ≡ self.now.order }
     {
         self.nodes.order.as_slice()
     }
+}
+
+fn same_place(a: Place, b: Place) -> bool
+    ensures { IsTrue result ↔ a ≡ b }
+{
+    a == b
 }

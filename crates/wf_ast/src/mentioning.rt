@@ -1,0 +1,81 @@
+// What an expression mentions.
+
+ghost use Rattle.std.specs.Prelude.{◌≡◌, ◌<◌, length};
+ghost use Rattle.wf_ast.specs.TypedTrees.{tree_of};
+ghost use Rattle.wf_ast.specs.Mentions.{mentions as tree_mentions};
+ghost use Rattle.wf_ast.specs.SameNodes.{head_mentions};
+
+use crate::numbers::ExprId;
+use crate::resolved::Expr;
+use crate::things::Thing;
+use crate::typed::Typed;
+use crate::types::Ty;
+
+/// Whether an expression mentions a thing. A constant expression, which counts as its number, mentions nothing, and a
+/// length mentions what it is the length of. It takes no memory. It recurses into parts, and so goes as deep as
+/// expressions stand inside one another; the operands of a chain stand side by side.
+pub fn mentions(t: &Typed, e: ExprId, x: Thing) -> bool
+    requires { e.0 < length t.now.exprs }
+    ensures { result ≡ tree_mentions (tree_of t.now e) x }
+{
+    let expr = t.expr(e);
+    if t.constant(e).is_some() {
+        return false;
+    }
+    if is_named(expr, t.type_of(e), x) {
+        return true;
+    }
+    for i in 0..expr.parts() {
+        if mentions(t, expr.part(i), x) {
+            return true;
+        }
+    }
+    false
+}
+
+// Whether an expression, which is no constant number, mentions a thing by itself, whatever its parts mention.
+fn is_named(expr: &Expr, ty: Ty, x: Thing) -> bool
+    ensures { result ≡ head_mentions x ty expr.now }
+{
+    match (expr, x) {
+        (Expr::Local(n), Thing::Local(m)) => m.0 == n.0,
+        (Expr::Local(_), Thing::SliceLocals) => matches!(ty, Ty::Slice(_) | Ty::Array { .. }),
+        (Expr::Field(n), Thing::Field(m)) => m.0 == n.0,
+        (Expr::Field(_), Thing::This) => true,
+        (Expr::Arg(n), Thing::Arg(m)) => m.0 == n.0,
+        (Expr::Arg(_), Thing::Args) => true,
+        (Expr::Index { .. }, Thing::Element) => true,
+        _ => false,
+    }
+}
+
+#[cfg(test)]
+mod tests {
+    use super::*;
+    use crate::variables::{FieldId, LocalId};
+    use wf_base::Width;
+
+    // Whether the local with number 1 is what is meant.
+    fn local(ty: Ty, x: Thing) -> bool {
+        let expr = Expr::Local(LocalId(1));
+        is_named(&expr, ty, x)
+    }
+
+    // Whether the field with number 2 is what is meant.
+    fn field(x: Thing) -> bool {
+        let expr = Expr::Field(FieldId(2));
+        is_named(&expr, Ty::Flag, x)
+    }
+
+    #[test]
+    fn nodes_name_things(rt: HostRuntime) {
+        assert!(rt; local(Ty::Flag, Thing::Local(LocalId(1))));
+        assert!(rt; !local(Ty::Flag, Thing::Local(LocalId(2))));
+        assert!(rt; !local(Ty::Flag, Thing::SliceLocals));
+        assert!(rt; local(Ty::Slice(Width::W8), Thing::SliceLocals));
+        assert!(rt; field(Thing::This));
+        assert!(rt; field(Thing::Field(FieldId(2))));
+        assert!(rt; !field(Thing::Field(FieldId(1))));
+        assert!(rt; !field(Thing::Args));
+    }
+}
