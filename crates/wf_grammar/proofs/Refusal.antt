@@ -5,14 +5,14 @@ use Rattle.wf_text.specs.declared.rules.Rule.TheVariants.{S5}
 use Rattle.wf_grammar.specs.declared.tokens.Kind.{Kind}
 use Rattle.wf_grammar.specs.declared.tokens.Token.{Token}
 use Rattle.wf_grammar.specs.Grammar.{file_before}
-use Rattle.wf_grammar.specs.Machine as m
-use Rattle.wf_grammar.specs.Machine.{Sym, Move, Take, Begin, Enter, Pass, Stop, move, may_end, Outcome, Accepted, Refused, run, step, after, unless, ends}
-use Rattle.wf_grammar.specs.Files.{IsFile, IsLive, IsFirstWrong}
+use Rattle.wf_grammar.specs.declared.symbols.Sym.{Sym}
+use Rattle.wf_grammar.specs.declared.symbols.Sym.TheVariants as syms
+use Rattle.wf_grammar.specs.Machine.{Move, Take, Begin, Enter, Pass, Stop, move, may_end, Outcome, Accepted, Refused, run, step, after, ends}
+use Rattle.wf_grammar.specs.Files.{IsFile, IsLive}
 use Rattle.wf_grammar.specs.Words.{Words}
-use Rattle.wf_grammar.specs.Completions.{completions}
 use Rattle.wf_grammar.specs.Feeding.{fed, feed, feeds, go_on}
 use Rattle.wf_grammar.proofs.Completes.{absent}
-use Rattle.wf_grammar.proofs.Live.{live, feeds-words}
+use Rattle.wf_grammar.proofs.Live.{feeds-words}
 use Rattle.wf_grammar.proofs.ForwardMore.{fw-file}
 
 -- What one token does to a stack, and the run with it.
@@ -104,17 +104,17 @@ ends-words (s ∷ k) e = ends-if (may_end s) s k refl (ends-words k) e
     ends-if false s k h f e = absurd (cc e)
 
 -- The tokens of a file, from the words of the first symbol.
-file-words : (ts : List Token) → Words (m.File ∷ []) ts [] → IsFile ts
+pub file-words : (ts : List Token) → Words (syms.File ∷ []) ts [] → IsFile ts
 file-words ts d = (d.1.0, d.1.1 ∙ ap (file_before d.1.0) d.2)
 
 nothing_behind : (front : List Token) → front ++ [] ≡ front
 nothing_behind front = append-nil front
 
 -- What is accepted is a file, and every file is accepted.
-pub accepted-file : (tokens : List Token) → Right tokens (m.File ∷ []) → IsFile tokens
+pub accepted-file : (tokens : List Token) → Right tokens (syms.File ∷ []) → IsFile tokens
 accepted-file tokens r =
-    let P : List Token → Type 0 = λ ts. Words (m.File ∷ []) ts [] in
-    file-words tokens (subst P (nothing_behind tokens) (feeds-words tokens (m.File ∷ []) r.wanted r.read [] [] (ends-words r.wanted r.ends')))
+    let P : List Token → Type 0 = λ ts. Words (syms.File ∷ []) ts [] in
+    file-words tokens (subst P (nothing_behind tokens) (feeds-words tokens (syms.File ∷ []) r.wanted r.read [] [] (ends-words r.wanted r.ends')))
 
 on-option : (o : Option (List Sym)) (front back : List Token) (k : List Sym)
     → ((w : List Sym) → feeds front w ≡ Some k → feeds (front ++ back) w ≡ feeds back k)
@@ -122,35 +122,25 @@ on-option : (o : Option (List Sym)) (front back : List Token) (k : List Sym)
 on-option None front back k f e = absurd (cc e)
 on-option (Some w) front back k f e = f w e
 
-feeds-append : (front back : List Token) (j k : List Sym) → feeds front j ≡ Some k → feeds (front ++ back) j ≡ feeds back k
+pub feeds-append : (front back : List Token) (j k : List Sym) → feeds front j ≡ Some k → feeds (front ++ back) j ≡ feeds back k
 feeds-append [] back j k e = ap (feeds back) (same j k e)
   where
     same : (j k : List Sym) → Some j ≡ Some k → j ≡ k
     same j k e = cc e
 feeds-append (t ∷ front) back j k e = on-option (feed j t.kind) front back k (λ w h. feeds-append front back w k h) e
 
--- In front of the refused token the tokens are live, and with it they aren't.
-pub refused-live : (tokens : List Token) (left : ℕ) → (w : Wrong tokens (m.File ∷ []) left) → IsLive w.front
-refused-live tokens left w = (completions w.wanted [], file-words (w.front ++ completions w.wanted []) (live w.front (m.File ∷ []) w.wanted w.read []))
-
-dead-token : (front : List Token) (t : Token) (wanted : List Sym) → feeds front (m.File ∷ []) ≡ Some wanted → feed wanted t.kind ≡ None → IsLive (front ++ t ∷ []) → ⊥
+-- With a token that can't be read, or at an end that isn't wanted, the tokens are no longer those of a file.
+pub dead-token : (front : List Token) (t : Token) (wanted : List Sym) → feeds front (syms.File ∷ []) ≡ Some wanted → feed wanted t.kind ≡ None → IsLive (front ++ t ∷ []) → ⊥
 dead-token front t wanted read stuck l =
     let whole = (front ++ t ∷ []) ++ l.0 in
-    let read-all : feeds whole (m.File ∷ []) ≡ Some (m.File ∷ []) = ap (λ ts. feeds ts (m.File ∷ [])) l.1.1 ∙ fw-file l.1.0 [] [] in
-    let split : feeds whole (m.File ∷ []) ≡ feeds (t ∷ l.0) wanted = ap (λ ts. feeds ts (m.File ∷ [])) (append_assoc front (t ∷ []) l.0) ∙ feeds-append front (t ∷ l.0) (m.File ∷ []) wanted read in
+    let read-all : feeds whole (syms.File ∷ []) ≡ Some (syms.File ∷ []) = ap (λ ts. feeds ts (syms.File ∷ [])) l.1.1 ∙ fw-file l.1.0 [] [] in
+    let split : feeds whole (syms.File ∷ []) ≡ feeds (t ∷ l.0) wanted = ap (λ ts. feeds ts (syms.File ∷ [])) (append_assoc front (t ∷ []) l.0) ∙ feeds-append front (t ∷ l.0) (syms.File ∷ []) wanted read in
     let none : feeds (t ∷ l.0) wanted ≡ None = ap (λ o. go_on o (λ w. feeds l.0 w)) stuck in
     absurd (cc (read-all, split, none))
 
-dead-end : (front : List Token) (wanted : List Sym) (r : Rule) (n : ℕ) → feeds front (m.File ∷ []) ≡ Some wanted → ends wanted ≡ Refused r n → IsFile front → ⊥
+pub dead-end : (front : List Token) (wanted : List Sym) (r : Rule) (n : ℕ) → feeds front (syms.File ∷ []) ≡ Some wanted → ends wanted ≡ Refused r n → IsFile front → ⊥
 dead-end front wanted r n read stuck l =
-    let read-all : feeds front (m.File ∷ []) ≡ Some (m.File ∷ []) = ap (λ ts. feeds ts (m.File ∷ [])) l.1 ∙ fw-file l.0 [] [] in
-    let same : wanted ≡ m.File ∷ [] = cc (read-all, read) in
+    let read-all : feeds front (syms.File ∷ []) ≡ Some (syms.File ∷ []) = ap (λ ts. feeds ts (syms.File ∷ [])) l.1 ∙ fw-file l.0 [] [] in
+    let same : wanted ≡ syms.File ∷ [] = cc (read-all, read) in
     let over : ends wanted ≡ Accepted = ap ends same in
     absurd (cc (over, stuck))
-
-pub refused-wrong : (tokens : List Token) (left : ℕ) → (w : Wrong tokens (m.File ∷ []) left) → IsFirstWrong w.front w.back
-refused-wrong tokens left w = halts-wrong w.front w.back w.wanted w.read w.halts
-  where
-    halts-wrong : (front back : List Token) (wanted : List Sym) → feeds front (m.File ∷ []) ≡ Some wanted → Halts wanted back → IsFirstWrong front back
-    halts-wrong front [] wanted read h = dead-end front wanted h.0 h.1 read h.2
-    halts-wrong front (t ∷ back) wanted read h = dead-token front t wanted read h

@@ -3,7 +3,8 @@
 use Rattle.std.specs.Prelude.{Option, None, Some, List, [], ◌∷◌, ◌++◌}
 use Rattle.wf_grammar.specs.declared.tokens.Kind.{Kind}
 use Rattle.wf_grammar.specs.declared.tokens.Token.{Token}
-use Rattle.wf_grammar.specs.Machine.{Sym, Move, Take, Begin, Enter, Pass, Stop, move}
+use Rattle.wf_grammar.specs.declared.symbols.Sym.{Sym}
+use Rattle.wf_grammar.specs.Machine.{Move, Take, Begin, Enter, Pass, Stop, move}
 
 abbrev pub fed : Move → (below : List Sym) → (passed : Option (List Sym)) → Option (List Sym)
 fed (Take xs) below passed = Some (xs ++ below)

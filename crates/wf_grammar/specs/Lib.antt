@@ -1,8 +1,13 @@
 pub mod Brackets
+pub mod Building
 pub mod Completions
+pub mod Erasure
 pub mod Feeding
 pub mod Files
 pub mod Grammar
 pub mod Machine
 pub mod Meaning
+pub mod Refusals
+pub mod Statements
+pub mod Values
 pub mod Words

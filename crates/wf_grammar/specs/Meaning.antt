@@ -10,7 +10,7 @@ use Rattle.wf_ast.specs.declared.parsed.Root.TheVariants as roots
 use Rattle.wf_ast.specs.declared.parsed.WrittenMark.{WrittenMark}
 use Rattle.wf_ast.specs.declared.parsed.WrittenMark.TheVariants as marks
 use Rattle.wf_ast.specs.ParsedTree as tree
-use Rattle.wf_ast.specs.ParsedTree.{ExprTree, PartTree, ExprTrees, GivenTrees, CallTree, TypeTree, BoundsTree, TargetTree, ClauseTrees, ViaTree, StmtTree, BlockTree, ArmTrees, FieldTrees, ResultTree, DeclTree}
+use Rattle.wf_ast.specs.ParsedTree.{ExprTree, PartTree, LinkTrees, GivenTrees, CallTree, TypeTree, BoundsTree, TargetTree, ClauseTrees, ViaTree, StmtTree, BlockTree, ArmTrees, FieldTrees, ResultTree, DeclTree}
 use Rattle.wf_grammar.specs.Grammar.{PathForm, BarePath, ThisPath, ArgsPath, OnForm, OnThis, OnPath, MarkForm, Exclaims, Asks, MarkPart, NoMark, AMark}
 use Rattle.wf_grammar.specs.Grammar.{ExprForm, Alone, Pair, Chained, Converted, LinksForm, NoLink, Link, OperandForm, Plain, Negated}
 use Rattle.wf_grammar.specs.Grammar.{AtomForm, ANumber, AText, ABaseText, AnOk, ATrue, AFalse, APath, Grouped, Indexed, Sliced, Called, PartForm, NoPart, APart}
@@ -39,13 +39,13 @@ mark_part_tree (AMark m) = mark_tree m
 abbrev mutual
   pub expr_tree : ExprForm → ExprTree
   expr_tree (Alone a) = operand_tree a
-  expr_tree (Pair a op p b) = tree.chain op (tree.more_exprs (operand_tree a) (tree.more_exprs (operand_tree b) tree.no_expr)) p
-  expr_tree (Chained a op p b ls) = tree.chain op (tree.more_exprs (operand_tree a) (tree.more_exprs (operand_tree b) (links_trees ls))) p
+  expr_tree (Pair a op p b) = tree.chain op (operand_tree a) (tree.link p (operand_tree b) tree.no_link) p
+  expr_tree (Chained a op p b ls) = tree.chain op (operand_tree a) (tree.link p (operand_tree b) (link_trees ls)) p
   expr_tree (Converted a p t) = tree.convert (operand_tree a) (type_tree t) p
 
-  pub links_trees : LinksForm → ExprTrees
-  links_trees NoLink = tree.no_expr
-  links_trees (Link p a ls) = tree.more_exprs (operand_tree a) (links_trees ls)
+  pub link_trees : LinksForm → LinkTrees
+  link_trees NoLink = tree.no_link
+  link_trees (Link p a ls) = tree.link p (operand_tree a) (link_trees ls)
 
   pub operand_tree : OperandForm → ExprTree
   operand_tree (Plain a) = atom_tree a

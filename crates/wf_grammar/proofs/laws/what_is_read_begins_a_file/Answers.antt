@@ -1,5 +1,5 @@
 use Rattle.std.proofs.Common.{[], ◌∷◌, ◌++◌, ap, ◌∙◌}
-use Rattle.wf_grammar.specs.Machine.{File}
+use Rattle.wf_grammar.specs.declared.symbols.Sym.TheVariants.{File}
 use Rattle.wf_grammar.specs.Grammar.{file_before}
 use Rattle.wf_grammar.specs.Completions.{completions}
 use Rattle.wf_grammar.specs.Words.{Words}
