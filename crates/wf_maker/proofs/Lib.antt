@@ -1,0 +1,14 @@
+pub mod ActionLaws
+pub mod BranchMaking
+pub mod CallMaking
+pub mod DeclMaking
+pub mod ExprMaking
+pub mod Fitting
+pub mod Growth
+pub mod PathMaking
+pub mod Performing
+pub mod PlainMaking
+pub mod Putting
+pub mod SeenLists
+pub mod StmtMaking
+pub mod TypeMaking

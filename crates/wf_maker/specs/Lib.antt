@@ -1,0 +1,4 @@
+pub mod Makers
+pub mod Making
+pub mod Seen
+pub mod Shapes
