@@ -1,0 +1,30 @@
+-- Open brackets, counted along the stack.
+use Rattle.std.proofs.Common.{◌≡◌, ◌+◌, ℕ, zero, suc, Bool, true, false, if◌then◌else◌, Some, List, [], ◌∷◌, drop, refl, sym, ◌∙◌, arith}
+use Rattle.std.specs.List.{slice_get}
+use Rattle.wf_grammar.specs.declared.symbols.Want.{Want}
+use Rattle.wf_grammar.specs.declared.symbols.Want.TheVariants.{Read, Make}
+use Rattle.wf_grammar.specs.Building.{open_wants}
+use Rattle.wf_grammar.specs.Machine.{one_more_if}
+use Rattle.wf_parse.specs.Machines.{want_owes}
+
+pub open_next : (wants : List Want) (i : ℕ) (w : Want) → slice_get wants i ≡ Some w → open_wants (drop i wants) ≡ one_more_if (want_owes w) (open_wants (drop (suc i) wants))
+open_next [] i w e = absurd (cc e)
+open_next (Read s ∷ wants) zero w e = let is : Read s ≡ w = cc e in cc
+open_next (Make a ∷ wants) zero w e = let is : Make a ≡ w = cc e in cc
+open_next (x ∷ wants) (suc i) w e = open_next wants i w e
+
+pub owed_one : (wants : List Want) (i : ℕ) (w : Want) (b : Bool) → slice_get wants i ≡ Some w → b ≡ want_owes w → b ≡ true → 1 + open_wants (drop (i + 1) wants) ≡ open_wants (drop i wants)
+owed_one wants i w b e f g =
+    let next = open_next wants i w e in
+    let here : want_owes w ≡ true = sym f ∙ g in
+    let more : i + 1 ≡ suc i = omega arith in
+    let there = rw here at next in
+    rw more (omega (arith, there))
+
+pub owed_none : (wants : List Want) (i : ℕ) (w : Want) (b : Bool) → slice_get wants i ≡ Some w → b ≡ want_owes w → b ≡ false → 0 + open_wants (drop (i + 1) wants) ≡ open_wants (drop i wants)
+owed_none wants i w b e f g =
+    let next = open_next wants i w e in
+    let here : want_owes w ≡ false = sym f ∙ g in
+    let more : i + 1 ≡ suc i = omega arith in
+    let there = rw here at next in
+    rw more (omega (arith, there))

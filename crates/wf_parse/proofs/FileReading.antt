@@ -1,0 +1,72 @@
+-- A file, token by token.
+use Rattle.std.proofs.Common.{◌≡◌, ◌≤◌, ◌<◌, ◌+◌, ◌-◌, ℕ, zero, suc, Result, Ok, Err, List, [], ◌∷◌, ◌++◌, drop, length, refl, sym, ◌∙◌, ap, subst, arith, length-append, length-drop, append_assoc}
+use Rattle.std.proofs.Math.Seq.{drop-length}
+use Rattle.wf_ast.specs.ParsedParts.{Parsed}
+use Rattle.wf_grammar.specs.declared.tokens.Token.{Token}
+use Rattle.wf_grammar.specs.Building.{Ending, Built}
+use Rattle.wf_parse.specs.declared.machine.Machine.{Machine}
+use Rattle.wf_maker.specs.declared.maker.Maker.{Maker}
+use Rattle.wf_parse.specs.declared.parsing.FileFault.{FileFault}
+use Rattle.wf_parse.specs.declared.parsing.FileFault.TheVariants as file
+use Rattle.wf_maker.specs.declared.values.Value.{Value}
+use Rattle.wf_parse.specs.Lexing.{GrowsTexts, ExtendsTexts}
+use Rattle.wf_maker.specs.Makers.{IsSound, nodes}
+use Rattle.wf_parse.specs.Machines.{State, file_start, state_of, size}
+use Rattle.wf_parse.specs.Reading.{reading, AnswersOne, AnswersFile}
+use Rattle.wf_maker.specs.Seen.{AreOf, IsOrdered}
+use Rattle.wf_grammar.specs.Values.{Made}
+
+-- A fault of one token is a fault of the file.
+pub file_fault : (first most left : ℕ) (tokens rest ts : List Token) (t : Token) (old now new : State) (fault : FileFault)
+    → reading most now.room rest now.wants now.made ≡ reading first old.room tokens old.wants old.made → rest ≡ t ∷ ts → left ≡ suc (length ts)
+    → AnswersOne most left t now new (Err fault) → AnswersFile first tokens old new (Err fault)
+file_fault first most left tokens rest ts t old now new (file.Refused rule at) on is count answers =
+    sym on ∙ rw is (answers.1 ts count) ∙ ap (λ n. Rattle.wf_grammar.specs.Building.Refused rule n) (sym answers.0)
+file_fault first most left tokens rest ts t old now new file.Memory on is count answers = tt
+
+-- All tokens are read.
+pub file_end : (first most index : ℕ) (tokens : List Token) (old now new : State) (r : Result (Unit {0}) FileFault)
+    → reading most now.room (drop index tokens) now.wants now.made ≡ reading first old.room tokens old.wants old.made → index ≡ length tokens
+    → AnswersFile most [] now new r → AnswersFile first tokens old new r
+file_end first most index tokens old now new (Ok x) on is answers =
+    let none : drop index tokens ≡ [] = ap (λ i. drop i tokens) is ∙ drop-length tokens in
+    sym on ∙ rw none answers
+file_end first most index tokens old now new (Err (file.Refused rule at)) on is answers =
+    let none : drop index tokens ≡ [] = ap (λ i. drop i tokens) is ∙ drop-length tokens in
+    sym on ∙ rw none answers
+file_end first most index tokens old now new (Err file.Memory) on is answers = tt
+
+-- In front of a file.
+pub start_sound : (old new : Maker) → IsSound old → new.package ≡ old.package → new.values ≡ [] → IsSound new
+start_sound old new s e f =
+    let P : Parsed → Type 0 = IsOrdered in
+    let Q : List Value → Type 0 = AreOf new.package in
+    record { ordered = subst P (sym e) s.ordered; below = subst Q (sym f) tt }
+
+pub start_size : (old new : Machine) (made : Made) → new.maker.package ≡ old.maker.package → state_of new ≡ file_start made → size new ≡ nodes old.maker + 2
+start_size old new made e f =
+    let same : nodes new.maker ≡ nodes old.maker = ap (λ (p : Parsed). length p.exprs + length p.stmts) e in
+    let one : length new.wants ≡ 1 = ap (λ (s : State). length s.wants) f in
+    omega (arith, same, one)
+
+-- Texts that grow.
+pub extends_more : (a b c : Parsed) → ExtendsTexts a b → GrowsTexts b c → ExtendsTexts a c
+extends_more a b c x g = record {
+  more = x.more ++ g.more;
+  texts = g.texts ∙ ap (λ ts. ts ++ g.more) x.texts ∙ append_assoc a.texts x.more g.more;
+  same = g.same ∙ ap (λ (p : Parsed). let q : Parsed = record p { texts = c.texts } in q) x.same;
+}
+
+pub grows_by : (b c : Parsed) → GrowsTexts b c → length c.texts ≤ length b.texts + 1
+grows_by b c g =
+    let longer : length c.texts ≡ length (b.texts ++ g.more) = ap length g.texts in
+    let sum = length-append b.texts g.more in
+    let few = g.few in
+    omega (arith, longer, sum, few)
+
+-- How many tokens there are from one on.
+pub left_count : (tokens : List Token) (i : ℕ) (t : Token) → drop i tokens ≡ t ∷ drop (i + 1) tokens → length tokens - i ≡ suc (length (drop (i + 1) tokens))
+left_count tokens i t e =
+    let h : length (drop i tokens) ≡ suc (length (drop (i + 1) tokens)) = ap length e in
+    let g = length-drop i tokens in
+    omega (arith, h, g)

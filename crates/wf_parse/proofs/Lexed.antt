@@ -1,0 +1,77 @@
+-- What a loop over the tokens of a file keeps.
+use Rattle.std.proofs.Common.{◌≡◌, ◌<◌, ◌≤◌, ◌+◌, ℕ, Some, List, [], ◌∷◌, ◌++◌, length, refl, sym, ◌∙◌, ap, subst, arith, suc, length-append}
+use Rattle.std.specs.List.{slice_get}
+use Rattle.std.proofs.lemmas.Option.{slice_get_within}
+use Rattle.wf_text.specs.declared.rules.Refusal.{Refusal}
+use Rattle.wf_ast.proofs.TreeLemmas.{slice_get-front}
+use Rattle.wf_grammar.specs.declared.tokens.Kind.{Kind}
+use Rattle.wf_grammar.specs.declared.tokens.Kind.TheVariants as kinds
+use Rattle.wf_grammar.specs.declared.tokens.Token.{Token}
+use Rattle.wf_tokens.specs.declared.kinds.TokenKind.{TokenKind}
+use Rattle.wf_tokens.specs.declared.kinds.TokenKind.TheVariants as spelt
+use Rattle.wf_tokens.specs.Pieces.{IsText}
+use Rattle.wf_tokens.specs.Spelling.{State, Item, Reads, ReadsAll, IsStuck, IsOver, start}
+use Rattle.wf_tokens.proofs.ReadingOn.{reads_more, text_read}
+use Rattle.wf_parse.specs.Kinds.{KindIs, IsReadable}
+use Rattle.wf_parse.specs.Lexing.{TokenIs, TokensAre, IsWholeFile, IsFileUpTo}
+
+-- These tokens are read, and the lexer stands behind them.
+pub record LexedSoFar (file : ℕ) (bytes : List ℕ) (lexer : State) (texts : List (List ℕ)) (tokens : List Token) : Type 0 where
+  pub items : List Item
+  pub reads : ReadsAll (start file bytes) items lexer
+  pub tokens_are : TokensAre texts items tokens
+
+-- A text keeps its number while texts are added.
+stays : (texts more : List (List ℕ)) (i : ℕ) (text : List ℕ) → slice_get texts i ≡ Some text → slice_get (texts ++ more) i ≡ Some text
+stays texts more i text g = slice_get-front texts more i (slice_get_within texts i text g) ∙ g
+
+kind_stays : (texts more : List (List ℕ)) (k : TokenKind) (text : List ℕ) (kind : Kind) → KindIs texts k text kind → KindIs (texts ++ more) k text kind
+kind_stays texts more spelt.Name text kind h = (h.0, h.1, stays texts more h.0.0 _ h.2)
+kind_stays texts more (spelt.Number value) text kind h = h
+kind_stays texts more spelt.Text text kind h = (h.0, h.1, stays texts more h.0.0 _ h.2)
+kind_stays texts more (spelt.Keyword word) text kind h = h
+kind_stays texts more (spelt.Symbol symbol) text kind h = h
+
+pub tokens_stay : (texts more : List (List ℕ)) (items : List Item) (tokens : List Token) → TokensAre texts items tokens → TokensAre (texts ++ more) items tokens
+tokens_stay texts more [] [] h = tt
+tokens_stay texts more [] (t ∷ ts) h = absurd h
+tokens_stay texts more (item ∷ items) [] h = absurd h
+tokens_stay texts more (item ∷ items) (t ∷ ts) h =
+    let head : TokenIs (texts ++ more) item t = record { at = h.0.at; kind = kind_stays texts more item.kind item.text t.kind h.0.kind } in
+    (head, tokens_stay texts more items ts h.1)
+
+tokens_push : (texts : List (List ℕ)) (items : List Item) (tokens : List Token) (item : Item) (t : Token) → TokensAre texts items tokens → TokenIs texts item t → TokensAre texts (items ++ item ∷ []) (tokens ++ t ∷ [])
+tokens_push texts [] [] item t h is = (is, tt)
+tokens_push texts [] (x ∷ tokens) item t h is = absurd h
+tokens_push texts (x ∷ items) [] item t h is = absurd h
+tokens_push texts (x ∷ items) (y ∷ tokens) item t h is = (h.0, tokens_push texts items tokens item t h.1 is)
+
+-- One token more.
+pub lexed_more : (file : ℕ) (bytes : List ℕ) (old new : State) (texts more grown : List (List ℕ)) (tokens longer : List Token) (item : Item) (t : Token)
+    → LexedSoFar file bytes old texts tokens → Reads old item new → grown ≡ texts ++ more → TokenIs grown item t → longer ≡ tokens ++ t ∷ [] → LexedSoFar file bytes new grown longer
+lexed_more file bytes old new texts more grown tokens longer item t l r g is e =
+    let P : List (List ℕ) → Type 0 = λ xs. TokensAre xs l.items tokens in
+    let front : TokensAre grown l.items tokens = subst P (sym g) (tokens_stay texts more l.items tokens l.tokens_are) in
+    let Q : List Token → Type 0 = TokensAre grown (l.items ++ item ∷ []) in
+    record {
+      items = l.items ++ item ∷ [];
+      reads = reads_more (start file bytes) l.items old item new l.reads r;
+      tokens_are = subst Q (sym e) (tokens_push grown l.items tokens item t front is);
+    }
+
+-- The whole file.
+pub lexed_whole : (file : ℕ) (bytes : List ℕ) (last : State) (texts : List (List ℕ)) (tokens : List Token) → LexedSoFar file bytes last texts tokens → IsOver last → IsWholeFile file bytes texts tokens
+lexed_whole file bytes last texts tokens l over = record { items = l.items; spelt = record { last = last; reads = l.reads; over = over }; tokens_are = l.tokens_are }
+
+-- Up to bytes that are no token.
+pub lexed_up_to : (file : ℕ) (bytes : List ℕ) (last : State) (texts : List (List ℕ)) (tokens longer : List Token) (refusal : Refusal) → LexedSoFar file bytes last texts tokens → IsStuck last refusal
+    → longer ≡ tokens ++ record { kind = kinds.Bad; at = refusal.at } ∷ [] → IsFileUpTo file bytes texts longer refusal
+lexed_up_to file bytes last texts tokens longer refusal l stuck e = record { items = l.items; front = tokens; spelt = record { last = last; reads = l.reads; stuck = stuck }; tokens_are = l.tokens_are; whole = e }
+
+-- A text has its quotes.
+pub is_readable : (old : State) (item : Item) (new : State) → Reads old item new → IsReadable item
+is_readable old item new r is =
+    let text : IsText item.text = text_read old item new r is in
+    let long = length-append text.inner (34 ∷ []) in
+    let whole : length item.text ≡ suc (length (text.inner ++ 34 ∷ [])) = ap length text.quoted in
+    omega (arith, long, whole)

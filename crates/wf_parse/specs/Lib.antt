@@ -1,0 +1,5 @@
+pub mod Kinds
+pub mod Lexing
+pub mod Machines
+pub mod Parsing
+pub mod Reading

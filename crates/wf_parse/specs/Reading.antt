@@ -1,0 +1,66 @@
+-- The machine's run of a file within the number of tokens, and what the parser answers to it step by step.
+use Rattle.std.specs.Prelude.{◌≡◌, ◌<◌, ◌-◌, ℕ, zero, suc, true, false, ⊤, Result, Ok, Err, List, [], ◌∷◌, ◌++◌, length}
+use Rattle.wf_text.specs.declared.faults.PhaseFault.{PhaseFault}
+use Rattle.wf_text.specs.declared.faults.PhaseFault.TheVariants as phase
+use Rattle.wf_text.specs.declared.rules.Refusal.{Refusal}
+use Rattle.wf_text.specs.declared.rules.Rule.{Rule}
+use Rattle.wf_text.specs.declared.rules.Rule.TheVariants.{L3}
+use Rattle.wf_ast.specs.ParsedParts.{Parsed, AreDistinct}
+use Rattle.wf_ast.specs.ParsedTree.{DeclTree}
+use Rattle.wf_grammar.specs.declared.symbols.Sym.TheVariants.{File}
+use Rattle.wf_grammar.specs.declared.symbols.Want.{Want}
+use Rattle.wf_grammar.specs.declared.symbols.Want.TheVariants.{Read}
+use Rattle.wf_grammar.specs.declared.tokens.Token.{Token}
+use Rattle.wf_grammar.specs.Building.{Ending, Built, Refused, step, ends}
+use Rattle.wf_grammar.specs.Values.{Made}
+use Rattle.wf_parse.specs.declared.parsing.FileFault.{FileFault}
+use Rattle.wf_parse.specs.declared.parsing.FileFault.TheVariants as file
+use Rattle.wf_parse.specs.Machines.{State}
+use Rattle.wf_parse.specs.Parsing.{ReadsFile, RefusesFile, decls_of}
+
+-- The run of the machine within `most` tokens. The token that passes them is read without the limits of brackets and
+-- statements: where it can stand, the number of tokens refuses it.
+abbrev pub reading : (most room : ℕ) → List Token → List Want → Made → Ending
+reading most room [] k made = ends k made
+reading zero room (t ∷ ts) k made = step false room k made t (suc (length ts)) (λ _ _ _. Refused L3 (suc (length ts)))
+reading (suc most) room (t ∷ ts) k made = step true room k made t (suc (length ts)) (λ room_left wanted made_then. reading most room_left ts wanted made_then)
+
+-- A whole file, behind these declarations.
+abbrev pub read_file : (most : ℕ) → List Token → List DeclTree → Ending
+read_file most tokens before = reading most 0 tokens (Read File ∷ []) (record { vals = []; decls = before })
+
+-- What the machine answers to the tokens of a file, from this state on.
+abbrev pub AnswersFile : (most : ℕ) → List Token → (old new : State) → Result (Unit {0}) FileFault → Type 0
+AnswersFile most tokens old new (Ok _) = reading most old.room tokens old.wants old.made ≡ Built new.made
+AnswersFile most tokens old new (Err (file.Refused rule left)) = reading most old.room tokens old.wants old.made ≡ Refused rule left
+AnswersFile most tokens old new (Err file.Memory) = ⊤
+
+-- What it answers to one token, where `left` counts the tokens up to the file's end, itself too.
+abbrev pub AnswersOne : (most left : ℕ) → Token → (old new : State) → Result (Unit {0}) FileFault → Type 0
+AnswersOne most left t old new (Ok _) = (0 < most) × ((ts : List Token) → reading most old.room (t ∷ ts) old.wants old.made ≡ reading (most - 1) new.room ts new.wants new.made)
+AnswersOne most left t old new (Err (file.Refused rule at)) = (at ≡ left) × ((ts : List Token) → left ≡ suc (length ts) → reading most old.room (t ∷ ts) old.wants old.made ≡ Refused rule left)
+AnswersOne most left t old new (Err file.Memory) = ⊤
+
+-- One file more is read: the package behind it has more texts and more declarations, and `left` tokens are left.
+pub record ReadsOne (number most : ℕ) (bytes : List ℕ) (old new : Parsed) (left : ℕ) : Type 0 where
+  pub more : List (List ℕ)
+  pub texts : new.texts ≡ old.texts ++ more
+  pub named : new.name ≡ old.name
+  pub tokens : List Token
+  pub trees : List DeclTree
+  pub read : ReadsFile number most new.texts bytes tokens trees
+  pub decls_are : decls_of new ≡ decls_of old ++ trees
+  pub left_is : left ≡ most - length tokens
+
+-- One file more is refused.
+pub record RefusesOne (number most : ℕ) (bytes : List ℕ) (old : Parsed) (refusal : Refusal) : Type 0 where
+  pub texts : List (List ℕ)
+  pub more : List (List ℕ)
+  pub grown : texts ≡ old.texts ++ more
+  pub distinct : AreDistinct texts
+  pub refused : RefusesFile number most texts bytes refusal
+
+abbrev pub AnswersBytes : (number most : ℕ) → List ℕ → (old new : Parsed) → Result ℕ PhaseFault → Type 0
+AnswersBytes number most bytes old new (Ok left) = ReadsOne number most bytes old new left
+AnswersBytes number most bytes old new (Err (phase.Refused refusal)) = RefusesOne number most bytes old refusal
+AnswersBytes number most bytes old new (Err phase.Memory) = ⊤

@@ -1,0 +1,12 @@
+// From the bytes of a package's files to its tree. The tokens of each file are read by the machine of the grammar:
+// what is still wanted stands on one stack, what is made of the tokens on another.
+#![tactic(auto)]
+
+pub mod lexing;
+pub mod machine;
+pub mod parsing;
+#[cfg(test)]
+mod tests;
+pub mod token_kinds;
+
+pub use parsing::parse;

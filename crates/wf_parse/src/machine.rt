@@ -1,0 +1,277 @@
+// The machine of the grammar: what is wanted stands on a stack, and each token is looked up in the table for the
+// topmost of it.
+
+ghost use Rattle.std.specs.Prelude.{◌≡◌, ◌+◌, ◌<◌, ◌≤◌, ◌^◌, ◌⊎◌, if◌then◌else◌, ℕ, List, [], ◌∷◌, ◌++◌, drop, length, true, false, nat_le, IfOk, IfErr, OnOk};
+ghost use Rattle.wf_text.specs.declared.rules.Rule.TheVariants.{S5};
+ghost use Rattle.wf_parse.specs.declared.machine.StepFault.TheVariants.{Refused, Memory};
+ghost use Rattle.wf_grammar.specs.declared.symbols.Want.TheVariants.{Read};
+ghost use Rattle.wf_grammar.specs.declared.builds.Build.TheVariants as builds;
+ghost use Rattle.wf_grammar.specs.Building.{open_wants, build, skipped};
+ghost use Rattle.wf_grammar.specs.Machine.{may_end};
+ghost use Rattle.wf_grammar.specs.Values.{perform};
+ghost use Rattle.wf_maker.specs.Makers.{nodes, IsSound, KeepsTexts, made};
+ghost use Rattle.wf_parse.specs.Machines.{size, state_of, AnswersBuild, AnswersToken, AnswersEnd, want_owes};
+
+use wf_grammar::table::{build, may_end, opens, owes, skips};
+use wf_grammar::{Action, Build, Sym, Token, Want, Wants};
+use wf_maker::{Maker, Stack};
+use wf_text::Rule;
+
+/// Why the machine stops.
+#[derive(Clone, Copy, Debug, PartialEq, Eq)]
+pub enum StepFault {
+    /// The token breaks a rule.
+    Refused(Rule),
+    /// Memory was refused.
+    Memory,
+}
+
+/// How many brackets may be open.
+const MOST_BRACKETS: usize = 48;
+
+/// How many statements a method may have.
+const MOST_STATEMENTS: u32 = 4096;
+
+/// The machine. `room` is the number of statements that the method in hand may still begin.
+#[derive(Drop)]
+pub struct Machine {
+    pub maker: Maker,
+    pub wants: Stack<Want>,
+    pub room: u32,
+}
+
+/// Whether a closing bracket is owed.
+fn want_owes(want: &Want) -> bool
+    ensures { result ≡ want_owes want.now }
+{
+    match want {
+        Want::Read(symbol) => owes(*symbol),
+        Want::Make(_) => false,
+    }
+}
+
+/// How many closing brackets are owed at this place of the stack: one or none.
+fn owed_at(wants: &Stack<Want>, depth: usize) -> usize
+    requires { depth < length wants.now }
+    ensures few { result ≤ 1 }
+    ensures counted { result + open_wants (drop (depth + 1) wants.now) ≡ open_wants (drop depth wants.now) }
+{
+    if want_owes(wants.at(depth)) { 1 } else { 0 }
+}
+
+/// How many brackets are open.
+fn open_brackets(wants: &Stack<Want>) -> usize
+    ensures open { result ≡ open_wants wants.now }
+    ensures few { result ≤ length wants.now }
+{
+    let len = wants.len();
+    let mut open: usize = 0;
+    let mut depth: usize = 0;
+    while depth < len {
+        open += owed_at(wants, depth);
+        depth += 1;
+    }
+    open
+}
+
+impl Machine {
+    /// Whether so many brackets are open that no further one may be opened, where `symbol` stands on the top.
+    fn is_deep(&self, symbol: Sym) -> bool
+        requires { size self.now < 2 ^ 32 }
+        ensures { result ≡ nat_le 48 (open_wants (Read symbol ∷ self.now.wants)) }
+    {
+        let below = open_brackets(&self.wants);
+        let open = if owes(symbol) { below + 1 } else { below };
+        MOST_BRACKETS <= open
+    }
+
+    /// The token is taken, and these are wanted.
+    fn want(&mut self, wants: &Wants) -> Result<bool, StepFault>
+        ensures ok { IfOk result (λ taken. (taken ≡ true) × (self.new ≡ record self.old { wants = wants.now ++ self.old.wants })) }
+        ensures err { IfErr result (λ stop. stop ≡ Memory) }
+        ensures maker { self.new.maker ≡ self.old.maker }
+    {
+        match self.wants.push_all(wants.as_slice()) {
+            Ok(()) => Ok(true),
+            Err(_) => Err(StepFault::Memory),
+        }
+    }
+
+    /// A token is taken that begins no statement and no method.
+    fn take(
+        &mut self,
+        limited: bool,
+        symbol: Sym,
+        token: Token,
+        wants: &Wants,
+    ) -> Result<bool, StepFault>
+        requires { size self.old + 32 < 2 ^ 32 }
+        ensures answers { AnswersBuild limited symbol token (builds.Take wants.now) (state_of self.old) (state_of self.new) result }
+        ensures same { self.new.maker ≡ self.old.maker }
+        ensures taken { IfOk result (λ taken. (taken ≡ true) × (self.new.wants ≡ wants.now ++ self.old.wants)) }
+    {
+        if limited && opens(token.kind) && self.is_deep(symbol) {
+            return Err(StepFault::Refused(Rule::L4));
+        }
+        self.want(wants)
+    }
+
+    /// A token is taken that begins a statement.
+    fn begin(
+        &mut self,
+        limited: bool,
+        symbol: Sym,
+        token: Token,
+        wants: &Wants,
+    ) -> Result<bool, StepFault>
+        ensures answers { AnswersBuild limited symbol token (builds.Begin wants.now) (state_of self.old) (state_of self.new) result }
+        ensures same { self.new.maker ≡ self.old.maker }
+        ensures taken { IfOk result (λ taken. (taken ≡ true) × (self.new.wants ≡ wants.now ++ self.old.wants)) }
+    {
+        if limited && self.room == 0 {
+            return Err(StepFault::Refused(Rule::L5));
+        }
+        self.room = self.room.saturating_sub(1);
+        self.want(wants)
+    }
+
+    /// A token is taken that begins the block of a method.
+    fn enter(
+        &mut self,
+        limited: bool,
+        symbol: Sym,
+        token: Token,
+        wants: &Wants,
+    ) -> Result<bool, StepFault>
+        requires { size self.old + 32 < 2 ^ 32 }
+        ensures answers { AnswersBuild limited symbol token (builds.Enter wants.now) (state_of self.old) (state_of self.new) result }
+        ensures same { self.new.maker ≡ self.old.maker }
+        ensures taken { IfOk result (λ taken. (taken ≡ true) × (self.new.wants ≡ wants.now ++ self.old.wants)) }
+    {
+        if limited && self.is_deep(symbol) {
+            return Err(StepFault::Refused(Rule::L4));
+        }
+        self.room = MOST_STATEMENTS;
+        self.want(wants)
+    }
+
+    /// The symbol is left out.
+    fn pass(&mut self, limited: bool, symbol: Sym, token: Token) -> Result<bool, StepFault>
+        requires sound { IsSound self.old.maker }
+        requires size { size self.old + 32 < 2 ^ 32 }
+        ensures answers { AnswersBuild limited symbol token builds.Pass (state_of self.old) (state_of self.new) result }
+        ensures sound { OnOk result (IsSound self.new.maker) }
+        ensures texts { OnOk result (KeepsTexts self.old.maker.package self.new.maker.package) }
+        ensures passed { IfOk result (λ taken. taken ≡ false) }
+        ensures same { self.new.wants ≡ self.old.wants }
+        ensures grows { OnOk result (nodes self.new.maker ≤ nodes self.old.maker + 2) }
+    {
+        match self.maker.perform_all(skips(symbol)) {
+            Ok(()) => Ok(false),
+            Err(_) => Err(StepFault::Memory),
+        }
+    }
+
+    /// What the table says to the token where `symbol` stood on the top: true where the token is taken, false where
+    /// it is left to what stands below.
+    fn read(&mut self, limited: bool, symbol: Sym, token: Token) -> Result<bool, StepFault>
+        requires sound { IsSound self.old.maker }
+        requires size { size self.old + 32 < 2 ^ 32 }
+        ensures answers { AnswersBuild limited symbol token (build symbol token.kind token.at) (state_of self.old) (state_of self.new) result }
+        ensures sound { OnOk result (IsSound self.new.maker) }
+        ensures texts { OnOk result (KeepsTexts self.old.maker.package self.new.maker.package) }
+        ensures below { IfOk result (λ taken. taken ≡ false → self.new.wants ≡ self.old.wants) }
+        ensures size { IfOk result (λ taken. size self.new ≤ size self.old + (if taken then 32 else 2)) }
+    {
+        let Ok(build) = build(self.maker.alloc, symbol, token) else {
+            return Err(StepFault::Memory);
+        };
+        match build {
+            Build::Take(wants) => self.take(limited, symbol, token, &wants),
+            Build::Begin(wants) => self.begin(limited, symbol, token, &wants),
+            Build::Enter(wants) => self.enter(limited, symbol, token, &wants),
+            Build::Pass => self.pass(limited, symbol, token),
+            Build::Stop(rule) => Err(StepFault::Refused(rule)),
+        }
+    }
+
+    /// One token. `limited` tells whether brackets and statements have their limits. S5 or S6 where the token can't
+    /// stand here, L4 at a bracket too many, L5 at a statement too many.
+    pub fn step(&mut self, limited: bool, token: Token) -> Result<(), StepFault>
+        requires sound { IsSound self.old.maker }
+        requires size { size self.old + 32 < 2 ^ 32 }
+        ensures answers { AnswersToken limited token (state_of self.old) (state_of self.new) result }
+        ensures sound { OnOk result (IsSound self.new.maker) }
+        ensures texts { OnOk result (KeepsTexts self.old.maker.package self.new.maker.package) }
+        ensures size { OnOk result (size self.new ≤ size self.old + 32) }
+    {
+        while let Some(want) = self.wants.pop() {
+            match want {
+                Want::Make(action) => self.make(action)?,
+                Want::Read(symbol) => {
+                    if self.read(limited, symbol, token)? {
+                        return Ok(());
+                    }
+                }
+            }
+        }
+        Err(StepFault::Refused(Rule::S5))
+    }
+
+    /// An action is performed.
+    fn make(&mut self, action: Action) -> Result<(), StepFault>
+        requires sound { IsSound self.old.maker }
+        requires size { size self.old + 32 < 2 ^ 32 }
+        ensures made { OnOk result (made self.new.maker ≡ perform action (made self.old.maker)) }
+        ensures sound { OnOk result (IsSound self.new.maker) }
+        ensures texts { OnOk result (KeepsTexts self.old.maker.package self.new.maker.package) }
+        ensures room { self.new.room ≡ self.old.room }
+        ensures wants { self.new.wants ≡ self.old.wants }
+        ensures grows { OnOk result (nodes self.new.maker ≤ nodes self.old.maker + 1) }
+        ensures err { IfErr result (λ stop. stop ≡ Memory) }
+    {
+        match self.maker.perform(action) {
+            Ok(()) => Ok(()),
+            Err(_) => Err(StepFault::Memory),
+        }
+    }
+
+    /// The file's end for a symbol that stood on the top: it is left out, or refused by S5.
+    fn leave_out(&mut self, symbol: Sym) -> Result<(), StepFault>
+        requires sound { IsSound self.old.maker }
+        requires size { size self.old + 32 < 2 ^ 32 }
+        ensures made { OnOk result ((may_end symbol ≡ true) × (made self.new.maker ≡ skipped symbol (made self.old.maker))) }
+        ensures refused { IfErr result (λ stop. (stop ≡ Memory) ⊎ ((may_end symbol ≡ false) × (stop ≡ Refused S5))) }
+        ensures sound { OnOk result (IsSound self.new.maker) }
+        ensures texts { OnOk result (KeepsTexts self.old.maker.package self.new.maker.package) }
+        ensures room { self.new.room ≡ self.old.room }
+        ensures wants { self.new.wants ≡ self.old.wants }
+        ensures grows { OnOk result (nodes self.new.maker ≤ nodes self.old.maker + 2) }
+    {
+        if !may_end(symbol) {
+            return Err(StepFault::Refused(Rule::S5));
+        }
+        match self.maker.perform_all(skips(symbol)) {
+            Ok(()) => Ok(()),
+            Err(_) => Err(StepFault::Memory),
+        }
+    }
+
+    /// The file's end. S5 where more is wanted.
+    pub fn finish(&mut self) -> Result<(), StepFault>
+        requires sound { IsSound self.old.maker }
+        requires size { size self.old + 32 < 2 ^ 32 }
+        ensures answers { AnswersEnd (state_of self.old) (state_of self.new) result }
+        ensures sound { OnOk result (IsSound self.new.maker) }
+        ensures texts { OnOk result (KeepsTexts self.old.maker.package self.new.maker.package) }
+        ensures size { OnOk result (size self.new ≤ size self.old) }
+    {
+        while let Some(want) = self.wants.pop() {
+            match want {
+                Want::Make(action) => self.make(action)?,
+                Want::Read(symbol) => self.leave_out(symbol)?,
+            }
+        }
+        Ok(())
+    }
+}
