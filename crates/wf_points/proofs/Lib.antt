@@ -1,3 +1,4 @@
+pub mod BaseCallExamples
 pub mod Bodies
 pub mod Combine
 pub mod Counting
@@ -7,6 +8,7 @@ pub mod Lists
 pub mod Lists2
 pub mod MoreTurns
 pub mod Numbers
+pub mod Order
 pub mod Points
 pub mod Refusals
 pub mod Rests

@@ -6,7 +6,8 @@ use Rattle.std.proofs.lemmas.List.Sums.{sum_by-cons}
 use Rattle.std.proofs.lemmas.Bool.Decides.{nat_tests}
 use Rattle.wf_text.specs.declared.place.Place.{Place}
 use Rattle.wf_ast.specs.TypedTree.{Site}
-use Rattle.wf_points.specs.Remaining.{stands_before, number_among}
+use Rattle.wf_ast.specs.StatementOrder.{stands_before}
+use Rattle.wf_points.specs.Remaining.{number_among}
 use Rattle.wf_points.specs.Laws.{Ascend}
 
 before-irrefl : (a : Place) → stands_before a a ≡ false

@@ -8,7 +8,7 @@ use Rattle.wf_ast.specs.TypedTree.{CondTree, Simple, Site, Head, Block, end, pla
 use Rattle.wf_ast.specs.TypedPackage.{MethodTree, PackageTree}
 use Rattle.wf_points.specs.SourceState.{Behind, stop, behind_if, again, Remaining}
 use Rattle.wf_points.specs.Remaining.{Items, Marker, is_point, points_in, first, rest_in, rest, number_of, marker_of}
-use Rattle.wf_points.specs.Laws.{Ascend, IsRest, StandsInOrder}
+use Rattle.wf_points.specs.Laws.{Ascend, IsRest}
 use Rattle.wf_points.proofs.Lists.{Has, has_more}
 use Rattle.wf_points.proofs.Lists2.{some_same}
 use Rattle.wf_points.proofs.Numbers.{numbered}
@@ -284,8 +284,12 @@ resume p m x known start left h =
     let P : MethodTree → Type 0 = λ y. rest y.body h.point ≡ Some items in
     reached (number_of x.body) x.body h.point x.body stop items (subst P same h.stands) start
 
+-- The points of each method stand in order of place.
+abbrev pub PointsAscend : PackageTree → Type 0
+PointsAscend p = (m : ℕ) (method : MethodTree) → slice_get p.methods m ≡ Some method → Ascend (points_in method.body)
+
 -- The places of a method, for what remains of it.
-pub rest_places : (p : PackageTree) → StandsInOrder p → (m : ℕ) (x : MethodTree) → slice_get p.methods m ≡ Some x → (B A : ℕ → Type 0) (h0 : Host) → Places B A h0 (IsRest p) m x.body
+pub rest_places : (p : PackageTree) → PointsAscend p → (m : ℕ) (x : MethodTree) → slice_get p.methods m ≡ Some x → (B A : ℕ → Type 0) (h0 : Host) → Places B A h0 (IsRest p) m x.body
 unfolding rest
 rest_places p ordered m x known B A h0 =
     let top = x.body in

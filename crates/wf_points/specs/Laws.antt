@@ -8,7 +8,8 @@ use Rattle.wf_ast.specs.TypedPackage.{MethodTree, PackageTree}
 use Rattle.wf_ast.specs.Value.{Value, num, truth_value, status_number, span, buffer}
 use Rattle.wf_points.specs.World.{empty_span}
 use Rattle.wf_points.specs.SourceState.{Held, held_num, held_truth, held_status, held_cells, held_part, ready, Remaining, Object, SourceState}
-use Rattle.wf_points.specs.Remaining.{Items, is_point, points_in, number_of, stands_before, rest}
+use Rattle.wf_ast.specs.StatementOrder.{stands_before}
+use Rattle.wf_points.specs.Remaining.{Items, is_point, points_in, number_of, rest}
 
 -- The first of the remaining statements is the point with the number `k`.
 pub record BeginsWithPoint (body : Block) (k : ℕ) (items : Items) : Type 0 where
@@ -74,10 +75,6 @@ pub record IsRest (p : PackageTree) (number : ℕ) (left : Remaining) : Type 0 w
   pub known : slice_get p.methods number ≡ Some method
   pub point : ℕ
   pub stands : rest method.body point ≡ Some (record { block = left.block; behind = left.behind })
-
--- The statements of each method stand in order of place.
-abbrev pub StandsInOrder : PackageTree → Type 0
-StandsInOrder p = (m : ℕ) (method : MethodTree) → slice_get p.methods m ≡ Some method → Ascend (points_in method.body)
 
 -- What a call leaves as it was: every other receiver, and the buffers and byte arrays that its arguments don't name.
 pub record ChangesOnlyNamed (state : SourceState) (call : HostCall) (h : Host) (after : SourceState × Host) : Type 0 where

@@ -1,7 +1,13 @@
 // Worked examples: what the meaning gives for small packages, computed. Each is the contract of a function that does
 // nothing.
 
-ghost use Rattle.std.specs.Prelude.{◌≡◌, Bool, true};
+ghost use Rattle.std.specs.Prelude.{◌≡◌, Bool, true, false};
+ghost use Rattle.wf_ast.specs.declared.things.Thing.TheVariants.{Local, This};
+ghost use Rattle.wf_ast.specs.Places.{expr_places, IsFirstAt};
+ghost use Rattle.wf_ast.specs.TypedTrees.{tree_of};
+ghost use Rattle.wf_ast.specs.Same.{same};
+ghost use Rattle.wf_ast.specs.Mentions.{mentions};
+ghost use Rattle.wf_points.specs.Examples.{on};
 ghost use Rattle.wf_ast.specs.WellTyped.{well_typed};
 ghost use Rattle.wf_ast.specs.TypedInvariant.{IsTyped};
 ghost use Rattle.wf_ast.specs.TypedPackage.{package_of, surface_of};
@@ -31,6 +37,19 @@ pub fn the_nodes_of_a_package()
     ensures typed { IsTyped demo_nodes }
     ensures tree { package_of demo_nodes ≡ demo }
     ensures surface { surface_of demo ≡ demo_surface }
+{}
+
+/// Expressions of `demo`: the target of `c -= 0x30` stands a second time as the operand of `-`, with the same place, by
+/// which the first of the two is found; `(10 * this.val) + (c as base.u32)` stands twice and mentions `c` and a field;
+/// its product is another expression, and `c - 0x30` mentions no field.
+pub fn expressions_of_a_package()
+    ensures place { IsFirstAt (expr_places demo_nodes) (on 19 9) 14 }
+    ensures target { same (tree_of demo_nodes (record { 0 = 14 })) (tree_of demo_nodes (record { 0 = 15 })) ≡ true }
+    ensures sums { same (tree_of demo_nodes (record { 0 = 24 })) (tree_of demo_nodes (record { 0 = 42 })) ≡ true }
+    ensures product { same (tree_of demo_nodes (record { 0 = 24 })) (tree_of demo_nodes (record { 0 = 21 })) ≡ false }
+    ensures local { mentions (tree_of demo_nodes (record { 0 = 24 })) (Local (record { 0 = 0 })) ≡ true }
+    ensures field { mentions (tree_of demo_nodes (record { 0 = 24 })) This ≡ true }
+    ensures no_field { mentions (tree_of demo_nodes (record { 0 = 17 })) This ≡ false }
 {}
 
 /// A number in two pieces, in a buffer with room for it.

@@ -6,14 +6,16 @@ ghost use Rattle.wf_text.specs.Seen.{Answer, status as status_answer};
 ghost use Rattle.wf_text.specs.HostActions.{Receiver};
 ghost use Rattle.wf_base.specs.HostRun.{Host, HostCall, Response, answers, needs_more, not_defined};
 ghost use Rattle.wf_ast.specs.TypedTree.{Site, Block};
-ghost use Rattle.wf_ast.specs.TypedPackage.{MethodTree, PackageTree};
+ghost use Rattle.wf_ast.specs.declared.typed_nodes.TypedNodes.{TypedNodes};
+ghost use Rattle.wf_ast.specs.TypedPackage.{MethodTree, PackageTree, package_of};
+ghost use Rattle.wf_ast.specs.TypedInvariant.{IsTyped};
 ghost use Rattle.wf_ast.specs.WellTyped.{is_pure, is_coroutine};
 ghost use Rattle.wf_points.specs.SourceState.{Object, SourceState, raw, ready, disabled, fresh_state};
-ghost use Rattle.wf_points.specs.Remaining.{Items, points_in, number_among, number_of, rest};
+ghost use Rattle.wf_points.specs.Remaining.{Items, points_in, number_of, rest};
 ghost use Rattle.wf_points.specs.Entry.{ok, bad_receiver, bad_argument, not_initialized, interleaved, was_disabled, text_of_status, disabled_by, made_disabled, refusal_of};
 ghost use Rattle.wf_points.specs.World.{updated};
 ghost use Rattle.wf_points.specs.SourceCall.{source_call, source_init, seen_answer, host_values};
-ghost use Rattle.wf_points.specs.Laws.{BeginsWithPoint, Ascend, IsReady, Anything, IsRest, IsSettled, StandsInOrder, ChangesOnlyNamed};
+ghost use Rattle.wf_points.specs.Laws.{BeginsWithPoint, Ascend, IsReady, Anything, IsRest, IsSettled, ChangesOnlyNamed};
 
 /// A call that answers within `n` turns answers the same, and leaves the same, within any greater number; one that
 /// is stuck within `n` turns is stuck within any greater number; and one that needs more than a number of turns
@@ -34,9 +36,13 @@ pub fn what_remains_begins_with_its_point()
     ensures each { (body : Block) (i : ℕ) (site : Site) → slice_get (points_in body) i ≡ Some site → IsSome (rest body (number_of body site)) }
 {}
 
-/// The points of a method whose statements stand in order have the numbers 1, 2 and so on.
+/// The points of each method of a typed package stand in order of place, and have the numbers 1, 2 and so on.
 pub fn points_are_numbered_in_order()
-    ensures { (points : List Site) → Ascend points → (i : ℕ) (site : Site) → slice_get points i ≡ Some site → number_among points site.at ≡ 1 + i }
+    ensures order { (nodes : TypedNodes) (m : ℕ) (method : MethodTree)
+        → IsTyped nodes → slice_get (package_of nodes).methods m ≡ Some method → Ascend (points_in method.body) }
+    ensures numbers { (nodes : TypedNodes) (m i : ℕ) (method : MethodTree) (site : Site)
+        → IsTyped nodes → slice_get (package_of nodes).methods m ≡ Some method → slice_get (points_in method.body) i ≡ Some site
+        → number_of method.body site ≡ 1 + i }
 {}
 
 /// An init makes a receiver ready with all struct states inside it, whatever they were: their fields zero, nothing
@@ -84,12 +90,13 @@ pub fn a_call_changes_only_what_it_names()
         → IsSettled Anything state → source_call p state call h n ≡ answers a after → IsSettled Anything after.0 }
 {}
 
-/// In every state that a host reaches, what remains of each suspended coroutine is what stands at one of its points:
-/// so it is at first, and behind each init and each call. The statements of each method have to stand in order.
+/// In every state of a typed package that a host reaches, what remains of each suspended coroutine is what stands at
+/// one of its points: so it is at first, and behind each init and each call.
 pub fn what_remains_stands_at_a_point()
     ensures first { (p : PackageTree) (receivers : List Receiver) → IsSettled (IsRest p) (fresh_state p receivers) }
     ensures init { (p : PackageTree) (state : SourceState) (r turns : ℕ) (a : Answer) (after : SourceState)
         → IsSettled (IsRest p) state → source_init p state r turns ≡ answers a after → IsSettled (IsRest p) after }
-    ensures call { (p : PackageTree) (state : SourceState) (call : HostCall) (h : Host) (n : ℕ) (a : Answer) (after : SourceState × Host)
-        → StandsInOrder p → IsSettled (IsRest p) state → source_call p state call h n ≡ answers a after → IsSettled (IsRest p) after.0 }
+    ensures call { (nodes : TypedNodes) (state : SourceState) (call : HostCall) (h : Host) (n : ℕ) (a : Answer) (after : SourceState × Host)
+        → IsTyped nodes → IsSettled (IsRest (package_of nodes)) state → source_call (package_of nodes) state call h n ≡ answers a after
+        → IsSettled (IsRest (package_of nodes)) after.0 }
 {}
