@@ -1,8 +1,8 @@
 -- Writing nothing, and writing one thing behind another.
-use Rattle.std.proofs.Common.{◌≡◌, ℕ, ◌+◌, ◌-◌, ◌<◌, ◌≤◌, ◌++◌, List, [], ◌∷◌, length, Bool, true, false, Option, None, Some, refl, sym, ◌∙◌, ap, subst, arith, length-append, append_assoc, inl, inr}
+use Rattle.std.proofs.Common.{◌≡◌, ℕ, ◌+◌, ◌-◌, ◌^◌, ◌<◌, ◌≤◌, ◌++◌, List, [], ◌∷◌, length, Bool, true, false, Option, None, Some, refl, sym, ◌∙◌, ap, subst, arith, length-append, append_assoc, inl, inr}
 use Rattle.std.specs.Io.KnownBytes.{Appends}
 use Rattle.std.proofs.lemmas.Bool.{cases_order}
-use Rattle.c_text.specs.CPens.{PenState, KeepsLongest, EndsIn, Flows, WroteFrom, Wrote}
+use Rattle.c_text.specs.CPens.{PenState, KeepsLongest, EndsIn, Flows, WroteFrom, Wrote, cut}
 
 append_nil : (xs : List ℕ) → xs ++ [] ≡ xs
 append_nil [] = refl
@@ -27,19 +27,20 @@ longest_twice a b c first second most is =
     let q = second p.0 p.1 in
     (q.0, q.1, omega (arith, p.2, q.2), omega (arith, p.3, q.3))
 
-nothing_from : (a : PenState) (f : Bool) → a.failed ≡ f → WroteFrom f a a []
-nothing_from a true e = refl
-nothing_from a false e = record {
+nothing_from : (a : PenState) (f : Bool) → a.sent < 2 ^ 64 → a.failed ≡ f → WroteFrom f a a []
+nothing_from a true small e = refl
+nothing_from a false small e = record {
   taken = [];
   left = a.waiting;
   flow = sym (append_nil a.waiting);
   written = written_nothing a.written;
+  sent = omega (arith, small);
   longest = longest_same a.longest;
   ending = subst (λ (f : Bool). EndsIn f a a [] a.waiting (length a.waiting + 0)) (sym e) (refl, refl, λ room is fits. is ∙ ap Some (omega arith));
 }
 
-pub writes_nothing : (a : PenState) → Wrote a a []
-writes_nothing a = nothing_from a a.failed refl
+pub writes_nothing : (a : PenState) → a.sent < 2 ^ 64 → Wrote a a []
+writes_nothing a small = nothing_from a a.failed small refl
 
 -- behind a failed put
 ending_dropped : (a b : PenState) (x y taken left : List ℕ) → EndsIn true a b taken left (length a.waiting + length x) → EndsIn true a b taken (left ++ y) (length a.waiting + length (x ++ y))
@@ -51,6 +52,7 @@ flows_dropped a b x y e f = record {
   left = f.left ++ y;
   flow = sym (append_assoc f.taken f.left y) ∙ (ap (λ zs. zs ++ y) f.flow ∙ append_assoc a.waiting x y);
   written = f.written;
+  sent = f.sent;
   longest = f.longest;
   ending = subst (λ (g : Bool). EndsIn g a b f.taken (f.left ++ y) (length a.waiting + length (x ++ y))) (sym e) (ending_dropped a b x y f.taken f.left (subst (λ (g : Bool). EndsIn g a b f.taken f.left (length a.waiting + length x)) e f.ending));
 }
@@ -76,6 +78,9 @@ ending_joined a b c x y t1 t2 l2 true flow faults room ends =
       ],
     )
 
+sent_joined : (a b c : ℕ) (x y : List ℕ) → b ≡ cut (a + length x) → c ≡ cut (b + length y) → c ≡ cut (a + length (x ++ y))
+sent_joined a b c x y first second = omega (arith, first, second, length-append x y)
+
 flows_joined : (a b c : PenState) (x y : List ℕ) → b.failed ≡ false → Flows a b x → Flows b c y → Flows a c (x ++ y)
 flows_joined a b c x y e f s =
     let ends : EndsIn false a b f.taken f.left (length a.waiting + length x) = subst (λ (g : Bool). EndsIn g a b f.taken f.left (length a.waiting + length x)) e f.ending in
@@ -85,6 +90,7 @@ flows_joined a b c x y e f s =
       left = s.left;
       flow = append_assoc f.taken s.taken s.left ∙ (ap (λ l. f.taken ++ l) s.flow ∙ (sym (append_assoc f.taken b.waiting y) ∙ (ap (λ l. l ++ y) flow ∙ append_assoc a.waiting x y)));
       written = written_twice a.written b.written c.written f.taken s.taken f.written s.written;
+      sent = sent_joined a.sent b.sent c.sent f.taken s.taken f.sent s.sent;
       longest = longest_twice a.longest b.longest c.longest f.longest s.longest;
       ending = ending_joined a b c x y f.taken s.taken s.left c.failed flow ends.1 ends.2 s.ending;
     }

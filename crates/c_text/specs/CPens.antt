@@ -1,5 +1,5 @@
 -- Writing through a buffer into a sink.
-use Rattle.std.specs.Prelude.{◌≡◌, ℕ, ◌+◌, ◌-◌, ◌<◌, ◌≤◌, max, List, ◌++◌, length, take, Bool, true, false, Option, None, Some, is_some, Result, Ok, Err}
+use Rattle.std.specs.Prelude.{◌≡◌, ℕ, ◌+◌, ◌-◌, ◌^◌, ◌<◌, ◌≤◌, max, min, List, ◌++◌, length, take, Bool, true, false, Option, Some, Result, Ok, Err}
 use Rattle.std.specs.Io.KnownBytes.{Appends}
 use Rattle.wf_outside.specs.declared.sinks.SinkFault.{SinkFault}
 
@@ -10,19 +10,24 @@ pub record PenState : Type 0 where
   pub longest : Option ℕ
   pub faults : ℕ
   pub waiting : List ℕ
+  pub sent : ℕ
   pub failed : Bool
 
-abbrev pub pen_state : Option (List ℕ) → Option ℕ → Option ℕ → ℕ → List ℕ → ℕ → Option SinkFault → PenState
-pen_state written room longest faults buffer filled fault = record { written = written; room = room; longest = longest; faults = faults; waiting = take filled buffer; failed = is_some fault }
+abbrev pub pen_state : Option (List ℕ) → Option ℕ → Option ℕ → ℕ → List ℕ → ℕ → ℕ → Bool → PenState
+pen_state written room longest faults buffer filled sent failed = record { written = written; room = room; longest = longest; faults = faults; waiting = take filled buffer; sent = sent; failed = failed }
 
-abbrev pub failed_at : Option SinkFault → Result (Unit {0}) SinkFault
-failed_at None = Ok tt
-failed_at (Some fault) = Err fault
+abbrev pub failed_at : Bool → ℕ → Result (Unit {0}) SinkFault
+failed_at false sent = Ok tt
+failed_at true sent = Err (record { gone = sent })
 
--- The whole text is appended, or at a fault its front.
+-- A number as a machine word keeps it.
+abbrev pub cut : ℕ → ℕ
+cut n = min n (2 ^ 64 - 1)
+
+-- The whole text is appended, or at a fault its front, of which the fault tells the length.
 abbrev pub Prints : Option (List ℕ) → Option (List ℕ) → Result (Unit {0}) SinkFault → List ℕ → Type 0
 Prints before now (Ok _) text = Appends before now text
-Prints before now (Err _) text = (count : ℕ) × Appends before now (take count text)
+Prints before now (Err fault) text = (count : ℕ) × Appends before now (take count text) × (count ≤ length text) × (fault.gone ≡ cut count)
 
 -- No piece longer than 4,096 bytes was put.
 abbrev pub KeepsLongest : Option ℕ → Option ℕ → Type 0
@@ -39,6 +44,7 @@ pub record Flows (old new : PenState) (bytes : List ℕ) : Type 0 where
   pub left : List ℕ
   pub flow : taken ++ left ≡ old.waiting ++ bytes
   pub written : Appends old.written new.written taken
+  pub sent : new.sent ≡ cut (old.sent + length taken)
   pub longest : KeepsLongest old.longest new.longest
   pub ending : EndsIn new.failed old new taken left (length old.waiting + length bytes)
 

@@ -1,7 +1,7 @@
 // Where a printed text goes. The printer writes a text over any pen, in pieces of any length; one pen counts the
 // bytes, the other hands them to a sink in pieces of at most 4,096 bytes.
 
-ghost use Rattle.std.specs.Prelude.{◌≡◌, ℕ, ◌-◌, ◌^◌, ◌<◌, ◌≤◌, ◌++◌, ◌∷◌, [], None, IsNone, List};
+ghost use Rattle.std.specs.Prelude.{◌≡◌, ℕ, ◌-◌, ◌^◌, ◌<◌, ◌≤◌, ◌++◌, ◌∷◌, [], false, List};
 ghost use Rattle.c_text.specs.CPens.{Wrote, pen_state, failed_at};
 
 use wf_outside::{Sink, SinkFault};
@@ -52,7 +52,10 @@ pub struct SinkPen<'a, O: Sink> {
     out: &'a mut O,
     buffer: [u8; 4096],
     filled: usize,
-    fault: Option<SinkFault>,
+    /// How many bytes the sink has taken, up to 2^64 - 1.
+    sent: usize,
+    /// Whether a put has failed.
+    failed: bool,
 }
 
 impl<'a, O: Sink> SinkPen<'a, O> {
@@ -62,30 +65,40 @@ impl<'a, O: Sink> SinkPen<'a, O> {
         ensures same { result.out.ghost_name ≡ out.entry.ghost_name }
         ensures out { result.out.now ≡ out.old }
         ensures empty { result.filled ≡ 0 }
-        ensures fine { result.fault ≡ None }
+        ensures none_sent { result.sent ≡ 0 }
+        ensures fine { result.failed ≡ false }
     {
         SinkPen {
             out,
             buffer: [0; 4096],
             filled: 0,
-            fault: None,
+            sent: 0,
+            failed: false,
         }
     }
 
     /// Puts the waiting bytes, where no put has failed.
     fn flush(&mut self)
         requires filled { self.old.filled ≤ 4096 }
-        requires countable { IsNone self.old.fault → O.faults self.old.out.now < 2 ^ 64 - 1 }
+        requires sent { self.old.sent < 2 ^ 64 }
+        requires countable { self.old.failed ≡ false → O.faults self.old.out.now < 2 ^ 64 - 1 }
         ensures same { self.new.out.ghost_name ≡ self.old.out.ghost_name }
         ensures filled { self.new.filled ≤ 4096 }
-        ensures countable { IsNone self.new.fault → O.faults self.new.out.now < 2 ^ 64 - 1 }
-        ensures empty { IsNone self.new.fault → self.new.filled ≡ 0 }
-        ensures writes { Wrote (pen_state (O.written self.old.out.now) (O.room self.old.out.now) (O.longest self.old.out.now) (O.faults self.old.out.now) self.old.buffer self.old.filled self.old.fault) (pen_state (O.written self.new.out.now) (O.room self.new.out.now) (O.longest self.new.out.now) (O.faults self.new.out.now) self.new.buffer self.new.filled self.new.fault) [] }
+        ensures sent { self.new.sent < 2 ^ 64 }
+        ensures countable { self.new.failed ≡ false → O.faults self.new.out.now < 2 ^ 64 - 1 }
+        ensures empty { self.new.failed ≡ false → self.new.filled ≡ 0 }
+        ensures writes { Wrote (pen_state (O.written self.old.out.now) (O.room self.old.out.now) (O.longest self.old.out.now) (O.faults self.old.out.now) self.old.buffer self.old.filled self.old.sent self.old.failed) (pen_state (O.written self.new.out.now) (O.room self.new.out.now) (O.longest self.new.out.now) (O.faults self.new.out.now) self.new.buffer self.new.filled self.new.sent self.new.failed) [] }
     {
-        if self.fault.is_none() {
+        if !self.failed {
             match self.out.put(&self.buffer[..self.filled]) {
-                Ok(()) => self.filled = 0,
-                Err(fault) => self.fault = Some(fault),
+                Ok(()) => {
+                    self.sent = self.sent.saturating_add(self.filled);
+                    self.filled = 0;
+                }
+                Err(fault) => {
+                    self.sent = self.sent.saturating_add(fault.gone);
+                    self.failed = true;
+                }
             }
         }
     }
@@ -93,12 +106,14 @@ impl<'a, O: Sink> SinkPen<'a, O> {
     /// Puts the waiting bytes where no further one fits behind them.
     fn make_room(&mut self)
         requires filled { self.old.filled ≤ 4096 }
-        requires countable { IsNone self.old.fault → O.faults self.old.out.now < 2 ^ 64 - 1 }
+        requires sent { self.old.sent < 2 ^ 64 }
+        requires countable { self.old.failed ≡ false → O.faults self.old.out.now < 2 ^ 64 - 1 }
         ensures same { self.new.out.ghost_name ≡ self.old.out.ghost_name }
         ensures filled { self.new.filled ≤ 4096 }
-        ensures countable { IsNone self.new.fault → O.faults self.new.out.now < 2 ^ 64 - 1 }
-        ensures room { IsNone self.new.fault → self.new.filled < 4096 }
-        ensures writes { Wrote (pen_state (O.written self.old.out.now) (O.room self.old.out.now) (O.longest self.old.out.now) (O.faults self.old.out.now) self.old.buffer self.old.filled self.old.fault) (pen_state (O.written self.new.out.now) (O.room self.new.out.now) (O.longest self.new.out.now) (O.faults self.new.out.now) self.new.buffer self.new.filled self.new.fault) [] }
+        ensures sent { self.new.sent < 2 ^ 64 }
+        ensures countable { self.new.failed ≡ false → O.faults self.new.out.now < 2 ^ 64 - 1 }
+        ensures room { self.new.failed ≡ false → self.new.filled < 4096 }
+        ensures writes { Wrote (pen_state (O.written self.old.out.now) (O.room self.old.out.now) (O.longest self.old.out.now) (O.faults self.old.out.now) self.old.buffer self.old.filled self.old.sent self.old.failed) (pen_state (O.written self.new.out.now) (O.room self.new.out.now) (O.longest self.new.out.now) (O.faults self.new.out.now) self.new.buffer self.new.filled self.new.sent self.new.failed) [] }
     {
         if self.filled == 4096 {
             self.flush();
@@ -108,47 +123,50 @@ impl<'a, O: Sink> SinkPen<'a, O> {
     /// Writes one byte.
     fn write_byte(&mut self, byte: u8)
         requires filled { self.old.filled ≤ 4096 }
-        requires countable { IsNone self.old.fault → O.faults self.old.out.now < 2 ^ 64 - 1 }
+        requires sent { self.old.sent < 2 ^ 64 }
+        requires countable { self.old.failed ≡ false → O.faults self.old.out.now < 2 ^ 64 - 1 }
         ensures same { self.new.out.ghost_name ≡ self.old.out.ghost_name }
         ensures filled { self.new.filled ≤ 4096 }
-        ensures countable { IsNone self.new.fault → O.faults self.new.out.now < 2 ^ 64 - 1 }
-        ensures writes { Wrote (pen_state (O.written self.old.out.now) (O.room self.old.out.now) (O.longest self.old.out.now) (O.faults self.old.out.now) self.old.buffer self.old.filled self.old.fault) (pen_state (O.written self.new.out.now) (O.room self.new.out.now) (O.longest self.new.out.now) (O.faults self.new.out.now) self.new.buffer self.new.filled self.new.fault) (byte ∷ []) }
+        ensures sent { self.new.sent < 2 ^ 64 }
+        ensures countable { self.new.failed ≡ false → O.faults self.new.out.now < 2 ^ 64 - 1 }
+        ensures writes { Wrote (pen_state (O.written self.old.out.now) (O.room self.old.out.now) (O.longest self.old.out.now) (O.faults self.old.out.now) self.old.buffer self.old.filled self.old.sent self.old.failed) (pen_state (O.written self.new.out.now) (O.room self.new.out.now) (O.longest self.new.out.now) (O.faults self.new.out.now) self.new.buffer self.new.filled self.new.sent self.new.failed) (byte ∷ []) }
     {
         self.make_room();
-        if self.fault.is_none() {
+        if !self.failed {
             self.buffer[self.filled] = byte;
             self.filled += 1;
         }
     }
 
-    /// Puts the waiting bytes, and answers the first fault.
+    /// Puts the waiting bytes, and answers whether a put has failed, with the number of bytes that the sink has taken.
     pub fn finish(&mut self) -> Result<(), SinkFault>
         requires filled { self.old.filled ≤ 4096 }
-        requires countable { IsNone self.old.fault → O.faults self.old.out.now < 2 ^ 64 - 1 }
+        requires sent { self.old.sent < 2 ^ 64 }
+        requires countable { self.old.failed ≡ false → O.faults self.old.out.now < 2 ^ 64 - 1 }
         ensures same { self.new.out.ghost_name ≡ self.old.out.ghost_name }
-        ensures answer { result ≡ failed_at self.new.fault }
-        ensures empty { IsNone self.new.fault → self.new.filled ≡ 0 }
-        ensures writes { Wrote (pen_state (O.written self.old.out.now) (O.room self.old.out.now) (O.longest self.old.out.now) (O.faults self.old.out.now) self.old.buffer self.old.filled self.old.fault) (pen_state (O.written self.new.out.now) (O.room self.new.out.now) (O.longest self.new.out.now) (O.faults self.new.out.now) self.new.buffer self.new.filled self.new.fault) [] }
+        ensures answer { result ≡ failed_at self.new.failed self.new.sent }
+        ensures empty { self.new.failed ≡ false → self.new.filled ≡ 0 }
+        ensures writes { Wrote (pen_state (O.written self.old.out.now) (O.room self.old.out.now) (O.longest self.old.out.now) (O.faults self.old.out.now) self.old.buffer self.old.filled self.old.sent self.old.failed) (pen_state (O.written self.new.out.now) (O.room self.new.out.now) (O.longest self.new.out.now) (O.faults self.new.out.now) self.new.buffer self.new.filled self.new.sent self.new.failed) [] }
     {
         self.flush();
-        match self.fault {
-            None => Ok(()),
-            Some(fault) => Err(fault),
+        if self.failed {
+            return Err(SinkFault { gone: self.sent });
         }
+        Ok(())
     }
 }
 
 impl<'a, O: Sink> Pen for SinkPen<'a, O> {
-    ghost use Rattle.std.specs.Prelude.{◌≡◌, ◌≤◌, ◌<◌, ◌-◌, ◌^◌, IsNone, refl};
+    ghost use Rattle.std.specs.Prelude.{◌≡◌, ◌≤◌, ◌<◌, ◌-◌, ◌^◌, false, refl};
     ghost use Rattle.std.proofs.Common.{◌∙◌};
     ghost use Rattle.c_text.specs.CPens.{Wrote, pen_state};
     ghost use Rattle.c_text.specs.CPenLaws.{writes_nothing, writes_joined};
 
-    ghost ready = { λ pen. (pen.filled ≤ 4096) × (IsNone pen.fault → O.faults pen.out.now < 2 ^ 64 - 1) };
+    ghost ready = { λ pen. (pen.filled ≤ 4096) × (pen.sent < 2 ^ 64) × (pen.failed ≡ false → O.faults pen.out.now < 2 ^ 64 - 1) };
 
-    ghost writes = { λ old new bytes. (new.out.ghost_name ≡ old.out.ghost_name) × Wrote (pen_state (O.written old.out.now) (O.room old.out.now) (O.longest old.out.now) (O.faults old.out.now) old.buffer old.filled old.fault) (pen_state (O.written new.out.now) (O.room new.out.now) (O.longest new.out.now) (O.faults new.out.now) new.buffer new.filled new.fault) bytes };
+    ghost writes = { λ old new bytes. (new.out.ghost_name ≡ old.out.ghost_name) × Wrote (pen_state (O.written old.out.now) (O.room old.out.now) (O.longest old.out.now) (O.faults old.out.now) old.buffer old.filled old.sent old.failed) (pen_state (O.written new.out.now) (O.room new.out.now) (O.longest new.out.now) (O.faults new.out.now) new.buffer new.filled new.sent new.failed) bytes };
 
-    ghost nothing = { λ a ready. (refl, writes_nothing (pen_state (O.written a.out.now) (O.room a.out.now) (O.longest a.out.now) (O.faults a.out.now) a.buffer a.filled a.fault)) };
+    ghost nothing = { λ a ready. (refl, writes_nothing (pen_state (O.written a.out.now) (O.room a.out.now) (O.longest a.out.now) (O.faults a.out.now) a.buffer a.filled a.sent a.failed) ready.1) };
 
     ghost joined = { λ a b c x y first second. (second.0 ∙ first.0, writes_joined _ _ _ x y first.1 second.1) };
 

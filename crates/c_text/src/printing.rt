@@ -12,8 +12,8 @@ use crate::unit::Unit;
 use wf_outside::{Sink, SinkFault};
 
 /// Writes the text of a unit, in pieces of at most 4,096 bytes, and takes no memory. At a fault, which the sink
-/// has counted, the front of the text is written; the fault is that of the last piece. Where the sink tells a room that holds the text, the answer
-/// is Ok.
+/// has counted, the front of the text is written, and `gone` is the front's length, cut to 2^64 - 1. Where the sink
+/// tells a room that holds the text, the answer is Ok.
 pub fn print<O: Sink>(u: &Unit, out: &mut O) -> Result<(), SinkFault>
     requires { O.faults out.old < 2 ^ 64 - 1 }
     ensures bytes { Prints (O.written out.old) (O.written out.new) result (text_of (unit_tree u.now)) }

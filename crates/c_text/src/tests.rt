@@ -2,7 +2,7 @@
 
 use crate::{CItem, Unit, print, print_len};
 use std::alloc::Global;
-use wf_outside::PureSink;
+use wf_outside::{MemSink, PureSink};
 use wf_text::NoMemory;
 
 /// A unit with one string object.
@@ -36,4 +36,27 @@ fn prints_a_string_object(rt: HostRuntime) {
             b"#include <stddef.h>\n#include <stdint.h>\n#include <string.h>\n\nstatic const char greeting[] = \"hello?\";\n"
         )
     );
+}
+
+/// Whether a sink that takes 10 bytes and fails has the front of the text, and the fault tells its length.
+fn tells_the_front(alloc: Global) -> bool {
+    let Ok(u) = small(alloc) else {
+        return false;
+    };
+    let mut failing = Vec::new(alloc);
+    if failing.push((0, 10)).is_err() {
+        return false;
+    }
+    let Ok(mut sink) = MemSink::new(alloc, failing, 1000) else {
+        return false;
+    };
+    match print(&u, &mut sink) {
+        Ok(()) => false,
+        Err(fault) => fault.gone == 10 && sink.written() == b"#include <".as_slice(),
+    }
+}
+
+#[test]
+fn a_fault_tells_what_is_written(rt: HostRuntime) {
+    assert!(rt; tells_the_front(rt.alloc()));
 }

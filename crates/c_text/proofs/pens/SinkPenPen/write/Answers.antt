@@ -9,6 +9,7 @@ loop-byte-preserved g c =
     record {
       same = c.write_byte.ensures.same ∙ c.loop-byte.invariant.same;
       filled = c.write_byte.ensures.filled;
+      sent = c.write_byte.ensures.sent;
       countable = c.write_byte.ensures.countable;
       writes = rw (take_more c.args.piece.now c.loop-byte.byte-index 0 within) (writes_joined _ _ _ (take c.loop-byte.byte-index c.args.piece.now) _ c.loop-byte.invariant.writes c.write_byte.ensures.writes);
     }

@@ -1,4 +1,4 @@
-use Rattle.std.proofs.Common.{◌≡◌, ◌-◌, ◌^◌, ◌<◌, ◌≤◌, IsNone, take}
+use Rattle.std.proofs.Common.{◌≡◌, ◌-◌, ◌^◌, ◌<◌, ◌≤◌, false, take}
 use Rattle.c_text.specs.CPens.{Wrote, pen_state}
 use Rattle.c_text.proofs.pens.SinkPenPen.write.Given as goal
 
@@ -6,6 +6,7 @@ abbrev pub invariant-loop-byte : goal.invariant-loop-byte
 invariant-loop-byte g l = record {
   same : l.self.out.ghost_name ≡ l.initial.self.out.ghost_name;
   filled : l.self.filled ≤ 4096;
-  countable : IsNone l.self.fault → g.O.Sink.faults l.self.out.now < 2 ^ 64 - 1;
-  writes : Wrote (pen_state (g.O.Sink.written l.initial.self.out.now) (g.O.Sink.room l.initial.self.out.now) (g.O.Sink.longest l.initial.self.out.now) (g.O.Sink.faults l.initial.self.out.now) l.initial.self.buffer l.initial.self.filled l.initial.self.fault) (pen_state (g.O.Sink.written l.self.out.now) (g.O.Sink.room l.self.out.now) (g.O.Sink.longest l.self.out.now) (g.O.Sink.faults l.self.out.now) l.self.buffer l.self.filled l.self.fault) (take l.byte-index l.piece);
+  sent : l.self.sent < 2 ^ 64;
+  countable : l.self.failed ≡ false → g.O.Sink.faults l.self.out.now < 2 ^ 64 - 1;
+  writes : Wrote (pen_state (g.O.Sink.written l.initial.self.out.now) (g.O.Sink.room l.initial.self.out.now) (g.O.Sink.longest l.initial.self.out.now) (g.O.Sink.faults l.initial.self.out.now) l.initial.self.buffer l.initial.self.filled l.initial.self.sent l.initial.self.failed) (pen_state (g.O.Sink.written l.self.out.now) (g.O.Sink.room l.self.out.now) (g.O.Sink.longest l.self.out.now) (g.O.Sink.faults l.self.out.now) l.self.buffer l.self.filled l.self.sent l.self.failed) (take l.byte-index l.piece);
 }
