@@ -1,0 +1,17 @@
+pub mod BackCode
+pub mod BackExpr
+pub mod BackItems
+pub mod FirstBytes
+pub mod FirstToken
+pub mod Live
+pub mod OneOutcome
+pub mod OneSpelling
+pub mod Progress
+pub mod ReadsCode
+pub mod ReadsExpr
+pub mod ReadsItems
+pub mod Refusal
+pub mod Spine
+pub mod Stands
+pub mod TextTokens
+pub mod Words
