@@ -1,4 +1,4 @@
--- What an operator gives, as a law says it.
+-- What an operator gives, as a law says it (ISO/IEC 9899:1999, 6.3.1.8, 6.5.5 to 6.5.12).
 use Rattle.std.specs.Prelude.{◌≡◌, ℤ}
 use Rattle.wf_num.specs.declared.c_arithmetic.CTy.{CTy}
 use Rattle.wf_num.specs.CArithmetic.{Carries}

@@ -1,6 +1,7 @@
 -- What is seen of a C text when a host performs a list of actions. Objects have these numbers: the strings of the text,
 -- the receivers with the objects inside them, and during a call, for each argument that a method can have, an io buffer,
 -- and then for each of them its bytes.
+-- What names no section of C here is said in docs/SEMANTICS.md under "What a host sees".
 use Rattle.std.specs.Prelude.{ℕ, suc, ◌+◌, ◌-◌, Bool, true, false, not, ◌&&◌, if◌then◌else◌, nat_eq, nat_le, max, List, [], ◌∷◌, ◌++◌, map, length, take, drop, replicate, slice_get, slice_set, Option, Some, None, option_map, option_and_then, bytes_eq, codes}
 use Rattle.std.specs.List.{list_any}
 use Rattle.std.specs.Option.{option_map_or}

@@ -15,23 +15,26 @@ pub record Number : Type 0 where
   pub type : CTy
   pub bits : ℕ
 
+-- A number of a type, by its bits (6.2.6.2).
 abbrev pub number : CTy → ℕ → Number
 number type bits = record { type = type; bits = bits }
 
--- The whole number that it is.
+-- The whole number that it is (6.2.6.2).
 abbrev pub whole : Number → ℤ
 whole n = c_value n.type n.bits
 
 -- A pointer names a cell: an object, one of its fields and a cell of that field. One to a whole object of a struct has
--- field 0 and index 0.
+-- field 0 and index 0 (6.2.5p20, 6.5.6).
 pub record Pointer : Type 0 where
   pub object : ℕ
   pub field : ℕ
   pub index : ℕ
 
+-- The pointer to a whole object (6.5.3.2p3).
 abbrev pub to_object : ℕ → Pointer
 to_object k = record { object = k; field = 0; index = 0 }
 
+-- A value: a number, or a pointer, which may be null (6.2.5).
 pub data Value : Type 0 where
   numeric : Number → Value
   address : Pointer → Value
@@ -62,12 +65,13 @@ truth b = number Int (if b then 1 else 0)
 abbrev pub is_nonzero : Number → Bool
 is_nonzero n = not (nat_eq n.bits 0)
 
+-- The same of any value; a null pointer doesn't hold (6.8.4.1p2).
 abbrev pub holds : Value → Bool
 holds (numeric n) = is_nonzero n
 holds (address p) = true
 holds null_pointer = false
 
--- The number of a type that bits are, where an operation has given bits.
+-- The number of a type that bits are, where an operation has given bits (6.3.1.3).
 abbrev pub of_type : CTy → Option ℕ → Option Number
 of_type type bits = option_map (number type) bits
 
@@ -100,12 +104,14 @@ shifted Shl a b = c_shifted_left a.type a.bits b.bits
 shifted Shr a b = c_shifted_right a.type a.bits b.bits
 shifted _ a b = None
 
+-- The kinds of operators (6.5.5 to 6.5.14).
 pub data OpClass : Type 0 where
   arithmetics : OpClass
   comparison : OpClass
   shift : OpClass
   logic : OpClass
 
+-- The kind of an operator (6.5.5 to 6.5.14).
 abbrev pub class_of : COp → OpClass
 class_of Shl = shift
 class_of Shr = shift
@@ -119,13 +125,14 @@ class_of Both = logic
 class_of Either = logic
 class_of _ = arithmetics
 
+-- Operands of arithmetic and comparisons are brought to one type; those of a shift aren't (6.5.5 to 6.5.12).
 abbrev pub operated_as : OpClass → COp → Number → Number → Option Number
 operated_as arithmetics op a b = of_type (common a.type b.type) (arithmetic op (common a.type b.type) (converted (common a.type b.type) a).bits (converted (common a.type b.type) b).bits)
 operated_as comparison op a b = option_map truth (compared op (whole (converted (common a.type b.type) a)) (whole (converted (common a.type b.type) b)))
 operated_as shift op a b = of_type a.type (shifted op a b)
 operated_as logic op a b = None
 
--- `a op b` of two numbers; None where the behavior is undefined. `&&` and `||` don't stand here.
+-- `a op b` of two numbers; None where the behavior is undefined. `&&` and `||` don't stand here (6.5.5 to 6.5.12).
 abbrev pub operated : COp → Number → Number → Option Number
 operated op a b = operated_as (class_of op) op a b
 
@@ -141,6 +148,7 @@ negated v = truth (not (holds v))
 abbrev pub same_pointer : Pointer → Pointer → Bool
 same_pointer p q = nat_eq p.object q.object && (nat_eq p.field q.field && nat_eq p.index q.index)
 
+-- The same of two pointers, of which either may be null (6.5.9p6).
 abbrev pub same_place : Value → Value → Bool
 same_place (address p) (address q) = same_pointer p q
 same_place (address p) other = false

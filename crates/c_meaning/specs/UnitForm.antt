@@ -1,5 +1,6 @@
 -- The unit form: which trees are a text for a package, item by item (ISO/IEC 9899:1999, 6.2.1, 6.5, 6.7, 6.8, 6.9). The
 -- first item that breaks it can be told.
+-- What names no section of C here is a rule of the profile: docs/SEMANTICS.md, "The unit form".
 use Rattle.std.specs.Prelude.{◌≡◌, ℕ, ◌+◌, Bool, true, false, not, ◌&&◌, ◌||◌, if◌then◌else◌, nat_eq, nat_lt, nat_le, List, [], ◌∷◌, ◌++◌, map, length, find, Option, Some, None, is_some, is_none, option_map, option_and_then, bytes_eq, codes}
 use Rattle.std.specs.List.{list_any, list_all}
 use Rattle.wf_text.specs.Surface.{Surface, PublicStruct, PublicMethod, PublicArg, ArgKind, AnswerKind}
@@ -15,33 +16,38 @@ use Rattle.c_meaning.specs.CTypes.{StructDecl, Function, Scope, structs_of, scop
 use Rattle.c_meaning.specs.CStep.{Continuation, stop, behind, again, Place, at, place_weight, by_name, find as find_label, Callee, memory_move, memory_set, own, callee_of}
 use Rattle.c_meaning.specs.CRun.{struct_name, function_name, initialize_name}
 
--- Names.
+-- The name is one of these (6.2.1).
 abbrev pub is_among : List (List ℕ) → List ℕ → Bool
 is_among names name = list_any (bytes_eq name) names
 
+-- Names that are all different (6.7p3).
 abbrev pub all_distinct : List (List ℕ) → Bool
 all_distinct [] = true
 all_distinct (name ∷ names) = not (is_among names name) && all_distinct names
 
+-- The name that an item declares (6.2.1).
 abbrev pub item_name : ItemTree → List ℕ
 item_name (struct_item fields name) = name
 item_name (text_item name bytes) = name
 item_name (function_item linkage result_type name params locals body) = name
 
--- The library's functions are known, so nothing else has their names.
+-- The library's functions are known, so nothing else has their names (7.1.3).
 abbrev pub is_library : List ℕ → Bool
 is_library name = bytes_eq name (codes "memmove") || bytes_eq name (codes "memset")
 
--- Fields. Those of a struct of the text hold numbers, strings' pointers, arrays of these, or objects of structs in front.
+-- Fields. Those of a struct of the text hold numbers, strings' pointers, arrays of these, or objects of structs in
+-- front (6.7.2.1).
 abbrev pub is_value : TypeTree → Bool
 is_value text = true
 is_value t = is_numeric t
 
+-- An array has at least one element (6.7.5.2p1).
 abbrev pub is_length : Option CNumber → Bool
 is_length None = true
 is_length (Some (literal.Int n)) = nat_le 1 n
 is_length (Some n) = false
 
+-- A field whose type is known (6.7.2.1p2).
 abbrev pub formed_field : List StructDecl → FieldTree → Bool
 formed_field structs f = by_kind f.kind
   where
@@ -49,6 +55,7 @@ formed_field structs f = by_kind f.kind
     by_kind (plain t) = is_value t && is_length f.count
     by_kind (inside name) = is_some (struct_named structs name) && is_none f.count
 
+-- All fields, with different names (6.7.2.1, 6.2.3).
 abbrev pub formed_fields : List StructDecl → List FieldTree → Bool
 formed_fields structs fields = list_all (formed_field structs) fields && all_distinct (map (λ f. f.name) fields)
 
@@ -72,16 +79,18 @@ abbrev pub is_io_buffer : ItemTree → Bool
 is_io_buffer (struct_item fields name) = bytes_eq name io_buffer && are_fields io_buffer_fields fields
 is_io_buffer item = false
 
--- What the statements of a function are checked against.
+-- What the statements of a function are checked against (6.8, 6.9.1).
 pub record Checked : Type 0 where
   pub scope : Scope
   pub linkage : Linkage
   pub result_type : Option TypeTree
   pub body : Code
 
+-- The expression has a type (6.5).
 abbrev pub has_type : Checked → ExprTree → Bool
 has_type c e = is_some (type_of c.scope e)
 
+-- The type is one of numbers (6.2.5p18).
 abbrev pub is_number : Option ExprType → Bool
 is_number t = is_some (option_and_then as_number t)
 
@@ -110,14 +119,17 @@ is_set scope (expr_arg (variable name) (expr_arg (number (literal.Int zero)) (si
     nat_eq zero 0 && (bytes_eq name same && is_object_pointer (find (λ it. bytes_eq it.name name) scope.names))
 is_set scope given = false
 
+-- The result of a call goes to this target (6.5.16).
 abbrev pub may_keep : Checked → Option ExprTree → Option TypeTree → Bool
 may_keep c None result_type = true
 may_keep c (Some target) result_type = may_assign (held_of c.scope target) (option_map value_type result_type)
 
+-- The function may be called with these arguments (6.5.2.2p2).
 abbrev pub is_called : Checked → Option ExprTree → List (Option ExprType) → Option Function → Bool
 is_called c target given None = false
 is_called c target given (Some f) = passable f.params given && may_keep c target f.result_type
 
+-- A call as a statement (6.5.2.2).
 abbrev pub formed_call : Callee → Checked → Option ExprTree → List ℕ → Args → Bool
 formed_call memory_move c target name given = is_none target && is_moved (arg_types c.scope given)
 formed_call memory_set c target name given = is_none target && is_set c.scope given
@@ -128,18 +140,19 @@ abbrev pub may_loop : Linkage → Bool
 may_loop Static = true
 may_loop linkage = false
 
+-- A `goto` goes to a label of its function (6.8.6.1p1).
 abbrev pub formed_jump : Checked → Place → Option Place → Bool
 formed_jump c from None = false
 formed_jump c from (Some target) = may_loop c.linkage || nat_lt (place_weight target) (place_weight from)
 
--- A `return` has an expression exactly where the function isn't `void`.
+-- A `return` has an expression exactly where the function isn't `void` (6.8.6.4p1).
 abbrev pub formed_return : Checked → Option ExprTree → Option TypeTree → Bool
 formed_return c None None = true
 formed_return c (Some e) (Some t) = may_assign (Some (one t)) (type_of c.scope e)
 formed_return c value result_type = false
 
 -- The labels of a block and of all blocks in it; and the cases and the number of `default`s of a `switch`, those of a
--- `switch` inside it apart.
+-- `switch` inside it apart (6.8.1p3, 6.8.4.2p3).
 abbrev pub labels_of : Code → List (List ℕ)
 labels_of finish = []
 labels_of (nested inner rest) = labels_of inner ++ labels_of rest
@@ -155,16 +168,20 @@ labels_of (case_label n rest) = labels_of rest
 labels_of (default_label rest) = labels_of rest
 labels_of (name_label name rest) = name ∷ labels_of rest
 
+-- The cases and the number of `default`s of a `switch` (6.8.4.2p3).
 pub record Cases : Type 0 where
   pub numbers : List CNumber
   pub defaults : ℕ
 
+-- No cases (6.8.4.2p3).
 abbrev pub no_cases : Cases
 no_cases = record { numbers = []; defaults = 0 }
 
+-- The cases of two parts (6.8.4.2p3).
 abbrev pub both_cases : Cases → Cases → Cases
 both_cases a b = record { numbers = a.numbers ++ b.numbers; defaults = a.defaults + b.defaults }
 
+-- The cases of a block (6.8.4.2p3).
 abbrev pub cases_of : Code → Cases
 cases_of finish = no_cases
 cases_of (nested inner rest) = both_cases (cases_of inner) (cases_of rest)
@@ -180,22 +197,26 @@ cases_of (case_label n rest) = both_cases (record { numbers = n ∷ []; defaults
 cases_of (default_label rest) = both_cases (record { numbers = []; defaults = 1 }) (cases_of rest)
 cases_of (name_label name rest) = cases_of rest
 
+-- Two cases that differ (6.8.4.2p3).
 abbrev pub is_other_case : CNumber → CNumber → Bool
 is_other_case (literal.Int n) (literal.Int other) = not (nat_eq n other)
 is_other_case n other = false
 
+-- A case of type `int` (6.8.4.2p3).
 abbrev pub is_plain : CNumber → Bool
 is_plain (literal.Int n) = true
 is_plain n = false
 
+-- All cases differ (6.8.4.2p3).
 abbrev pub plain_distinct : List CNumber → Bool
 plain_distinct [] = true
 plain_distinct (n ∷ ns) = is_plain n && (list_all (is_other_case n) ns && plain_distinct ns)
 
+-- The cases differ, and there is at most one `default` (6.8.4.2p3).
 abbrev pub formed_cases : Cases → Bool
 formed_cases cases = plain_distinct cases.numbers && nat_le cases.defaults 1
 
--- A block, with what follows it. `switched` tells that a `switch` stands round it.
+-- A block, with what follows it. `switched` tells that a `switch` stands round it (6.8).
 abbrev pub formed_code : Checked → (switched : Bool) → Code → Continuation → Bool
 formed_code c s finish k = true
 formed_code c s (nested inner rest) k = formed_code c s inner (behind finish rest k) && formed_code c s rest k
@@ -214,16 +235,18 @@ formed_code c s (case_label n rest) k = s && formed_code c s rest k
 formed_code c s (default_label rest) k = s && formed_code c s rest k
 formed_code c s (name_label name rest) k = formed_code c s rest k
 
--- The initial value of a local knows the parameters and the locals in front of it.
+-- The initial value of a local knows the parameters and the locals in front of it (6.7.8p11).
 abbrev pub formed_initial : Scope → TypeTree → Option ExprTree → Bool
 formed_initial scope t None = true
 formed_initial scope t (Some e) = may_assign (Some (one t)) (type_of scope e)
 
+-- The locals in order (6.7, 6.7.8p11).
 abbrev pub formed_locals : Scope → List LocalTree → Bool
 formed_locals scope [] = true
 formed_locals scope (l ∷ ls) =
     is_known scope.structs l.kind && (formed_initial scope l.kind l.initial && formed_locals (record scope { names = scope.names ++ local_name l ∷ [] }) ls)
 
+-- The type of a result (6.9.1p3).
 abbrev pub is_result : Option TypeTree → Bool
 is_result None = true
 is_result (Some t) = is_value t
@@ -232,15 +255,18 @@ is_result (Some t) = is_value t
 abbrev pub checked : List ItemTree → Linkage → Option TypeTree → List ParamTree → Code → Checked
 checked before linkage result_type names body = record { scope = scope_of before names; linkage = linkage; result_type = result_type; body = body }
 
+-- The parameters and locals have different names, and none of an item (6.2.1, 6.7p3).
 abbrev pub own_names : List ParamTree → List (List ℕ) → Bool
 own_names names all = all_distinct (map (λ it. it.name) names) && list_all (λ it. not (is_among all it.name) && not (is_library it.name)) names
 
+-- A function (6.9.1).
 abbrev pub formed_function : List ItemTree → (all : List (List ℕ)) → Linkage → Option TypeTree → List ParamTree → List LocalTree → Code → Bool
 formed_function before all linkage result_type params locals body =
     is_result result_type && (list_all (λ p. is_known (structs_of before) p.kind) params && (own_names (params ++ map local_name locals) all
     && (formed_locals (scope_of before params) locals && (all_distinct (labels_of body)
     && formed_code (checked before linkage result_type (params ++ map local_name locals) body) false body stop))))
 
+-- What stands in an item (6.7, 6.9).
 abbrev pub formed_content : List ItemTree → (all : List (List ℕ)) → ItemTree → Bool
 formed_content before all (struct_item fields name) = formed_fields (structs_of before) fields
 formed_content before all (text_item name bytes) = true
@@ -327,7 +353,7 @@ meets_struct p item it = if bytes_eq (struct_name p it) (item_name item) then is
 abbrev pub meets_surface : Surface → ItemTree → Bool
 meets_surface p item = list_all (meets_signature item) (signatures p) && list_all (meets_struct p item) p.structs
 
--- An item, where `before` are the items in front of it and `all` the names of all items.
+-- An item, where `before` are the items in front of it and `all` the names of all items (6.9p5, 7.1.3).
 abbrev pub free_name : List ItemTree → ItemTree → Bool
 free_name before item = not (is_among (map item_name before) (item_name item)) && not (is_library (item_name item))
 
