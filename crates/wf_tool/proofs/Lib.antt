@@ -1,3 +1,3 @@
-pub mod ReadingLemmas
+pub mod BuiltLemmas
+pub mod TakingLemmas
 pub mod VerdictLaws
-pub mod VerdictLemmas

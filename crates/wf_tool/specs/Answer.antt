@@ -1,46 +1,67 @@
 -- The answer of the program: for its words and what its inputs hold, how it ends and what it writes.
-use Rattle.std.specs.Prelude.{ℕ, List, [], ◌∷◌, length, take, Option, None, Some, IfSome, ◌≡◌, ◌≤◌, ◌<◌}
+use Rattle.std.specs.Prelude.{ℕ, zero, suc, ⊤, ◌-◌, List, [], ◌∷◌, length, take, slice_get, Option, None, Some, IfSome, ◌≡◌, ◌≤◌, ◌<◌}
 use Rattle.std.specs.Io.KnownBytes.{Appends, Keeps}
 use Rattle.wf_text.specs.declared.rules.Refusal.{Refusal}
 use Rattle.wf_tool.specs.declared.ending.Ending.{Ending}
 use Rattle.wf_tool.specs.declared.ending.Ending.TheVariants.{Done, Refused, Usage, InputFault, OutputFault, ScriptRefused, NoMemory, Turns, TextRefused, Undefined}
 use Rattle.wf_tool.specs.Lines.{accepted_line, fault_line, refused_line, usage_line}
+use Rattle.wf_tool.specs.Built.{text_or}
+use Rattle.wf_tool.specs.Sizes.{most_bytes, too_many}
 use Rattle.wf_tool.specs.Verdict.{IsAccepted, IsRefused}
-use Rattle.wf_tool.specs.Words.{files_of}
+use Rattle.wf_tool.specs.Words.{ToCheck, to_check}
 
--- The words name this one file to be checked.
-abbrev pub NamesFile : List (List ℕ) → List ℕ → Type 0
-NamesFile words file = files_of words ≡ Some (file ∷ [])
+-- Bytes that the names hold, one after the other: each is what its name holds, where that is told.
+abbrev pub AreHeld : (held : List ℕ → Option (List ℕ)) → (names files : List (List ℕ)) → Type 0
+AreHeld held [] [] = ⊤
+AreHeld held (name ∷ names) (bytes ∷ files) = IfSome (held name) (λ told. bytes ≡ told) × AreHeld held names files
+AreHeld held _ _ = ⊥
 
--- The file was refused, where its bytes are told.
+-- The name of a file by its number. A number that names no file has no bytes.
+abbrev pub file_name : (names : List (List ℕ)) → (number : ℕ) → List ℕ
+file_name names number = text_or (slice_get names number)
+
+-- The package is refused. The line names the file of the refusal.
 pub record CallsForRefusal (held : List ℕ → Option (List ℕ)) (words : List (List ℕ)) (line : List ℕ) : Type 0 where
-  pub file : List ℕ
+  pub asked : ToCheck
+  pub files : List (List ℕ)
   pub refusal : Refusal
-  pub named : NamesFile words file
-  pub writes : line ≡ refused_line file refusal
-  pub verdict : IfSome (held file) (λ bytes. IsRefused bytes refusal)
+  pub named : to_check words ≡ Some asked
+  pub hold : AreHeld held asked.files files
+  pub verdict : IsRefused asked.package_name files refusal
+  pub writes : line ≡ refused_line (file_name asked.files refusal.at.file) refusal
 
--- The file was accepted, where its bytes are told.
+-- The package is accepted.
 pub record CallsForDone (held : List ℕ → Option (List ℕ)) (words : List (List ℕ)) (line : List ℕ) : Type 0 where
-  pub file : List ℕ
-  pub named : NamesFile words file
+  pub asked : ToCheck
+  pub files : List (List ℕ)
+  pub named : to_check words ≡ Some asked
+  pub hold : AreHeld held asked.files files
+  pub verdict : IsAccepted asked.package_name files
   pub writes : line ≡ accepted_line
-  pub verdict : IfSome (held file) (λ bytes. IsAccepted bytes)
+
+-- This file failed, and those in front of it were taken, within `most` bytes together.
+abbrev pub FailsAt : (held : List ℕ → Option (List ℕ)) → (most : ℕ) → (names : List (List ℕ)) → (number : ℕ) → Type 0
+FailsAt held most [] number = ⊥
+FailsAt held most (name ∷ names) zero = ⊤
+FailsAt held most (name ∷ names) (suc number) = (bytes : List ℕ) × IfSome (held name) (λ told. bytes ≡ told) × (length bytes ≤ most) × FailsAt held (most - length bytes) names number
 
 -- An input failed: one that the words name, and the last failed one, where that is told.
-pub record CallsForFault (failed : Option (List ℕ)) (words : List (List ℕ)) (line : List ℕ) : Type 0 where
-  pub file : List ℕ
-  pub named : NamesFile words file
-  pub writes : line ≡ fault_line file
-  pub last : IfSome failed (λ name. name ≡ file)
+pub record CallsForFault (held : List ℕ → Option (List ℕ)) (failed : Option (List ℕ)) (words : List (List ℕ)) (line : List ℕ) : Type 0 where
+  pub asked : ToCheck
+  pub number : ℕ
+  pub named : to_check words ≡ Some asked
+  pub few : too_many (length asked.files) ≡ None
+  pub fails : FailsAt held most_bytes asked.files number
+  pub writes : line ≡ fault_line (file_name asked.files number)
+  pub last : IfSome failed (λ name. name ≡ file_name asked.files number)
 
 -- These words, over inputs that hold this and of which this failed last, call for this ending and this line. The
 -- other endings come with no line.
 abbrev pub CallFor : (held : List ℕ → Option (List ℕ)) → (failed : Option (List ℕ)) → (words : List (List ℕ)) → Ending → (line : List ℕ) → Type 0
 CallFor held failed words Done line = CallsForDone held words line
 CallFor held failed words Refused line = CallsForRefusal held words line
-CallFor held failed words Usage line = (files_of words ≡ None) × (line ≡ usage_line)
-CallFor held failed words InputFault line = CallsForFault failed words line
+CallFor held failed words Usage line = (to_check words ≡ None) × (line ≡ usage_line)
+CallFor held failed words InputFault line = CallsForFault held failed words line
 CallFor held failed words OutputFault line = ⊥
 CallFor held failed words ScriptRefused line = ⊥
 CallFor held failed words NoMemory line = ⊥

@@ -1,10 +1,10 @@
 pub mod Answer
-pub mod Grammar
-pub mod Judged
+pub mod Built
 pub mod Lines
-pub mod Progress
+pub mod Sizes
 pub mod StatusRule
 pub mod Statuses
+pub mod Taken
 pub mod TypeRules
 pub mod Verdict
 pub mod Words

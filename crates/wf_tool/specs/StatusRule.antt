@@ -1,5 +1,5 @@
 -- The rule of status texts: one begins with `#`, `$` or `@`, has something behind it, and has no two `?` in a row.
-use Rattle.std.specs.Prelude.{ℕ, Bool, true, false, List, [], ◌∷◌, length, take, drop, ◌-◌, ◌&&◌, ◌||◌, not, nat_eq, nat_lt}
+use Rattle.std.specs.Prelude.{ℕ, Bool, true, false, List, [], ◌∷◌, length, ◌&&◌, ◌||◌, not, nat_eq, nat_lt}
 use Rattle.wf_text.specs.StatusText.{category_of}
 use Rattle.wf_text.specs.declared.categories.Category.{Category}
 use Rattle.wf_text.specs.declared.categories.Category.TheVariants.{Fine, Note, Suspension, Fault}
@@ -20,7 +20,3 @@ doubles_question behind (byte ∷ rest) = (behind && is_question byte) || double
 
 abbrev pub is_lawful_status : List ℕ → Bool
 is_lawful_status text = is_kind (category_of text) && nat_lt 1 (length text) && not (doubles_question false text)
-
--- What stands between the quotes of a text.
-abbrev pub inside_quotes : List ℕ → List ℕ
-inside_quotes text = take (length text - 2) (drop 1 text)

@@ -1,7 +1,6 @@
 -- The types of declarations: a constant's type is one of the four numeric ones and holds it, and a status text
 -- keeps its rule.
-use Rattle.std.specs.Prelude.{ℕ, List, [], ◌∷◌, Option, None, Some, nat_le, codes, if◌then◌else◌}
-use Rattle.std.specs.Option.{option_or}
+use Rattle.std.specs.Prelude.{ℕ, List, Option, None, Some, nat_le, codes, if◌then◌else◌}
 use Rattle.std.specs.Str.{bytes_eq}
 use Rattle.wf_text.specs.declared.rules.Refusal.{Refusal}
 use Rattle.wf_text.specs.declared.rules.Rule.TheVariants.{T1, T5}
@@ -22,8 +21,3 @@ constant_violation base (Some greatest) value at = if nat_le value greatest then
 abbrev pub violation_of : Declaration → Option Refusal
 violation_of (Status lawful at) = if lawful then None else Some (record { rule = T5; at = at })
 violation_of (Constant base greatest value at) = constant_violation base greatest value at
-
--- What the first declaration that breaks something breaks.
-abbrev pub first_violation : List Declaration → Option Refusal
-first_violation [] = None
-first_violation (declaration ∷ rest) = option_or (violation_of declaration) (first_violation rest)

@@ -14,10 +14,15 @@ is_package_byte byte = is_between 97 122 byte || is_between 48 57 byte || nat_eq
 abbrev pub is_package_name : List ℕ → Bool
 is_package_name name = is_between 1 32 (length name) && list_all is_package_byte name && not (bytes_eq name (codes "base"))
 
--- The files of `check PACKAGE FILE`; other words are no command form.
-abbrev pub files_of : List (List ℕ) → Option (List (List ℕ))
-files_of [] = None
-files_of (_ ∷ []) = None
-files_of (_ ∷ (_ ∷ [])) = None
-files_of (command ∷ (package_name ∷ (file ∷ []))) = if bytes_eq command (codes "check") && is_package_name package_name then Some (file ∷ []) else None
-files_of (_ ∷ (_ ∷ (_ ∷ (_ ∷ _)))) = None
+-- A package that is to be checked: its name, and the names of its files in order.
+pub record ToCheck : Type 0 where
+  pub package_name : List ℕ
+  pub files : List (List ℕ)
+
+-- `check PACKAGE FILE...`, with one file or more; other words are no command form.
+abbrev pub to_check : List (List ℕ) → Option ToCheck
+to_check [] = None
+to_check (_ ∷ []) = None
+to_check (_ ∷ (_ ∷ [])) = None
+to_check (command ∷ (package_name ∷ (file ∷ files))) =
+    if bytes_eq command (codes "check") && is_package_name package_name then Some (record { package_name = package_name; files = file ∷ files }) else None

@@ -1,56 +1,88 @@
-// A file is taken, and its bytes are judged.
+// The files of a package are taken, and their bytes are judged.
 
-ghost use Rattle.std.specs.Prelude.{◌≡◌, ◌-◌, ◌^◌, ◌<◌};
-ghost use Rattle.wf_tokens.specs.Places.{first_place};
-ghost use Rattle.wf_text.specs.declared.rules.Rule.TheVariants.{L1};
-ghost use Rattle.wf_tool.specs.Judged.{CountsFile, Judges, NamesFile};
+ghost use Rattle.std.specs.Prelude.{◌≡◌, ◌-◌, ◌^◌, ◌<◌, ◌≤◌, None, length, map, string_bytes, IfErr, IfNone};
+ghost use Rattle.wf_tool.specs.Sizes.{too_large, too_many};
+ghost use Rattle.wf_tool.specs.Taken.{CountsTaking, Judges, JudgesPackage, NamesFailed};
 
-use crate::reading::check_file;
+use crate::building::first_broken;
+use crate::taking::{TakingFault, first_place, take_files};
 use std::alloc::Global;
-use wf_outside::{Inputs, TakeFault};
-use wf_text::{Place, Refusal, Rule};
+use wf_outside::Inputs;
+use wf_parse::parse;
+use wf_text::{PhaseFault, Refusal, Rule};
 
-/// What becomes of a file that is to be checked.
-#[derive(Clone, Copy, Debug)]
-pub enum Judged {
-    /// It is accepted.
-    Accepted,
-    /// It breaks a rule.
-    Refused(Refusal),
-    /// It couldn't be taken.
-    Failed,
-    /// Memory was refused.
-    Memory,
-}
+/// How many files a package may have.
+const MOST_FILES: usize = 16;
 
-/// Takes a file from the inputs and judges its bytes.
-pub fn judge_file<I: Inputs>(alloc: Global, file: &str, inputs: &mut I) -> Judged
-    requires { I.faults inputs.old < 2 ^ 64 - 1 }
-    ensures verdict { Judges (I.held inputs.old file.now) result }
-    ensures count { CountsFile (I.faults inputs.old) (I.faults inputs.new) result }
-    ensures name { NamesFile (I.last_failed inputs.new) file.now result }
-    ensures same { I.held inputs.new ≡ I.held inputs.old }
+/// L2 at the first file beyond the number of files.
+fn too_many(count: usize) -> Option<Refusal>
+    ensures refused { result ≡ too_many count }
+    ensures few { IfNone result (count ≤ 16) }
 {
-    let mut bytes = Vec::new(alloc);
-    match inputs.take(file, &mut bytes, 1_048_576) {
-        Ok(()) => match check_file(bytes.as_slice()) {
-            Ok(()) => Judged::Accepted,
-            Err(refusal) => Judged::Refused(refusal),
-        },
-        Err(TakeFault::Failed) => Judged::Failed,
-        Err(TakeFault::TooLong) => Judged::Refused(too_long()),
-        Err(TakeFault::Memory) => Judged::Memory,
+    if count <= MOST_FILES {
+        None
+    } else {
+        Some(Refusal {
+            rule: Rule::L2,
+            at: first_place(MOST_FILES),
+        })
     }
 }
 
-// The refusal of a file that is too long: it stands at the file's first place.
-fn too_long() -> Refusal
-    ensures { result ≡ record { rule = L1; at = first_place 0 } }
+/// Decides whether a package is accepted, whose files are within the limits. An Err is the refusal that decides.
+pub fn judge_files(alloc: Global, name: &str, files: &[Vec<u8>]) -> Result<(), PhaseFault>
+    requires { too_large (map (λ bytes. bytes.items) files.now) ≡ None }
+    ensures { Judges name.now (map (λ bytes. bytes.items) files.now) result }
 {
-    let at = Place {
-        file: 0,
-        line: 1,
-        col: 1,
-    };
-    Refusal { rule: Rule::L1, at }
+    match parse(alloc, name, files) {
+        Ok(package) => match first_broken(&package) {
+            None => Ok(()),
+            Some(refusal) => Err(PhaseFault::Refused(refusal)),
+        },
+        Err(fault) => Err(fault),
+    }
+}
+
+/// Takes the files with these names, which aren't too many, and judges the package that they make.
+fn judge_few<I: Inputs>(
+    alloc: Global,
+    name: &str,
+    names: &[String],
+    inputs: &mut I,
+) -> Result<(), TakingFault>
+    requires few { too_many (length names.now) ≡ None }
+    requires number { length names.now ≤ 16 }
+    requires faults { I.faults inputs.old < 2 ^ 64 - 1 }
+    ensures verdict { JudgesPackage (I.held inputs.old) name.now (map (λ name. string_bytes name) names.now) result }
+    ensures count { CountsTaking (I.faults inputs.old) (I.faults inputs.new) result }
+    ensures name { IfErr result (λ fault. NamesFailed (I.last_failed inputs.new) (map (λ name. string_bytes name) names.now) fault) }
+    ensures same { I.held inputs.new ≡ I.held inputs.old }
+{
+    match take_files(alloc, names, inputs) {
+        Ok(files) => match judge_files(alloc, name, files.as_slice()) {
+            Ok(()) => Ok(()),
+            Err(PhaseFault::Refused(refusal)) => Err(TakingFault::Refused(refusal)),
+            Err(PhaseFault::Memory) => Err(TakingFault::Memory),
+        },
+        Err(fault) => Err(fault),
+    }
+}
+
+/// Judges the package with this name, whose files have these names.
+pub fn judge_package<I: Inputs>(
+    alloc: Global,
+    name: &str,
+    names: &[String],
+    inputs: &mut I,
+) -> Result<(), TakingFault>
+    requires { I.faults inputs.old < 2 ^ 64 - 1 }
+    ensures verdict { JudgesPackage (I.held inputs.old) name.now (map (λ name. string_bytes name) names.now) result }
+    ensures count { CountsTaking (I.faults inputs.old) (I.faults inputs.new) result }
+    ensures name { IfErr result (λ fault. NamesFailed (I.last_failed inputs.new) (map (λ name. string_bytes name) names.now) fault) }
+    ensures same { I.held inputs.new ≡ I.held inputs.old }
+{
+    match too_many(names.len()) {
+        Some(refusal) => Err(TakingFault::Refused(refusal)),
+        None => judge_few(alloc, name, names, inputs),
+    }
 }

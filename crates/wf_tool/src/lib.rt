@@ -1,16 +1,16 @@
 // The program as one call: from the words of a command to what is written and how the program ends, over any
-// inputs and any sink. `check PACKAGE FILE` is the one command; a file has statuses and numeric constants.
+// inputs and any sink. `check PACKAGE FILE...` is the one command. A package is read whole; statuses and numeric
+// constants are built.
 #![tactic(auto)]
 
+mod building;
 mod declarations;
 pub mod ending;
 mod judging;
 mod laws;
 mod lines;
-mod progress;
-mod reading;
-mod slots;
 mod status_rule;
+mod taking;
 #[cfg(test)]
 mod tests;
 pub mod tool;
@@ -18,5 +18,4 @@ mod words;
 
 pub use ending::Ending;
 pub use laws::one_verdict;
-pub use reading::check_file;
 pub use tool::wuffs_tool;

@@ -1,18 +1,9 @@
 // The rule of status texts: one begins with `#`, `$` or `@`, has something behind it, and has no two `?` in a row.
 
-ghost use Rattle.std.specs.Prelude.{◌≡◌, ◌≤◌, length, false};
-ghost use Rattle.wf_tool.specs.StatusRule.{doubles_question, inside_quotes, is_kind, is_lawful_status};
+ghost use Rattle.std.specs.Prelude.{◌≡◌, false};
+ghost use Rattle.wf_tool.specs.StatusRule.{doubles_question, is_kind, is_lawful_status};
 
 use wf_text::{Category, status_text};
-
-/// What stands between the quotes of a text.
-pub fn inside_quotes(text: &[u8]) -> &[u8]
-    ensures { result.now ≡ inside_quotes text.now }
-{
-    let (_, rest) = text.split_at(text.len().min(1));
-    let (inside, _) = rest.split_at(rest.len().saturating_sub(1));
-    inside
-}
 
 /// Whether a text, without its quotes, is a status text.
 pub fn is_lawful_status(text: &[u8]) -> bool

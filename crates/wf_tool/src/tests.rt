@@ -60,6 +60,34 @@ fn answers(
     Ok(came == ending && written.as_slice() == line.as_bytes())
 }
 
+// How the program ends and what it writes, over files `f0`, `f1` and so on, in this order.
+fn outcome_of(alloc: Global, files: &[&[u8]]) -> Result<(Ending, Vec<u8>), AllocError> {
+    let mut words = words_of(alloc, "check k")?;
+    let mut held = Vec::new(alloc);
+    for (number, bytes) in files.iter().enumerate() {
+        words.push(format!(in alloc; "f{number}")?)?;
+        let name = format!(in alloc; "f{number}")?;
+        held.push((name, Vec::from_slice(alloc, *bytes)?))?;
+    }
+    let mut inputs = MemInputs::new(alloc, held, Vec::new(alloc));
+    let Ok(mut sink) = MemSink::new(alloc, Vec::new(alloc), 200) else {
+        return Err(AllocError);
+    };
+    let ending = wuffs_tool(alloc, words.as_slice(), &mut inputs, &mut sink);
+    Ok((ending, Vec::from_slice(alloc, sink.written())?))
+}
+
+// Whether files end the program so, with this line.
+fn answers_files(
+    alloc: Global,
+    files: &[&[u8]],
+    ending: Ending,
+    line: &str,
+) -> Result<bool, AllocError> {
+    let (came, written) = outcome_of(alloc, files)?;
+    Ok(came == ending && written.as_slice() == line.as_bytes())
+}
+
 // Whether a file is accepted or refused, and nothing else.
 fn is_judged(alloc: Global, bytes: &[u8]) -> Result<bool, AllocError> {
     let (ending, _) = outcome(alloc, "check k k.wuffs", bytes, &[], &[])?;
@@ -68,7 +96,7 @@ fn is_judged(alloc: Global, bytes: &[u8]) -> Result<bool, AllocError> {
 
 #[test]
 fn judges_files(rt: HostRuntime) -> Result<(), Fail> {
-    let rows: [(&[u8], &str); 22] = [
+    let rows: [(&[u8], &str); 33] = [
         (b"", "ok 0 methods\n"),
         (SAMPLE, "ok 0 methods\n"),
         (b"pri const X : base.u8 = 256", "refused T5 k.wuffs:1:25\n"),
@@ -104,10 +132,42 @@ fn judges_files(rt: HostRuntime) -> Result<(), Fail> {
         (b"pub status \"#a??\"", "refused T5 k.wuffs:1:12\n"),
         (b"pub status \"#a?b?\"", "ok 0 methods\n"),
         (b"pub struct s()", "refused N9 k.wuffs:1:5\n"),
-        (b"pub status ok", "refused N9 k.wuffs:1:12\n"),
+        (b"pub status ok", "refused S5 k.wuffs:1:12\n"),
         (
             b"pri const X : base.u16 = 65536; pub",
             "refused S5 k.wuffs:1:36\n",
+        ),
+        (b"pri const X : base.u8 = (255)", "ok 0 methods\n"),
+        (
+            b"pri const X : base.u8 = ((256))",
+            "refused T5 k.wuffs:1:27\n",
+        ),
+        (b"pri const X : base.u8 = 1 + 2", "refused N9 k.wuffs:1:5\n"),
+        (
+            b"pri const X : base.u8[..= 9] = 1",
+            "refused N9 k.wuffs:1:5\n",
+        ),
+        (
+            b"pri const X : slice base.u8 = 1",
+            "refused N9 k.wuffs:1:5\n",
+        ),
+        (
+            b"pri const X : array[2] base.u8 = 1",
+            "refused N9 k.wuffs:1:5\n",
+        ),
+        (b"pri const X : base.status = 1", "refused N9 k.wuffs:1:5\n"),
+        (b"pri const X : s = 1", "refused N9 k.wuffs:1:5\n"),
+        (
+            b"pri const X : base.u8 = 256\npub struct s()",
+            "refused N9 k.wuffs:2:5\n",
+        ),
+        (
+            b"pub func s.f() { }\npub struct s()",
+            "refused N9 k.wuffs:1:5\n",
+        ),
+        (
+            b"pub struct s()\npub func s.f() { x = a * b + 1\n}",
+            "refused S6 k.wuffs:2:28\n",
         ),
     ];
     for (bytes, line) in rows {
@@ -123,6 +183,50 @@ fn judges_files(rt: HostRuntime) -> Result<(), Fail> {
 }
 
 #[test]
+fn judges_packages(rt: HostRuntime) -> Result<(), Fail> {
+    let alloc = rt.alloc();
+    let fine: &[u8] = b"pub status \"#a\"";
+    let cut: &[u8] = b"\npub";
+    let large: &[u8] = b"pri const X : base.u8 = 256";
+    let unbuilt: &[u8] = b"pri struct s()";
+    let refused = Ending::Refused;
+    assert!(rt; answers_files(alloc, &[fine, fine], Ending::Done, "ok 0 methods\n")?);
+    assert!(rt; answers_files(alloc, &[fine, cut], refused, "refused S5 f1:2:4\n")?);
+    assert!(rt; answers_files(alloc, &[cut, cut], refused, "refused S5 f0:2:4\n")?);
+    assert!(rt; answers_files(alloc, &[large, cut], refused, "refused S5 f1:2:4\n")?);
+    assert!(rt; answers_files(alloc, &[large, unbuilt], refused, "refused N9 f1:1:5\n")?);
+    assert!(rt; answers_files(alloc, &[fine, large], refused, "refused T5 f1:1:25\n")?);
+    Ok(())
+}
+
+#[test]
+fn counts_files(rt: HostRuntime) -> Result<(), Fail> {
+    let alloc = rt.alloc();
+    let none: &[u8] = b"";
+    assert!(rt; answers_files(alloc, &[none; 16], Ending::Done, "ok 0 methods\n")?);
+    assert!(rt; answers_files(alloc, &[none; 17], Ending::Refused, "refused L2 f16:1:1\n")?);
+    Ok(())
+}
+
+#[test]
+fn counts_bytes(rt: HostRuntime) -> Result<(), Fail> {
+    let alloc = rt.alloc();
+    let half = vec![in alloc; b' '; 524_288]?;
+    let half = half.as_slice();
+    let one: &[u8] = b" ";
+    assert!(rt; answers_files(alloc, &[half, half], Ending::Done, "ok 0 methods\n")?);
+    assert!(rt;
+        answers_files(
+            alloc,
+            &[half, half, one],
+            Ending::Refused,
+            "refused L1 f2:1:1\n"
+        )?
+    );
+    Ok(())
+}
+
+#[test]
 fn knows_its_words(rt: HostRuntime) -> Result<(), Fail> {
     let lines = [
         "",
@@ -132,7 +236,6 @@ fn knows_its_words(rt: HostRuntime) -> Result<(), Fail> {
         "check K k.wuffs",
         "check base k.wuffs",
         "check abcdefghijklmnopqrstuvwxyz0123456 k.wuffs",
-        "check k k.wuffs k.wuffs",
     ];
     for line in lines {
         assert!(rt;
@@ -161,6 +264,10 @@ fn tells_faults(rt: HostRuntime) -> Result<(), Fail> {
             absent
         )?
     );
+    let two = "check k k.wuffs other";
+    let (ending, written) = outcome(rt.alloc(), two, SAMPLE, &[], &[])?;
+    assert_eq!(rt; ending, Ending::InputFault);
+    assert_eq!(rt; written.as_slice(), b"input fault other\n".as_slice());
     let (ending, written) = outcome(rt.alloc(), check, SAMPLE, &[], &[(0, 1)])?;
     assert_eq!(rt; ending, Ending::OutputFault);
     assert_eq!(rt; written.as_slice(), b"o".as_slice());

@@ -4,9 +4,10 @@ ghost use Rattle.std.specs.Prelude.{◌≡◌, ◌-◌, ◌^◌, ◌<◌, ◌≤
 ghost use Rattle.wf_tool.specs.Answer.{CallFor, CountsInputs, CountsSink, IsAnswered, Writes};
 
 use crate::ending::Ending;
-use crate::judging::{Judged, judge_file};
+use crate::judging::judge_package;
 use crate::lines::{accepted_line, fault_line, refused_line, usage_line};
-use crate::words::file_to_check;
+use crate::taking::TakingFault;
+use crate::words::{file_name, to_check};
 use std::alloc::{AllocError, Global};
 use wf_outside::{Inputs, Sink};
 use wf_text::NoMemory;
@@ -14,7 +15,7 @@ use wf_text::NoMemory;
 /// Runs the command that `words` name, which come behind the program's name, over `inputs`, and writes its answer
 /// to `out`.
 ///
-/// `check PACKAGE FILE`: `ok 0 methods` and Done, or `refused RULE FILE:LINE:COL` and Refused. Other words: a
+/// `check PACKAGE FILE...`: `ok 0 methods` and Done, or `refused RULE FILE:LINE:COL` and Refused. Other words: a
 /// line on usage, and Usage. An input that fails: `input fault FILE`, and InputFault. A sink that fails:
 /// OutputFault, with the first bytes of a line that was called for written. NoMemory with nothing written.
 pub fn wuffs_tool<I: Inputs, O: Sink>(
@@ -86,15 +87,19 @@ fn find_answer<I: Inputs>(
     ensures memory { OnErr result (I.faults inputs.old ≤ I.faults inputs.new) }
     ensures same { I.held inputs.new ≡ I.held inputs.old }
 {
-    let Some(file) = file_to_check(words) else {
+    let Some(asked) = to_check(words) else {
         return Answer::of(Ending::Usage, usage_line(alloc));
     };
-    match judge_file(alloc, file, inputs) {
-        Judged::Accepted => Answer::of(Ending::Done, accepted_line(alloc)),
-        Judged::Refused(refusal) => {
+    match judge_package(alloc, asked.package, asked.files, inputs) {
+        Ok(()) => Answer::of(Ending::Done, accepted_line(alloc)),
+        Err(TakingFault::Refused(refusal)) => {
+            let file = file_name(asked.files, refusal.at.file as usize);
             Answer::of(Ending::Refused, refused_line(alloc, file, refusal))
         }
-        Judged::Failed => Answer::of(Ending::InputFault, fault_line(alloc, file)),
-        Judged::Memory => Err(NoMemory),
+        Err(TakingFault::Failed(number)) => {
+            let file = file_name(asked.files, number);
+            Answer::of(Ending::InputFault, fault_line(alloc, file))
+        }
+        Err(TakingFault::Memory) => Err(NoMemory),
     }
 }

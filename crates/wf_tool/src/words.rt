@@ -3,21 +3,46 @@
 ghost use Rattle.std.specs.Prelude.{◌≡◌, ℕ, List, [], ◌∷◌, length, map, string_bytes};
 ghost use Rattle.std.specs.List.{list_all};
 ghost use Rattle.std.specs.Option.{option_map};
-ghost use Rattle.wf_tool.specs.Words.{files_of, is_between, is_package_byte, is_package_name};
+ghost use Rattle.wf_tool.specs.Answer.{file_name};
+ghost use Rattle.wf_tool.specs.Words.{is_between, is_package_byte, is_package_name, to_check};
 
-/// The file of `check PACKAGE FILE`. None for other words, which are no command form.
-pub fn file_to_check(words: &[String]) -> Option<&str>
-    ensures { option_map (λ file. file.now ∷ []) result ≡ files_of (map (λ word. string_bytes word) words.now) }
+/// A package that is to be checked: its name, and the names of its files in order.
+#[derive(Clone, Copy, Debug)]
+pub struct ToCheck<'a> {
+    pub package: &'a str,
+    pub files: &'a [String],
+}
+
+/// What `check PACKAGE FILE...` names. None for other words, which are no command form.
+pub fn to_check(words: &[String]) -> Option<ToCheck>
+    ensures { option_map (λ found. record { package_name = found.package.now; files = map (λ file. string_bytes file) found.files.now }) result
+        ≡ to_check (map (λ word. string_bytes word) words.now) }
 {
     match words {
-        [command, package, file] => {
-            if command.as_str() == "check" && is_package_name(package.as_str()) {
-                Some(file.as_str())
+        [command, package, files @ ..] => {
+            if command.as_str() == "check"
+                && is_package_name(package.as_str())
+                && !files.is_empty()
+            {
+                Some(ToCheck {
+                    package: package.as_str(),
+                    files,
+                })
             } else {
                 None
             }
         }
         _ => None,
+    }
+}
+
+/// The name of the file with this number, from 0. No bytes where there is none.
+pub fn file_name(names: &[String], number: usize) -> &str
+    ensures { result.now ≡ file_name (map (λ name. string_bytes name) names.now) number }
+{
+    match names.get(number) {
+        Some(name) => name.as_str(),
+        None => "",
     }
 }
 

@@ -1,0 +1,13 @@
+use Rattle.std.proofs.Common.{◌≡◌, ◌-◌, drop, length}
+use Rattle.wf_parse.specs.Parsing.{decls_of}
+use Rattle.wf_tool.specs.Built.{first_violation}
+use Rattle.wf_tool.proofs.building.first_violation.Given as goal
+
+abbrev pub invariant-loop-number : goal.invariant-loop-number
+invariant-loop-number l = record {
+  same : first_violation l.parsed.texts (drop l.number (decls_of l.parsed)) ≡ first_violation l.parsed.texts (decls_of l.parsed);
+  count : l.count ≡ length l.parsed.decls;
+}
+
+abbrev pub decreases-loop-number : goal.decreases-loop-number
+decreases-loop-number l = l.count - l.number
