@@ -12,6 +12,9 @@ import tempfile
 
 USAGE = "usage: wuffsc COMMAND PKG [SCRIPT] FILE\n"
 
+# A method with its first statement.
+METHOD = b"pub struct s()\npub func s.f() {\n    var x : base.u32\n"
+
 # name, files, words, what is written, exit status
 ANSWERS = [
     ("an empty file", {"e.wuffs": b""}, "check demo e.wuffs", "ok 0 methods\n", 0),
@@ -33,6 +36,25 @@ ANSWERS = [
     ("a megabyte of spaces", {"t.wuffs": b" " * 1048576}, "check t t.wuffs", "ok 0 methods\n", 0),
     ("one byte more", {"t.wuffs": b" " * 1048577}, "check t t.wuffs", "refused L1 t.wuffs:1:1\n", 1),
     ("a megabyte of one comment", {"t.wuffs": b"//" + b"x" * 1048574}, "check t t.wuffs", "ok 0 methods\n", 0),
+    ("a value in parentheses", {"t.wuffs": b"pri const X : base.u8 = ((255))\n"}, "check t t.wuffs", "ok 0 methods\n", 0),
+    ("48 open brackets", {"t.wuffs": b"pri const X : base.u8 = " + b"(" * 48 + b"1" + b")" * 48}, "check t t.wuffs", "ok 0 methods\n", 0),
+    ("49 open brackets", {"t.wuffs": b"pri const X : base.u8 = " + b"(" * 49 + b"1" + b")" * 49}, "check t t.wuffs", "refused L4 t.wuffs:1:73\n", 1),
+    ("operators that are mixed", {"t.wuffs": b"pub struct s()\npub func s.f() {\n    x = a * b + 1\n}\n"},
+     "check t t.wuffs", "refused S6 t.wuffs:3:15\n", 1),
+    ("a struct, which isn't built", {"t.wuffs": b"pri const X : base.u8 = 256\npub struct s()\n"}, "check t t.wuffs", "refused N9 t.wuffs:2:5\n", 1),
+    ("a sum, which isn't built", {"t.wuffs": b"pri const X : base.u8 = 1 + 2\n"}, "check t t.wuffs", "refused N9 t.wuffs:1:5\n", 1),
+    ("a method of 4,096 statements, which isn't built", {"t.wuffs": METHOD + b"    x = 1\n" * 4095 + b"}\n"}, "check t t.wuffs", "refused N9 t.wuffs:1:5\n", 1),
+    ("one statement more", {"t.wuffs": METHOD + b"    x = 1\n" * 4096 + b"}\n"}, "check t t.wuffs", "refused L5 t.wuffs:4099:5\n", 1),
+    ("two files", {"a.wuffs": b'pub status "#a"\n', "b.wuffs": b"pri const X : base.u8 = 256\n"},
+     "check t a.wuffs b.wuffs", "refused T5 b.wuffs:1:25\n", 1),
+    ("reading comes before types", {"a.wuffs": b"pri const X : base.u8 = 256\n", "b.wuffs": b"pub"},
+     "check t a.wuffs b.wuffs", "refused S5 b.wuffs:1:4\n", 1),
+    ("half a megabyte twice", {"a.wuffs": b" " * 524288, "b.wuffs": b" " * 524288}, "check t a.wuffs b.wuffs", "ok 0 methods\n", 0),
+    ("one byte more than a megabyte together", {"a.wuffs": b" " * 524288, "b.wuffs": b" " * 524289},
+     "check t a.wuffs b.wuffs", "refused L1 b.wuffs:1:1\n", 1),
+    ("sixteen files", {f"f{n}": b"" for n in range(1, 17)}, "check t " + " ".join(f"f{n}" for n in range(1, 17)), "ok 0 methods\n", 0),
+    ("seventeen files, none of which is there", {}, "check t " + " ".join(f"f{n}" for n in range(1, 18)), "refused L2 f17:1:1\n", 1),
+    ("a second file that isn't there", {"a.wuffs": b"pub"}, "check t a.wuffs b.wuffs", "input fault b.wuffs\n", 3),
     ("a file that isn't there", {}, "check t t.wuffs", "input fault t.wuffs\n", 3),
     ("a folder in place of a file", {"t.wuffs/x": b""}, "check t t.wuffs", "input fault t.wuffs\n", 3),
     ("no words", {}, "", USAGE, 2),
