@@ -1,0 +1,171 @@
+#!/usr/bin/env python3
+"""Small packages and what the rules of names say of each, written by hand from the rules.
+
+usage: name_answers.py PROGRAM [NAME]    only the packages whose name has NAME in it
+Each package is one file n.wuffs of package n; a bar with blanks round it ends a line. An answer is a rule with its
+line and column, or `later` where no rule of names is broken and the answer is left to the later phases: then no answer
+of the rules N1 to N8, L6 and L7 may come.
+"""
+import os
+import pathlib
+import subprocess
+import sys
+import tempfile
+
+S = "pub struct s?( | n : base.u32, | )"
+ROWS = "pub struct s?( | a : array[4] base.u8, | t : base.status, | )"
+SUB = "pri struct p?() | pub func p.open() {} | pri func p.shut() {} | pub func p.two(a: base.u8, b: base.u8) {} | pub struct s?( | x : p, | n : base.u32, | )"
+
+
+def method(*body, args="", mark="?", gives=""):
+    """The method f of the struct s, its body from its own line on."""
+    return f" | pub func s.f{mark}({args}){gives} {{ | " + " | ".join(body) + " | }"
+
+
+PACKAGES = [
+    # N1: an unknown name
+    ("a status that isn't there", S + method('return "#no"'), "N1 5:8"),
+    ("a status declared in another order", 'pub status "#no" | ' + S + method('return "#no"'), "later"),
+    ("a status declared behind its use", S + method('return "#no"') + ' | pub status "#no"', "later"),
+    ("a status that differs in one byte", 'pub status "#no" | ' + S + method('return "#No"'), "N1 6:8"),
+    ("a base status that isn't there", S + method('return base."#no"'), "N1 5:13"),
+    ("a base status with another mark", S + method('return base."#short read"'), "N1 5:13"),
+    ("a base status", S + method('return base."$short read"'), "later"),
+    ("a bare name", S + method("this.n = x"), "N1 5:10"),
+    ("a bare name of a field", S + method("this.n = n"), "N1 5:10"),
+    ("a bare name of an argument", S + method("this.n = a", args="a: base.u32"), "N1 5:10"),
+    ("a constant of another file's end", S + method("this.n = K") + " | pri const K : base.u32 = 1", "later"),
+    ("a local", S + method("var x : base.u32", "this.n = x"), "later"),
+    ("a local of another method", S + " | pub func s.g?() { | var x : base.u32 | }" + method("this.n = x"), "N1 8:10"),
+    ("a field that isn't there", S + method("this.m = 1"), "N1 5:6"),
+    ("a field of another struct", "pub struct o( | m : base.u8, | ) | " + S + method("this.m = 1"), "N1 8:6"),
+    ("an argument that isn't there", S + method("this.n = args.b", args="a: base.u32"), "N1 5:15"),
+    ("an argument", S + method("this.n = args.a", args="a: base.u32"), "later"),
+    ("a constant that names itself", "pri const A : base.u8 = A", "N1 1:25"),
+    ("a constant that names a later one", "pri const A : base.u8 = B | pri const B : base.u8 = 1", "N1 1:25"),
+    ("a constant that names an earlier one", "pri const B : base.u8 = 1 | pri const A : base.u8 = B", "later"),
+    ("a bound that names a later constant", "pri const A : base.u8[..= B] = 1 | pri const B : base.u8 = 1", "N1 1:27"),
+    ("a field in a constant", S + " | pri const A : base.u8 = this.n", "N1 4:30"),
+    ("a struct that isn't there as a field", "pub struct s( | x : t, | )", "N1 2:5"),
+    ("a struct that isn't there in an array", "pub struct s( | x : array[2] t, | )", "N1 2:14"),
+    ("a struct behind its use", "pub struct s( | x : t, | ) | pub struct t()", "later"),
+    ("a method of no struct", "pub func s.f() {}", "N1 1:10"),
+    ("a method that no struct has", S + method("this.g?()"), "N1 5:6"),
+    ("a base method that isn't there", S + method("args.a.size?()", args="a: base.io_reader"), "N1 5:8"),
+    ("a method on a number", S + method("var x : base.u32", "var y : base.u64", "y = x.length()"), "N1 7:7"),
+    ("the length of an array", ROWS + method("var y : base.u64", "y = this.a.length()"), "later"),
+    ("a writer's method on a reader", S + method("args.a.write_u8?(a: 1)", args="a: base.io_reader"), "N1 5:8"),
+    ("a method that a field's struct doesn't have", SUB + " | pub func s.g?() { | this.x.gone!() | }", "N1 10:8"),
+    ("a method of a field's struct", SUB + " | pub func s.g?() { | this.x.open!() | }", "later"),
+    # N2: twice
+    ("a status twice", 'pub status "#a" | pub status "#b" | pri status "#a"', "N2 3:12"),
+    ("a constant twice", "pri const A : base.u8 = 1 | pri const A : base.u8 = 1", "N2 2:11"),
+    ("a struct twice", "pub struct s() | pub struct s()", "N2 2:12"),
+    ("a constant and a struct of one name", "pri const s : base.u8 = 1 | pub struct s()", "later"),
+    ("a method twice", S + " | pub func s.f() {} | pub func s.f() {}", "N2 5:12"),
+    ("a method of one name in two structs", "pub struct a() | pub struct b() | pub func a.f() {} | pub func b.f() {}", "later"),
+    ("a field twice", "pub struct s( | n : base.u8, | n : base.u8, | )", "N2 3:1"),
+    ("a field in both lists", "pub struct s( | n : base.u8, | ) + ( | n : base.u8, | )", "N2 4:1"),
+    ("an argument twice", S + " | pub func s.f(a: base.u8, a: base.u8) {}", "N2 4:26"),
+    ("a local twice", S + method("var x : base.u8", "var x : base.u8"), "N2 6:5"),
+    ("a local of an argument's name", S + method("var a : base.u8", args="a: base.u8"), "later"),
+    ("a local of a constant's name", "pri const x : base.u8 = 1 | " + S + method("var x : base.u8"), "N2 6:5"),
+    ("a constant behind a local of its name", S + method("var x : base.u8") + " | pri const x : base.u8 = 1", "N2 7:11"),
+    ("a label in a loop of its own name", S + method("while.a true {", "while.a true {", "} endwhile.a", "} endwhile.a"), "N2 6:7"),
+    ("a label again behind its loop", S + method("while.a true {", "break.a", "} endwhile.a", "while.a true {", "break.a", "} endwhile.a"), "later"),
+    ("an argument given twice", S + " | pri func s.g(a: base.u8) {}" + method("this.g!(a: 1, a: 2)"), "N2 6:15"),
+    ("a reader passed twice", S + " | pri func s.g?(a: base.io_reader, b: base.io_reader) {}" + method("this.g?(a: args.r, b: args.r)", args="r: base.io_reader"), "N2 6:23"),
+    ("a number passed twice", S + " | pri func s.g(a: base.u8, b: base.u8) {}" + method("this.g!(a: args.r, b: args.r)", args="r: base.u8"), "later"),
+    # N3: reserved
+    ("a name that begins with an underscore", "pri const _a : base.u8 = 1", "N3 1:11"),
+    ("a name that ends with one", "pub struct s( | a_ : base.u8, | )", "N3 2:1"),
+    ("two underscores in a row", S + method("var a__b : base.u8"), "N3 5:5"),
+    ("one underscore inside", S + method("var a_b : base.u8"), "later"),
+    ("a word that is kept", S + " | pub func s.f(ptr: base.u8) {}", "N3 4:14"),
+    ("a label that is kept", S + method("while.use true {", "break.use", "} endwhile.use"), "N3 5:7"),
+    ("a name that begins as a kept word", S + method("var used : base.u8"), "later"),
+    ("a method called initialize", S + " | pub func s.initialize() {}", "N3 4:12"),
+    ("a field called initialize", "pub struct s( | initialize : base.u8, | )", "later"),
+    # N4: recursion
+    ("a method that calls itself", S + method("this.f?()"), "N4 4:12"),
+    ("two methods that call each other", S + " | pri func s.g?() { | this.h?() | } | pri func s.h?() { | this.g?() | }", "N4 4:12"),
+    ("a method that calls one that calls itself", S + " | pub func s.f?() { | this.g?() | } | pri func s.g?() { | this.g?() | }", "N4 7:12"),
+    ("methods in a line", S + " | pri func s.h?() {} | pri func s.g?() { | this.h?() | }" + method("this.g?()"), "later"),
+    ("a struct that holds itself", "pub struct s( | x : s, | )", "N4 1:12"),
+    ("structs that hold each other", "pub struct a( | x : b, | ) | pub struct b( | y : a, | )", "N4 1:12"),
+    ("a struct that holds one that holds itself", "pub struct a( | x : b, | ) | pub struct b( | y : b, | )", "N4 4:12"),
+    ("an array of the struct itself", "pub struct s( | x : array[2] s, | )", "later"),
+    # N5: jumps
+    ("a break outside every loop", S + method("break"), "N5 5:1"),
+    ("a continue behind a loop", S + method("while true {", "break", "} endwhile", "continue"), "N5 8:1"),
+    ("a label of no loop", S + method("while.a true {", "break.b", "} endwhile.a"), "N5 6:7"),
+    ("a label of a loop that has ended", S + method("while.a true {", "break.a", "} endwhile.a", "while true {", "break.a", "} endwhile"), "N5 9:7"),
+    ("a label of an outer loop", S + method("while.a true {", "while true {", "break.a", "} endwhile", "} endwhile.a"), "later"),
+    # N6 and N7: arguments of a call
+    ("an argument that the method doesn't have", S + " | pri func s.g(a: base.u8) {}" + method("this.g!(a: 1, b: 2)"), "N6 6:15"),
+    ("an argument that a base method doesn't have", S + method("args.r.skip_u32?(m: 1, n: 1)", args="r: base.io_reader"), "N6 5:18"),
+    ("an argument that is missing", S + " | pri func s.g(a: base.u8, b: base.u8) {}" + method("this.g!(b: 1)"), "N7 6:6"),
+    ("a base method's argument that is missing", S + method("args.r.skip_u32?()", args="r: base.io_reader"), "N7 5:8"),
+    ("arguments in another order", S + " | pri func s.g(a: base.u8, b: base.u8) {}" + method("this.g!(b: 1, a: 2)"), "later"),
+    # N8: methods of another struct
+    ("a method of another struct on this", SUB + " | pub func s.g?() { | this.open!() | }", "N8 10:6"),
+    ("a private method through a field", SUB + " | pub func s.g?() { | this.x.shut!() | }", "N8 10:8"),
+    ("a method of its own", S + " | pri func s.g() {}" + method("this.g!()"), "later"),
+    # L6 and L7: limits
+    ("1,025 methods", "pub struct s()" + "".join(f" | pub func s.f{i}() {{}}" for i in range(1025)), "L6 1026:12"),
+    ("1,024 methods", "pub struct s()" + "".join(f" | pub func s.f{i}() {{}}" for i in range(1024)), "later"),
+    ("257 locals", S + method(*[f"var x{i} : base.u8" for i in range(257)]), "L7 261:5"),
+    ("256 locals", S + method(*[f"var x{i} : base.u8" for i in range(256)]), "later"),
+    ("65 arguments", S + " | pub func s.f(" + ",".join(f" | a{i}: base.u8" for i in range(65)) + ") {}", "L7 69:1"),
+    ("64 arguments", S + " | pub func s.f(" + ",".join(f" | a{i}: base.u8" for i in range(64)) + ") {}", "later"),
+    ("an array of 65,537 elements", "pub struct s( | a : array[65537] base.u8, | )", "L7 2:1"),
+    ("an array of 65,536 elements", "pub struct s( | a : array[65536] base.u8, | )", "later"),
+    ("a long array by a constant", "pri const K : base.u32 = 32768 | pub struct s( | a : array[(K * 2) + 1] base.u8, | )", "L7 3:1"),
+    ("a megabyte and eight bytes", "pub struct s(" + "".join(f" | a{i} : array[65536] base.u64," for i in range(2)) + " | b : base.u64, | )", "L7 4:1"),
+    ("a megabyte", "pub struct s(" + "".join(f" | a{i} : array[65536] base.u64," for i in range(2)) + " | )", "later"),
+    ("a struct that fills another", "pub struct p(" + "".join(f" | a{i} : array[65536] base.u64," for i in range(2)) + " | ) | pub struct s( | x : p, | )", "L7 6:1"),
+    # two in one package: the lesser place
+    ("an unknown name in front of a doubled one", S + method("var x : t", "var x : base.u8"), "N1 5:9"),
+    ("a doubled name in front of an unknown one", S + method("var x : base.u8", "var x : t"), "N2 6:5"),
+    ("a jump in front of recursion's later name", S + method("break") + " | pri func s.g?() { | this.g?() | }", "N5 5:1"),
+    ("an unknown argument in front of an unknown value", S + " | pri func s.g(a: base.u8) {}" + method("this.g!(a: x, b: 1)"), "N1 6:12"),
+    # two rules at one place: the earlier rule
+    ("a doubled name that is reserved", "pub struct s( | _ : base.u8, | _ : base.u8, | )", "N3 2:1"),
+    ("a struct of a kept name twice", "pri const a_ : base.u8 = 1 | pub struct table( | x : table, | )", "N3 1:11"),
+    ("a reserved name that holds itself", "pub struct table( | x : table, | )", "N3 1:12"),
+    ("a private method through a field with an argument missing", SUB.replace("pri func p.shut()", "pri func p.shut(a: base.u8)") + " | pub func s.g?() { | this.x.shut!() | }", "N7 10:8"),
+    ("the 257th local doubles the first", S + method(*[f"var x{i} : base.u8" for i in range(256)], "var x0 : base.u8"), "N2 261:5"),
+]
+
+OURS = ("N1", "N2", "N3", "N4", "N5", "N6", "N7", "N8", "L6", "L7")
+
+
+def answer(program, text):
+    with tempfile.TemporaryDirectory() as folder:
+        pathlib.Path(folder, "n.wuffs").write_text("\n".join(text.split(" | ")) + "\n")
+        ended = subprocess.run([program, "check", "n", "n.wuffs"], cwd=folder, stdin=subprocess.DEVNULL, capture_output=True, timeout=60)
+        words = ended.stdout.decode(errors="replace").split()
+    if words[:1] == ["refused"] and words[1] in OURS:
+        return words[1] + " " + ":".join(words[2].split(":")[1:])
+    return "later"
+
+
+def main():
+    program = os.path.abspath(sys.argv[1])
+    wanted = sys.argv[2] if len(sys.argv) > 2 else ""
+    passed = failed = 0
+    for name, text, right in PACKAGES:
+        if wanted not in name:
+            continue
+        got = answer(program, text)
+        if got == right:
+            passed += 1
+        else:
+            failed += 1
+            print(f"{name}: {got}, not {right}")
+    print(f"{passed} passed, {failed} failed")
+    sys.exit(failed != 0)
+
+
+if __name__ == "__main__":
+    main()
