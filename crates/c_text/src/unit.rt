@@ -7,7 +7,7 @@ ghost use Rattle.c_text.specs.CNodes.{no_nodes, bytes_at, expr_of, code_of, unit
 ghost use Rattle.c_text.specs.CFits.{FitsExpr, FitsStmt, FitsItem};
 ghost use Rattle.c_text.specs.CGrammar.{IsName, IsUnit};
 ghost use Rattle.c_text.specs.CSpelling.{is_string};
-ghost use Rattle.c_text.specs.CUnit.{AddsName};
+ghost use Rattle.c_text.specs.CUnit.{AddsName, IsSound};
 
 use crate::ids::{CExprId, CItemId, CNameId, CStmtId, CStringId};
 use crate::lists::CList;
@@ -58,6 +58,13 @@ impl Unit {
     /// Each unit is a tree of the C grammar.
     pub fn is_lawful(&self)
         ensures { IsUnit (unit_tree self.now) }
+    {
+        let _ = &self.items;
+    }
+
+    /// The names and strings of each unit are spelt as such, and its nodes fit.
+    pub fn is_sound(&self)
+        ensures { IsSound self.now }
     {
         let _ = &self.items;
     }
