@@ -1,5 +1,5 @@
 -- Open brackets, counted along the stack.
-use Rattle.std.proofs.Common.{◌≡◌, ◌+◌, ℕ, zero, suc, Bool, true, false, if◌then◌else◌, Some, List, [], ◌∷◌, drop, refl, sym, ◌∙◌, arith}
+use Rattle.std.proofs.Common.{◌≡◌, ◌+◌, ℕ, zero, suc, Bool, true, false, Some, List, [], ◌∷◌, drop, sym, ◌∙◌, arith}
 use Rattle.std.specs.List.{slice_get}
 use Rattle.wf_grammar.specs.declared.symbols.Want.{Want}
 use Rattle.wf_grammar.specs.declared.symbols.Want.TheVariants.{Read, Make}

@@ -1,5 +1,5 @@
 -- A file, token by token.
-use Rattle.std.proofs.Common.{◌≡◌, ◌≤◌, ◌<◌, ◌+◌, ◌-◌, ℕ, zero, suc, Result, Ok, Err, List, [], ◌∷◌, ◌++◌, drop, length, refl, sym, ◌∙◌, ap, subst, arith, length-append, length-drop, append_assoc}
+use Rattle.std.proofs.Common.{◌≡◌, ◌≤◌, ◌+◌, ◌-◌, ℕ, suc, Option, Result, Ok, Err, List, [], ◌∷◌, drop, length, sym, ◌∙◌, ap, subst, arith, length-drop}
 use Rattle.std.proofs.Math.Seq.{drop-length}
 use Rattle.wf_ast.specs.ParsedParts.{Parsed}
 use Rattle.wf_grammar.specs.declared.tokens.Token.{Token}
@@ -9,7 +9,9 @@ use Rattle.wf_maker.specs.declared.maker.Maker.{Maker}
 use Rattle.wf_parse.specs.declared.parsing.FileFault.{FileFault}
 use Rattle.wf_parse.specs.declared.parsing.FileFault.TheVariants as file
 use Rattle.wf_maker.specs.declared.values.Value.{Value}
-use Rattle.wf_parse.specs.Lexing.{GrowsTexts, ExtendsTexts}
+use Rattle.wf_parse.specs.Lexing.{ChangesTexts}
+use Rattle.wf_parse.specs.Texts.{with_text}
+use Rattle.wf_parse.proofs.TextNumbers.{with_text-length}
 use Rattle.wf_maker.specs.Makers.{IsSound, nodes}
 use Rattle.wf_parse.specs.Machines.{State, file_start, state_of, size}
 use Rattle.wf_parse.specs.Reading.{reading, AnswersOne, AnswersFile}
@@ -49,20 +51,25 @@ start_size old new made e f =
     let one : length new.wants ≡ 1 = ap (λ (s : State). length s.wants) f in
     omega (arith, same, one)
 
--- Texts that grow.
-pub extends_more : (a b c : Parsed) → ExtendsTexts a b → GrowsTexts b c → ExtendsTexts a c
-extends_more a b c x g = record {
-  more = x.more ++ g.more;
-  texts = g.texts ∙ ap (λ ts. ts ++ g.more) x.texts ∙ append_assoc a.texts x.more g.more;
-  same = g.same ∙ ap (λ (p : Parsed). let q : Parsed = record p { texts = c.texts } in q) x.same;
-}
+-- Behind texts that have joined.
+pub texts_sound : (old new : Maker) → IsSound old → ChangesTexts old.package new.package → new.values ≡ old.values → IsSound new
+texts_sound old new s e f =
+    let P : Parsed → Type 0 = λ p. IsOrdered p × AreOf p old.values in
+    let joined : Parsed = record old.package { texts = new.package.texts } in
+    let there : P joined = (record { stmts = s.ordered.stmts; decls = s.ordered.decls }, s.below) in
+    let both : P new.package = subst P (sym e) there in
+    let Q : List Value → Type 0 = AreOf new.package in
+    record { ordered = both.0; below = subst Q (sym f) both.1 }
 
-pub grows_by : (b c : Parsed) → GrowsTexts b c → length c.texts ≤ length b.texts + 1
-grows_by b c g =
-    let longer : length c.texts ≡ length (b.texts ++ g.more) = ap length g.texts in
-    let sum = length-append b.texts g.more in
-    let few = g.few in
-    omega (arith, longer, sum, few)
+-- Texts that join.
+pub changes_more : (a b c : Parsed) → ChangesTexts a b → ChangesTexts b c → ChangesTexts a c
+changes_more a b c x y = y ∙ ap (λ (p : Parsed). let q : Parsed = record p { texts = c.texts } in q) x
+
+pub joins_one : (known texts : List (List ℕ)) (text : Option (List ℕ)) → texts ≡ with_text known text → length texts ≤ length known + 1
+joins_one known texts text e =
+    let count : length texts ≡ length (with_text known text) = ap length e in
+    let few = with_text-length known text in
+    omega (arith, count, few)
 
 -- How many tokens there are from one on.
 pub left_count : (tokens : List Token) (i : ℕ) (t : Token) → drop i tokens ≡ t ∷ drop (i + 1) tokens → length tokens - i ≡ suc (length (drop (i + 1) tokens))

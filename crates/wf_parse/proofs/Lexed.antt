@@ -1,5 +1,5 @@
 -- What a loop over the tokens of a file keeps.
-use Rattle.std.proofs.Common.{◌≡◌, ◌<◌, ◌≤◌, ◌+◌, ℕ, Some, List, [], ◌∷◌, ◌++◌, length, refl, sym, ◌∙◌, ap, subst, arith, suc, length-append}
+use Rattle.std.proofs.Common.{◌≡◌, ℕ, Some, List, [], ◌∷◌, ◌++◌, length, sym, ◌∙◌, ap, subst, arith, suc, length-append}
 use Rattle.std.specs.List.{slice_get}
 use Rattle.std.proofs.lemmas.Option.{slice_get_within}
 use Rattle.wf_text.specs.declared.rules.Refusal.{Refusal}
@@ -14,11 +14,14 @@ use Rattle.wf_tokens.specs.Spelling.{State, Item, Reads, ReadsAll, IsStuck, IsOv
 use Rattle.wf_tokens.proofs.ReadingOn.{reads_more, text_read}
 use Rattle.wf_parse.specs.Kinds.{KindIs, IsReadable}
 use Rattle.wf_parse.specs.Lexing.{TokenIs, TokensAre, IsWholeFile, IsFileUpTo}
+use Rattle.wf_parse.specs.Texts.{text_of, with_text, texts_behind}
+use Rattle.wf_parse.proofs.TextNumbers.{with_text-grows, texts_behind-more}
 
 -- These tokens are read, and the lexer stands behind them.
-pub record LexedSoFar (file : ℕ) (bytes : List ℕ) (lexer : State) (texts : List (List ℕ)) (tokens : List Token) : Type 0 where
+pub record LexedSoFar (file : ℕ) (bytes : List ℕ) (lexer : State) (known texts : List (List ℕ)) (tokens : List Token) : Type 0 where
   pub items : List Item
   pub reads : ReadsAll (start file bytes) items lexer
+  pub texts_are : texts ≡ texts_behind known items
   pub tokens_are : TokensAre texts items tokens
 
 -- A text keeps its number while texts are added.
@@ -47,26 +50,28 @@ tokens_push texts (x ∷ items) [] item t h is = absurd h
 tokens_push texts (x ∷ items) (y ∷ tokens) item t h is = (h.0, tokens_push texts items tokens item t h.1 is)
 
 -- One token more.
-pub lexed_more : (file : ℕ) (bytes : List ℕ) (old new : State) (texts more grown : List (List ℕ)) (tokens longer : List Token) (item : Item) (t : Token)
-    → LexedSoFar file bytes old texts tokens → Reads old item new → grown ≡ texts ++ more → TokenIs grown item t → longer ≡ tokens ++ t ∷ [] → LexedSoFar file bytes new grown longer
-lexed_more file bytes old new texts more grown tokens longer item t l r g is e =
+pub lexed_more : (file : ℕ) (bytes : List ℕ) (old new : State) (known texts grown : List (List ℕ)) (tokens longer : List Token) (item : Item) (t : Token)
+    → LexedSoFar file bytes old known texts tokens → Reads old item new → grown ≡ with_text texts (text_of item.kind item.text) → TokenIs grown item t → longer ≡ tokens ++ t ∷ [] → LexedSoFar file bytes new known grown longer
+lexed_more file bytes old new known texts grown tokens longer item t l r g is e =
     let P : List (List ℕ) → Type 0 = λ xs. TokensAre xs l.items tokens in
-    let front : TokensAre grown l.items tokens = subst P (sym g) (tokens_stay texts more l.items tokens l.tokens_are) in
+    let more = with_text-grows texts (text_of item.kind item.text) in
+    let front : TokensAre grown l.items tokens = subst P (sym (g ∙ more.1)) (tokens_stay texts more.0 l.items tokens l.tokens_are) in
     let Q : List Token → Type 0 = TokensAre grown (l.items ++ item ∷ []) in
     record {
       items = l.items ++ item ∷ [];
       reads = reads_more (start file bytes) l.items old item new l.reads r;
+      texts_are = g ∙ ap (λ xs. with_text xs (text_of item.kind item.text)) l.texts_are ∙ sym (texts_behind-more known l.items item);
       tokens_are = subst Q (sym e) (tokens_push grown l.items tokens item t front is);
     }
 
 -- The whole file.
-pub lexed_whole : (file : ℕ) (bytes : List ℕ) (last : State) (texts : List (List ℕ)) (tokens : List Token) → LexedSoFar file bytes last texts tokens → IsOver last → IsWholeFile file bytes texts tokens
-lexed_whole file bytes last texts tokens l over = record { items = l.items; spelt = record { last = last; reads = l.reads; over = over }; tokens_are = l.tokens_are }
+pub lexed_whole : (file : ℕ) (bytes : List ℕ) (last : State) (known texts : List (List ℕ)) (tokens : List Token) → LexedSoFar file bytes last known texts tokens → IsOver last → IsWholeFile file bytes known texts tokens
+lexed_whole file bytes last known texts tokens l over = record { items = l.items; spelt = record { last = last; reads = l.reads; over = over }; texts_are = l.texts_are; tokens_are = l.tokens_are }
 
 -- Up to bytes that are no token.
-pub lexed_up_to : (file : ℕ) (bytes : List ℕ) (last : State) (texts : List (List ℕ)) (tokens longer : List Token) (refusal : Refusal) → LexedSoFar file bytes last texts tokens → IsStuck last refusal
-    → longer ≡ tokens ++ record { kind = kinds.Bad; at = refusal.at } ∷ [] → IsFileUpTo file bytes texts longer refusal
-lexed_up_to file bytes last texts tokens longer refusal l stuck e = record { items = l.items; front = tokens; spelt = record { last = last; reads = l.reads; stuck = stuck }; tokens_are = l.tokens_are; whole = e }
+pub lexed_up_to : (file : ℕ) (bytes : List ℕ) (last : State) (known texts : List (List ℕ)) (tokens longer : List Token) (refusal : Refusal) → LexedSoFar file bytes last known texts tokens → IsStuck last refusal
+    → longer ≡ tokens ++ record { kind = kinds.Bad; at = refusal.at } ∷ [] → IsFileUpTo file bytes known texts longer refusal
+lexed_up_to file bytes last known texts tokens longer refusal l stuck e = record { items = l.items; front = tokens; spelt = record { last = last; reads = l.reads; stuck = stuck }; texts_are = l.texts_are; tokens_are = l.tokens_are; whole = e }
 
 -- A text has its quotes.
 pub is_readable : (old : State) (item : Item) (new : State) → Reads old item new → IsReadable item

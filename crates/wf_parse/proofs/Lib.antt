@@ -1,8 +1,12 @@
 pub mod Counting
+pub mod DeclPlaces
 pub mod FileReading
 pub mod Keeping
 pub mod Lexed
+pub mod OneReadings
 pub mod Outcomes
 pub mod PackageReading
 pub mod ReadingVerdicts
+pub mod RefusalPlaces
 pub mod Shortness
+pub mod TextNumbers

@@ -1,5 +1,5 @@
 -- A package, file by file.
-use Rattle.std.proofs.Common.{◌≡◌, ◌≤◌, ◌<◌, ◌+◌, ◌-◌, ◌*◌, ◌⊎◌, inl, inr, ℕ, zero, suc, Option, None, Some, Result, Ok, Err, List, [], ◌∷◌, ◌++◌, map, drop, length, refl, sym, ◌∙◌, ap, subst, arith, append_assoc, get_or}
+use Rattle.std.proofs.Common.{◌≡◌, ◌≤◌, ◌<◌, ◌+◌, ◌-◌, inl, inr, ℕ, zero, suc, Option, None, Some, Err, List, [], ◌∷◌, ◌++◌, map, drop, length, refl, sym, ◌∙◌, ap, subst, arith, append_assoc, get_or}
 use Rattle.std.proofs.Math.Seq.{drop-cons, drop-nil}
 use Rattle.std.proofs.lemmas.List.{append-nil, drop-map}
 use Rattle.std.specs.Prelude.{sum_by}
@@ -9,7 +9,7 @@ use Rattle.wf_text.specs.declared.faults.PhaseFault.TheVariants as phase
 use Rattle.wf_text.specs.declared.place.Place.{Place}
 use Rattle.wf_text.specs.declared.rules.Refusal.{Refusal}
 use Rattle.wf_text.specs.declared.rules.Rule.{Rule}
-use Rattle.wf_ast.specs.ParsedParts.{Parsed, AreDistinct}
+use Rattle.wf_ast.specs.ParsedParts.{Parsed}
 use Rattle.wf_ast.specs.ParsedTree.{DeclTree}
 use Rattle.wf_ast.specs.ParsedTrees.{decl_trees}
 use Rattle.wf_grammar.specs.declared.tokens.Token.{Token}
@@ -18,22 +18,21 @@ use Rattle.wf_grammar.specs.declared.symbols.Want.TheVariants.{Read}
 use Rattle.wf_grammar.specs.Building.{Built, Refused}
 use Rattle.wf_grammar.specs.Values.{Made}
 use Rattle.wf_tokens.specs.Places.{behind_bytes, first_place}
-use Rattle.wf_parse.specs.Lexing.{AreTokensOf, IsWholeFile, IsFileUpTo, ExtendsTexts}
+use Rattle.wf_parse.specs.Lexing.{AreTokensOf, IsWholeFile, ChangesTexts}
 use Rattle.wf_maker.specs.declared.maker.Maker.{Maker}
 use Rattle.wf_maker.specs.declared.values.Value.{Value}
 use Rattle.wf_maker.specs.Makers.{KeepsTexts, IsSound, nodes}
 use Rattle.wf_maker.specs.Seen.{AreOf, IsOrdered}
-use Rattle.wf_parse.specs.Parsing.{ReadsFile, RefusesFile, ReadsFiles, RefusesFiles, IsRefusedBy, AnswersParse, refusal_of, decls_of}
-use Rattle.wf_parse.specs.Reading.{ReadsOne, RefusesOne, AnswersBytes, read_file}
-use Rattle.wf_parse.proofs.Lexed.{tokens_stay}
+use Rattle.wf_parse.specs.Parsing.{RefusesFile, ReadsFiles, RefusesFiles, IsRefusedBy, AnswersParse, refusal_of, decls_of}
+use Rattle.wf_parse.specs.Reading.{ReadsOne, AnswersBytes, read_file}
 use Rattle.wf_parse.proofs.Outcomes.{bad_never_built}
 use Rattle.wf_parse.proofs.ReadingVerdicts.{refused_is_wrong, built_is_accepted}
 
 -- The tokens of a file that is built are all of its tokens.
-whole_built : (number most : ℕ) (bytes : List ℕ) (texts : List (List ℕ)) (tokens : List Token) (bytes_refused : Option Refusal) (before : List DeclTree) (made : Made)
-    → AreTokensOf number bytes texts tokens bytes_refused → read_file most tokens before ≡ Built made → IsWholeFile number bytes texts tokens
-whole_built number most bytes texts tokens None before made are built = are
-whole_built number most bytes texts tokens (Some refusal) before made are built =
+whole_built : (number most : ℕ) (bytes : List ℕ) (known texts : List (List ℕ)) (tokens : List Token) (bytes_refused : Option Refusal) (before : List DeclTree) (made : Made)
+    → AreTokensOf number bytes known texts tokens bytes_refused → read_file most tokens before ≡ Built made → IsWholeFile number bytes known texts tokens
+whole_built number most bytes known texts tokens None before made are built = are
+whole_built number most bytes known texts tokens (Some refusal) before made are built =
     let bad : read_file most (are.front ++ record { kind = Rattle.wf_grammar.specs.declared.tokens.Kind.TheVariants.Bad; at = refusal.at } ∷ []) before ≡ Built made = ap (λ ts. read_file most ts before) (sym are.whole) ∙ built in
     absurd (bad_never_built most 0 are.front (Read File ∷ []) (record { vals = []; decls = before }) made refusal.at bad)
 
@@ -42,17 +41,15 @@ same_decls p q texts e = ap decls_of e
 
 -- One file that is read. `p` is the package in front of it, `q` with its texts, and `r` with its nodes.
 pub read_one : (number most left : ℕ) (bytes : List ℕ) (p q r : Parsed) (tokens : List Token) (bytes_refused : Option Refusal) (made : Made)
-    → ExtendsTexts p q → AreTokensOf number bytes q.texts tokens bytes_refused → read_file most tokens (decls_of q) ≡ Built made → made.decls ≡ decls_of r → KeepsTexts q r → left ≡ most - length tokens
+    → ChangesTexts p q → AreTokensOf number bytes p.texts q.texts tokens bytes_refused → read_file most tokens (decls_of q) ≡ Built made → made.decls ≡ decls_of r → KeepsTexts q r → left ≡ most - length tokens
     → ReadsOne number most bytes p r left
-read_one number most left bytes p q r tokens bytes_refused made grows are built decls keeps count =
-    let same : decls_of q ≡ decls_of p = same_decls p q q.texts grows.same in
-    let whole : IsWholeFile number bytes q.texts tokens = whole_built number most bytes q.texts tokens bytes_refused (decls_of q) made are built in
+read_one number most left bytes p q r tokens bytes_refused made changes are built decls keeps count =
+    let same : decls_of q ≡ decls_of p = same_decls p q q.texts changes in
+    let whole : IsWholeFile number bytes p.texts q.texts tokens = whole_built number most bytes p.texts q.texts tokens bytes_refused (decls_of q) made are built in
     let accepted = built_is_accepted most tokens (decls_of q) made built in
-    let P : List (List ℕ) → Type 0 = λ texts. IsWholeFile number bytes texts tokens in
+    let P : List (List ℕ) → Type 0 = λ texts. IsWholeFile number bytes p.texts texts tokens in
     record {
-      more = grows.more;
-      texts = keeps.texts ∙ grows.texts;
-      named = keeps.name ∙ ap (λ (x : Parsed). x.name) grows.same;
+      named = keeps.name ∙ ap (λ (x : Parsed). x.name) changes;
       tokens = tokens;
       trees = accepted.0;
       read = record { tokens_are = subst P (sym keeps.texts) whole; accepted = accepted.1; few = accepted.3 };
@@ -62,69 +59,53 @@ read_one number most left bytes p q r tokens bytes_refused made grows are built 
 
 -- One that is refused.
 pub refuse_one : (number most left : ℕ) (bytes : List ℕ) (p q : Parsed) (tokens : List Token) (bytes_refused : Option Refusal) (rule : Rule) (end : Place) (refusal : Refusal)
-    → ExtendsTexts p q → AreDistinct q.texts → AreTokensOf number bytes q.texts tokens bytes_refused → read_file most tokens (decls_of q) ≡ Refused rule left → end ≡ behind_bytes (first_place number) bytes → refusal ≡ refusal_of end tokens bytes_refused rule left
-    → RefusesOne number most bytes p refusal
-refuse_one number most left bytes p q tokens bytes_refused rule end refusal grows distinct are refused end_is is =
+    → AreTokensOf number bytes p.texts q.texts tokens bytes_refused → read_file most tokens (decls_of q) ≡ Refused rule left → end ≡ behind_bytes (first_place number) bytes → refusal ≡ refusal_of end tokens bytes_refused rule left
+    → RefusesFile number most p.texts bytes refusal
+refuse_one number most left bytes p q tokens bytes_refused rule end refusal are refused end_is is =
     record {
       texts = q.texts;
-      more = grows.more;
-      grown = grows.texts;
-      distinct = distinct;
-      refused = record {
-        tokens = tokens;
-        bytes_refused = bytes_refused;
-        rule = rule;
-        left = left;
-        tokens_are = are;
-        wrong = refused_is_wrong most tokens (decls_of q) rule left refused;
-        is = is ∙ ap (λ at. refusal_of at tokens bytes_refused rule left) end_is;
-      };
+      tokens = tokens;
+      bytes_refused = bytes_refused;
+      rule = rule;
+      left = left;
+      tokens_are = are;
+      wrong = refused_is_wrong most tokens (decls_of q) rule left refused;
+      is = is ∙ ap (λ at. refusal_of at tokens bytes_refused rule left) end_is;
     }
 
 -- What is read and refused from here on is read and refused from the first file on.
 pub record Leads (number most : ℕ) (p : Parsed) (rest files : List (List ℕ)) : Type 0 where
-  pub reads : (texts more : List (List ℕ)) (later : List DeclTree) → texts ≡ p.texts ++ more → ReadsFiles number most texts rest later → ReadsFiles 0 262144 texts files (decls_of p ++ later)
-  pub refuses : (texts more : List (List ℕ)) (refusal : Refusal) → texts ≡ p.texts ++ more → RefusesFiles number most texts rest refusal → RefusesFiles 0 262144 texts files refusal
+  pub reads : (texts : List (List ℕ)) (later : List DeclTree) → ReadsFiles number most p.texts rest texts later → ReadsFiles 0 262144 [] files texts (decls_of p ++ later)
+  pub refuses : (refusal : Refusal) → RefusesFiles number most p.texts rest refusal → RefusesFiles 0 262144 [] files refusal
 
 pub leads_start : (p : Parsed) (name : List ℕ) (files : List (List ℕ)) → p ≡ record { name = name; texts = []; exprs = []; stmts = []; decls = [] } → Leads 0 262144 p files files
 unfolding decl_trees
 leads_start p name files e =
-    let none : decls_of p ≡ [] = ap decls_of e in
-    let P : List DeclTree → Type 0 = λ before. (texts : List (List ℕ)) (later : List DeclTree) → ReadsFiles 0 262144 texts files later → ReadsFiles 0 262144 texts files (before ++ later) in
-    let reads_from : P (decls_of p) = subst P (sym none) (λ texts later h. h) in
-    record { reads = λ texts more later g h. reads_from texts later h; refuses = λ texts more refusal g h. h }
-
-read_there : (number most : ℕ) (texts more grown : List (List ℕ)) (bytes : List ℕ) (tokens : List Token) (trees : List DeclTree) → grown ≡ texts ++ more
-    → ReadsFile number most texts bytes tokens trees → ReadsFile number most grown bytes tokens trees
-read_there number most texts more grown bytes tokens trees e r =
-    let whole = r.tokens_are in
-    let stays : IsWholeFile number bytes (texts ++ more) tokens = record { items = whole.items; spelt = whole.spelt; tokens_are = tokens_stay texts more whole.items tokens whole.tokens_are } in
-    let P : List (List ℕ) → Type 0 = λ xs. IsWholeFile number bytes xs tokens in
-    record { tokens_are = subst P (sym e) stays; accepted = r.accepted; few = r.few }
+    let no_decls : decls_of p ≡ [] = ap decls_of e in
+    let no_texts : p.texts ≡ [] = ap (λ (x : Parsed). x.texts) e in
+    let P : List DeclTree → List (List ℕ) → Type 0 = λ before known. (texts : List (List ℕ)) (later : List DeclTree) → ReadsFiles 0 262144 known files texts later → ReadsFiles 0 262144 [] files texts (before ++ later) in
+    let Q : List (List ℕ) → Type 0 = λ known. (refusal : Refusal) → RefusesFiles 0 262144 known files refusal → RefusesFiles 0 262144 [] files refusal in
+    record { reads = subst (λ before. P before p.texts) (sym no_decls) (subst (P []) (sym no_texts) (λ texts later h. h)); refuses = subst Q (sym no_texts) (λ refusal h. h) }
 
 pub leads_more : (number most left : ℕ) (bytes : List ℕ) (p q : Parsed) (rest files : List (List ℕ)) → Leads number most p (bytes ∷ rest) files → ReadsOne number most bytes p q left → Leads (number + 1) left q rest files
-leads_more number most left bytes p q rest files leads one =
-    let grown : (texts more : List (List ℕ)) → texts ≡ q.texts ++ more → texts ≡ p.texts ++ (one.more ++ more) = λ texts more e. e ∙ ap (λ xs. xs ++ more) one.texts ∙ append_assoc p.texts one.more more in
-    record {
-      reads = λ texts more later e h.
-          let P : ℕ → Type 0 = λ n. ReadsFiles (number + 1) n texts rest later in
-          let there : ReadsFiles (number + 1) (most - length one.tokens) texts rest later = subst P one.left_is h in
-          let Q : List DeclTree → Type 0 = ReadsFiles 0 262144 texts files in
-          let all : decls_of p ++ (one.trees ++ later) ≡ decls_of q ++ later = sym (append_assoc (decls_of p) one.trees later) ∙ ap (λ ds. ds ++ later) (sym one.decls_are) in
-          subst Q all (leads.reads texts (one.more ++ more) (one.trees ++ later) (grown texts more e) (one.tokens, one.trees, later, read_there number most q.texts more texts bytes one.tokens one.trees e one.read, there, refl));
-      refuses = λ texts more refusal e h.
-          let P : ℕ → Type 0 = λ n. RefusesFiles (number + 1) n texts rest refusal in
-          let there : RefusesFiles (number + 1) (most - length one.tokens) texts rest refusal = subst P one.left_is h in
-          leads.refuses texts (one.more ++ more) refusal (grown texts more e) (inr (one.tokens, one.trees, read_there number most q.texts more texts bytes one.tokens one.trees e one.read, there));
-    }
+leads_more number most left bytes p q rest files leads one = record {
+  reads = λ texts later h.
+      let P : ℕ → Type 0 = λ n. ReadsFiles (number + 1) n q.texts rest texts later in
+      let Q : List DeclTree → Type 0 = ReadsFiles 0 262144 [] files texts in
+      let all : decls_of p ++ (one.trees ++ later) ≡ decls_of q ++ later = sym (append_assoc (decls_of p) one.trees later) ∙ ap (λ ds. ds ++ later) (sym one.decls_are) in
+      subst Q all (leads.reads texts (one.trees ++ later) (q.texts, one.tokens, one.trees, later, one.read, subst P one.left_is h, refl));
+  refuses = λ refusal h.
+      let P : ℕ → Type 0 = λ n. RefusesFiles (number + 1) n q.texts rest refusal in
+      leads.refuses refusal (inr (q.texts, one.tokens, one.trees, one.read, subst P one.left_is h));
+}
 
-pub leads_refused : (number most : ℕ) (bytes : List ℕ) (p : Parsed) (rest files : List (List ℕ)) (refusal : Refusal) → Leads number most p (bytes ∷ rest) files → RefusesOne number most bytes p refusal → IsRefusedBy files refusal
-leads_refused number most bytes p rest files refusal leads one = record { texts = one.texts; distinct = one.distinct; refused = leads.refuses one.texts one.more refusal one.grown (inl one.refused) }
+pub leads_refused : (number most : ℕ) (bytes : List ℕ) (p : Parsed) (rest files : List (List ℕ)) (refusal : Refusal) → Leads number most p (bytes ∷ rest) files → RefusesFile number most p.texts bytes refusal → IsRefusedBy files refusal
+leads_refused number most bytes p rest files refusal leads one = leads.refuses refusal (inl one)
 
-pub leads_done : (number most : ℕ) (p : Parsed) (files : List (List ℕ)) → Leads number most p [] files → ReadsFiles 0 262144 p.texts files (decls_of p)
+pub leads_done : (number most : ℕ) (p : Parsed) (files : List (List ℕ)) → Leads number most p [] files → ReadsFiles 0 262144 [] files p.texts (decls_of p)
 leads_done number most p files leads =
-    let P : List DeclTree → Type 0 = ReadsFiles 0 262144 p.texts files in
-    subst P (append-nil (decls_of p)) (leads.reads p.texts [] [] (sym (append-nil p.texts)) refl)
+    let P : List DeclTree → Type 0 = ReadsFiles 0 262144 [] files p.texts in
+    subst P (append-nil (decls_of p)) (leads.reads p.texts [] (refl, refl))
 
 -- The bytes of the files from one on.
 module _ {X : Type 0} (f : X → List ℕ) where
@@ -170,8 +151,8 @@ new_name m name e = ap (λ (p : Parsed). p.name) e
 pub parse_fault : (name : List ℕ) (number most index : ℕ) (bytes item : List ℕ) (p q : Parsed) (rest files : List (List ℕ)) (fault : PhaseFault) → Leads index most p (item ∷ rest) files → number ≡ index → bytes ≡ item
     → AnswersBytes number most bytes p q (Err fault) → AnswersParse name files (Err fault)
 parse_fault name number most index bytes item p q rest files (phase.Refused refusal) leads e f answers =
-    let P : ℕ → Type 0 = λ n. RefusesOne n most bytes p refusal in
-    let Q : List ℕ → Type 0 = λ b. RefusesOne index most b p refusal in
+    let P : ℕ → Type 0 = λ n. RefusesFile n most p.texts bytes refusal in
+    let Q : List ℕ → Type 0 = λ b. RefusesFile index most p.texts b refusal in
     leads_refused index most item p rest files refusal leads (subst Q f (subst P e answers))
 parse_fault name number most index bytes item p q rest files phase.Memory leads e f answers = tt
 

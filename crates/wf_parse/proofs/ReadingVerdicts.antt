@@ -15,12 +15,10 @@ use Rattle.wf_grammar.specs.declared.symbols.Want.TheVariants.{Read, Make}
 use Rattle.wf_grammar.specs.declared.tokens.Kind.{Kind}
 use Rattle.wf_grammar.specs.declared.tokens.Kind.TheVariants as kinds
 use Rattle.wf_grammar.specs.declared.tokens.Token.{Token}
-use Rattle.wf_grammar.specs.Brackets.{is_opening, opened, closed}
 use Rattle.wf_grammar.specs.Building.{Ending, Built, Refused, unless, after, step, run, build, skipped, open_wants}
 use Rattle.wf_grammar.specs.Files.{IsLive}
 use Rattle.wf_grammar.specs.Machine.{opens}
-use Rattle.wf_grammar.specs.Refusals.{IsShallow, IsShort, IsWithin, IsAccepted, IsTooDeep, IsTooLong, IsRefused}
-use Rattle.wf_grammar.specs.Statements.{begun}
+use Rattle.wf_grammar.specs.Refusals.{IsWithin, IsAccepted, IsTooDeep, IsTooLong, IsRefused}
 use Rattle.wf_grammar.specs.Values.{Made, perform}
 use Rattle.wf_grammar.proofs.Verdicts.{built-accepted, built-refused}
 use Rattle.wf_parse.specs.Parsing.{IsPastTokens, IsWrong}

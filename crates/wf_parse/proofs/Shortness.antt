@@ -1,5 +1,5 @@
 -- A token puts few wanted things on the stack.
-use Rattle.std.proofs.Common.{◌≡◌, ◌≤◌, ℕ, Bool, true, false, if◌then◌else◌, nat_le, nat_eq, List, [], ◌∷◌, length, refl, subst, arith}
+use Rattle.std.proofs.Common.{◌≡◌, ◌≤◌, Bool, true, false, if◌then◌else◌, nat_le, nat_eq, List, length, refl}
 use Rattle.std.proofs.lemmas.Bool.{leb-true}
 use Rattle.wf_text.specs.declared.place.Place.{Place}
 use Rattle.wf_ast.specs.declared.operators.Op.TheVariants as ops

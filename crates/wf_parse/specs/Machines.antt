@@ -1,5 +1,5 @@
 -- The parser's machine, step by step against the machine of the grammar.
-use Rattle.std.specs.Prelude.{◌≡◌, ◌+◌, ◌*◌, ℕ, zero, suc, Bool, true, false, ⊤, Result, Ok, Err, List, [], ◌∷◌, ◌++◌, length}
+use Rattle.std.specs.Prelude.{◌≡◌, ◌+◌, ◌*◌, ℕ, Bool, true, false, ⊤, Result, Ok, Err, List, [], ◌∷◌, length}
 use Rattle.wf_grammar.specs.declared.builds.Build.{Build}
 use Rattle.wf_grammar.specs.declared.builds.Build.TheVariants.{Take, Begin, Enter, Pass, Stop}
 use Rattle.wf_grammar.specs.declared.symbols.Sym.{Sym}

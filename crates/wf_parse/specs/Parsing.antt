@@ -7,7 +7,7 @@ use Rattle.wf_text.specs.declared.place.Place.{Place}
 use Rattle.wf_text.specs.declared.rules.Refusal.{Refusal}
 use Rattle.wf_text.specs.declared.rules.Rule.{Rule}
 use Rattle.wf_text.specs.declared.rules.Rule.TheVariants.{S5, S6, L3, L4, L5}
-use Rattle.wf_ast.specs.ParsedParts.{Parsed, AreDistinct}
+use Rattle.wf_ast.specs.ParsedParts.{Parsed}
 use Rattle.wf_ast.specs.ParsedTree.{DeclTree}
 use Rattle.wf_ast.specs.ParsedTrees.{decl_trees}
 use Rattle.wf_grammar.specs.declared.tokens.Token.{Token}
@@ -21,9 +21,10 @@ abbrev pub decls_of : Parsed → List DeclTree
 decls_of p = decl_trees p.exprs p.stmts p.decls
 
 -- A file is read: its tokens, of which `most` may stand in the package, are those of a file of the grammar within
--- the limits, and these are the trees of its declarations.
-pub record ReadsFile (number most : ℕ) (texts : List (List ℕ)) (bytes : List ℕ) (tokens : List Token) (trees : List DeclTree) : Type 0 where
-  pub tokens_are : IsWholeFile number bytes texts tokens
+-- the limits, and these are the trees of its declarations. `known` are the package's texts in front of it, and `texts`
+-- those behind it.
+pub record ReadsFile (number most : ℕ) (known : List (List ℕ)) (bytes : List ℕ) (texts : List (List ℕ)) (tokens : List Token) (trees : List DeclTree) : Type 0 where
+  pub tokens_are : IsWholeFile number bytes known texts tokens
   pub accepted : IsAccepted tokens trees
   pub few : length tokens ≤ most
 
@@ -58,40 +59,41 @@ abbrev pub refusal_of : (end : Place) → List Token → (bytes_refused : Option
 refusal_of end tokens (Some refusal) rule left = if nat_eq left 1 then refusal else record { rule = rule; at = place_left end tokens left }
 refusal_of end tokens None rule left = record { rule = rule; at = place_left end tokens left }
 
--- A file is refused.
-pub record RefusesFile (number most : ℕ) (texts : List (List ℕ)) (bytes : List ℕ) (refusal : Refusal) : Type 0 where
+-- A file is refused, in front of which these texts are known.
+pub record RefusesFile (number most : ℕ) (known : List (List ℕ)) (bytes : List ℕ) (refusal : Refusal) : Type 0 where
+  pub texts : List (List ℕ)
   pub tokens : List Token
   pub bytes_refused : Option Refusal
   pub rule : Rule
   pub left : ℕ
-  pub tokens_are : AreTokensOf number bytes texts tokens bytes_refused
+  pub tokens_are : AreTokensOf number bytes known texts tokens bytes_refused
   pub wrong : IsWrong most tokens rule left
   pub is : refusal ≡ refusal_of (behind_bytes (first_place number) bytes) tokens bytes_refused rule left
 
--- Files in order, from the one with this number on, with the trees of their declarations: `most` tokens are left for
--- them.
-abbrev pub ReadsFiles : (number most : ℕ) → (texts : List (List ℕ)) → (files : List (List ℕ)) → List DeclTree → Type 0
-ReadsFiles number most texts [] trees = trees ≡ []
-ReadsFiles number most texts (bytes ∷ files) trees = (tokens : List Token) × (first others : List DeclTree) × ReadsFile number most texts bytes tokens first × ReadsFiles (number + 1) (most - length tokens) texts files others × (trees ≡ first ++ others)
+-- Files in order, from the one with this number on, with the package's texts behind them and the trees of their
+-- declarations: `most` tokens are left for them, and `known` are the texts in front of them.
+abbrev pub ReadsFiles : (number most : ℕ) → (known : List (List ℕ)) → (files : List (List ℕ)) → (texts : List (List ℕ)) → List DeclTree → Type 0
+ReadsFiles number most known [] texts trees = (texts ≡ known) × (trees ≡ [])
+ReadsFiles number most known (bytes ∷ files) texts trees =
+    (between : List (List ℕ)) × (tokens : List Token) × (first others : List DeclTree)
+    × ReadsFile number most known bytes between tokens first × ReadsFiles (number + 1) (most - length tokens) between files texts others × (trees ≡ first ++ others)
 
 -- The first of them that is refused, with its refusal.
-abbrev pub RefusesFiles : (number most : ℕ) → (texts : List (List ℕ)) → (files : List (List ℕ)) → Refusal → Type 0
-RefusesFiles number most texts [] refusal = ⊥
-RefusesFiles number most texts (bytes ∷ files) refusal =
-    RefusesFile number most texts bytes refusal
-    ⊎ ((tokens : List Token) × (trees : List DeclTree) × ReadsFile number most texts bytes tokens trees × RefusesFiles (number + 1) (most - length tokens) texts files refusal)
+abbrev pub RefusesFiles : (number most : ℕ) → (known : List (List ℕ)) → (files : List (List ℕ)) → Refusal → Type 0
+RefusesFiles number most known [] refusal = ⊥
+RefusesFiles number most known (bytes ∷ files) refusal =
+    RefusesFile number most known bytes refusal
+    ⊎ ((between : List (List ℕ)) × (tokens : List Token) × (trees : List DeclTree)
+    × ReadsFile number most known bytes between tokens trees × RefusesFiles (number + 1) (most - length tokens) between files refusal)
 
--- A package of this name, read from these files.
+-- A package of this name, read from these files. Its texts are numbered in the order in which the files first have them.
 pub record IsParsed (name : List ℕ) (files : List (List ℕ)) (p : Parsed) : Type 0 where
   pub named : p.name ≡ name
-  pub distinct : AreDistinct p.texts
-  pub read : ReadsFiles 0 262144 p.texts files (decls_of p)
+  pub read : ReadsFiles 0 262144 [] files p.texts (decls_of p)
 
--- The files are refused, where `texts` are the names and texts that are met up to there.
-pub record IsRefusedBy (files : List (List ℕ)) (refusal : Refusal) : Type 0 where
-  pub texts : List (List ℕ)
-  pub distinct : AreDistinct texts
-  pub refused : RefusesFiles 0 262144 texts files refusal
+-- The files are refused.
+abbrev pub IsRefusedBy : (files : List (List ℕ)) → Refusal → Type 0
+IsRefusedBy files refusal = RefusesFiles 0 262144 [] files refusal
 
 abbrev pub AnswersParse : (name : List ℕ) → (files : List (List ℕ)) → Result Parsed PhaseFault → Type 0
 AnswersParse name files (Ok p) = IsParsed name files p

@@ -2,10 +2,8 @@
 use Rattle.std.specs.Prelude.{◌≡◌, ◌<◌, ◌-◌, ℕ, zero, suc, true, false, ⊤, Result, Ok, Err, List, [], ◌∷◌, ◌++◌, length}
 use Rattle.wf_text.specs.declared.faults.PhaseFault.{PhaseFault}
 use Rattle.wf_text.specs.declared.faults.PhaseFault.TheVariants as phase
-use Rattle.wf_text.specs.declared.rules.Refusal.{Refusal}
-use Rattle.wf_text.specs.declared.rules.Rule.{Rule}
 use Rattle.wf_text.specs.declared.rules.Rule.TheVariants.{L3}
-use Rattle.wf_ast.specs.ParsedParts.{Parsed, AreDistinct}
+use Rattle.wf_ast.specs.ParsedParts.{Parsed}
 use Rattle.wf_ast.specs.ParsedTree.{DeclTree}
 use Rattle.wf_grammar.specs.declared.symbols.Sym.TheVariants.{File}
 use Rattle.wf_grammar.specs.declared.symbols.Want.{Want}
@@ -41,26 +39,17 @@ AnswersOne most left t old new (Ok _) = (0 < most) × ((ts : List Token) → rea
 AnswersOne most left t old new (Err (file.Refused rule at)) = (at ≡ left) × ((ts : List Token) → left ≡ suc (length ts) → reading most old.room (t ∷ ts) old.wants old.made ≡ Refused rule left)
 AnswersOne most left t old new (Err file.Memory) = ⊤
 
--- One file more is read: the package behind it has more texts and more declarations, and `left` tokens are left.
+-- One file more is read: the package behind it has the file's texts and declarations behind its own, and `left` tokens
+-- are left.
 pub record ReadsOne (number most : ℕ) (bytes : List ℕ) (old new : Parsed) (left : ℕ) : Type 0 where
-  pub more : List (List ℕ)
-  pub texts : new.texts ≡ old.texts ++ more
   pub named : new.name ≡ old.name
   pub tokens : List Token
   pub trees : List DeclTree
-  pub read : ReadsFile number most new.texts bytes tokens trees
+  pub read : ReadsFile number most old.texts bytes new.texts tokens trees
   pub decls_are : decls_of new ≡ decls_of old ++ trees
   pub left_is : left ≡ most - length tokens
 
--- One file more is refused.
-pub record RefusesOne (number most : ℕ) (bytes : List ℕ) (old : Parsed) (refusal : Refusal) : Type 0 where
-  pub texts : List (List ℕ)
-  pub more : List (List ℕ)
-  pub grown : texts ≡ old.texts ++ more
-  pub distinct : AreDistinct texts
-  pub refused : RefusesFile number most texts bytes refusal
-
 abbrev pub AnswersBytes : (number most : ℕ) → List ℕ → (old new : Parsed) → Result ℕ PhaseFault → Type 0
 AnswersBytes number most bytes old new (Ok left) = ReadsOne number most bytes old new left
-AnswersBytes number most bytes old new (Err (phase.Refused refusal)) = RefusesOne number most bytes old refusal
+AnswersBytes number most bytes old new (Err (phase.Refused refusal)) = RefusesFile number most old.texts bytes refusal
 AnswersBytes number most bytes old new (Err phase.Memory) = ⊤

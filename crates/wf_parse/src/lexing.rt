@@ -1,9 +1,8 @@
 // The tokens of a file, as the grammar reads them.
 
 ghost use Rattle.std.specs.Prelude.{◌≡◌, ◌+◌, ◌*◌, ◌<◌, ◌≤◌, ◌^◌, ◌++◌, ℕ, List, [], ◌∷◌, length, OnOk, IfOk};
-ghost use Rattle.wf_ast.specs.ParsedParts.{AreDistinct};
 ghost use Rattle.wf_tokens.specs.Places.{behind_bytes, first_place};
-ghost use Rattle.wf_parse.specs.Lexing.{AreTokensOf, ExtendsTexts};
+ghost use Rattle.wf_parse.specs.Lexing.{AreTokensOf, ChangesTexts};
 
 use crate::token_kinds::kind_of;
 use std::alloc::{AllocError, Global};
@@ -31,13 +30,6 @@ fn push(tokens: &mut Vec<Token>, kind: Kind, at: Place) -> Result<(), AllocError
     }
 }
 
-/// Equal texts of a package have equal numbers.
-pub fn texts_are_distinct(parsed: &Package)
-    ensures { AreDistinct parsed.now.texts }
-{
-    let _count = parsed.texts();
-}
-
 /// Reads the bytes of the file with this number. Names and texts join the texts of the package.
 pub fn file_tokens(
     alloc: Global,
@@ -47,10 +39,10 @@ pub fn file_tokens(
 ) -> Result<FileTokens, AllocError>
     requires bytes { length bytes.now ≤ 1048576 }
     requires room { length parsed.old.texts + 2 * length bytes.now < 2 ^ 32 }
-    ensures tokens { IfOk result (λ f. AreTokensOf file bytes.now parsed.new.texts f.tokens.items f.refused) }
+    ensures tokens { IfOk result (λ f. AreTokensOf file bytes.now parsed.old.texts parsed.new.texts f.tokens.items f.refused) }
     ensures end { IfOk result (λ f. f.end ≡ behind_bytes (first_place file) bytes.now) }
     ensures few { IfOk result (λ f. length f.tokens.items ≤ 2 * length bytes.now + 1) }
-    ensures texts { OnOk result (ExtendsTexts parsed.old parsed.new) }
+    ensures same { OnOk result (ChangesTexts parsed.old parsed.new) }
     ensures room { OnOk result (length parsed.new.texts ≤ length parsed.old.texts + 2 * length bytes.now) }
 {
     let mut lexer = Lexer::new(file, bytes);

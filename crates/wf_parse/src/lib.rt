@@ -2,6 +2,7 @@
 // what is still wanted stands on one stack, what is made of the tokens on another.
 #![tactic(auto)]
 
+pub mod laws;
 pub mod lexing;
 pub mod machine;
 pub mod parsing;

@@ -6,7 +6,7 @@ ghost use Rattle.wf_parse.specs.Machines.{size, state_of, file_start};
 ghost use Rattle.wf_parse.specs.Parsing.{AnswersParse, refusal_of, place_left, decls_of};
 ghost use Rattle.wf_parse.specs.Reading.{AnswersOne, AnswersFile, AnswersBytes};
 
-use crate::lexing::{FileTokens, file_tokens, texts_are_distinct};
+use crate::lexing::{FileTokens, file_tokens};
 use crate::machine::{Machine, StepFault};
 use std::alloc::{AllocError, Global};
 use wf_ast::Package;
@@ -150,7 +150,6 @@ impl Machine {
         let Ok(file) = file_tokens(self.maker.alloc, &mut self.maker.package, number, bytes) else {
             return Err(PhaseFault::Memory);
         };
-        texts_are_distinct(&self.maker.package);
         let tokens = file.tokens.as_slice();
         match self.read_file(tokens, most) {
             Ok(()) => Ok(most.saturating_sub(tokens.len())),
@@ -204,6 +203,5 @@ pub fn parse(alloc: Global, name: &str, files: &[Vec<u8>]) -> Result<Package, Ph
         most = machine.read_bytes(number, bytes.as_slice(), most)?;
         number += 1;
     }
-    texts_are_distinct(&machine.maker.package);
     Ok(machine.maker.package)
 }

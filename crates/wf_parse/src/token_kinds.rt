@@ -1,12 +1,13 @@
 // What the tokens of a file are for the grammar.
 
-ghost use Rattle.std.specs.Prelude.{◌≡◌, ◌+◌, ◌<◌, ◌≤◌, ◌^◌, length, OnOk, IfOk};
+ghost use Rattle.std.specs.Prelude.{◌≡◌, ◌<◌, ◌≤◌, ◌^◌, Some, length, slice_get, OnOk, IfOk};
 ghost use Rattle.wf_tokens.specs.Spelling.{Item, item_of};
 ghost use Rattle.wf_parse.specs.Kinds.{word_kind, operator_of, operator_kind, comparison_kind, symbol_kind, unquoted, KindIs, IsReadable};
-ghost use Rattle.wf_parse.specs.Lexing.{GrowsTexts};
+ghost use Rattle.wf_parse.specs.Lexing.{ChangesTexts};
+ghost use Rattle.wf_parse.specs.Texts.{text_of, with_text};
 
 use std::alloc::AllocError;
-use wf_ast::{Op, Package};
+use wf_ast::{Op, Package, TextId};
 use wf_grammar::Kind;
 use wf_tokens::{Comparison, Operator, Symbol, Token, TokenKind, Word};
 
@@ -133,17 +134,35 @@ fn unquoted(text: &[u8]) -> &[u8]
     &text[1..text.len() - 1]
 }
 
+/// The number of a text, which joins the package's texts at their end where it isn't among them.
+fn number_of(parsed: &mut Package, text: &[u8]) -> Result<TextId, AllocError>
+    requires { length parsed.old.texts < 2 ^ 32 }
+    ensures number { IfOk result (λ number. slice_get parsed.new.texts number.0 ≡ Some text.now) }
+    ensures texts { OnOk result (parsed.new.texts ≡ with_text parsed.old.texts (Some text.now)) }
+    ensures same { OnOk result (ChangesTexts parsed.old parsed.new) }
+{
+    match parsed.intern(text) {
+        Ok(number) => {
+            // Equal texts have equal numbers.
+            let _count = parsed.texts();
+            Ok(number)
+        }
+        Err(fault) => Err(fault),
+    }
+}
+
 /// What a token is for the grammar. Its text joins the package's texts.
 pub fn kind_of(parsed: &mut Package, token: Token<'_>) -> Result<Kind, AllocError>
     requires room { length parsed.old.texts < 2 ^ 32 }
     requires quoted { IsReadable (item_of token) }
     ensures kind { IfOk result (λ kind. KindIs parsed.new.texts token.entry.kind token.entry.bytes.now kind) }
-    ensures grows { OnOk result (GrowsTexts parsed.old parsed.new) }
+    ensures texts { OnOk result (parsed.new.texts ≡ with_text parsed.old.texts (text_of token.entry.kind token.entry.bytes.now)) }
+    ensures same { OnOk result (ChangesTexts parsed.old parsed.new) }
 {
     match token.kind {
-        TokenKind::Name => Ok(Kind::Name(parsed.intern(token.bytes)?)),
+        TokenKind::Name => Ok(Kind::Name(number_of(parsed, token.bytes)?)),
         TokenKind::Number(value) => Ok(Kind::Number(value)),
-        TokenKind::Text => Ok(Kind::Text(parsed.intern(unquoted(token.bytes))?)),
+        TokenKind::Text => Ok(Kind::Text(number_of(parsed, unquoted(token.bytes))?)),
         TokenKind::Keyword(word) => Ok(word_kind(word)),
         TokenKind::Symbol(symbol) => Ok(symbol_kind(symbol)),
     }

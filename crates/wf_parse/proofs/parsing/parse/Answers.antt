@@ -1,7 +1,6 @@
-use Rattle.std.proofs.Common.{◌≡◌, ◌+◌, ◌∷◌, ◌∙◌, List, ℕ, map, drop, length, refl, arith, ap}
+use Rattle.std.proofs.Common.{◌≡◌, ◌+◌, ◌∷◌, ◌∙◌, map, drop, length, refl, arith, ap}
 use Rattle.std.proofs.lemmas.Result.{err_from_is_err_and}
-use Rattle.wf_maker.specs.Makers.{nodes}
-use Rattle.wf_parse.proofs.PackageReading.{bytes_from, files_step, bytes_step, files_done, leads_start, leads_next, leads_done, leads_at, parse_fault, new_sound, new_nodes, new_texts, new_name}
+use Rattle.wf_parse.proofs.PackageReading.{files_step, bytes_step, files_done, leads_start, leads_next, leads_done, leads_at, parse_fault, new_sound, new_nodes, new_texts, new_name}
 use Rattle.wf_parse.proofs.parsing.parse.Goals as goal
 
 pub loop-bytes-init : goal.loop-bytes-init
@@ -59,4 +58,4 @@ returns c =
     let index = c.loop-bytes.bytes-index in
     let test = c.loop-bytes-test.false in
     let here = leads_at index c.loop-bytes.most package_now (drop index (map (λ file. file.items) files)) _ (map (λ file. file.items) files) (files_done (λ file. file.items) files index test) c.loop-bytes.invariant.leads in
-    record { named = c.loop-bytes.invariant.named; distinct = c.texts_are_distinct.ensures; read = leads_done index c.loop-bytes.most package_now (map (λ file. file.items) files) here }
+    record { named = c.loop-bytes.invariant.named; read = leads_done index c.loop-bytes.most package_now (map (λ file. file.items) files) here }

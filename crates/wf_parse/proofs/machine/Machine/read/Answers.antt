@@ -1,4 +1,4 @@
-use Rattle.std.proofs.Common.{◌≡◌, ◌≤◌, ap, length, subst}
+use Rattle.std.proofs.Common.{◌≤◌, length, subst}
 use Rattle.wf_grammar.specs.declared.builds.Build.{Build}
 use Rattle.wf_parse.specs.Machines.{wanted}
 use Rattle.wf_parse.proofs.Shortness.{few_wanted}

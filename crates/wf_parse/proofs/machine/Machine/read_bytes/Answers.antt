@@ -1,15 +1,19 @@
-use Rattle.std.proofs.Common.{◌≡◌, ◌-◌, length, refl, rules, ◌∙◌, ap}
+use Rattle.std.proofs.Common.{◌≡◌, ◌-◌, length, refl, rules}
 use Rattle.wf_maker.specs.Makers.{made}
 use Rattle.wf_parse.specs.Parsing.{refusal_of}
+use Rattle.wf_parse.proofs.FileReading.{texts_sound}
 use Rattle.wf_parse.proofs.PackageReading.{read_one, refuse_one}
 use Rattle.wf_parse.proofs.machine.Machine.read_bytes.Goals as goal
+
+pub read_file-requires-clause-sound : goal.read_file-requires-clause-sound
+read_file-requires-clause-sound c = texts_sound c.args.self.now.maker _ c.requires.sound c.in-Ok.ensures.same refl
 
 pub returns-in-Ok-read_file-clause-answers : goal.returns-in-Ok-read_file-clause-answers
 returns-in-Ok-read_file-clause-answers c =
     let built = rw c.as_slice-tokens.ensures.value at c.in-Ok-read_file.ensures.answers in
     let count : c.saturating_sub.result ≡ c.args.most - length c.in-Ok.file.tokens.items = search (rules, c.as_slice-tokens.ensures.value) in
     read_one c.args.number c.args.most c.saturating_sub.result c.args.bytes.now c.args.self.now.maker.package c.file_tokens.new.parsed c.read_file.new.self.maker.package c.in-Ok.file.tokens.items c.in-Ok.file.refused (made c.read_file.new.self.maker)
-    c.in-Ok.ensures.texts c.in-Ok.ensures.tokens built refl c.in-Ok-read_file.ensures.texts count
+    c.in-Ok.ensures.same c.in-Ok.ensures.tokens built refl c.in-Ok-read_file.ensures.texts count
 
 pub returns-in-Err-Refused-clause-answers : goal.returns-in-Err-Refused-clause-answers
 returns-in-Err-Refused-clause-answers c =
@@ -20,4 +24,4 @@ returns-in-Err-Refused-clause-answers c =
     let left_is = c.in-Err-Refused.left-is in
     let is : c.refusal_of.result ≡ refusal_of c.in-Ok.file.end c.in-Ok.file.tokens.items c.in-Ok.file.refused c.in-Err-Refused.rule c.in-Err-Refused.left = cc (told, rule_is, left_is) in
     refuse_one c.args.number c.args.most c.in-Err-Refused.left c.args.bytes.now c.args.self.now.maker.package c.file_tokens.new.parsed c.in-Ok.file.tokens.items c.in-Ok.file.refused c.in-Err-Refused.rule c.in-Ok.file.end c.refusal_of.result
-    c.in-Ok.ensures.texts c.texts_are_distinct.ensures c.in-Ok.ensures.tokens refused c.in-Ok.ensures.end is
+    c.in-Ok.ensures.tokens refused c.in-Ok.ensures.end is

@@ -1,4 +1,4 @@
-use Rattle.std.proofs.Common.{◌≡◌, ◌∷◌, ◌++◌, ◌+◌, ◌-◌, suc, length, drop, ap, sym, arith, length-append}
+use Rattle.std.proofs.Common.{◌+◌, ◌-◌, length, drop, arith}
 use Rattle.std.proofs.lemmas.Result.{err_from_is_err_and}
 use Rattle.wf_parse.specs.Machines.{state_of}
 use Rattle.wf_parse.proofs.FileReading.{file_fault, file_end, left_count}
