@@ -20,7 +20,7 @@ AreHeld held _ _ = ⊥
 abbrev pub file_name : (names : List (List ℕ)) → (number : ℕ) → List ℕ
 file_name names number = text_or (slice_get names number)
 
--- The package is refused. The line names the file of the refusal.
+-- The package is refused. The line names the file of the refusal, which is one of those that the words name.
 pub record CallsForRefusal (held : List ℕ → Option (List ℕ)) (words : List (List ℕ)) (line : List ℕ) : Type 0 where
   pub asked : ToCheck
   pub files : List (List ℕ)
@@ -28,6 +28,7 @@ pub record CallsForRefusal (held : List ℕ → Option (List ℕ)) (words : List
   pub named : to_check words ≡ Some asked
   pub hold : AreHeld held asked.files files
   pub verdict : IsRefused asked.package_name files refusal
+  pub there : refusal.at.file < length asked.files
   pub writes : line ≡ refused_line (file_name asked.files refusal.at.file) refusal
 
 -- The package is accepted.

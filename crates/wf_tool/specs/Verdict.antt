@@ -1,5 +1,5 @@
 -- The verdict on a package, by the bytes of its files in order.
-use Rattle.std.specs.Prelude.{ℕ, List, None, Some, ◌≡◌}
+use Rattle.std.specs.Prelude.{ℕ, List, None, Some, length, ◌≡◌, ◌<◌}
 use Rattle.wf_text.specs.declared.rules.Refusal.{Refusal}
 use Rattle.wf_ast.specs.ParsedParts.{Parsed}
 use Rattle.wf_parse.specs.Parsing.{IsParsed, IsRefusedBy, decls_of}
@@ -31,14 +31,11 @@ pub data IsRefused (name : List ℕ) (files : List (List ℕ)) (refusal : Refusa
   misread : IsMisread files refusal → IsRefused name files refusal
   broken : IsBroken name files refusal → IsRefused name files refusal
 
--- Reading gives one answer: files aren't both read and refused, are refused in one way only, and what the declarations
--- of the files break is the same for each tree that they are read to.
-pub record ReadingIsOne : Type 0 where
-  pub either : (name : List ℕ) (files : List (List ℕ)) (read : Parsed) (refusal : Refusal) → IsParsed name files read → IsRefusedBy files refusal → ⊥
-  pub refused : (files : List (List ℕ)) (refusal other : Refusal) → IsRefusedBy files refusal → IsRefusedBy files other → refusal ≡ other
-  pub trees : (name : List ℕ) (files : List (List ℕ)) (read other : Parsed) → IsParsed name files read → IsParsed name files other → first_broken read.texts (decls_of read) ≡ first_broken other.texts (decls_of other)
-
 -- A package isn't both accepted and refused, and it is refused in one way only.
 pub record VerdictsExclude : Type 0 where
   pub one_answer : (name : List ℕ) (files : List (List ℕ)) (refusal : Refusal) → IsAccepted name files → IsRefused name files refusal → ⊥
   pub one_refusal : (name : List ℕ) (files : List (List ℕ)) (refusal other : Refusal) → IsRefused name files refusal → IsRefused name files other → refusal ≡ other
+
+-- A refusal stands in one of the package's files.
+abbrev pub RefusalsHaveFiles : Type 0
+RefusalsHaveFiles = (name : List ℕ) (files : List (List ℕ)) (refusal : Refusal) → IsRefused name files refusal → refusal.at.file < length files

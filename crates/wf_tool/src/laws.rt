@@ -1,8 +1,13 @@
-// A law of the verdict, as a function without a body whose contract is the law.
+// The laws of the verdict. Each is the contract of a function that does nothing.
 
-ghost use Rattle.wf_tool.specs.Verdict.{ReadingIsOne, VerdictsExclude};
+ghost use Rattle.wf_tool.specs.Verdict.{RefusalsHaveFiles, VerdictsExclude};
 
-/// Where reading gives one answer, a package isn't both accepted and refused, and is refused by one rule at one place.
+/// A package isn't both accepted and refused, and is refused by one rule at one place.
 pub fn one_verdict()
-    ensures { ReadingIsOne → VerdictsExclude }
+    ensures { VerdictsExclude }
+{}
+
+/// A refusal stands in one of the package's files.
+pub fn a_refusal_has_its_file()
+    ensures { RefusalsHaveFiles }
 {}

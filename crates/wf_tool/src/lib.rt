@@ -17,5 +17,5 @@ pub mod tool;
 mod words;
 
 pub use ending::Ending;
-pub use laws::one_verdict;
+pub use laws::{a_refusal_has_its_file, one_verdict};
 pub use tool::wuffs_tool;
