@@ -1,0 +1,4 @@
+mod HeaderLaws
+mod LexLaws
+mod NumberLaws
+mod WordTable

@@ -1,0 +1,6 @@
+pub mod Headers
+pub mod Kinds
+pub mod Lexing
+pub mod Numbers
+pub mod ReservedWords
+pub mod Symbols
