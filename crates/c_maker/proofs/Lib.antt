@@ -1,0 +1,11 @@
+mod BlockLaws
+mod FitAt
+mod Fitting
+mod Kept
+mod MakeExprs
+mod MakeItems
+mod MakeStmts
+mod MakeTypes
+mod Performing
+mod Pushed
+mod Putting

@@ -1,0 +1,5 @@
+pub mod Makers
+pub mod Making
+pub mod Seen
+pub mod Shapes
+pub mod Statements
