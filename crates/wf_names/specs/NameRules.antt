@@ -1,5 +1,4 @@
--- The rules of names, as one table: what a package breaks, each rule with its place. A call whose method or an
--- argument of which has no meaning breaks no rule but that of what has none.
+-- The rules of names, as one table in five sections: what a package breaks, each rule with its place.
 use Rattle.std.specs.Prelude.{◌≡◌, ℕ, ◌+◌, ◌<◌, ◌≤◌, Bool, true, false, not, ◌&&◌, List, [], ◌∷◌, ◌++◌, map, Option, Some, None, length, slice_get, nat_eq, if◌then◌else◌}
 use Rattle.std.specs.List.{list_any, flat_map}
 use Rattle.wf_text.specs.declared.place.Place.{Place}
@@ -132,69 +131,91 @@ pub data IsSizedHere (d : Declared) : List Variable → Variable → Type 0 wher
   arg : (m : Method) (i : ℕ) (v : Variable) → IsMethod d m → slice_get m.args i ≡ Some v → IsSizedHere d m.locals v
   local : (m : Method) (i : ℕ) (v : Variable) → IsMethod d m → slice_get m.locals i ≡ Some v → IsSizedHere d m.locals v
 
-pub data Breaks (d : Declared) : Refusal → Type 0 where
-  -- N1: a status that the package doesn't have
-  unknown_status : (scope : Scope) (text : Name) → IsUsed d scope (uses.own_status text) → status_named d text.text.0 ≡ None → Breaks d (unknown text)
-  -- N1: a status that the language doesn't have
-  unknown_base_status : (scope : Scope) (text : Name) → IsUsed d scope (uses.base_status text) → is_base_status (text_of d text.text.0) ≡ false
-      → Breaks d (unknown text)
-  -- N1: a local or constant, a field or an argument that isn't known there
-  unknown_variable : (scope : Scope) (path : NamePath) → IsUsed d scope (uses.variable path) → path_sort (known_at d scope) path ≡ None → Breaks d (unknown path.name)
-  -- N1: a struct that the package doesn't have, in a type or as the owner of a method
-  unknown_struct : (scope : Scope) (name : Name) → IsUsed d scope (uses.structure name) → struct_named d name.text.0 ≡ None → Breaks d (unknown name)
-  -- N1: a method that what it is called on doesn't have
-  unknown_method : (scope : Scope) (call : CallTree) → IsUsed d scope (uses.method call) → callee_of (known_at d scope) call ≡ callees.Missing → Breaks d (unknown (call_name call))
+-- What the declarations of a package break by their names and their number.
+pub data DeclarationBreaks (d : Declared) : Refusal → Type 0 where
   -- N2: a name declared twice
-  declared_twice : (names : List Name) (later : Name) → AreApart d names → IsRepeated names later → Breaks d (twice later)
+  declared_twice : (names : List Name) (later : Name) → AreApart d names → IsRepeated names later → DeclarationBreaks d (twice later)
   -- N2: a local and a constant of one name, at the later of the two
   local_and_constant : (m : Method) (v : Variable) (i j : ℕ) (c : Constant) → IsMethod d m → slice_get m.locals i ≡ Some v → slice_get d.constants j ≡ Some c
-      → v.name.text ≡ c.name.text → Breaks d (later_of v.name c.name)
-  -- N2: a label of a loop that stands in a loop of the same label
-  label_twice : (loops : List (Option Name)) (label : Name) → Jumps d (labelled loops label) → has_label loops label.text.0 ≡ true → Breaks d (twice label)
-  -- N2: an argument given twice in a call
-  given_twice : (scope : Scope) (call : CallTree) (later : Name) → IsUsed d scope (uses.method call) → call_has_meaning (known_at d scope) call ≡ true
-      → IsRepeated (given_names call) later → Breaks d (twice later)
-  -- N2: a reader or writer passed twice in a call, at its later value
-  passed_twice : (scope : Scope) (call : CallTree) (at : Place) → IsUsed d scope (uses.method call) → call_has_meaning (known_at d scope) call ≡ true
-      → IsPassedTwice d scope call at → Breaks d (record { rule = N2; at = at })
+      → v.name.text ≡ c.name.text → DeclarationBreaks d (later_of v.name c.name)
   -- N3: a declared name that nothing may be declared under
   reserved_name : (i : ℕ) (name : Name) → slice_get (declared_names d) i ≡ Some name → is_reserved (text_of d name.text.0) ≡ true
-      → Breaks d (record { rule = N3; at = name.at })
-  -- N3: the same of a loop's label
-  reserved_label : (loops : List (Option Name)) (label : Name) → Jumps d (labelled loops label) → is_reserved (text_of d label.text.0) ≡ true
-      → Breaks d (record { rule = N3; at = label.at })
+      → DeclarationBreaks d (record { rule = N3; at = name.at })
   -- N3: a method of the name `initialize`
-  initialize : (m : Method) → IsMethod d m → is_initialize (text_of d m.name.text.0) ≡ true → Breaks d (record { rule = N3; at = m.name.at })
-  -- N4: a method that can reach itself by calls, at its name
-  recursion : (a : ℕ) (m : Method) → slice_get d.methods a ≡ Some m → Path (calls d) a a → Breaks d (record { rule = N4; at = m.name.at })
-  -- N4: a struct that holds itself through fields, at its name
-  holds_itself : (a : ℕ) (s : Structure) → slice_get d.structs a ≡ Some s → Path (holds_struct d) a a → Breaks d (record { rule = N4; at = s.name.at })
-  -- N5: a jump to a label that no loop round it has, at the label
-  unknown_label : (loops : List (Option Name)) (label : Name) → Jumps d (to_label loops label) → has_label loops label.text.0 ≡ false
-      → Breaks d (record { rule = N5; at = label.at })
-  -- N5: a jump without a label outside every loop, at the statement
-  outside_loops : (at : Place) → Jumps d (to_innermost [] at) → Breaks d (record { rule = N5; at = at })
+  initialize : (m : Method) → IsMethod d m → is_initialize (text_of d m.name.text.0) ≡ true → DeclarationBreaks d (record { rule = N3; at = m.name.at })
+  -- L6: more than 1,024 methods
+  too_many_methods : (m : Method) → slice_get d.methods 1024 ≡ Some m → DeclarationBreaks d (record { rule = L6; at = m.name.at })
+  -- L7: more than 256 locals in a method
+  too_many_locals : (m : Method) (v : Variable) → IsMethod d m → slice_get m.locals 256 ≡ Some v → DeclarationBreaks d (record { rule = L7; at = v.name.at })
+  -- L7: more than 64 arguments
+  too_many_args : (m : Method) (v : Variable) → IsMethod d m → slice_get m.args 64 ≡ Some v → DeclarationBreaks d (record { rule = L7; at = v.name.at })
+
+-- What the uses of names break. A call whose method or an argument of which has no meaning breaks no rule but that of
+-- what has none.
+pub data UseBreaks (d : Declared) : Refusal → Type 0 where
+  -- N1: a status that the package doesn't have
+  unknown_status : (scope : Scope) (text : Name) → IsUsed d scope (uses.own_status text) → status_named d text.text.0 ≡ None → UseBreaks d (unknown text)
+  -- N1: a status that the language doesn't have
+  unknown_base_status : (scope : Scope) (text : Name) → IsUsed d scope (uses.base_status text) → is_base_status (text_of d text.text.0) ≡ false
+      → UseBreaks d (unknown text)
+  -- N1: a local or constant, a field or an argument that isn't known there
+  unknown_variable : (scope : Scope) (path : NamePath) → IsUsed d scope (uses.variable path) → path_sort (known_at d scope) path ≡ None → UseBreaks d (unknown path.name)
+  -- N1: a struct that the package doesn't have, in a type or as the owner of a method
+  unknown_struct : (scope : Scope) (name : Name) → IsUsed d scope (uses.structure name) → struct_named d name.text.0 ≡ None → UseBreaks d (unknown name)
+  -- N1: a method that what it is called on doesn't have
+  unknown_method : (scope : Scope) (call : CallTree) → IsUsed d scope (uses.method call) → callee_of (known_at d scope) call ≡ callees.Missing → UseBreaks d (unknown (call_name call))
+  -- N2: an argument given twice in a call
+  given_twice : (scope : Scope) (call : CallTree) (later : Name) → IsUsed d scope (uses.method call) → call_has_meaning (known_at d scope) call ≡ true
+      → IsRepeated (given_names call) later → UseBreaks d (twice later)
+  -- N2: a reader or writer passed twice in a call, at its later value
+  passed_twice : (scope : Scope) (call : CallTree) (at : Place) → IsUsed d scope (uses.method call) → call_has_meaning (known_at d scope) call ≡ true
+      → IsPassedTwice d scope call at → UseBreaks d (record { rule = N2; at = at })
   -- N6: an argument that the method doesn't have
   unknown_argument : (scope : Scope) (call : CallTree) (i : ℕ) (given : GivenValue) → IsUsed d scope (uses.method call) → call_has_meaning (known_at d scope) call ≡ true
       → slice_get (call_args call) i ≡ Some given → is_parameter (text_of d) (parameters_of (known_at d scope).args (callee_of (known_at d scope) call)) given.name.text.0 ≡ false
-      → Breaks d (record { rule = N6; at = given.name.at })
+      → UseBreaks d (record { rule = N6; at = given.name.at })
   -- N7: an argument that isn't given, at the method's name
   missing_argument : (scope : Scope) (call : CallTree) → IsUsed d scope (uses.method call) → call_has_meaning (known_at d scope) call ≡ true
-      → lacks_one (text_of d) (parameters_of (known_at d scope).args (callee_of (known_at d scope) call)) (given_texts call) ≡ true → Breaks d (record { rule = N7; at = (call_name call).at })
+      → lacks_one (text_of d) (parameters_of (known_at d scope).args (callee_of (known_at d scope) call)) (given_texts call) ≡ true → UseBreaks d (record { rule = N7; at = (call_name call).at })
   -- N8: a method of another struct called on `this`
   foreign_method : (scope : Scope) (call : CallTree) → IsUsed d scope (uses.method call) → callee_of (known_at d scope) call ≡ callees.Foreign
-      → Breaks d (record { rule = N8; at = (call_name call).at })
+      → UseBreaks d (record { rule = N8; at = (call_name call).at })
   -- N8: a private method called through a field
   private_method : (scope : Scope) (call : CallTree) (m : ℕ) → IsUsed d scope (uses.method call) → callee_of (known_at d scope) call ≡ callees.Hidden m
-      → Breaks d (record { rule = N8; at = (call_name call).at })
-  -- L6: more than 1,024 methods
-  too_many_methods : (m : Method) → slice_get d.methods 1024 ≡ Some m → Breaks d (record { rule = L6; at = m.name.at })
-  -- L7: more than 256 locals in a method
-  too_many_locals : (m : Method) (v : Variable) → IsMethod d m → slice_get m.locals 256 ≡ Some v → Breaks d (record { rule = L7; at = v.name.at })
-  -- L7: more than 64 arguments
-  too_many_args : (m : Method) (v : Variable) → IsMethod d m → slice_get m.args 64 ≡ Some v → Breaks d (record { rule = L7; at = v.name.at })
+      → UseBreaks d (record { rule = N8; at = (call_name call).at })
+
+-- What the loops of a method and the jumps in them break.
+pub data LabelBreaks (d : Declared) : Refusal → Type 0 where
+  -- N2: a label of a loop that stands in a loop of the same label
+  label_twice : (loops : List (Option Name)) (label : Name) → Jumps d (labelled loops label) → has_label loops label.text.0 ≡ true → LabelBreaks d (twice label)
+  -- N3: the same of a loop's label
+  reserved_label : (loops : List (Option Name)) (label : Name) → Jumps d (labelled loops label) → is_reserved (text_of d label.text.0) ≡ true
+      → LabelBreaks d (record { rule = N3; at = label.at })
+  -- N5: a jump to a label that no loop round it has, at the label
+  unknown_label : (loops : List (Option Name)) (label : Name) → Jumps d (to_label loops label) → has_label loops label.text.0 ≡ false
+      → LabelBreaks d (record { rule = N5; at = label.at })
+  -- N5: a jump without a label outside every loop, at the statement
+  outside_loops : (at : Place) → Jumps d (to_innermost [] at) → LabelBreaks d (record { rule = N5; at = at })
+
+-- What the graphs of methods and of structs break.
+pub data CircleBreaks (d : Declared) : Refusal → Type 0 where
+  -- N4: a method that can reach itself by calls, at its name
+  recursion : (a : ℕ) (m : Method) → slice_get d.methods a ≡ Some m → Path (calls d) a a → CircleBreaks d (record { rule = N4; at = m.name.at })
+  -- N4: a struct that holds itself through fields, at its name
+  holds_itself : (a : ℕ) (s : Structure) → slice_get d.structs a ≡ Some s → Path (holds_struct d) a a → CircleBreaks d (record { rule = N4; at = s.name.at })
+
+-- What the lengths of arrays and the sizes of structs break.
+pub data SizeBreaks (d : Declared) : Refusal → Type 0 where
   -- L7: an array of more than 65,536 elements
-  too_long_array : (locals : List Variable) (v : Variable) → IsSizedHere d locals v → is_too_long d locals v.of ≡ true → Breaks d (record { rule = L7; at = v.name.at })
+  too_long_array : (locals : List Variable) (v : Variable) → IsSizedHere d locals v → is_too_long d locals v.of ≡ true → SizeBreaks d (record { rule = L7; at = v.name.at })
   -- L7: fields of more than 1,048,576 bytes together, at the field that passes it
   too_large_struct : (s : Structure) (front back : List Variable) (v : Variable) (n m : ℕ) → IsStructure d s → s.fields ≡ front ++ v ∷ back
-      → Take d front n → n ≤ 1048576 → Take d (front ++ v ∷ []) m → 1048576 < m → Breaks d (record { rule = L7; at = v.name.at })
+      → Take d front n → n ≤ 1048576 → Take d (front ++ v ∷ []) m → 1048576 < m → SizeBreaks d (record { rule = L7; at = v.name.at })
+
+-- The whole table.
+pub data Breaks (d : Declared) : Refusal → Type 0 where
+  by_declaration : (s : Refusal) → DeclarationBreaks d s → Breaks d s
+  by_use : (s : Refusal) → UseBreaks d s → Breaks d s
+  by_label : (s : Refusal) → LabelBreaks d s → Breaks d s
+  by_circle : (s : Refusal) → CircleBreaks d s → Breaks d s
+  by_size : (s : Refusal) → SizeBreaks d s → Breaks d s
