@@ -1,0 +1,4 @@
+pub mod DeclarationPass
+pub mod FirstSpelt
+pub mod Gathering
+pub mod LabelPass
