@@ -1,0 +1,5 @@
+pub mod AgreeLemmas
+pub mod FirstLemmas
+pub mod PackageLemmas
+pub mod UseLemmas
+pub mod VariableLemmas
