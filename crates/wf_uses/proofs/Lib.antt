@@ -1,0 +1,5 @@
+pub mod ArgumentLaws
+pub mod ClosedUses
+pub mod FoundLemmas
+pub mod MeaningLaws
+pub mod UseLaws

@@ -1,0 +1,6 @@
+// What the uses of names in a package break: the refusal that decides among all that the table of the rules of names
+// has of them.
+#![tactic(auto)]
+
+pub mod examples;
+pub mod laws;
