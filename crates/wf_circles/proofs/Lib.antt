@@ -1,0 +1,5 @@
+pub mod CallLemmas
+pub mod CircleLemmas
+pub mod HeldLemmas
+pub mod MethodLemmas
+pub mod SectionLemmas
