@@ -1,0 +1,35 @@
+-- Flags of the graph of structs tell which of them hold themselves.
+use Rattle.std.proofs.Common.{◌≡◌, ℕ, ◌<◌, Bool, true, false, List, length, Option, Some, None, slice_get, refl, sym, ap, ◌∙◌}
+use Rattle.std.proofs.lemmas.Option.{slice_get_within}
+use Rattle.std.specs.List.{list_any}
+use Rattle.wf_names.specs.Declarations.{Structure, Declared}
+use Rattle.wf_names.specs.Graphs.{Path, last, more, goes, AreCircles}
+use Rattle.wf_names.specs.Passes.{is_flagged}
+use Rattle.wf_names.specs.Sizes.{fields_at, holds_struct, is_the, struct_held}
+use Rattle.wf_sizes.specs.StructSizes.{AreHolding}
+
+path-same : (f g : ℕ → ℕ → Bool) → ((a b : ℕ) → f a b ≡ g a b) → (a b : ℕ) → Path f a b → Path g a b
+path-same f g same _ _ (last a b h) = last a b (sym (same a b) ∙ h)
+path-same f g same _ _ (more a b c h p) = more a b c (sym (same a b) ∙ h) (path-same f g same b c p)
+
+flag-true : (flag : Option Bool) → is_flagged flag ≡ true → flag ≡ Some true
+flag-true None h = absurd (cc h)
+flag-true (Some true) h = refl
+flag-true (Some false) h = absurd (cc h)
+
+struct-within : (d : Declared) (a b : ℕ) → holds_struct d a b ≡ true → a < length d.structs
+struct-within d a b = by_get (slice_get d.structs a) refl
+  where
+    by_get : (s : Option Structure) → slice_get d.structs a ≡ s → list_any (λ v. is_the b (struct_held d v.of)) (fields_at s) ≡ true → a < length d.structs
+    by_get None e h = absurd (cc h)
+    by_get (Some s) e h = slice_get_within d.structs a s e
+
+path-within : (d : Declared) (a b : ℕ) → Path (holds_struct d) a b → a < length d.structs
+path-within d _ _ (last a b h) = struct-within d a b h
+path-within d _ _ (more a b c h p) = struct-within d a b h
+
+pub circles-hold : (d : Declared) (rows : List (List ℕ)) (flags : List Bool) → ((a b : ℕ) → goes rows a b ≡ holds_struct d a b) → AreCircles rows flags (length d.structs) → AreHolding d flags
+circles-hold d rows flags same circles = record {
+  sound = λ s h. path-same (goes rows) (holds_struct d) same s s (circles.sound s (flag-true (slice_get flags s) h));
+  complete = λ s p. ap is_flagged (circles.complete s (path-within d s s p) (path-same (holds_struct d) (goes rows) (λ a b. sym (same a b)) s s p));
+}

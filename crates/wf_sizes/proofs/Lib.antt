@@ -1,0 +1,10 @@
+pub mod ArrayLemmas
+pub mod CircleLemmas
+pub mod DecidingLaws
+pub mod LargeLaws
+pub mod LongLaws
+pub mod PartLemmas
+pub mod RoundLemmas
+pub mod TableLemmas
+pub mod TakeLemmas
+pub mod ValueLemmas

@@ -1,0 +1,34 @@
+// What the passes find is what the rules say. Each law is the contract of a function that does nothing.
+
+ghost use Rattle.std.specs.Prelude.{◌≡◌, ℕ, Bool, List, Option, None, length};
+ghost use Rattle.wf_text.specs.declared.rules.Refusal.{Refusal};
+ghost use Rattle.wf_text.specs.Precedence.{Decides};
+ghost use Rattle.wf_names.specs.Declarations.{Declared, Variable};
+ghost use Rattle.wf_names.specs.Graphs.{goes, AreCircles};
+ghost use Rattle.wf_names.specs.NameRules.{SizeBreaks};
+ghost use Rattle.wf_names.specs.Sizes.{Take, holds_struct};
+ghost use Rattle.wf_sizes.specs.Deciding.{DecidesBehind};
+ghost use Rattle.wf_sizes.specs.LongArrays.{HasLongArray, arrays_found};
+ghost use Rattle.wf_sizes.specs.StructSizes.{AreHolding};
+
+/// Arrays that are too long: each breaks a rule of the table, and of what the pass finds the first decides.
+pub fn first_long_array_decides()
+    ensures breaks { (d : Declared) (s : Refusal) → HasLongArray d s → SizeBreaks d s }
+    ensures decides { (d : Declared) → Decides (HasLongArray d) (arrays_found d None) }
+{}
+
+/// Fields take one number of bytes at most.
+pub fn fields_take_one_number()
+    ensures { (d : Declared) (fields : List Variable) (n m : ℕ) → Take d fields n → Take d fields m → n ≡ m }
+{}
+
+/// What is found where nothing was found before decides.
+pub fn first_size_decides()
+    ensures { (d : Declared) (all : Option Refusal) → DecidesBehind (SizeBreaks d) None all → Decides (SizeBreaks d) all }
+{}
+
+/// The flags of the graph whose numbers go where structs hold structs tell which structs hold themselves.
+pub fn circles_are_the_structs_that_hold_themselves()
+    ensures { (d : Declared) (rows : List (List ℕ)) (flags : List Bool) → ((a b : ℕ) → goes rows a b ≡ holds_struct d a b)
+        → AreCircles rows flags (length d.structs) → AreHolding d flags }
+{}

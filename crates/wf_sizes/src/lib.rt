@@ -1,0 +1,15 @@
+// The lengths of arrays and the sizes of structs, by the values of constant expressions.
+#![tactic(auto)]
+
+pub mod arrays;
+pub mod chains;
+pub mod constants;
+pub mod large;
+pub mod laws;
+pub mod numbers;
+pub mod parts;
+pub mod rounds;
+pub mod tables;
+#[cfg(test)]
+mod tests;
+pub mod values;
