@@ -1,0 +1,4 @@
+pub mod Growth
+pub mod ResolveLemmas
+pub mod StmtLemmas
+pub mod WordLemmas
