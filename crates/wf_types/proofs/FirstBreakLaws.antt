@@ -2,15 +2,15 @@
 use Rattle.std.specs.Prelude.{ℕ, zero, suc, List, [], ◌∷◌, ◌++◌, Option, Some, None, slice_get}
 use Rattle.std.specs.Bool.{⊤}
 use Rattle.std.specs.List.{flat_map}
-use Rattle.std.proofs.Common.{◌≡◌, ◌∙◌, ◌⊎◌, refl, sym, ap, subst, inl, inr}
+use Rattle.std.proofs.Common.{◌≡◌, ◌∙◌, ◌⊎◌, refl, ap, subst, inl, inr}
 use Rattle.wf_text.specs.declared.place.Place.{Place}
 use Rattle.wf_text.specs.declared.rules.Refusal.{Refusal}
 use Rattle.wf_text.specs.declared.rules.Rule.{Rule}
 use Rattle.wf_text.specs.declared.rules.Rule.TheVariants.{T1, T2, T3, T4, T5, E1, E2, E3, E4, E5}
-use Rattle.wf_text.specs.Precedence.{Decides, soonest}
+use Rattle.wf_text.specs.Precedence.{Decides}
 use Rattle.wf_text.proofs.PrecedenceLaws.{Among, here, there, Decides-map, Decides-soonest}
 use Rattle.wf_named.specs.NamedTree.{NamedPackageTree}
-use Rattle.wf_types.specs.Meanings.{Setting}
+use Rattle.wf_types.specs.declared.settings.Setting.{Setting}
 use Rattle.wf_types.specs.Parts.{Part, Site, sites, IsPart}
 use Rattle.wf_types.specs.Judgements.{wrong_operand, wrong_update, wrong_argument, wrong_letter, wrong_type, misplaced_type, value_no_number, wrong_target, wrong_assigned, no_value_assigned, wrong_condition, wrong_return, reaches_end, node_without_value, unfit_operand, unfit_update, unfit_assigned, unfit_argument, unfit_return, value_outside, crossed_bounds, high_bound, no_elements, element_above_zero, begins_above_zero, wrong_status, impure_call, impure_write, coroutine_call, kept_outside, yielded_outside, call_inside, wrong_mark, not_kept_in_status, keeps_no_coroutine, wrong_yield}
 use Rattle.wf_types.specs.TypeRules as rules

@@ -1,26 +1,19 @@
 -- Which types may be declared where, and the setting of each part of a package.
-use Rattle.std.specs.Prelude.{ℕ, Bool, true, false, ◌&&◌, List, [], ◌∷◌, ◌++◌, map, Option, None, Some, option_map, option_and_then, if◌then◌else◌, nat_eq, nat_le, slice_get, is_some}
+use Rattle.std.specs.Prelude.{ℕ, Bool, true, false, ◌&&◌, List, [], ◌∷◌, ◌++◌, map, Option, None, Some, option_map, option_and_then, if◌then◌else◌, nat_eq, nat_le}
 use Rattle.wf_text.specs.declared.place.Place.{Place}
-use Rattle.wf_base.specs.declared.marks.Mark.{Mark}
 use Rattle.wf_base.specs.declared.marks.Mark.TheVariants.{Pure}
 use Rattle.wf_ast.specs.declared.types.Ty.{Ty}
 use Rattle.wf_ast.specs.declared.types.Ty.TheVariants as types
 use Rattle.wf_ast.specs.BaseStatuses.{base_statuses}
 use Rattle.wf_ast.specs.WellTyped.{is_coroutine}
-use Rattle.wf_named.specs.NamedTree.{NamedExprTree, NamedTypeTree, slice_of, array_of, base_type, struct_type, VarTree, ConstTree, NamedStructTree, NamedMethodTree, NamedPackageTree}
+use Rattle.wf_named.specs.NamedTree.{NamedTypeTree, slice_of, array_of, base_type, struct_type, VarTree, ConstTree, NamedMethodTree, NamedPackageTree}
 use Rattle.wf_named.specs.WellNamed.{fields_in}
-use Rattle.wf_types.specs.Meanings.{Constant, MethodType, Setting}
-use Rattle.wf_types.specs.ExprTypes.{number_of, written, plain_width}
-
--- Where a type is written: at a constant, a field, an argument, a local, the result of a method with this mark, or
--- behind `as`.
-pub data Role : Type 0 where
-  of_const : Role
-  of_field : Role
-  of_arg : Role
-  of_local : Role
-  of_result : (mark : Mark) → Role
-  of_conversion : Role
+use Rattle.wf_types.specs.declared.meanings.Constant.{Constant}
+use Rattle.wf_types.specs.declared.meanings.MethodType.{MethodType}
+use Rattle.wf_types.specs.declared.settings.Role.{Role}
+use Rattle.wf_types.specs.declared.settings.Role.TheVariants as roles
+use Rattle.wf_types.specs.declared.settings.Setting.{Setting}
+use Rattle.wf_types.specs.ExprTypes.{number_of, written}
 
 abbrev pub is_numeric : Ty → Bool
 is_numeric (types.Num width lo hi) = true
@@ -28,31 +21,31 @@ is_numeric ty = false
 
 -- The kinds of types that may stand there.
 abbrev pub may_be : Role → Ty → Bool
-may_be of_const ty = is_numeric ty
-may_be of_field (types.Slice width) = false
-may_be of_field types.Reader = false
-may_be of_field types.Writer = false
-may_be of_field ty = true
-may_be of_arg types.Status = false
-may_be of_arg (types.Array width lo hi count) = false
-may_be of_arg (types.Part part) = false
-may_be of_arg ty = true
-may_be of_local types.Reader = false
-may_be of_local types.Writer = false
-may_be of_local (types.Array width lo hi count) = false
-may_be of_local (types.Part part) = false
-may_be of_local ty = true
-may_be (of_result mark) (types.Num width lo hi) = if is_coroutine mark then false else true
-may_be (of_result mark) types.Flag = if is_coroutine mark then false else true
-may_be (of_result mark) types.Status = if is_coroutine mark then false else true
-may_be (of_result mark) ty = false
-may_be of_conversion ty = is_numeric ty
+may_be roles.Const ty = is_numeric ty
+may_be roles.Field (types.Slice width) = false
+may_be roles.Field types.Reader = false
+may_be roles.Field types.Writer = false
+may_be roles.Field ty = true
+may_be roles.Arg types.Status = false
+may_be roles.Arg (types.Array width lo hi count) = false
+may_be roles.Arg (types.Part part) = false
+may_be roles.Arg ty = true
+may_be roles.Local types.Reader = false
+may_be roles.Local types.Writer = false
+may_be roles.Local (types.Array width lo hi count) = false
+may_be roles.Local (types.Part part) = false
+may_be roles.Local ty = true
+may_be (roles.Result mark) (types.Num width lo hi) = if is_coroutine mark then false else true
+may_be (roles.Result mark) types.Flag = if is_coroutine mark then false else true
+may_be (roles.Result mark) types.Status = if is_coroutine mark then false else true
+may_be (roles.Result mark) ty = false
+may_be roles.Conversion ty = is_numeric ty
 
 -- What begins as 0, and what is answered where a call is refused, has a type that holds 0.
 abbrev pub begins_as_zero : Role → Bool
-begins_as_zero of_field = true
-begins_as_zero of_local = true
-begins_as_zero (of_result mark) = true
+begins_as_zero roles.Field = true
+begins_as_zero roles.Local = true
+begins_as_zero (roles.Result mark) = true
 begins_as_zero role = false
 
 abbrev pub holds_zero : Ty → Bool
@@ -83,7 +76,7 @@ constant_with (Some ty) (Some n) = constant_in ty n
 constant_with ty n = None
 
 abbrev pub constant_made : List (Option Constant) → ConstTree → Option Constant
-constant_made known c = constant_with (declared (among_constants known) of_const c.of) (number_of (among_constants known) c.value)
+constant_made known c = constant_with (declared (among_constants known) roles.Const c.of) (number_of (among_constants known) c.value)
 
 -- The constants of a package in order: each knows those in front of it.
 abbrev pub constants_after : List (Option Constant) → List ConstTree → List (Option Constant)
@@ -101,10 +94,10 @@ abbrev pub types_in : NamedPackageTree → Role → List VarTree → List (Optio
 types_in p role xs = map (λ x. declared (for_types p) role x.of) xs
 
 abbrev pub result_in : NamedPackageTree → NamedMethodTree → Option (Option Ty)
-result_in p m = option_map (declared (for_types p) (of_result m.mark)) m.gives
+result_in p m = option_map (declared (for_types p) (roles.Result m.mark)) m.gives
 
 abbrev pub method_type : NamedPackageTree → NamedMethodTree → MethodType
-method_type p m = record { mark = m.mark; args = types_in p of_arg m.args; gives = result_in p m }
+method_type p m = record { mark = m.mark; args = types_in p roles.Arg m.args; gives = result_in p m }
 
 -- The texts of all statuses, by number.
 abbrev pub status_texts : NamedPackageTree → List (List ℕ)
@@ -115,9 +108,9 @@ abbrev pub in_method : NamedPackageTree → NamedMethodTree → Setting
 in_method p m =
     record {
       constants = constants_of p;
-      fields = types_in p of_field (fields_in p (Some m.of));
-      args = types_in p of_arg m.args;
-      locals = types_in p of_local m.locals;
+      fields = types_in p roles.Field (fields_in p (Some m.of));
+      args = types_in p roles.Arg m.args;
+      locals = types_in p roles.Local m.locals;
       methods = map (method_type p) p.methods;
       statuses = status_texts p;
       mark = m.mark;

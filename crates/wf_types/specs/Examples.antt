@@ -1,21 +1,17 @@
 -- Small resolved packages that keep the rules of types and effects, and packages next to them that break one.
-use Rattle.std.specs.Prelude.{ℕ, Bool, true, false, Option, None, Some, List, [], ◌∷◌, codes}
+use Rattle.std.specs.Prelude.{ℕ, true, false, Option, None, Some, List, [], ◌∷◌, codes}
 use Rattle.wf_text.specs.declared.place.Place.{Place}
 use Rattle.wf_base.specs.declared.marks.Mark.{Mark}
-use Rattle.wf_base.specs.declared.marks.Mark.TheVariants.{Pure, Impure, Coroutine}
-use Rattle.wf_base.specs.declared.widths.Width.{Width}
+use Rattle.wf_base.specs.declared.marks.Mark.TheVariants.{Pure, Coroutine}
 use Rattle.wf_base.specs.declared.widths.Width.TheVariants.{W8, W16, W32}
 use Rattle.wf_base.specs.declared.base_methods.ReadForm.TheVariants.{ReadU8}
-use Rattle.wf_base.specs.declared.base_methods.BaseSig.TheVariants.{Read, Skip, ReaderLength}
+use Rattle.wf_base.specs.declared.base_methods.BaseSig.TheVariants.{Read}
 use Rattle.wf_ast.specs.declared.operators.Op.{Op}
-use Rattle.wf_ast.specs.declared.operators.Op.TheVariants as ops
 use Rattle.wf_named.specs.declared.nodes.BaseType.{BaseType}
 use Rattle.wf_named.specs.declared.nodes.BaseType.TheVariants as bases
-use Rattle.wf_named.specs.declared.nodes.NamedCallee.{NamedCallee}
 use Rattle.wf_named.specs.declared.nodes.NamedCallee.TheVariants as callees
-use Rattle.wf_named.specs.declared.nodes.NamedPath.{NamedPath}
-use Rattle.wf_named.specs.NamedTree.{NamedExprTree, number, status, truth, path, index, answer, chain, convert, NamedPartTree, absent, present, no_link, link, NamedArgTrees, no_arg, more_args, NamedCallTree, call, NamedTypeTree, array_of, slice_of, base_type, unrefined, refined, NamedTargetTree, to_path, to_element, no_clause, NamedStmtTree, assign, keep, do_call, branch, loop, leave, back, suspend, NamedBlockTree, close, more_stmts, no_else, otherwise, arm, VarTree, ConstTree, NamedMethodTree, NamedPackageTree}
-use Rattle.wf_named.specs.Examples.{at, word, var, local, field, arg, constant, own}
+use Rattle.wf_named.specs.NamedTree.{NamedExprTree, number, path, chain, NamedPartTree, present, no_link, link, NamedArgTrees, no_arg, NamedCallTree, call, NamedTypeTree, array_of, base_type, unrefined, refined, NamedTargetTree, to_path, no_clause, NamedStmtTree, assign, loop, back, NamedBlockTree, close, more_stmts, VarTree, NamedMethodTree, NamedPackageTree}
+use Rattle.wf_named.specs.Examples.{at, word, var, local, arg, own}
 
 -- A column of the one line that the examples look at.
 abbrev pub here : ℕ → Place

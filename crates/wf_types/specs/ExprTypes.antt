@@ -1,13 +1,11 @@
 -- What expressions mean, and the types that are written in them.
-use Rattle.std.specs.Prelude.{ℕ, ◌-◌, ◌^◌, Bool, true, false, not, ◌&&◌, List, [], ◌∷◌, Option, None, Some, option_map, option_and_then, if◌then◌else◌, nat_lt, nat_le, nat_eq, slice_get}
+use Rattle.std.specs.Prelude.{ℕ, ◌-◌, ◌^◌, Bool, ◌&&◌, List, [], ◌∷◌, Option, None, Some, option_map, option_and_then, if◌then◌else◌, nat_lt, nat_le, nat_eq, min}
 use Rattle.wf_text.specs.declared.place.Place.{Place}
-use Rattle.wf_text.specs.declared.numbers.StructId.{StructId}
 use Rattle.wf_base.specs.declared.marks.Mark.{Mark}
 use Rattle.wf_base.specs.declared.widths.Width.{Width}
 use Rattle.wf_base.specs.declared.base_methods.Gives.{Gives}
 use Rattle.wf_base.specs.declared.base_methods.Gives.TheVariants as gives
 use Rattle.wf_base.specs.declared.base_methods.BaseSig.{BaseSig}
-use Rattle.wf_base.specs.declared.marks.Mark.TheVariants.{Pure}
 use Rattle.wf_base.specs.BaseTable.{bits_of, row_of}
 use Rattle.wf_ast.specs.declared.types.Ty.{Ty}
 use Rattle.wf_ast.specs.declared.types.Ty.TheVariants as types
@@ -15,10 +13,13 @@ use Rattle.wf_ast.specs.TypedTrees.{sort_of}
 use Rattle.wf_ast.specs.WellTyped.{is_pure}
 use Rattle.wf_named.specs.declared.nodes.BaseType.{BaseType}
 use Rattle.wf_named.specs.declared.nodes.BaseType.TheVariants as bases
-use Rattle.wf_named.specs.declared.nodes.NamedCallee.{NamedCallee}
 use Rattle.wf_named.specs.declared.nodes.NamedCallee.TheVariants as callees
-use Rattle.wf_named.specs.NamedTree.{NamedExprTree, number, status, truth, path, index, slice, answer, chain, convert, negation, NamedPartTree, absent, present, NamedLinkTrees, no_link, link, NamedCallTree, call, NamedTypeTree, slice_of, array_of, base_type, struct_type, NamedBoundsTree, unrefined, refined}
-use Rattle.wf_types.specs.Meanings.{Meaning, constant, typed, Operand, Setting, all_of, variable, is_value, is_number, is_flag, constant_number, place_of}
+use Rattle.wf_named.specs.NamedTree.{NamedExprTree, number, status, truth, path, index, slice, answer, chain, convert, negation, NamedPartTree, absent, present, NamedLinkTrees, no_link, link, NamedCallTree, call, NamedTypeTree, slice_of, array_of, base_type, struct_type, unrefined, refined}
+use Rattle.wf_types.specs.declared.meanings.Meaning.{Meaning}
+use Rattle.wf_types.specs.declared.meanings.Meaning.TheVariants as meanings
+use Rattle.wf_types.specs.declared.meanings.Operand.{Operand}
+use Rattle.wf_types.specs.declared.settings.Setting.{Setting}
+use Rattle.wf_types.specs.Meanings.{all_of, variable, is_value, is_number, is_flag, constant_number, place_of}
 use Rattle.wf_types.specs.Operands.{meaning_of_operator}
 
 abbrev pub only_where : (Meaning → Bool) → Meaning → Option Meaning
@@ -26,14 +27,14 @@ only_where test m = if test m then Some m else None
 
 -- An array or a slice gives its elements.
 abbrev pub element_of : Meaning → Option Ty
-element_of (typed (types.Array width lo hi count)) = Some (types.Num width lo hi)
-element_of (typed (types.Slice width)) = Some (all_of width)
+element_of (meanings.Typed (types.Array width lo hi count)) = Some (types.Num width lo hi)
+element_of (meanings.Typed (types.Slice width)) = Some (all_of width)
 element_of m = None
 
 -- A slice, and an array whose elements hold every number of their width, gives slices.
 abbrev pub slice_in : Meaning → Option Ty
-slice_in (typed (types.Slice width)) = Some (types.Slice width)
-slice_in (typed (types.Array width lo hi count)) = if nat_eq lo 0 && nat_eq hi (2 ^ bits_of width - 1) then Some (types.Slice width) else None
+slice_in (meanings.Typed (types.Slice width)) = Some (types.Slice width)
+slice_in (meanings.Typed (types.Array width lo hi count)) = if nat_eq lo 0 && nat_eq hi (2 ^ bits_of width - 1) then Some (types.Slice width) else None
 slice_in m = None
 
 -- What a base method gives.
@@ -44,7 +45,7 @@ given_by_base gives.Flag = Some types.Flag
 
 -- Inside an expression only a pure base method answers.
 abbrev pub pure_answer : BaseSig → (written : Mark) → Meaning → Option Meaning
-pure_answer sig written on = if is_pure (row_of sig).mark && is_pure written then option_map typed (given_by_base (row_of sig).gives) else None
+pure_answer sig written on = if is_pure (row_of sig).mark && is_pure written then option_map meanings.Typed (given_by_base (row_of sig).gives) else None
 
 abbrev pub answer_inside : Setting → NamedCallTree → Option Meaning
 answer_inside s (call (callees.Base on sig) at mark args) = option_and_then (pure_answer sig mark) (variable s on.of)
@@ -67,16 +68,17 @@ abbrev pub refined_type : Width → (low high : Option ℕ) → Option Ty
 refined_type width (Some m) (Some n) = if nat_le m n && nat_lt n (2 ^ bits_of width) then Some (types.Num width m n) else None
 refined_type width low high = None
 
--- An array has elements, from the number 1 on, that may be 0.
+-- An array has elements, from the number 1 on, that may be 0. A type tells of at most 2 ^ 32 - 1 of them; a longer array,
+-- which the limits refuse wherever an array may be declared, counts as one of so many.
 abbrev pub array_type : (count : Option ℕ) → (element : Option Ty) → Option Ty
-array_type (Some count) (Some (types.Num width lo hi)) = if nat_lt 0 count && nat_eq lo 0 then Some (types.Array width lo hi count) else None
+array_type (Some count) (Some (types.Num width lo hi)) = if nat_lt 0 count && nat_eq lo 0 then Some (types.Array width lo hi (min count (2 ^ 32 - 1))) else None
 array_type count element = None
 
 -- The operand of `as` is a number, which as a constant lies in the type.
 abbrev pub converted : Option Width → Meaning → Option Meaning
 converted None m = None
-converted (Some width) (constant own value) = if nat_lt value (2 ^ bits_of width) then Some (constant (Some width) value) else None
-converted (Some width) m = if is_number m then Some (typed (all_of width)) else None
+converted (Some width) (meanings.Constant own value) = if nat_lt value (2 ^ bits_of width) then Some (meanings.Constant (Some width) value) else None
+converted (Some width) m = if is_number m then Some (meanings.Typed (all_of width)) else None
 
 abbrev pub in_front : Option Operand → Option (List Operand) → Option (List Operand)
 in_front (Some o) (Some os) = Some (o ∷ os)
@@ -92,12 +94,12 @@ if_number None ty = None
 
 abbrev mutual
   pub meaning : Setting → NamedExprTree → Option Meaning
-  meaning s (number n at) = Some (constant None n)
-  meaning s (status n at) = Some (typed types.Status)
-  meaning s (truth value at) = Some (typed types.Flag)
+  meaning s (number n at) = Some (meanings.Constant None n)
+  meaning s (status n at) = Some (meanings.Typed types.Status)
+  meaning s (truth value at) = Some (meanings.Typed types.Flag)
   meaning s (path p) = option_and_then (only_where is_value) (variable s p.of)
-  meaning s (index p i at) = option_map typed (if_number (meaning s i) (option_and_then element_of (variable s p.of)))
-  meaning s (slice p from to at) = option_map typed (if_end s from (if_end s to (option_and_then slice_in (variable s p.of))))
+  meaning s (index p i at) = option_map meanings.Typed (if_number (meaning s i) (option_and_then element_of (variable s p.of)))
+  meaning s (slice p from to at) = option_map meanings.Typed (if_end s from (if_end s to (option_and_then slice_in (variable s p.of))))
   meaning s (answer c) = answer_inside s c
   meaning s (chain op first links at) =
       option_and_then (meaning_of_operator (sort_of op)) (in_front (option_map (operand_at (place_of first)) (meaning s first)) (operands_behind s links))

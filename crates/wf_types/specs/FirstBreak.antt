@@ -7,7 +7,7 @@ use Rattle.wf_text.specs.declared.rules.Rule.{Rule}
 use Rattle.wf_text.specs.declared.rules.Rule.TheVariants.{T1, T2, T3, T4, T5, E1, E2, E3, E4, E5}
 use Rattle.wf_text.specs.Precedence.{soonest}
 use Rattle.wf_named.specs.NamedTree.{NamedPackageTree}
-use Rattle.wf_types.specs.Meanings.{Setting}
+use Rattle.wf_types.specs.declared.settings.Setting.{Setting}
 use Rattle.wf_types.specs.Parts.{Part, Site, sites}
 use Rattle.wf_types.specs.Judgements.{wrong_operand, wrong_update, wrong_argument, wrong_letter, wrong_type, misplaced_type, value_no_number, wrong_target, wrong_assigned, no_value_assigned, wrong_condition, wrong_return, reaches_end, node_without_value, unfit_operand, unfit_update, unfit_assigned, unfit_argument, unfit_return, value_outside, crossed_bounds, high_bound, no_elements, element_above_zero, begins_above_zero, wrong_status, impure_call, impure_write, coroutine_call, kept_outside, yielded_outside, call_inside, wrong_mark, not_kept_in_status, keeps_no_coroutine, wrong_yield}
 use Rattle.wf_types.specs.TypeRules.{refused}

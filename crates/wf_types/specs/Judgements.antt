@@ -1,12 +1,11 @@
 -- What is wrong with a part of a package: for each rule and kind of place a test that tells the place, or None. A part
 -- that has a part without a meaning is judged by none that needs this meaning.
 use Rattle.std.specs.Prelude.{ℕ, suc, ◌^◌, Bool, true, false, not, ◌&&◌, ◌||◌, List, [], ◌∷◌, Option, None, Some, option_map, option_and_then, if◌then◌else◌, nat_eq, nat_lt, nat_le, slice_get, is_some}
-use Rattle.std.specs.List.{list_all}
 use Rattle.wf_text.specs.declared.place.Place.{Place}
 use Rattle.wf_text.specs.StatusText.{category_of}
-use Rattle.wf_text.specs.declared.categories.Category.TheVariants.{Fine, Suspension}
+use Rattle.wf_text.specs.declared.categories.Category.TheVariants.{Fine}
 use Rattle.wf_base.specs.declared.marks.Mark.{Mark}
-use Rattle.wf_base.specs.declared.marks.Mark.TheVariants.{Pure, Impure}
+use Rattle.wf_base.specs.declared.marks.Mark.TheVariants.{Impure}
 use Rattle.wf_base.specs.declared.widths.Width.TheVariants.{W8, W32}
 use Rattle.wf_base.specs.declared.base_methods.ArgTy.{ArgTy}
 use Rattle.wf_base.specs.declared.base_methods.ArgTy.TheVariants.{U8, U32, SameSlice}
@@ -15,7 +14,6 @@ use Rattle.wf_base.specs.declared.base_methods.Kind.TheVariants as kinds
 use Rattle.wf_base.specs.declared.base_methods.Gives.{Gives}
 use Rattle.wf_base.specs.declared.base_methods.Gives.TheVariants as gives
 use Rattle.wf_base.specs.BaseTable.{bits_of, row_of}
-use Rattle.wf_ast.specs.declared.operators.Op.{Op}
 use Rattle.wf_ast.specs.declared.types.Ty.{Ty}
 use Rattle.wf_ast.specs.declared.types.Ty.TheVariants as types
 use Rattle.wf_ast.specs.TypedTrees.{sort_of}
@@ -26,11 +24,18 @@ use Rattle.wf_named.specs.declared.nodes.NamedCallee.{NamedCallee}
 use Rattle.wf_named.specs.declared.nodes.NamedCallee.TheVariants as callees
 use Rattle.wf_named.specs.declared.nodes.Variable.{Variable}
 use Rattle.wf_named.specs.declared.nodes.Variable.TheVariants as variables
-use Rattle.wf_named.specs.NamedTree.{NamedExprTree, number, status, truth, path, index, slice, answer, chain, convert, negation, NamedPartTree, absent, present, NamedLinkTrees, no_link, link, NamedArgTrees, no_arg, more_args, NamedCallTree, call, NamedTypeTree, slice_of, array_of, base_type, struct_type, unrefined, refined, NamedTargetTree, to_path, to_element, NamedStmtTree, assign, keep, do_call, branch, loop, leave, again, back, suspend, claim, NamedBlockTree, close, more_stmts, NamedArmTrees, no_else, otherwise, arm, ConstTree}
-use Rattle.wf_types.specs.Meanings.{Meaning, constant, typed, Operand, Setting, MethodType, all_of, same_width, there, variable, is_value, is_io, is_number, is_flag, is_status, is_constant, width_of, place_of}
+use Rattle.wf_named.specs.NamedTree.{NamedExprTree, status, truth, path, index, slice, answer, chain, convert, negation, NamedPartTree, absent, present, NamedLinkTrees, no_link, link, NamedArgTrees, no_arg, more_args, NamedCallTree, call, NamedTypeTree, slice_of, array_of, base_type, unrefined, refined, NamedTargetTree, to_path, to_element, NamedStmtTree, branch, loop, leave, again, back, NamedBlockTree, close, more_stmts, NamedArmTrees, no_else, otherwise, arm}
+use Rattle.wf_types.specs.declared.meanings.Meaning.{Meaning}
+use Rattle.wf_types.specs.declared.meanings.Meaning.TheVariants as meanings
+use Rattle.wf_types.specs.declared.meanings.Operand.{Operand}
+use Rattle.wf_types.specs.declared.meanings.MethodType.{MethodType}
+use Rattle.wf_types.specs.Meanings.{all_of, same_width, there, variable, is_value, is_io, is_number, is_flag, is_status, is_constant, width_of, place_of}
 use Rattle.wf_types.specs.Operands.{first_of, differs_in, not_taken, not_fitting, fits_width, has_no_value}
 use Rattle.wf_types.specs.ExprTypes.{element_of, slice_in, given_by_base, plain_width, in_front, operand_at, meaning, operands, number_of, low_number, written}
-use Rattle.wf_types.specs.DeclaredTypes.{Role, of_const, of_conversion, is_numeric, may_be, holds_zero, is_zero_kept, declared, first_token}
+use Rattle.wf_types.specs.declared.settings.Role.{Role}
+use Rattle.wf_types.specs.declared.settings.Role.TheVariants as roles
+use Rattle.wf_types.specs.declared.settings.Setting.{Setting}
+use Rattle.wf_types.specs.DeclaredTypes.{is_numeric, may_be, holds_zero, is_zero_kept, declared, first_token}
 use Rattle.wf_types.specs.Parts.{Part, expression, calling, argument, placed_type, type_part, constant_declared, status_declared, target, assigned, kept, condition, letter_value, returned, yielded, whole_body}
 
 abbrev pub at_if : Bool → Place → Option Place
@@ -82,7 +87,7 @@ unfit_operand s x = None
 -- A node of a constant expression that has no value: it leaves its width, its divisor is 0, or its shift isn't below the
 -- width.
 abbrev pub leaves_width : Meaning → NamedTypeTree → Bool
-leaves_width (constant own value) t = fails (λ width. nat_lt value (2 ^ bits_of width)) (plain_width t)
+leaves_width (meanings.Constant own value) t = fails (λ width. nat_lt value (2 ^ bits_of width)) (plain_width t)
 leaves_width m t = false
 
 abbrev pub node_without_value : Setting → Part → Option Place
@@ -95,9 +100,9 @@ abbrev pub takes : Ty → Meaning → Bool
 takes (types.Num width lo hi) m = is_number m && not (differs_in (Some width) (width_of m))
 takes types.Flag m = is_flag m
 takes types.Status m = is_status m
-takes types.Reader (typed types.Reader) = true
-takes types.Writer (typed types.Writer) = true
-takes (types.Slice width) (typed (types.Slice own)) = same_width width own
+takes types.Reader (meanings.Typed types.Reader) = true
+takes types.Writer (meanings.Typed types.Writer) = true
+takes (types.Slice width) (meanings.Typed (types.Slice own)) = same_width width own
 takes ty m = false
 
 -- A constant without a width that the type takes lies in the type's width.
@@ -183,7 +188,7 @@ wrong_type s x = None
 
 -- A type that may not stand where it does. Behind `as` it has no bounds.
 abbrev pub is_misplaced : Setting → Role → NamedTypeTree → Bool
-is_misplaced s of_conversion t = is_some (written s t) && not (is_some (plain_width t))
+is_misplaced s roles.Conversion t = is_some (written s t) && not (is_some (plain_width t))
 is_misplaced s role t = fails (may_be role) (written s t)
 
 abbrev pub misplaced_type : Setting → Part → Option Place
@@ -229,7 +234,7 @@ lies_in (types.Num width lo hi) n = nat_le lo n && nat_le n hi
 lies_in ty n = true
 
 abbrev pub value_outside : Setting → Part → Option Place
-value_outside s (constant_declared c) = at_if (both_fail lies_in (declared s of_const c.of) (number_of s c.value)) (place_of c.value)
+value_outside s (constant_declared c) = at_if (both_fail lies_in (declared s roles.Const c.of) (number_of s c.value)) (place_of c.value)
 value_outside s x = None
 
 -- A status text begins with `#`, `$` or `@`, has something behind it, and has no two `?`, of byte 63, in a row.
@@ -269,7 +274,7 @@ target_meaning s (to_path p) = if is_no_target s (to_path p) then None else vari
 target_meaning s (to_element p i at) = meaning s (index p i at)
 
 abbrev pub type_in : Meaning → Option Ty
-type_in (typed ty) = Some ty
+type_in (meanings.Typed ty) = Some ty
 type_in m = None
 
 abbrev pub target_type : Setting → NamedTargetTree → Option Ty
@@ -306,7 +311,7 @@ answer_type s (callees.Base on sig) = if is_some (variable s on.of) then given_b
 answer_type s callee = there (option_and_then result_of (method_at s callee))
 
 abbrev pub whole_answer : Setting → NamedCallTree → Option Meaning
-whole_answer s (call callee at mark args) = if are_arguments s callee 0 args then option_map typed (answer_type s callee) else None
+whole_answer s (call callee at mark args) = if are_arguments s callee 0 args then option_map meanings.Typed (answer_type s callee) else None
 
 abbrev pub value_of : Setting → NamedExprTree → Option Meaning
 value_of s (answer c) = whole_answer s c

@@ -1,7 +1,8 @@
--- What an expression means to the rules of types, and what stands round it.
-use Rattle.std.specs.Prelude.{ℕ, ◌-◌, ◌^◌, Bool, true, false, ◌&&◌, List, Option, None, Some, option_map, option_and_then, nat_eq, nat_lt, slice_get}
+-- What an expression means to the rules of types, and what stands round it. A constant expression means its number, with
+-- its width where a name or an `as` gives it one; everything else means its type. What breaks a rule, or has a part that
+-- does, means nothing. Numbers are of any size here; literals lie below 2 ^ 64, and so does all that is worked out of them.
+use Rattle.std.specs.Prelude.{ℕ, ◌-◌, ◌^◌, Bool, true, false, Option, None, Some, option_map, nat_eq, slice_get}
 use Rattle.wf_text.specs.declared.place.Place.{Place}
-use Rattle.wf_base.specs.declared.marks.Mark.{Mark}
 use Rattle.wf_base.specs.declared.widths.Width.{Width}
 use Rattle.wf_base.specs.BaseTable.{bits_of}
 use Rattle.wf_ast.specs.declared.types.Ty.{Ty}
@@ -9,42 +10,10 @@ use Rattle.wf_ast.specs.declared.types.Ty.TheVariants as types
 use Rattle.wf_named.specs.declared.nodes.Variable.{Variable}
 use Rattle.wf_named.specs.declared.nodes.Variable.TheVariants as variables
 use Rattle.wf_named.specs.NamedTree.{NamedExprTree, number, status, truth, path, index, slice, answer, chain, convert, negation, call}
-
--- A constant expression with its number, and its width where a name or an `as` gives it one; and everything else by its
--- type. What breaks a rule, or has a part that does, means nothing.
-pub data Meaning : Type 0 where
-  constant : (width : Option Width) → (value : ℕ) → Meaning
-  typed : Ty → Meaning
-
--- An operand, with its place.
-pub record Operand : Type 0 where
-  pub at : Place
-  pub of : Meaning
-
--- A constant's type gives its width. One that breaks a rule has no value.
-pub record Constant : Type 0 where
-  pub width : Width
-  pub value : ℕ
-
--- What a call knows of a method: its mark, the types of its arguments, and its written result. A type that breaks a rule
--- is absent.
-pub record MethodType : Type 0 where
-  pub mark : Mark
-  pub args : List (Option Ty)
-  pub gives : Option (Option Ty)
-
--- What stands round an expression: the constants that it knows, the types of the receiver's fields, of the arguments and
--- of the locals, the package's methods and the texts of all statuses, by number; and the mark and the written result of
--- its method.
-pub record Setting : Type 0 where
-  pub constants : List (Option Constant)
-  pub fields : List (Option Ty)
-  pub args : List (Option Ty)
-  pub locals : List (Option Ty)
-  pub methods : List MethodType
-  pub statuses : List (List ℕ)
-  pub mark : Mark
-  pub gives : Option (Option Ty)
+use Rattle.wf_types.specs.declared.meanings.Meaning.{Meaning}
+use Rattle.wf_types.specs.declared.meanings.Meaning.TheVariants as meanings
+use Rattle.wf_types.specs.declared.meanings.Constant.{Constant}
+use Rattle.wf_types.specs.declared.settings.Setting.{Setting}
 
 -- All numbers of a width.
 abbrev pub all_of : Width → Ty
@@ -59,55 +28,55 @@ there None = None
 there (Some x) = x
 
 abbrev pub as_constant : Constant → Meaning
-as_constant c = constant (Some c.width) c.value
+as_constant c = meanings.Constant (Some c.width) c.value
 
 -- What a variable is.
 abbrev pub variable : Setting → Variable → Option Meaning
 variable s (variables.Const c) = option_map as_constant (there (slice_get s.constants c.0))
-variable s (variables.Local x) = option_map typed (there (slice_get s.locals x.0))
-variable s (variables.Field x) = option_map typed (there (slice_get s.fields x.0))
-variable s (variables.Arg x) = option_map typed (there (slice_get s.args x.0))
+variable s (variables.Local x) = option_map meanings.Typed (there (slice_get s.locals x.0))
+variable s (variables.Field x) = option_map meanings.Typed (there (slice_get s.fields x.0))
+variable s (variables.Arg x) = option_map meanings.Typed (there (slice_get s.args x.0))
 
 -- Arrays, structs and io are no values: an array or io stands in front of a base method, an array also in front of a `[`,
 -- a struct in front of a method of its own, and io as an argument.
 abbrev pub is_value : Meaning → Bool
-is_value (typed types.Reader) = false
-is_value (typed types.Writer) = false
-is_value (typed (types.Array width lo hi count)) = false
-is_value (typed (types.Part part)) = false
+is_value (meanings.Typed types.Reader) = false
+is_value (meanings.Typed types.Writer) = false
+is_value (meanings.Typed (types.Array width lo hi count)) = false
+is_value (meanings.Typed (types.Part part)) = false
 is_value m = true
 
 abbrev pub is_io : Meaning → Bool
-is_io (typed types.Reader) = true
-is_io (typed types.Writer) = true
+is_io (meanings.Typed types.Reader) = true
+is_io (meanings.Typed types.Writer) = true
 is_io m = false
 
 abbrev pub is_number : Meaning → Bool
-is_number (constant width value) = true
-is_number (typed (types.Num width lo hi)) = true
+is_number (meanings.Constant width value) = true
+is_number (meanings.Typed (types.Num width lo hi)) = true
 is_number m = false
 
 abbrev pub is_flag : Meaning → Bool
-is_flag (typed types.Flag) = true
+is_flag (meanings.Typed types.Flag) = true
 is_flag m = false
 
 abbrev pub is_status : Meaning → Bool
-is_status (typed types.Status) = true
+is_status (meanings.Typed types.Status) = true
 is_status m = false
 
 abbrev pub is_constant : Meaning → Bool
-is_constant (constant width value) = true
+is_constant (meanings.Constant width value) = true
 is_constant m = false
 
 -- The number of a constant expression.
 abbrev pub constant_number : Meaning → Option ℕ
-constant_number (constant width value) = Some value
+constant_number (meanings.Constant width value) = Some value
 constant_number m = None
 
 -- The width of a number. A constant of literals alone has none.
 abbrev pub width_of : Meaning → Option Width
-width_of (constant width value) = width
-width_of (typed (types.Num width lo hi)) = Some width
+width_of (meanings.Constant width value) = width
+width_of (meanings.Typed (types.Num width lo hi)) = Some width
 width_of m = None
 
 -- The place of an expression.

@@ -1,6 +1,5 @@
 -- What operators take, and what they give.
 use Rattle.std.specs.Prelude.{ℕ, ◌+◌, ◌*◌, ◌^◌, Bool, true, false, not, ◌&&◌, List, [], ◌∷◌, Option, None, Some, option_and_then, if◌then◌else◌, nat_lt, bit_and, bit_or, bit_xor, is_some}
-use Rattle.std.specs.List.{list_all}
 use Rattle.wf_text.specs.declared.place.Place.{Place}
 use Rattle.wf_base.specs.declared.widths.Width.{Width}
 use Rattle.wf_base.specs.BaseTable.{bits_of}
@@ -9,7 +8,10 @@ use Rattle.wf_ast.specs.TypedTree.{Arith, plus, times, bits_and, bits_or, bits_x
 use Rattle.wf_ast.specs.TypedTrees.{Sort, arithmetic, ordering, joining}
 use Rattle.wf_ast.specs.Value.{applied, fitted}
 use Rattle.wf_ast.specs.WellTyped.{is_shift}
-use Rattle.wf_types.specs.Meanings.{Meaning, constant, typed, Operand, all_of, same_width, is_number, is_flag, is_status, is_constant, constant_number, width_of}
+use Rattle.wf_types.specs.declared.meanings.Meaning.{Meaning}
+use Rattle.wf_types.specs.declared.meanings.Meaning.TheVariants as meanings
+use Rattle.wf_types.specs.declared.meanings.Operand.{Operand}
+use Rattle.wf_types.specs.Meanings.{all_of, same_width, is_number, is_flag, is_status, is_constant, constant_number, width_of}
 
 -- The place of the first operand that fails a test.
 abbrev pub first_not : (Meaning → Bool) → List Operand → Option Place
@@ -58,7 +60,7 @@ common_width (o ∷ os) = first_of (width_of o.of) (common_width os)
 
 -- A constant without a width fits the one beside it.
 abbrev pub fits_width : Option Width → Meaning → Bool
-fits_width (Some width) (constant None value) = nat_lt value (2 ^ bits_of width)
+fits_width (Some width) (meanings.Constant None value) = nat_lt value (2 ^ bits_of width)
 fits_width width m = true
 
 -- The place of the first constant that doesn't fit the width of the operands beside it. The right side of a shift needn't.
@@ -111,13 +113,13 @@ abbrev pub constant_value : Arith → (bits : ℕ) → List ℕ → Option ℕ
 constant_value op bits ns = if is_joined op then value_of_chain op bits ns else value_of_two op bits ns
 
 -- The numbers of operands that are all constant.
+abbrev pub with_number : Option ℕ → Option (List ℕ) → Option (List ℕ)
+with_number (Some n) (Some ns) = Some (n ∷ ns)
+with_number n ns = None
+
 abbrev pub constants_in : List Operand → Option (List ℕ)
 constants_in [] = Some []
 constants_in (o ∷ os) = with_number (constant_number o.of) (constants_in os)
-  where
-    with_number : Option ℕ → Option (List ℕ) → Option (List ℕ)
-    with_number (Some n) (Some ns) = Some (n ∷ ns)
-    with_number n ns = None
 
 -- Operands that an operator takes.
 abbrev pub are_taken : Sort → List Operand → Bool
@@ -126,11 +128,11 @@ are_taken sort os = not (is_some (not_taken sort os)) && not (is_some (not_fitti
 -- What the operator gives.
 abbrev pub constant_of : Option Width → Option ℕ → Option Meaning
 constant_of width None = None
-constant_of width (Some n) = Some (constant width n)
+constant_of width (Some n) = Some (meanings.Constant width n)
 
 abbrev pub number_in : Option Width → Option Meaning
 number_in None = None
-number_in (Some width) = Some (typed (all_of width))
+number_in (Some width) = Some (meanings.Typed (all_of width))
 
 abbrev pub computed : Arith → List Operand → Option (List ℕ) → Option Meaning
 computed op os (Some ns) = constant_of (width_given op os) (constant_value op (bits_in (width_given op os)) ns)
@@ -138,8 +140,8 @@ computed op os None = number_in (width_given op os)
 
 abbrev pub given : Sort → List Operand → Option Meaning
 given (arithmetic op) os = computed op os (constants_in os)
-given (ordering op) os = Some (typed types.Flag)
-given (joining both) os = Some (typed types.Flag)
+given (ordering op) os = Some (meanings.Typed types.Flag)
+given (joining both) os = Some (meanings.Typed types.Flag)
 
 abbrev pub meaning_of_operator : Sort → List Operand → Option Meaning
 meaning_of_operator sort os = if are_taken sort os then given sort os else None

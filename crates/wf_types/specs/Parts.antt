@@ -5,10 +5,12 @@ use Rattle.wf_text.specs.declared.place.Place.{Place}
 use Rattle.wf_base.specs.declared.marks.Mark.{Mark}
 use Rattle.wf_ast.specs.declared.operators.Op.{Op}
 use Rattle.wf_named.specs.declared.nodes.NamedCallee.{NamedCallee}
-use Rattle.wf_named.specs.declared.nodes.NamedPath.{NamedPath}
-use Rattle.wf_named.specs.NamedTree.{NamedExprTree, number, status, truth, path, index, slice, answer, chain, convert, negation, NamedPartTree, absent, present, NamedLinkTrees, no_link, link, NamedArgTrees, no_arg, more_args, NamedCallTree, call, NamedTypeTree, slice_of, array_of, base_type, struct_type, NamedBoundsTree, unrefined, refined, NamedTargetTree, to_path, to_element, NamedClauseTrees, no_clause, more_clauses, LetterTrees, no_letter, more_letters, NamedViaTree, by_itself, via, NamedStmtTree, assign, keep, do_call, branch, loop, leave, again, back, suspend, claim, NamedBlockTree, close, more_stmts, NamedArmTrees, no_else, otherwise, arm, Word, VarTree, ConstTree, NamedStructTree, NamedMethodTree, NamedPackageTree}
-use Rattle.wf_types.specs.Meanings.{Constant, Setting}
-use Rattle.wf_types.specs.DeclaredTypes.{Role, of_const, of_field, of_arg, of_local, of_result, of_conversion, among_constants, constant_made, for_types, in_method}
+use Rattle.wf_named.specs.NamedTree.{NamedExprTree, path, index, slice, answer, chain, convert, negation, NamedPartTree, absent, present, NamedLinkTrees, no_link, link, NamedArgTrees, no_arg, more_args, NamedCallTree, call, NamedTypeTree, slice_of, array_of, base_type, struct_type, NamedBoundsTree, unrefined, refined, NamedTargetTree, to_path, to_element, NamedClauseTrees, no_clause, more_clauses, LetterTrees, no_letter, more_letters, NamedViaTree, by_itself, via, NamedStmtTree, assign, keep, do_call, branch, loop, leave, again, back, suspend, claim, NamedBlockTree, close, more_stmts, NamedArmTrees, no_else, otherwise, arm, Word, VarTree, ConstTree, NamedMethodTree, NamedPackageTree}
+use Rattle.wf_types.specs.declared.meanings.Constant.{Constant}
+use Rattle.wf_types.specs.declared.settings.Role.{Role}
+use Rattle.wf_types.specs.declared.settings.Role.TheVariants as roles
+use Rattle.wf_types.specs.declared.settings.Setting.{Setting}
+use Rattle.wf_types.specs.DeclaredTypes.{among_constants, constant_made, for_types, in_method}
 
 pub data Part : Type 0 where
   -- an expression, as a whole or inside another
@@ -49,7 +51,7 @@ abbrev mutual
   expr_parts (slice p from to at) = expression (slice p from to at) ∷ (end_parts from ++ end_parts to)
   expr_parts (answer (call callee at mark args)) = calling true (call callee at mark args) ∷ args_parts callee 0 args
   expr_parts (chain op first links at) = expression (chain op first links at) ∷ (expr_parts first ++ links_parts links)
-  expr_parts (convert e t at) = expression (convert e t at) ∷ placed_type of_conversion t ∷ (expr_parts e ++ type_parts t)
+  expr_parts (convert e t at) = expression (convert e t at) ∷ placed_type roles.Conversion t ∷ (expr_parts e ++ type_parts t)
   expr_parts (negation e at) = expression (negation e at) ∷ expr_parts e
   expr_parts e = expression e ∷ []
 
@@ -139,22 +141,22 @@ variables_parts role xs = flat_map (λ x. declared_parts role x.of) xs
 abbrev pub const_sites : List (Option Constant) → List ConstTree → List Site
 const_sites known [] = []
 const_sites known (c ∷ cs) =
-    at_sites (among_constants known) (constant_declared c ∷ (declared_parts of_const c.of ++ expr_parts c.value)) ++ const_sites (known ++ constant_made known c ∷ []) cs
+    at_sites (among_constants known) (constant_declared c ∷ (declared_parts roles.Const c.of ++ expr_parts c.value)) ++ const_sites (known ++ constant_made known c ∷ []) cs
 
 abbrev pub result_parts : Mark → Option NamedTypeTree → List Part
 result_parts mark None = []
-result_parts mark (Some t) = declared_parts (of_result mark) t
+result_parts mark (Some t) = declared_parts (roles.Result mark) t
 
 abbrev pub method_sites : NamedPackageTree → NamedMethodTree → List Site
 method_sites p m =
-    at_sites (for_types p) (variables_parts of_arg m.args ++ (variables_parts of_local m.locals ++ result_parts m.mark m.gives))
+    at_sites (for_types p) (variables_parts roles.Arg m.args ++ (variables_parts roles.Local m.locals ++ result_parts m.mark m.gives))
     ++ at_sites (in_method p m) (whole_body m.body ∷ block_parts m.body)
 
 -- All parts of a package.
 unfoldable pub sites : NamedPackageTree → List Site
 sites p =
     const_sites [] p.consts ++ (at_sites (for_types p) (map status_declared p.statuses)
-    ++ (at_sites (for_types p) (flat_map (λ x. variables_parts of_field x.fields) p.structs) ++ flat_map (method_sites p) p.methods))
+    ++ (at_sites (for_types p) (flat_map (λ x. variables_parts roles.Field x.fields) p.structs) ++ flat_map (method_sites p) p.methods))
 
 -- The package has this part, with this round it.
 abbrev pub IsPart : NamedPackageTree → Setting → Part → Type 0

@@ -5,7 +5,7 @@ use Rattle.wf_text.specs.declared.rules.Refusal.{Refusal}
 use Rattle.wf_text.specs.declared.rules.Rule.{Rule}
 use Rattle.wf_text.specs.declared.rules.Rule.TheVariants.{T1, T2, T3, T4, T5, E1, E2, E3, E4, E5}
 use Rattle.wf_named.specs.NamedTree.{NamedPackageTree}
-use Rattle.wf_types.specs.Meanings.{Setting}
+use Rattle.wf_types.specs.declared.settings.Setting.{Setting}
 use Rattle.wf_types.specs.Parts.{Part, IsPart}
 use Rattle.wf_types.specs.Judgements.{wrong_operand, unfit_operand, node_without_value, wrong_argument, unfit_argument, wrong_letter, wrong_type, misplaced_type, crossed_bounds, high_bound, no_elements, element_above_zero, begins_above_zero, value_no_number, value_outside, wrong_status, wrong_target, wrong_assigned, no_value_assigned, unfit_assigned, wrong_update, unfit_update, wrong_condition, wrong_return, unfit_return, reaches_end, impure_call, impure_write, coroutine_call, kept_outside, yielded_outside, call_inside, wrong_mark, not_kept_in_status, keeps_no_coroutine, wrong_yield}
 
