@@ -1,0 +1,4 @@
+pub mod Above
+pub mod Found
+pub mod Judged
+pub mod Paths
