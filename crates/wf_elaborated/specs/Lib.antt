@@ -1,0 +1,7 @@
+pub mod ElaboratedExprs
+pub mod ElaboratedPackage
+pub mod ElaboratedStmts
+pub mod ExampleStmts
+pub mod Examples
+pub mod Grammar
+pub mod MeaningTrees
