@@ -1,17 +1,19 @@
 -- Growing step by step, and what keeps while it does.
-use Rattle.std.proofs.Common.{◌≡◌, ◌+◌, ◌<◌, ◌≤◌, ℕ, List, [], ◌∷◌, ◌++◌, Option, Result, Ok, Err, IfOk, OnOk, length, slice_get, refl, sym, ap, ◌∙◌, subst, arith, length-append}
+use Rattle.std.proofs.Common.{◌≡◌, ◌<◌, ◌≤◌, ℕ, List, [], ◌∷◌, ◌++◌, Option, Result, Ok, Err, IfOk, OnOk, length, slice_get, refl, sym, ap, ◌∙◌, arith, length-append}
 use Rattle.std.specs.List.{AllByRecursion}
 use Rattle.wf_ast.specs.declared.numbers.ExprId.{ExprId}
 use Rattle.wf_ast.specs.declared.parsed.Given.{Given}
 use Rattle.wf_ast.specs.declared.parsed.Link.{Link}
 use Rattle.wf_ast.specs.declared.parsed.Prefix.{Prefix}
 use Rattle.wf_ast.specs.ParsedParts.{IsBelow, LinksBelow, GivenBelow, PrefixBelow}
-use Rattle.wf_ast.proofs.TreeLemmas.{all_map, slice_get-front}
+use Rattle.wf_ast.proofs.TreeLemmas.{slice_get-front}
 use Rattle.wf_named.specs.declared.nodes.NamedExprNode.{NamedExprNode}
-use Rattle.wf_named.specs.NamedTree.{NamedExprTree, NamedTypeTree}
+use Rattle.wf_named.specs.declared.nodes.NamedStmtNode.{NamedStmtNode}
+use Rattle.wf_named.specs.NamedTree.{NamedExprTree, NamedTypeTree, NamedStmtTree}
 use Rattle.wf_named.specs.NamedTrees.{expr_at, part_at, links_at, all_prefixed}
 use Rattle.wf_named.specs.NamedParts.{NamedParts, exprs_of, stmts_of, named_package}
 use Rattle.wf_named.proofs.ExprLemmas.{expr_at-same, part_at-same, links_at-same, all_prefixed-same, expr_trees-length}
+use Rattle.wf_named.proofs.StmtLemmas.{stmt_trees-length}
 use Rattle.wf_resolve.specs.Growth.{Keeps, Grows}
 use Rattle.wf_resolve.specs.Ordered.{given_tree, given_trees}
 
@@ -61,6 +63,25 @@ grows_expr p q n t e more stmts whole =
       whole = whole;
     }
 
+-- With one statement more.
+pub grows_stmt : (p q : NamedParts) (n : NamedStmtNode) (t : NamedStmtTree) → q ≡ record p { stmts = p.stmts ++ n ∷ [] } → stmts_of q ≡ stmts_of p ++ t ∷ []
+    → named_package q ≡ named_package p → Grows p q
+grows_stmt p q n t e more whole =
+    let texts : q.texts ≡ p.texts = ap (λ (x : NamedParts). x.texts) e in
+    let exprs : q.exprs ≡ p.exprs = ap (λ (x : NamedParts). x.exprs) e in
+    let nodes : q.stmts ≡ p.stmts ++ n ∷ [] = ap (λ (x : NamedParts). x.stmts) e in
+    let trees : exprs_of q ≡ exprs_of p = ap (λ (x : NamedParts). exprs_of x) e in
+    let count : length (stmts_of p) ≡ length p.stmts = stmt_trees-length p.texts p.exprs p.stmts in
+    record {
+      texts = omega (arith, ap (λ (xs : List (List ℕ)). length xs) texts);
+      exprs = omega (arith, ap (λ (xs : List NamedExprNode). length xs) exprs);
+      stmts = omega (arith, ap (λ (xs : List NamedStmtNode). length xs) nodes, length-append p.stmts (n ∷ []));
+      same_texts = λ i h. ap (λ xs. slice_get xs i) (sym texts);
+      same_exprs = λ i h. ap (λ xs. slice_get xs i) (sym trees);
+      same_stmts = λ i h. keeps_push (stmts_of p) (stmts_of q) t more i (omega (arith, h, count));
+      whole = whole;
+    }
+
 module _ (p q : NamedParts) (g : Grows p q) where
   pub expr_kept : (e : ExprId) → e.0 < length p.exprs → expr_at (exprs_of q) e ≡ expr_at (exprs_of p) e
   expr_kept e h = sym (expr_at-same (length p.exprs) (exprs_of p) (exprs_of q) g.same_exprs e h)
@@ -88,3 +109,11 @@ ok_grows p q s (Err e) g h = tt
 pub ok_is : {X Y E : Type 0} (f : X → Y) (s t : Y) (r : Result X E) → s ≡ t → IfOk r (λ x. f x ≡ s) → IfOk r (λ x. f x ≡ t)
 ok_is f s t (Ok x) e h = h ∙ e
 ok_is f s t (Err x) e h = tt
+
+pub ok_still : {X E : Type 0} (r : Result X E) (P : Type 0) → P → OnOk r P
+ok_still (Ok x) P h = h
+ok_still (Err e) P h = tt
+
+pub ok_so : {X E : Type 0} (r : Result X E) (P Q : X → Type 0) → ((x : X) → P x → Q x) → IfOk r P → IfOk r Q
+ok_so (Ok x) P Q f h = f x h
+ok_so (Err e) P Q f h = tt

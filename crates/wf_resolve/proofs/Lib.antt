@@ -1,3 +1,4 @@
+pub mod BlockLemmas
 pub mod Growth
 pub mod ResolveLemmas
 pub mod StmtLemmas

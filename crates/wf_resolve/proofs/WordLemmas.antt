@@ -1,9 +1,7 @@
 -- Names that keep their texts, while texts and nodes are added.
-use Rattle.std.proofs.Common.{◌≡◌, ◌⊎◌, ◌+◌, ◌<◌, ◌≤◌, ℕ, List, [], ◌∷◌, ◌++◌, Option, Some, None, length, drop, slice_get, slice_index_or, inl, inr, refl, sym, ap, ◌∙◌, subst, arith, length-append}
-use Rattle.std.specs.List.{AllByRecursion}
+use Rattle.std.proofs.Common.{◌≡◌, ◌+◌, ◌<◌, ◌≤◌, ℕ, List, [], ◌∷◌, ◌++◌, Option, Some, length, drop, slice_get, slice_index_or, inl, inr, refl, sym, ap, ◌∙◌, subst, arith, length-append}
 use Rattle.wf_ast.specs.declared.parsed.Given.{Given}
 use Rattle.wf_ast.specs.declared.parsed.Name.{Name}
-use Rattle.wf_ast.specs.declared.parsed.Via.{Via}
 use Rattle.wf_ast.specs.ParsedParts.{JoinsText, GivenBelow}
 use Rattle.wf_ast.proofs.TreeLemmas.{all_map, all_push, slice_get-front}
 use Rattle.wf_named.specs.declared.nodes.NamedExprNode.{NamedExprNode}
@@ -17,7 +15,7 @@ use Rattle.wf_names.specs.Declarations.{bytes_in}
 use Rattle.wf_names.proofs.WalkLemmas.{drop-one, given_at_place}
 use Rattle.wf_resolve.specs.Standing.{Standing}
 use Rattle.wf_resolve.specs.Resolved.{NamedGiven, word_of, letters_of}
-use Rattle.wf_resolve.specs.Ordered.{given_tree, given_trees}
+use Rattle.wf_resolve.specs.Ordered.{given_trees}
 use Rattle.wf_resolve.specs.Growth.{Keeps, Grows}
 use Rattle.wf_resolve.specs.Letters.{letters_by}
 use Rattle.wf_resolve.proofs.Growth.{grows_self, grows_more, expr_kept}

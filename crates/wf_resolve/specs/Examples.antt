@@ -1,21 +1,17 @@
 -- Parsed packages and parts of them, of which the resolved trees are computed.
 use Rattle.std.specs.Prelude.{◌+◌, ℕ, true, false, None, Some, List, [], ◌∷◌, ◌++◌, codes}
-use Rattle.wf_base.specs.declared.base_methods.BaseSig.TheVariants.{SkipFast}
-use Rattle.wf_ast.specs.declared.numbers.TextId.{TextId}
 use Rattle.wf_ast.specs.declared.operators.Op.TheVariants as ops
 use Rattle.wf_ast.specs.declared.parsed.Name.{Name}
 use Rattle.wf_ast.specs.declared.parsed.Path.{Path}
-use Rattle.wf_ast.specs.declared.parsed.Receiver.{Receiver}
 use Rattle.wf_ast.specs.declared.parsed.Receiver.TheVariants as receivers
 use Rattle.wf_ast.specs.declared.parsed.Root.{Root}
 use Rattle.wf_ast.specs.declared.parsed.Root.TheVariants as roots
-use Rattle.wf_ast.specs.declared.parsed.WrittenMark.TheVariants.{Unmarked, Exclamation, Question}
+use Rattle.wf_ast.specs.declared.parsed.WrittenMark.TheVariants.{Exclamation, Question}
 use Rattle.wf_ast.specs.ParsedTree as parsed
 use Rattle.wf_ast.specs.ParsedTree.{ExprTree, GivenTrees, TypeTree, StmtTree, BlockTree, DeclTree}
 use Rattle.wf_named.specs.NamedTree as tree
 use Rattle.wf_named.specs.NamedTree.{NamedArgTrees, NamedBlockTree}
 use Rattle.wf_named.specs.Examples.{at}
-use Rattle.wf_names.specs.declared.callees.Callee.{Callee}
 use Rattle.wf_names.specs.declared.callees.Callee.TheVariants as callees
 use Rattle.wf_names.specs.Declarations.{declared}
 use Rattle.wf_names.specs.Uses.{Scope}

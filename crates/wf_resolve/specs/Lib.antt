@@ -6,3 +6,4 @@ pub mod Package
 pub mod Prefixes
 pub mod Resolved
 pub mod Standing
+pub mod Statements

@@ -1,6 +1,6 @@
 -- The resolved tree of a parsed one, by what names stand for. What stands for nothing, which the rules of names don't
 -- leave, falls to the number 0.
-use Rattle.std.specs.Prelude.{◌+◌, ℕ, Bool, true, false, if◌then◌else◌, List, [], ◌∷◌, ◌++◌, map, Option, Some, None, nat_eq, bytes_eq, codes}
+use Rattle.std.specs.Prelude.{◌+◌, ℕ, Bool, false, if◌then◌else◌, List, [], ◌∷◌, ◌++◌, map, Option, Some, None, bytes_eq, codes}
 use Rattle.std.specs.List.{find, position_from}
 use Rattle.wf_base.specs.declared.marks.Mark.{Mark}
 use Rattle.wf_base.specs.declared.marks.Mark.TheVariants as marks

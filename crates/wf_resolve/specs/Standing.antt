@@ -1,5 +1,5 @@
 -- What names stand for, by number.
-use Rattle.std.specs.Prelude.{◌+◌, ℕ, List, [], ◌∷◌, map, Option, Some, None, option_map, slice_get, nat_eq}
+use Rattle.std.specs.Prelude.{◌+◌, ℕ, List, Option, Some, None, option_map, nat_eq}
 use Rattle.std.specs.List.{position_from}
 use Rattle.indexmap.specs.IndexMap.{get}
 use Rattle.wf_ast.specs.declared.parsed.Receiver.{Receiver}

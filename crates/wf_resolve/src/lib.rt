@@ -7,6 +7,8 @@ pub mod examples;
 pub mod numbers;
 pub mod parts;
 pub mod resolve_exprs;
+pub mod resolve_stmts;
+pub mod simple_stmts;
 pub mod stmt_parts;
 #[cfg(test)]
 mod tests;

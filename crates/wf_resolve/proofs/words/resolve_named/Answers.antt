@@ -1,10 +1,7 @@
-use Rattle.std.proofs.Common.{◌≡◌, ◌∙◌, sym, ap}
+use Rattle.std.proofs.Common.{◌∙◌, sym, ap}
 use Rattle.wf_ast.specs.ParsedTrees.{expr_trees, given_at}
-use Rattle.wf_named.specs.NamedTree as tree
-use Rattle.wf_named.specs.NamedTrees.{letters_at}
-use Rattle.wf_named.specs.NamedParts.{exprs_of}
 use Rattle.wf_resolve.specs.Standing.{standing_by}
-use Rattle.wf_resolve.specs.Resolved.{word_of, resolved_given}
+use Rattle.wf_resolve.specs.Resolved.{resolved_given}
 use Rattle.wf_resolve.specs.Letters.{letters_by}
 use Rattle.wf_resolve.proofs.Growth.{grows_more}
 use Rattle.wf_resolve.proofs.WordLemmas.{letters_by_of}
