@@ -1,0 +1,4 @@
+pub mod CallingLemmas
+pub mod FrontLemmas
+pub mod OrderLemmas
+pub mod WalkLemmas

@@ -1,0 +1,132 @@
+-- A walk that has begun with every number and has come back has an order of all of them.
+use Rattle.std.proofs.Common.{◌≡◌, ◌⊎◌, ℕ, zero, suc, ◌<◌, ◌≤◌, ◌||◌, Bool, true, false, List, [], ◌∷◌, ◌++◌, length, take, Some, slice_get, nat_eq, refl, sym, ap, ◌∙◌, subst, inl, inr, arith, length-append, append-nil}
+use Rattle.std.specs.List.{IsDistinct}
+use Rattle.std.proofs.lemmas.Bool.Decides.{nat_tests}
+use Rattle.std.proofs.lemmas.Map.Keys.{IsDistinct-push, apart_from_distinct}
+use Rattle.std.proofs.lemmas.Map.Made.{length-le_from_is_member}
+use Rattle.std.proofs.lemmas.Map.Steps.{length-le_from_distinct_below}
+use Rattle.std.proofs.lemmas.Option.{get_or_from_slice_get, slice_get_within}
+use Rattle.wf_names.specs.Graphs.{Path, last, more, holds, goes}
+use Rattle.wf_names.proofs.SearchLemmas.{same_number, number_self, numbers_equivalence}
+use Rattle.wf_order.specs.declared.walk.Walk.{Walk}
+use Rattle.wf_order.specs.Orders.{IsOrder, HasCircle}
+use Rattle.wf_order.specs.Walking.{Walks, has_begun}
+use Rattle.wf_order.proofs.WalkLemmas.{either, holds-pushed, walk-few}
+
+-- The numbers below a number.
+abbrev below : ℕ → List ℕ
+below zero = []
+below (suc n) = below n ++ n ∷ []
+
+below-long : (n : ℕ) → length (below n) ≡ n
+below-long zero = refl
+below-long (suc n) = omega (arith, below-long n, length-append (below n) (n ∷ []))
+
+below-has : (n b : ℕ) → holds (below n) b ≡ true → b < n
+below-has zero b h = absurd (cc h)
+below-has (suc n) b h = elim (either (nat_eq b n) (holds (below n) b) (sym (holds-pushed (below n) n b) ∙ h)) [
+  | inl p ↦ omega (arith, same_number b n p)
+  | inr q ↦ omega (arith, below-has n b q)
+]
+
+not-true : (t : Bool) → (t ≡ true → ⊥) → t ≡ false
+not-true true h = absurd (h refl)
+not-true false h = refl
+
+below-distinct : (n : ℕ) → IsDistinct nat_eq (below n)
+unfolding IsDistinct
+below-distinct zero = tt
+below-distinct (suc n) = IsDistinct-push numbers_equivalence (below n) n (below-distinct n) (not-true (holds (below n) n) (λ h. absurd (omega (arith, below-has n n h))))
+
+-- A list that has all numbers below one is as long as that at least.
+all-long : (n : ℕ) (ks : List ℕ) → ((b : ℕ) → b < n → holds ks b ≡ true) → n ≤ length ks
+all-long n ks h = omega (arith, below-long n, length-le_from_is_member numbers_equivalence (below n) ks (below-distinct n) (λ b m. h b (below-has n b m)))
+
+pub order-made : (rows : List (List ℕ)) (walk : Walk) → Walks rows walk → walk.path.items ≡ [] → ((b : ℕ) → b < length rows → has_begun walk b ≡ true) → IsOrder rows walk.order.items
+order-made rows walk h empty all = record {
+  whole = omega (arith, walk-few rows walk.order.items walk.path.items h.going, all-long (length rows) walk.order.items (λ b l. sym (same b) ∙ all b l));
+  within = λ b k. h.going.within b (same b ∙ k);
+  once = let P : List ℕ → Type 0 = IsDistinct nat_eq in subst P alone h.going.once;
+  behind = h.going.behind;
+}
+  where
+    alone : walk.order.items ++ walk.path.items ≡ walk.order.items
+    alone = ap (λ l. walk.order.items ++ l) empty ∙ append-nil walk.order.items
+
+    same : (b : ℕ) → has_begun walk b ≡ holds walk.order.items b
+    same b = ap (λ l. holds l b) alone
+
+-- What stands in front of a place has a place of its own there.
+take-at : (ks : List ℕ) (i a : ℕ) → holds (take i ks) a ≡ true → (j : ℕ) × ((j < i) × (slice_get ks j ≡ Some a))
+take-at ks zero a h = absurd (let none : false ≡ true = h in cc none)
+take-at [] (suc i) a h = absurd (cc h)
+take-at (k ∷ ks) (suc i) a h = elim (either (nat_eq a k) (holds (take i ks) a) h) [
+  | inl p ↦ (0, (omega arith, ap Some (sym (same_number a k p))))
+  | inr q ↦ let r = take-at ks i a q in (suc r.0, (omega (arith, r.1.0), r.1.1))
+]
+
+at-take : (ks : List ℕ) (i j a : ℕ) → j < i → slice_get ks j ≡ Some a → holds (take i ks) a ≡ true
+at-take ks zero j a l h = absurd (omega (arith, l))
+at-take [] (suc i) j a l h = absurd (cc h)
+at-take (k ∷ ks) (suc i) zero a l h = let same : k ≡ a = cc h in let P : ℕ → Type 0 = λ x. (nat_eq a x || holds (take i ks) a) ≡ true in subst P (sym same) (ap (λ t. t || holds (take i ks) a) (number_self a))
+at-take (k ∷ ks) (suc i) (suc j) a l h = or-right (nat_eq a k) (holds (take i ks) a) (at-take ks i j a (omega (arith, l)) h)
+  where
+    or-right : (x y : Bool) → y ≡ true → (x || y) ≡ true
+    or-right true y h = refl
+    or-right false y h = h
+
+found-at : (ks : List ℕ) (a : ℕ) → holds ks a ≡ true → (j : ℕ) × (slice_get ks j ≡ Some a)
+found-at [] a h = absurd (cc h)
+found-at (k ∷ ks) a h = elim (either (nat_eq a k) (holds ks a) h) [
+  | inl p ↦ (0, ap Some (sym (same_number a k p)))
+  | inr q ↦ let r = found-at ks a q in (suc r.0, r.1)
+]
+
+-- A number of a list with no two equal doesn't stand in front of itself.
+pub once-apart : (ks : List ℕ) (i a : ℕ) → IsDistinct nat_eq ks → slice_get ks i ≡ Some a → holds (take i ks) a ≡ true → ⊥
+once-apart ks i a h at k =
+    let r = take-at ks i a k in
+    let differ = apart_from_distinct nat_eq ks r.0 i 0 h r.1.0 (slice_get_within ks i a at) in
+    let first = get_or_from_slice_get ks r.0 a 0 r.1.1 in
+    let second = get_or_from_slice_get ks i a 0 at in
+    grind (arith, nat_tests, differ, first, second)
+
+-- Only a number of the graph goes anywhere.
+pub goes-below : (rows : List (List ℕ)) (a b : ℕ) → goes rows a b ≡ true → a < length rows
+goes-below [] a b g = absurd (cc g)
+goes-below (r ∷ rs) zero b g = omega arith
+goes-below (r ∷ rs) (suc a) b g = omega (arith, goes-below rs a b g)
+
+module _ (rows : List (List ℕ)) (order : List ℕ) (h : IsOrder rows order) where
+  -- The order has every number of the graph.
+  has-all : (a : ℕ) → a < length rows → holds order a ≡ true
+  has-all a l = by_test (holds order a) refl
+    where
+      by_test : (t : Bool) → holds order a ≡ t → t ≡ true
+      by_test true e = refl
+      by_test false e =
+          let longer = IsDistinct-push numbers_equivalence order a h.once e in
+          let within : (q : ℕ) → holds (order ++ a ∷ []) q ≡ true → q < length rows = λ q k. inside q (either (nat_eq q a) (holds order q) (sym (holds-pushed order a q) ∙ k)) in
+          let most = length-le_from_distinct_below (order ++ a ∷ []) (length rows) longer within in
+          absurd (omega (arith, most, h.whole, length-append order (a ∷ [])))
+        where
+          inside : (q : ℕ) → (nat_eq q a ≡ true) ⊎ (holds order q ≡ true) → q < length rows
+          inside q (inl p) = omega (arith, l, same_number q a p)
+          inside q (inr k) = h.within q k
+
+  -- What a way leads to stands in front.
+  way-behind : (i a b : ℕ) → slice_get order i ≡ Some a → Path (goes rows) a b → holds (take i order) b ≡ true
+  way-behind i _ _ at (last a b s) = h.behind i a b at s
+  way-behind i _ _ at (more a b c s p) =
+      let r = take-at order i b (h.behind i a b at s) in
+      let q = take-at order r.0 c (way-behind r.0 b c r.1.1 p) in
+      at-take order i q.0 c (omega (arith, q.1.0, r.1.0)) q.1.1
+
+  pub no-circle : HasCircle rows → ⊥
+  no-circle c =
+      let r = found-at order c.0 (has-all c.0 (begins c.0 c.0 c.1)) in
+      once-apart order r.0 c.0 h.once r.1 (way-behind r.0 c.0 c.0 r.1 c.1)
+    where
+      begins : (a b : ℕ) → Path (goes rows) a b → a < length rows
+      begins _ _ (last a b s) = goes-below rows a b s
+      begins _ _ (more a b c s p) = goes-below rows a b s

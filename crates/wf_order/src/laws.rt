@@ -1,0 +1,44 @@
+// An order of the graph of calls is an order of the resolved package. Each law is the contract of a function that does
+// nothing.
+
+ghost use Rattle.std.specs.Prelude.{◌≡◌, ◌≤◌, ℕ, true, [], None, List, length, nat_eq};
+ghost use Rattle.wf_text.specs.declared.rules.Refusal.{Refusal};
+ghost use Rattle.wf_text.specs.Precedence.{Decides};
+ghost use Rattle.wf_ast.specs.ParsedTree.{DeclTree};
+ghost use Rattle.wf_named.specs.WellNamed.{calls_in_front};
+ghost use Rattle.wf_names.specs.Declarations.{Declared, declared, methods_of};
+ghost use Rattle.wf_names.specs.Graphs.{AreWithin};
+ghost use Rattle.wf_names.specs.NameRules.{DeclarationBreaks, UseBreaks, CircleBreaks};
+ghost use Rattle.wf_circles.specs.Called.{AreRows};
+ghost use Rattle.wf_resolve.specs.Package.{resolved_package};
+ghost use Rattle.wf_order.specs.Calling.{AreOpen};
+ghost use Rattle.wf_order.specs.Orders.{IsOrder, HasCircle};
+
+/// A graph that has an order has no circle: so the order that is found, and the circle that is met, exclude each other.
+pub fn an_order_has_no_circle()
+    ensures { (rows : List (List ℕ)) (order : List ℕ) → IsOrder rows order → HasCircle rows → ⊥ }
+{}
+
+/// The rows of the calls of a package are a graph over their own numbers (clause `within`), which is small where no rule
+/// of declarations is broken (clause `few`), and a circle in it breaks a rule (clause `circle`).
+pub fn rows_of_calls_are_a_graph()
+    ensures within { (d : Declared) (rows : List (List ℕ)) → AreRows d rows (length d.methods) → AreWithin rows (length rows) }
+    ensures few { (d : Declared) (rows : List (List ℕ)) → AreRows d rows (length d.methods) → Decides (DeclarationBreaks d) None → length rows ≤ 1024 }
+    ensures circle { (d : Declared) (rows : List (List ℕ)) → AreRows d rows (length d.methods) → HasCircle rows → (s : Refusal) × CircleBreaks d s }
+{}
+
+/// Where the uses of names break no rule every call is of a method that may be called there.
+pub fn where_no_rule_is_broken_calls_are_open()
+    ensures { (d : Declared) → Decides (UseBreaks d) None → AreOpen d }
+{}
+
+/// With an order of the graph of calls a resolved package has all its methods in its order (clause `whole`), and each
+/// calls only those in front of it, if each call is of a method that may be called there (clause `front`).
+pub fn an_order_of_calls_is_one_of_the_package()
+    ensures whole { (name : List ℕ) (texts : List (List ℕ)) (decls : List DeclTree) (order : List ℕ) (rows : List (List ℕ))
+        → AreRows (declared texts decls) rows (length (methods_of decls)) → IsOrder rows order
+        → nat_eq (length order) (length (resolved_package name texts decls order).methods) ≡ true }
+    ensures front { (name : List ℕ) (texts : List (List ℕ)) (decls : List DeclTree) (order : List ℕ) (rows : List (List ℕ))
+        → AreRows (declared texts decls) rows (length (methods_of decls)) → IsOrder rows order → AreOpen (declared texts decls)
+        → calls_in_front (resolved_package name texts decls order) [] order ≡ true }
+{}

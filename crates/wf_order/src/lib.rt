@@ -1,0 +1,8 @@
+// The methods of a package in an order in which each stands behind those that it calls.
+#![tactic(auto)]
+
+pub mod laws;
+pub mod order;
+#[cfg(test)]
+mod tests;
+mod walk;
