@@ -1,0 +1,15 @@
+pub mod ApartLemmas
+pub mod ArgumentLemmas
+pub mod CalleeLemmas
+pub mod DeclLaws
+pub mod ExprLaws
+pub mod KeptLaws
+pub mod KindLemmas
+pub mod ListLemmas
+pub mod LoopLemmas
+pub mod PackageLaws
+pub mod PackageLemmas
+pub mod ScopeLemmas
+pub mod StmtLaws
+pub mod VariableLemmas
+pub mod WholeLaws
