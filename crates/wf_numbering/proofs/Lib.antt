@@ -1,0 +1,4 @@
+pub mod NumberLemmas
+pub mod StandingLemmas
+pub mod StructLemmas
+pub mod ScopeLemmas
