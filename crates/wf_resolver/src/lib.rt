@@ -1,0 +1,7 @@
+// The resolved package of a parsed one: its declarations with their names and types, each where its own scope is known.
+#![tactic(auto)]
+
+pub mod adding;
+pub mod declarations;
+pub mod packages;
+pub mod variables;
