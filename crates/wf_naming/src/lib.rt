@@ -1,0 +1,6 @@
+// The phase of names: a parsed package is refused by the rules of names, or its names are resolved.
+#![tactic(auto)]
+
+pub mod resolving;
+#[cfg(test)]
+mod tests;
