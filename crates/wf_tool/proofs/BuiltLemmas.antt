@@ -1,5 +1,5 @@
 -- What the nodes of a package say, declaration by declaration.
-use Rattle.std.proofs.Common.{◌≡◌, ◌≤◌, ◌<◌, ◌+◌, ℕ, zero, suc, Bool, List, [], ◌∷◌, length, drop, Option, None, Some, refl, sym, ap, ◌∙◌, subst, arith}
+use Rattle.std.proofs.Common.{◌≡◌, ◌≤◌, ◌+◌, ℕ, zero, suc, Bool, List, [], ◌∷◌, length, drop, Option, None, Some, refl, sym, ap, ◌∙◌, subst, arith}
 use Rattle.std.specs.Option.{option_or}
 use Rattle.std.specs.List.{slice_get}
 use Rattle.wf_text.specs.declared.place.Place.{Place}
@@ -10,16 +10,13 @@ use Rattle.wf_ast.specs.declared.parsed.Core.TheVariants as cores
 use Rattle.wf_ast.specs.declared.parsed.DeclNode.{DeclNode}
 use Rattle.wf_ast.specs.declared.parsed.Decl.{Decl}
 use Rattle.wf_ast.specs.declared.parsed.Decl.TheVariants as decls
-use Rattle.wf_ast.specs.declared.parsed.Expr.{Expr}
-use Rattle.wf_ast.specs.declared.parsed.Expr.TheVariants as exprs
 use Rattle.wf_ast.specs.declared.parsed.Prefix.{Prefix}
 use Rattle.wf_ast.specs.declared.parsed.Prefix.TheVariants as prefixes
 use Rattle.wf_ast.specs.declared.parsed.TypeExpr.{TypeExpr}
 use Rattle.wf_ast.specs.ParsedParts.{Parsed}
-use Rattle.wf_ast.specs.ParsedTree.{ExprTree, TypeTree, StmtTree, DeclTree}
+use Rattle.wf_ast.specs.ParsedTree.{ExprTree, TypeTree, StmtTree}
 use Rattle.wf_ast.specs.ParsedTrees.{all_prefixed, core_at, prefixed, type_at, decl_made, decl_trees, decls_made, expr_trees, stmt_trees}
 use Rattle.wf_parse.specs.Parsing.{decls_of}
-use Rattle.wf_tool.specs.declared.declarations.BaseType.{BaseType}
 use Rattle.wf_tool.specs.Built.{base_type_of, built, first_unbuilt, first_violation, unless_built, where_built, word_place}
 
 -- a type with a prefix isn't `base.` and a name

@@ -1,4 +1,5 @@
 pub mod BuiltLemmas
+pub mod JudgingLemmas
 pub mod RefusalFiles
 pub mod RefusedLine
 pub mod TakingLemmas

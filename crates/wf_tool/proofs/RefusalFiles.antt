@@ -1,31 +1,31 @@
 -- A refusal stands in one of the package's files.
-use Rattle.std.proofs.Common.{◌≡◌, ◌≤◌, ◌<◌, ◌+◌, ◌-◌, ℕ, suc, Bool, true, false, if◌then◌else◌, nat_le, List, [], ◌∷◌, length, Option, None, Some, refl, sym, ap, ◌∙◌, subst, arith}
+use Rattle.std.proofs.Common.{◌≡◌, ◌<◌, ◌+◌, ◌-◌, ℕ, Bool, true, false, if◌then◌else◌, nat_le, List, [], ◌∷◌, length, Option, None, Some, refl, sym, ap, ◌∙◌, arith}
 use Rattle.std.proofs.lemmas.Bool.{leb-false}
 use Rattle.std.specs.List.{AllByRecursion}
 use Rattle.std.specs.Option.{option_or}
 use Rattle.wf_text.specs.declared.place.Place.{Place}
 use Rattle.wf_text.specs.declared.rules.Refusal.{Refusal}
-use Rattle.wf_text.specs.declared.rules.Rule.TheVariants.{L1, L2, N9, T1, T5}
+use Rattle.wf_text.specs.declared.rules.Rule.TheVariants.{L1, L2, T5}
 use Rattle.wf_ast.specs.ParsedTree.{DeclTree}
 use Rattle.wf_grammar.specs.declared.tokens.Token.{Token}
-use Rattle.wf_grammar.specs.Grammar.{ExprForm, Alone, Pair, Chained, Converted, OperandForm, Plain, Negated, AtomForm, ANumber, Grouped, TypeForm, BaseType, StatusType, SliceType, ArrayType, StructType, NoBounds, Bounds}
-use Rattle.wf_grammar.specs.Grammar.{PublicForm, IsPub, IsPri, DeclForm, AStatus, AConst, AStruct, AFunc, atom_before, operand_before, expr_before, type_before, public_before, decl_before}
-use Rattle.wf_grammar.specs.Meaning.{atom_tree, operand_tree, expr_tree, type_tree, decl_tree}
-use Rattle.wf_parse.specs.OneReading.{IsOfFile, IsOfFiles}
+use Rattle.wf_grammar.specs.Grammar.{ExprForm, Alone, Pair, Chained, Converted, Plain, Negated, AtomForm, ANumber, Grouped, TypeForm, BaseType, StatusType, SliceType, ArrayType, StructType, NoBounds, Bounds}
+use Rattle.wf_grammar.specs.Grammar.{IsPub, IsPri, DeclForm, AStatus, AConst, AStruct, AFunc, atom_before, expr_before, type_before, decl_before}
+use Rattle.wf_grammar.specs.Meaning.{atom_tree, expr_tree, type_tree, decl_tree}
+use Rattle.wf_parse.specs.OneReading.{IsOfFiles}
 use Rattle.wf_parse.specs.Parsing.{decls_of}
 use Rattle.wf_parse.proofs.DeclPlaces.{decls_have_files}
 use Rattle.wf_parse.proofs.RefusalPlaces.{InFile, refusals_have_files}
+use Rattle.wf_places.proofs.FilePlaces.{packages_break_in_files}
 use Rattle.wf_tokens.specs.Places.{first_place}
 use Rattle.wf_tool.specs.declared.declarations.BaseType.{BaseType as Base}
 use Rattle.wf_tool.specs.declared.declarations.Declaration.{Declaration}
-use Rattle.wf_tool.specs.declared.declarations.Declaration.TheVariants.{Status, Constant}
+use Rattle.wf_tool.specs.declared.declarations.Declaration.TheVariants.{Status}
 use Rattle.wf_tool.specs.declared.declarations.Literal.{Literal}
 use Rattle.wf_tool.specs.Answer.{AreHeld}
 use Rattle.wf_tool.specs.Built.{text_of, word_place, base_type_of, literal_of, constant_of, built, unless_built, where_built, first_unbuilt, first_violation, first_broken}
 use Rattle.wf_tool.specs.Sizes.{most_bytes, most_files, too_many, too_long, too_large}
-use Rattle.wf_tool.specs.StatusRule.{is_lawful_status}
 use Rattle.wf_tool.specs.TypeRules.{greatest_of, constant_violation, violation_of}
-use Rattle.wf_tool.specs.Verdict.{IsRefused, RefusalsHaveFiles, large, misread, broken}
+use Rattle.wf_tool.specs.Verdict.{IsRefused, RefusalsHaveFiles, large, misread, misnamed, broken}
 use Rattle.wf_tool.proofs.TakingLemmas.{AreHeld-length}
 
 some-is : {A : Type 0} (a b : A) → Some a ≡ Some b → a ≡ b
@@ -171,6 +171,7 @@ broken-files count texts decls refusal a e =
 pub verdict-files : RefusalsHaveFiles
 verdict-files name files refusal (large r) = large-file files refusal r
 verdict-files name files refusal (misread r) = refusals_have_files files refusal r.misread
+verdict-files name files refusal (misnamed r) = packages_break_in_files name files r.read r.parsed refusal r.decides.breaks
 verdict-files name files refusal (broken r) = broken-files (length files) r.read.texts (decls_of r.read) refusal (decls_have_files name files r.read r.parsed) r.broken
 
 -- It is one of the files that the words name.

@@ -1,15 +1,19 @@
 -- What becomes of the files that the words name: they are taken one after the other, within a number of bytes.
-use Rattle.std.specs.Prelude.{ℕ, ◌+◌, ⊤, List, [], ◌∷◌, length, Option, None, Some, IfSome, Result, Ok, Err, ◌≡◌, ◌≤◌, ◌<◌}
+use Rattle.std.specs.Prelude.{ℕ, ◌+◌, ◌⊎◌, ⊤, List, length, Option, None, Some, IfSome, Result, Ok, Err, ◌≡◌, ◌≤◌, ◌<◌}
 use Rattle.wf_text.specs.declared.faults.PhaseFault.{PhaseFault}
 use Rattle.wf_text.specs.declared.faults.PhaseFault.TheVariants as phase
 use Rattle.wf_text.specs.declared.rules.Refusal.{Refusal}
 use Rattle.wf_text.specs.declared.rules.Rule.TheVariants.{L1}
+use Rattle.wf_text.specs.Precedence.{IsFirst}
+use Rattle.wf_ast.specs.ParsedParts.{Parsed}
+use Rattle.wf_parse.specs.Parsing.{decls_of}
 use Rattle.wf_tokens.specs.Places.{first_place}
 use Rattle.wf_tool.specs.declared.taking.TakingFault.{TakingFault}
 use Rattle.wf_tool.specs.declared.taking.TakingFault.TheVariants.{Refused, Failed, Memory}
 use Rattle.wf_tool.specs.Answer.{AreHeld, FailsAt, file_name}
+use Rattle.wf_tool.specs.Built.{first_broken}
 use Rattle.wf_tool.specs.Sizes.{most_bytes, too_long, too_many}
-use Rattle.wf_tool.specs.Verdict.{IsAccepted, IsRefused}
+use Rattle.wf_tool.specs.Verdict.{BreaksNames, KeepsNames, IsAccepted, IsRefused}
 
 -- One file, with `most` bytes left for it: these are its bytes.
 abbrev pub TakesFile : (held : List ℕ → Option (List ℕ)) → (most : ℕ) → (name : List ℕ) → (bytes : List ℕ) → Type 0
@@ -48,6 +52,12 @@ abbrev pub NamesFailed : (failed : Option (List ℕ)) → (names : List (List �
 NamesFailed failed names (Refused refusal) = ⊤
 NamesFailed failed names (Failed at) = IfSome failed (λ last. last ≡ file_name names at)
 NamesFailed failed names Memory = ⊤
+
+-- The verdict on a package that is read: its names come in front of its forms and types.
+abbrev pub JudgesRead : Parsed → Result (Unit {0}) PhaseFault → Type 0
+JudgesRead read (Ok _) = KeepsNames read × (first_broken read.texts (decls_of read) ≡ None)
+JudgesRead read (Err (phase.Refused refusal)) = IsFirst (BreaksNames read) refusal ⊎ (KeepsNames read × (first_broken read.texts (decls_of read) ≡ Some refusal))
+JudgesRead read (Err phase.Memory) = ⊤
 
 -- The verdict on files whose bytes are within the limits.
 abbrev pub Judges : (name : List ℕ) → (files : List (List ℕ)) → Result (Unit {0}) PhaseFault → Type 0

@@ -2,11 +2,13 @@
 
 ghost use Rattle.std.specs.Prelude.{◌≡◌, ◌-◌, ◌^◌, ◌<◌, ◌≤◌, None, length, map, string_bytes, IfErr, IfNone};
 ghost use Rattle.wf_tool.specs.Sizes.{too_large, too_many};
-ghost use Rattle.wf_tool.specs.Taken.{CountsTaking, Judges, JudgesPackage, NamesFailed};
+ghost use Rattle.wf_tool.specs.Taken.{CountsTaking, Judges, JudgesPackage, JudgesRead, NamesFailed};
 
 use crate::building::first_broken;
 use crate::taking::{TakingFault, first_place, take_files};
 use std::alloc::Global;
+use wf_ast::Package;
+use wf_name_rules::deciding::deciding;
 use wf_outside::Inputs;
 use wf_parse::parse;
 use wf_text::{PhaseFault, Refusal, Rule};
@@ -29,16 +31,31 @@ fn too_many(count: usize) -> Option<Refusal>
     }
 }
 
+/// Decides whether a package that is read is accepted: by its names, then by its forms and types.
+fn judge_read(alloc: Global, parsed: &Package) -> Result<(), PhaseFault>
+    requires { length parsed.now.decls < 2 ^ 32 - 1 }
+    ensures { JudgesRead parsed.now result }
+{
+    let found = match deciding(alloc, parsed) {
+        Ok(found) => found,
+        Err(_) => return Err(PhaseFault::Memory),
+    };
+    match found {
+        Some(misnamed) => Err(PhaseFault::Refused(misnamed)),
+        None => match first_broken(parsed) {
+            None => Ok(()),
+            Some(refusal) => Err(PhaseFault::Refused(refusal)),
+        },
+    }
+}
+
 /// Decides whether a package is accepted, whose files are within the limits. An Err is the refusal that decides.
 pub fn judge_files(alloc: Global, name: &str, files: &[Vec<u8>]) -> Result<(), PhaseFault>
     requires { too_large (map (λ bytes. bytes.items) files.now) ≡ None }
     ensures { Judges name.now (map (λ bytes. bytes.items) files.now) result }
 {
     match parse(alloc, name, files) {
-        Ok(package) => match first_broken(&package) {
-            None => Ok(()),
-            Some(refusal) => Err(PhaseFault::Refused(refusal)),
-        },
+        Ok(parsed) => judge_read(alloc, &parsed),
         Err(fault) => Err(fault),
     }
 }

@@ -156,7 +156,10 @@ fn judges_files(rt: HostRuntime) -> Result<(), Fail> {
             "refused N9 k.wuffs:1:5\n",
         ),
         (b"pri const X : base.status = 1", "refused N9 k.wuffs:1:5\n"),
-        (b"pri const X : s = 1", "refused N9 k.wuffs:1:5\n"),
+        (
+            b"pri const X : s = 1\npub struct s()",
+            "refused N9 k.wuffs:1:5\n",
+        ),
         (
             b"pri const X : base.u8 = 256\npub struct s()",
             "refused N9 k.wuffs:2:5\n",
@@ -183,14 +186,120 @@ fn judges_files(rt: HostRuntime) -> Result<(), Fail> {
 }
 
 #[test]
+fn judges_names(rt: HostRuntime) -> Result<(), Fail> {
+    let rows: [(&[u8], &str); 19] = [
+        (b"pri const A : base.u8 = B", "refused N1 k.wuffs:1:25\n"),
+        (b"pri const X : s = 1", "refused N1 k.wuffs:1:15\n"),
+        (
+            b"pub status \"#a\"\npri status \"#a\"",
+            "refused N2 k.wuffs:2:12\n",
+        ),
+        (b"pub status \"#a\"\npri status \"#b\"", "ok 0 methods\n"),
+        (b"pri const _a : base.u8 = 1", "refused N3 k.wuffs:1:11\n"),
+        (b"pri const a_a : base.u8 = 1", "ok 0 methods\n"),
+        (
+            b"pub struct a(b : c)\npub struct c(d : a)",
+            "refused N4 k.wuffs:1:12\n",
+        ),
+        (
+            b"pub struct a(b : c)\npub struct c(d : base.u8)",
+            "refused N9 k.wuffs:1:5\n",
+        ),
+        (
+            b"pub struct s()\npub func s.f() {\nbreak\n}",
+            "refused N5 k.wuffs:3:1\n",
+        ),
+        (
+            b"pub struct s()\npri func s.g(a: base.u8) {}\npub func s.f!() {\nthis.g!(a: 1, b: 2)\n}",
+            "refused N6 k.wuffs:4:15\n",
+        ),
+        (
+            b"pub struct s()\npri func s.g(a: base.u8) {}\npub func s.f!() {\nthis.g!()\n}",
+            "refused N7 k.wuffs:4:6\n",
+        ),
+        (
+            b"pub struct s()\npri func s.g(a: base.u8) {}\npub func s.f!() {\nthis.g!(a: 1)\n}",
+            "refused N9 k.wuffs:1:5\n",
+        ),
+        (
+            b"pub struct t()\npub func t.g() {}\npub struct s()\npub func s.f!() {\nthis.g!()\n}",
+            "refused N8 k.wuffs:5:6\n",
+        ),
+        (
+            b"pub struct s(a : array[65537] base.u8)",
+            "refused L7 k.wuffs:1:14\n",
+        ),
+        (
+            b"pub struct s(a : array[65536] base.u8)",
+            "refused N9 k.wuffs:1:5\n",
+        ),
+        (
+            b"pub struct s()\npri const A : base.u8 = B",
+            "refused N1 k.wuffs:2:25\n",
+        ),
+        (
+            b"pri const X : base.u8 = 256\npri const X : base.u8 = 1",
+            "refused N2 k.wuffs:2:11\n",
+        ),
+        (b"pri const a_ : base.u8 = b", "refused N3 k.wuffs:1:11\n"),
+        (
+            b"pri const X : base.u8 = Y\npub",
+            "refused S5 k.wuffs:2:4\n",
+        ),
+    ];
+    for (bytes, line) in rows {
+        let ending = if line.starts_with("ok") {
+            Ending::Done
+        } else {
+            Ending::Refused
+        };
+        let good = answers(rt.alloc(), "check k k.wuffs", bytes, ending, line)?;
+        assert!(rt; good, "{line}");
+    }
+    Ok(())
+}
+
+#[test]
+fn judges_names_of_packages(rt: HostRuntime) -> Result<(), Fail> {
+    let alloc = rt.alloc();
+    let status: &[u8] = b"pub status \"#a\"";
+    let unknown: &[u8] = b"pub struct s(x : t)";
+    let known: &[u8] = b"pri struct t()";
+    let reserved: &[u8] = b"\npri const _a : base.u8 = 1";
+    let cut: &[u8] = b"\npub";
+    let refused = Ending::Refused;
+    assert!(rt; answers_files(alloc, &[status, status], refused, "refused N2 f1:1:12\n")?);
+    assert!(rt;
+        answers_files(
+            alloc,
+            &[status, unknown, reserved],
+            refused,
+            "refused N1 f1:1:18\n"
+        )?
+    );
+    assert!(rt;
+        answers_files(
+            alloc,
+            &[status, reserved, unknown],
+            refused,
+            "refused N3 f1:2:11\n"
+        )?
+    );
+    assert!(rt; answers_files(alloc, &[unknown, cut], refused, "refused S5 f1:2:4\n")?);
+    assert!(rt; answers_files(alloc, &[unknown, known], refused, "refused N9 f0:1:5\n")?);
+    Ok(())
+}
+
+#[test]
 fn judges_packages(rt: HostRuntime) -> Result<(), Fail> {
     let alloc = rt.alloc();
     let fine: &[u8] = b"pub status \"#a\"";
+    let other: &[u8] = b"pub status \"#b\"";
     let cut: &[u8] = b"\npub";
     let large: &[u8] = b"pri const X : base.u8 = 256";
     let unbuilt: &[u8] = b"pri struct s()";
     let refused = Ending::Refused;
-    assert!(rt; answers_files(alloc, &[fine, fine], Ending::Done, "ok 0 methods\n")?);
+    assert!(rt; answers_files(alloc, &[fine, other], Ending::Done, "ok 0 methods\n")?);
     assert!(rt; answers_files(alloc, &[fine, cut], refused, "refused S5 f1:2:4\n")?);
     assert!(rt; answers_files(alloc, &[cut, cut], refused, "refused S5 f0:2:4\n")?);
     assert!(rt; answers_files(alloc, &[large, cut], refused, "refused S5 f1:2:4\n")?);

@@ -1,4 +1,4 @@
-use Rattle.std.proofs.Common.{◌≤◌, ◌-◌, ◌+◌, ◌∙◌, length, map, string_bytes, ap, arith}
+use Rattle.std.proofs.Common.{◌≤◌, ◌∙◌, length, string_bytes, ap, arith}
 use Rattle.wf_tool.proofs.TakingLemmas.{pushed, stopped, taken-all}
 use Rattle.wf_tool.proofs.taking.take_files.Goals as goal
 
