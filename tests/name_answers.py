@@ -3,11 +3,12 @@
 
 usage: name_answers.py PROGRAM [NAME]    only the packages whose name has NAME in it
 Each package is one file n.wuffs of package n; a bar with blanks round it ends a line. An answer is a rule with its
-line and column, or `later` where no rule of names is broken and the answer is left to the later phases: then no answer
-of the rules N1 to N8, L6 and L7 may come.
+line and column, or `later` where no rule of names is broken: then N9 has to come at the word of the first declaration
+that isn't built, and where all are built the package is accepted.
 """
 import os
 import pathlib
+import re
 import subprocess
 import sys
 import tempfile
@@ -137,17 +138,34 @@ PACKAGES = [
     ("the 257th local doubles the first", S + method(*[f"var x{i} : base.u8" for i in range(256)], "var x0 : base.u8"), "N2 261:5"),
 ]
 
-OURS = ("N1", "N2", "N3", "N4", "N5", "N6", "N7", "N8", "L6", "L7")
+# The declarations that are built: statuses, and constants whose value is a number alone.
+BUILT = re.compile(r'(pub|pri) (status "[^"]*"|const \w+ : base\.\w+ = [0-9]\w*)$')
 
 
-def answer(program, text):
+def lines_of(text):
+    return text.split(" | ")
+
+
+def later(text):
+    """What comes where the names are kept: N9 at the first declaration that isn't built, at its second word."""
+    for number, line in enumerate(lines_of(text), 1):
+        if line.startswith(("pub ", "pri ")) and not BUILT.match(line):
+            return f"refused N9 n.wuffs:{number}:5\n"
+    return "ok 0 methods\n"
+
+
+def wanted_line(text, right):
+    if right == "later":
+        return later(text)
+    rule, place = right.split(" ")
+    return f"refused {rule} n.wuffs:{place}\n"
+
+
+def run(program, text):
     with tempfile.TemporaryDirectory() as folder:
-        pathlib.Path(folder, "n.wuffs").write_text("\n".join(text.split(" | ")) + "\n")
+        pathlib.Path(folder, "n.wuffs").write_text("\n".join(lines_of(text)) + "\n")
         ended = subprocess.run([program, "check", "n", "n.wuffs"], cwd=folder, stdin=subprocess.DEVNULL, capture_output=True, timeout=60)
-        words = ended.stdout.decode(errors="replace").split()
-    if words[:1] == ["refused"] and words[1] in OURS:
-        return words[1] + " " + ":".join(words[2].split(":")[1:])
-    return "later"
+        return ended.stdout.decode(errors="replace"), ended.returncode
 
 
 def main():
@@ -157,12 +175,14 @@ def main():
     for name, text, right in PACKAGES:
         if wanted not in name:
             continue
-        got = answer(program, text)
-        if got == right:
+        line = wanted_line(text, right)
+        answer = line, int(line.startswith("refused"))
+        came = run(program, text)
+        if came == answer:
             passed += 1
         else:
             failed += 1
-            print(f"{name}: {got}, not {right}")
+            print(f"{name}:\n  wanted {answer!r}\n  came   {came!r}")
     print(f"{passed} passed, {failed} failed")
     sys.exit(failed != 0)
 
