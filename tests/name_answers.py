@@ -3,12 +3,12 @@
 
 usage: name_answers.py PROGRAM [NAME]    only the packages whose name has NAME in it
 Each package is one file n.wuffs of package n; a bar with blanks round it ends a line. An answer is a rule with its
-line and column, or `later` where no rule of names is broken: then N9 has to come at the word of the first declaration
-that isn't built, and where all are built the package is accepted.
+line and column: a rule of names, and where none is broken the rule of types or effects that is. It is `later` where
+these are kept too: then N9 has to come at the word of the first method that has a statement other than `var`, and
+where there is none the package is accepted.
 """
 import os
 import pathlib
-import re
 import subprocess
 import sys
 import tempfile
@@ -57,7 +57,7 @@ PACKAGES = [
     ("the length of an array", ROWS + method("var y : base.u64", "y = this.a.length()"), "later"),
     ("a writer's method on a reader", S + method("args.a.write_u8?(a: 1)", args="a: base.io_reader"), "N1 5:8"),
     ("a method that a field's struct doesn't have", SUB + " | pub func s.g?() { | this.x.gone!() | }", "N1 10:8"),
-    ("a method of a field's struct", SUB + " | pub func s.g?() { | this.x.open!() | }", "later"),
+    ("a method of a field's struct", SUB + " | pub func s.g?() { | this.x.open!() | }", "E3 10:8"),
     # N2: twice
     ("a status twice", 'pub status "#a" | pub status "#b" | pri status "#a"', "N2 3:12"),
     ("a constant twice", "pri const A : base.u8 = 1 | pri const A : base.u8 = 1", "N2 2:11"),
@@ -76,7 +76,7 @@ PACKAGES = [
     ("a label again behind its loop", S + method("while.a true {", "break.a", "} endwhile.a", "while.a true {", "break.a", "} endwhile.a"), "later"),
     ("an argument given twice", S + " | pri func s.g(a: base.u8) {}" + method("this.g!(a: 1, a: 2)"), "N2 6:15"),
     ("a reader passed twice", S + " | pri func s.g?(a: base.io_reader, b: base.io_reader) {}" + method("this.g?(a: args.r, b: args.r)", args="r: base.io_reader"), "N2 6:23"),
-    ("a number passed twice", S + " | pri func s.g(a: base.u8, b: base.u8) {}" + method("this.g!(a: args.r, b: args.r)", args="r: base.u8"), "later"),
+    ("a number passed twice", S + " | pri func s.g(a: base.u8, b: base.u8) {}" + method("this.g!(a: args.r, b: args.r)", args="r: base.u8"), "E3 6:6"),
     # N3: reserved
     ("a name that begins with an underscore", "pri const _a : base.u8 = 1", "N3 1:11"),
     ("a name that ends with one", "pub struct s( | a_ : base.u8, | )", "N3 2:1"),
@@ -95,7 +95,7 @@ PACKAGES = [
     ("a struct that holds itself", "pub struct s( | x : s, | )", "N4 1:12"),
     ("structs that hold each other", "pub struct a( | x : b, | ) | pub struct b( | y : a, | )", "N4 1:12"),
     ("a struct that holds one that holds itself", "pub struct a( | x : b, | ) | pub struct b( | y : b, | )", "N4 4:12"),
-    ("an array of the struct itself", "pub struct s( | x : array[2] s, | )", "later"),
+    ("an array of the struct itself", "pub struct s( | x : array[2] s, | )", "T1 2:5"),
     # N5: jumps
     ("a break outside every loop", S + method("break"), "N5 5:1"),
     ("a continue behind a loop", S + method("while true {", "break", "} endwhile", "continue"), "N5 8:1"),
@@ -107,11 +107,11 @@ PACKAGES = [
     ("an argument that a base method doesn't have", S + method("args.r.skip_u32?(m: 1, n: 1)", args="r: base.io_reader"), "N6 5:18"),
     ("an argument that is missing", S + " | pri func s.g(a: base.u8, b: base.u8) {}" + method("this.g!(b: 1)"), "N7 6:6"),
     ("a base method's argument that is missing", S + method("args.r.skip_u32?()", args="r: base.io_reader"), "N7 5:8"),
-    ("arguments in another order", S + " | pri func s.g(a: base.u8, b: base.u8) {}" + method("this.g!(b: 1, a: 2)"), "later"),
+    ("arguments in another order", S + " | pri func s.g(a: base.u8, b: base.u8) {}" + method("this.g!(b: 1, a: 2)"), "E3 6:6"),
     # N8: methods of another struct
     ("a method of another struct on this", SUB + " | pub func s.g?() { | this.open!() | }", "N8 10:6"),
     ("a private method through a field", SUB + " | pub func s.g?() { | this.x.shut!() | }", "N8 10:8"),
-    ("a method of its own", S + " | pri func s.g() {}" + method("this.g!()"), "later"),
+    ("a method of its own", S + " | pri func s.g() {}" + method("this.g!()"), "E3 6:6"),
     # L6 and L7: limits
     ("1,025 methods", "pub struct s()" + "".join(f" | pub func s.f{i}() {{}}" for i in range(1025)), "L6 1026:12"),
     ("1,024 methods", "pub struct s()" + "".join(f" | pub func s.f{i}() {{}}" for i in range(1024)), "later"),
@@ -138,20 +138,30 @@ PACKAGES = [
     ("the 257th local doubles the first", S + method(*[f"var x{i} : base.u8" for i in range(256)], "var x0 : base.u8"), "N2 261:5"),
 ]
 
-# The declarations that are built: statuses, and constants whose value is a number alone.
-BUILT = re.compile(r'(pub|pri) (status "[^"]*"|const \w+ : base\.\w+ = [0-9]\w*)$')
-
 
 def lines_of(text):
     return text.split(" | ")
 
 
+def has_statement(lines, number):
+    """Whether the body of the method that begins at a line has a statement other than `var`."""
+    while not lines[number].endswith(("{", "{}")):
+        number += 1
+    if lines[number].endswith("{}"):
+        return False
+    body = lines[number + 1:]
+    first = next(line for line in body if not line.startswith("var "))
+    return first != "}"
+
+
 def later(text):
-    """What comes where the names are kept: N9 at the first declaration that isn't built, at its second word."""
-    for number, line in enumerate(lines_of(text), 1):
-        if line.startswith(("pub ", "pri ")) and not BUILT.match(line):
-            return f"refused N9 n.wuffs:{number}:5\n"
-    return "ok 0 methods\n"
+    """What comes where the rules are kept."""
+    lines = lines_of(text)
+    methods = [number for number, line in enumerate(lines) if line[4:].startswith("func ")]
+    for number in methods:
+        if has_statement(lines, number):
+            return f"refused N9 n.wuffs:{number + 1}:5\n"
+    return f"ok {len(methods)} methods\n"
 
 
 def wanted_line(text, right):

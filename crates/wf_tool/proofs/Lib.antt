@@ -1,5 +1,6 @@
 pub mod BuiltLemmas
 pub mod JudgingLemmas
+pub mod OrderLemmas
 pub mod RefusalFiles
 pub mod RefusedLine
 pub mod TakingLemmas

@@ -9,8 +9,7 @@ use Rattle.wf_text.specs.declared.rules.Rule.TheVariants.{L1, L2}
 use Rattle.wf_tokens.specs.Places.{first_place}
 use Rattle.wf_tool.specs.declared.taking.TakingFault.{TakingFault}
 use Rattle.wf_tool.specs.declared.taking.TakingFault.TheVariants.{Refused, Failed, Memory}
-use Rattle.wf_tool.specs.Answer.{AreHeld, FailsAt, file_name}
-use Rattle.wf_tool.specs.Built.{text_or}
+use Rattle.wf_tool.specs.Answer.{AreHeld, FailsAt, file_name, text_or}
 use Rattle.wf_tool.specs.Sizes.{too_large, too_long, too_many, most_bytes}
 use Rattle.wf_tool.specs.Taken.{JudgesPackage, NamesFailed, NamesFile, RefusesHeld, StopsFile, StopsFiles, TakesFile, TakesFiles}
 use Rattle.wf_tool.specs.Verdict.{large}

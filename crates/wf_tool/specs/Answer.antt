@@ -5,7 +5,6 @@ use Rattle.wf_text.specs.declared.rules.Refusal.{Refusal}
 use Rattle.wf_tool.specs.declared.ending.Ending.{Ending}
 use Rattle.wf_tool.specs.declared.ending.Ending.TheVariants.{Done, Refused, Usage, InputFault, OutputFault, ScriptRefused, NoMemory, Turns, TextRefused, Undefined}
 use Rattle.wf_tool.specs.Lines.{accepted_line, fault_line, refused_line, usage_line}
-use Rattle.wf_tool.specs.Built.{text_or}
 use Rattle.wf_tool.specs.Sizes.{most_bytes, too_many}
 use Rattle.wf_tool.specs.Verdict.{IsAccepted, IsRefused}
 use Rattle.wf_tool.specs.Words.{ToCheck, to_check}
@@ -15,6 +14,11 @@ abbrev pub AreHeld : (held : List ℕ → Option (List ℕ)) → (names files : 
 AreHeld held [] [] = ⊤
 AreHeld held (name ∷ names) (bytes ∷ files) = IfSome (held name) (λ told. bytes ≡ told) × AreHeld held names files
 AreHeld held _ _ = ⊥
+
+-- The bytes that are told, and none where none are.
+abbrev pub text_or : Option (List ℕ) → List ℕ
+text_or (Some text) = text
+text_or None = []
 
 -- The name of a file by its number. A number that names no file has no bytes.
 abbrev pub file_name : (names : List (List ℕ)) → (number : ℕ) → List ℕ
@@ -31,14 +35,15 @@ pub record CallsForRefusal (held : List ℕ → Option (List ℕ)) (words : List
   pub there : refusal.at.file < length asked.files
   pub writes : line ≡ refused_line (file_name asked.files refusal.at.file) refusal
 
--- The package is accepted.
+-- The package is accepted. The line tells how many methods it declares.
 pub record CallsForDone (held : List ℕ → Option (List ℕ)) (words : List (List ℕ)) (line : List ℕ) : Type 0 where
   pub asked : ToCheck
   pub files : List (List ℕ)
+  pub methods : ℕ
   pub named : to_check words ≡ Some asked
   pub hold : AreHeld held asked.files files
-  pub verdict : IsAccepted asked.package_name files
-  pub writes : line ≡ accepted_line
+  pub verdict : IsAccepted asked.package_name files methods
+  pub writes : line ≡ accepted_line methods
 
 -- This file failed, and those in front of it were taken, within `most` bytes together.
 abbrev pub FailsAt : (held : List ℕ → Option (List ℕ)) → (most : ℕ) → (names : List (List ℕ)) → (number : ℕ) → Type 0

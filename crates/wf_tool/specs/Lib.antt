@@ -2,9 +2,7 @@ pub mod Answer
 pub mod Built
 pub mod Lines
 pub mod Sizes
-pub mod StatusRule
 pub mod Statuses
 pub mod Taken
-pub mod TypeRules
 pub mod Verdict
 pub mod Words

@@ -9,9 +9,9 @@ line_end = 10 ∷ []
 abbrev pub usage_line : List ℕ
 usage_line = codes "usage: wuffsc COMMAND PKG [SCRIPT] FILE" ++ line_end
 
--- No method can be read yet.
-abbrev pub accepted_line : List ℕ
-accepted_line = codes "ok 0 methods" ++ line_end
+-- `ok N methods`
+unfoldable pub accepted_line : (methods : ℕ) → List ℕ
+accepted_line methods = codes "ok " ++ (decimal methods ++ (codes " methods" ++ line_end))
 
 -- `refused RULE FILE:LINE:COL`
 unfoldable pub refused_line : (file : List ℕ) → Refusal → List ℕ

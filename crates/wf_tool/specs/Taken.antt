@@ -4,16 +4,18 @@ use Rattle.wf_text.specs.declared.faults.PhaseFault.{PhaseFault}
 use Rattle.wf_text.specs.declared.faults.PhaseFault.TheVariants as phase
 use Rattle.wf_text.specs.declared.rules.Refusal.{Refusal}
 use Rattle.wf_text.specs.declared.rules.Rule.TheVariants.{L1}
-use Rattle.wf_text.specs.Precedence.{IsFirst}
+use Rattle.wf_text.specs.Precedence.{Decides, IsFirst}
 use Rattle.wf_ast.specs.ParsedParts.{Parsed}
 use Rattle.wf_parse.specs.Parsing.{decls_of}
 use Rattle.wf_tokens.specs.Places.{first_place}
+use Rattle.wf_named.specs.NamedTree.{NamedPackageTree}
+use Rattle.wf_types.specs.TypeRules.{Breaks}
 use Rattle.wf_tool.specs.declared.taking.TakingFault.{TakingFault}
 use Rattle.wf_tool.specs.declared.taking.TakingFault.TheVariants.{Refused, Failed, Memory}
 use Rattle.wf_tool.specs.Answer.{AreHeld, FailsAt, file_name}
-use Rattle.wf_tool.specs.Built.{first_broken}
+use Rattle.wf_tool.specs.Built.{first_unbuilt, method_count}
 use Rattle.wf_tool.specs.Sizes.{most_bytes, too_long, too_many}
-use Rattle.wf_tool.specs.Verdict.{BreaksNames, KeepsNames, IsAccepted, IsRefused}
+use Rattle.wf_tool.specs.Verdict.{BreaksNames, KeepsNames, BreaksTypes, KeepsTypes, IsAccepted, IsRefused}
 
 -- One file, with `most` bytes left for it: these are its bytes.
 abbrev pub TakesFile : (held : List ℕ → Option (List ℕ)) → (most : ℕ) → (name : List ℕ) → (bytes : List ℕ) → Type 0
@@ -53,23 +55,33 @@ NamesFailed failed names (Refused refusal) = ⊤
 NamesFailed failed names (Failed at) = IfSome failed (λ last. last ≡ file_name names at)
 NamesFailed failed names Memory = ⊤
 
--- The verdict on a package that is read: its names come in front of its forms and types.
-abbrev pub JudgesRead : Parsed → Result (Unit {0}) PhaseFault → Type 0
-JudgesRead read (Ok _) = KeepsNames read × (first_broken read.texts (decls_of read) ≡ None)
-JudgesRead read (Err (phase.Refused refusal)) = IsFirst (BreaksNames read) refusal ⊎ (KeepsNames read × (first_broken read.texts (decls_of read) ≡ Some refusal))
+-- The verdict on a package that is read, with the number of its methods: its names come in front of its types, and these
+-- in front of what isn't built.
+abbrev pub JudgesRead : Parsed → Result ℕ PhaseFault → Type 0
+JudgesRead read (Ok methods) = KeepsNames read × KeepsTypes read × (first_unbuilt (decls_of read) ≡ None) × (methods ≡ method_count (decls_of read))
+JudgesRead read (Err (phase.Refused refusal)) =
+    IsFirst (BreaksNames read) refusal
+    ⊎ ((KeepsNames read × IsFirst (BreaksTypes read) refusal)
+    ⊎ (KeepsNames read × KeepsTypes read × (first_unbuilt (decls_of read) ≡ Some refusal)))
 JudgesRead read (Err phase.Memory) = ⊤
 
+-- The verdict on a package whose names are resolved: by its types, and then by what isn't built.
+abbrev pub JudgesNamed : NamedPackageTree → (unbuilt : Option Refusal) → Result ℕ PhaseFault → Type 0
+JudgesNamed p unbuilt (Ok methods) = Decides (Breaks p) None × (unbuilt ≡ None) × (methods ≡ length p.methods)
+JudgesNamed p unbuilt (Err (phase.Refused refusal)) = IsFirst (Breaks p) refusal ⊎ (Decides (Breaks p) None × (unbuilt ≡ Some refusal))
+JudgesNamed p unbuilt (Err phase.Memory) = ⊤
+
 -- The verdict on files whose bytes are within the limits.
-abbrev pub Judges : (name : List ℕ) → (files : List (List ℕ)) → Result (Unit {0}) PhaseFault → Type 0
-Judges name files (Ok _) = IsAccepted name files
+abbrev pub Judges : (name : List ℕ) → (files : List (List ℕ)) → Result ℕ PhaseFault → Type 0
+Judges name files (Ok methods) = IsAccepted name files methods
 Judges name files (Err (phase.Refused refusal)) = IsRefused name files refusal
 Judges name files (Err phase.Memory) = ⊤
 
--- The package is accepted, for bytes that its files hold.
-pub record AcceptsHeld (held : List ℕ → Option (List ℕ)) (name : List ℕ) (names : List (List ℕ)) : Type 0 where
+-- The package is accepted with so many methods, for bytes that its files hold.
+pub record AcceptsHeld (held : List ℕ → Option (List ℕ)) (name : List ℕ) (names : List (List ℕ)) (methods : ℕ) : Type 0 where
   pub files : List (List ℕ)
   pub hold : AreHeld held names files
-  pub verdict : IsAccepted name files
+  pub verdict : IsAccepted name files methods
 
 -- It is refused, for bytes that they hold.
 pub record RefusesHeld (held : List ℕ → Option (List ℕ)) (name : List ℕ) (names : List (List ℕ)) (refusal : Refusal) : Type 0 where
@@ -83,8 +95,8 @@ pub record FailsHeld (held : List ℕ → Option (List ℕ)) (names : List (List
   pub fails : FailsAt held most_bytes names number
 
 -- What becomes of the package that the words name.
-abbrev pub JudgesPackage : (held : List ℕ → Option (List ℕ)) → (name : List ℕ) → (names : List (List ℕ)) → Result (Unit {0}) TakingFault → Type 0
-JudgesPackage held name names (Ok _) = AcceptsHeld held name names
+abbrev pub JudgesPackage : (held : List ℕ → Option (List ℕ)) → (name : List ℕ) → (names : List (List ℕ)) → Result ℕ TakingFault → Type 0
+JudgesPackage held name names (Ok methods) = AcceptsHeld held name names methods
 JudgesPackage held name names (Err (Refused refusal)) = RefusesHeld held name names refusal
 JudgesPackage held name names (Err (Failed at)) = FailsHeld held names at
 JudgesPackage held name names (Err Memory) = ⊤

@@ -1,30 +1,48 @@
 -- The verdict on a package, by the bytes of its files in order.
-use Rattle.std.specs.Prelude.{ℕ, List, None, Some, length, ◌≡◌, ◌<◌}
+use Rattle.std.specs.Prelude.{ℕ, List, [], None, Some, length, ◌≡◌, ◌<◌}
 use Rattle.wf_text.specs.declared.rules.Refusal.{Refusal}
 use Rattle.wf_text.specs.Precedence.{IsFirst}
 use Rattle.wf_ast.specs.ParsedParts.{Parsed}
 use Rattle.wf_parse.specs.Parsing.{IsParsed, IsRefusedBy, decls_of}
 use Rattle.wf_names.specs.Declarations.{declared}
-use Rattle.wf_names.specs.NameRules.{Breaks}
-use Rattle.wf_tool.specs.Built.{first_broken}
+use Rattle.wf_names.specs.NameRules as names
+use Rattle.wf_named.specs.NamedTree.{NamedPackageTree}
+use Rattle.wf_resolve.specs.Package.{resolved_package}
+use Rattle.wf_types.specs.TypeRules as types
+use Rattle.wf_tool.specs.Built.{first_unbuilt, method_count}
 use Rattle.wf_tool.specs.Sizes.{too_large}
 
 -- What a package that is read breaks of the rules of names: N1 to N8, L6 and L7.
 abbrev pub BreaksNames : Parsed → Refusal → Type 0
-BreaksNames read = Breaks (declared read.texts (decls_of read))
+BreaksNames read = names.Breaks (declared read.texts (decls_of read))
 
 -- It keeps them all.
 abbrev pub KeepsNames : Parsed → Type 0
 KeepsNames read = (refusal : Refusal) → BreaksNames read refusal → ⊥
 
--- The files are within the limits and of the grammar, they keep the rules of names, each declaration is built, and none
--- breaks a rule of types.
-pub record IsAccepted (name : List ℕ) (files : List (List ℕ)) : Type 0 where
+-- The package with every name standing for what it names. The rules of types don't ask in which order its methods call
+-- one another, so none is told here.
+abbrev pub resolved : Parsed → NamedPackageTree
+resolved read = resolved_package read.name read.texts (decls_of read) []
+
+-- What it breaks of the rules of types and effects: T1 to T5 and E1 to E5.
+abbrev pub BreaksTypes : Parsed → Refusal → Type 0
+BreaksTypes read = types.Breaks (resolved read)
+
+-- It keeps them all.
+abbrev pub KeepsTypes : Parsed → Type 0
+KeepsTypes read = (refusal : Refusal) → BreaksTypes read refusal → ⊥
+
+-- The files are within the limits and of the grammar, they keep the rules of names, of types and of effects, and no
+-- method has a statement. So many methods are declared.
+pub record IsAccepted (name : List ℕ) (files : List (List ℕ)) (methods : ℕ) : Type 0 where
   pub sized : too_large files ≡ None
   pub read : Parsed
   pub parsed : IsParsed name files read
   pub names : KeepsNames read
-  pub kept : first_broken read.texts (decls_of read) ≡ None
+  pub types : KeepsTypes read
+  pub built : first_unbuilt (decls_of read) ≡ None
+  pub counted : methods ≡ method_count (decls_of read)
 
 -- S, L3, L4 and L5: the files can't be read.
 pub record IsMisread (files : List (List ℕ)) (refusal : Refusal) : Type 0 where
@@ -38,24 +56,36 @@ pub record IsMisnamed (name : List ℕ) (files : List (List ℕ)) (refusal : Ref
   pub parsed : IsParsed name files read
   pub decides : IsFirst (BreaksNames read) refusal
 
--- N9, T1 and T5: the files are read and keep the rules of names, and a declaration isn't built or breaks a rule of types.
-pub record IsBroken (name : List ℕ) (files : List (List ℕ)) (refusal : Refusal) : Type 0 where
+-- T1 to T5 and E1 to E5: the files are read and keep the rules of names, and of all that they break of the rules of types
+-- and effects this decides.
+pub record IsMistyped (name : List ℕ) (files : List (List ℕ)) (refusal : Refusal) : Type 0 where
   pub sized : too_large files ≡ None
   pub read : Parsed
   pub parsed : IsParsed name files read
   pub names : KeepsNames read
-  pub broken : first_broken read.texts (decls_of read) ≡ Some refusal
+  pub decides : IsFirst (BreaksTypes read) refusal
+
+-- N9: the files are read and keep the rules of names, of types and of effects, and a method has a statement.
+pub record IsUnbuilt (name : List ℕ) (files : List (List ℕ)) (refusal : Refusal) : Type 0 where
+  pub sized : too_large files ≡ None
+  pub read : Parsed
+  pub parsed : IsParsed name files read
+  pub names : KeepsNames read
+  pub types : KeepsTypes read
+  pub unbuilt : first_unbuilt (decls_of read) ≡ Some refusal
 
 -- Why a package is refused.
 pub data IsRefused (name : List ℕ) (files : List (List ℕ)) (refusal : Refusal) : Type 0 where
   large : too_large files ≡ Some refusal → IsRefused name files refusal
   misread : IsMisread files refusal → IsRefused name files refusal
   misnamed : IsMisnamed name files refusal → IsRefused name files refusal
-  broken : IsBroken name files refusal → IsRefused name files refusal
+  mistyped : IsMistyped name files refusal → IsRefused name files refusal
+  unbuilt : IsUnbuilt name files refusal → IsRefused name files refusal
 
--- A package isn't both accepted and refused, and it is refused in one way only.
+-- A package isn't both accepted and refused, it is accepted with one number of methods, and it is refused in one way only.
 pub record VerdictsExclude : Type 0 where
-  pub one_answer : (name : List ℕ) (files : List (List ℕ)) (refusal : Refusal) → IsAccepted name files → IsRefused name files refusal → ⊥
+  pub one_answer : (name : List ℕ) (files : List (List ℕ)) (methods : ℕ) (refusal : Refusal) → IsAccepted name files methods → IsRefused name files refusal → ⊥
+  pub one_count : (name : List ℕ) (files : List (List ℕ)) (methods other : ℕ) → IsAccepted name files methods → IsAccepted name files other → methods ≡ other
   pub one_refusal : (name : List ℕ) (files : List (List ℕ)) (refusal other : Refusal) → IsRefused name files refusal → IsRefused name files other → refusal ≡ other
 
 -- A refusal stands in one of the package's files.

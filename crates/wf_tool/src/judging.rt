@@ -1,17 +1,21 @@
 // The files of a package are taken, and their bytes are judged.
 
 ghost use Rattle.std.specs.Prelude.{◌≡◌, ◌-◌, ◌^◌, ◌<◌, ◌≤◌, None, length, map, string_bytes, IfErr, IfNone};
+ghost use Rattle.wf_named.specs.NamedParts.{named_package};
+ghost use Rattle.wf_tool.specs.Built.{first_unbuilt};
 ghost use Rattle.wf_tool.specs.Sizes.{too_large, too_many};
-ghost use Rattle.wf_tool.specs.Taken.{CountsTaking, Judges, JudgesPackage, JudgesRead, NamesFailed};
+ghost use Rattle.wf_tool.specs.Taken.{CountsTaking, Judges, JudgesNamed, JudgesPackage, JudgesRead, NamesFailed};
 
-use crate::building::first_broken;
+use crate::building::first_unbuilt;
 use crate::taking::{TakingFault, first_place, take_files};
 use std::alloc::Global;
 use wf_ast::Package;
-use wf_name_rules::deciding::deciding;
+use wf_named::Named;
+use wf_naming::resolving::resolve;
 use wf_outside::Inputs;
 use wf_parse::parse;
 use wf_text::{PhaseFault, Refusal, Rule};
+use wf_type_verdict::packages::type_refusal;
 
 /// How many files a package may have.
 const MOST_FILES: usize = 16;
@@ -31,42 +35,53 @@ fn too_many(count: usize) -> Option<Refusal>
     }
 }
 
-/// Decides whether a package that is read is accepted: by its names, then by its forms and types.
-fn judge_read(alloc: Global, parsed: &Package) -> Result<(), PhaseFault>
-    requires { length parsed.now.decls < 2 ^ 32 - 1 }
-    ensures { JudgesRead parsed.now result }
+/// Decides whether a package whose names are resolved is accepted: by its types and effects, then by what isn't built. Ok is
+/// the number of its methods.
+fn judge_named(alloc: Global, named: &Named, unbuilt: Option<Refusal>) -> Result<usize, PhaseFault>
+    ensures { JudgesNamed (named_package named.now) unbuilt result }
 {
-    let found = match deciding(alloc, parsed) {
-        Ok(found) => found,
-        Err(_) => return Err(PhaseFault::Memory),
-    };
-    match found {
-        Some(misnamed) => Err(PhaseFault::Refused(misnamed)),
-        None => match first_broken(parsed) {
-            None => Ok(()),
+    match type_refusal(alloc, named) {
+        Ok(None) => match unbuilt {
+            None => Ok(named.nodes().methods().len()),
             Some(refusal) => Err(PhaseFault::Refused(refusal)),
         },
+        Ok(Some(mistyped)) => Err(PhaseFault::Refused(mistyped)),
+        Err(_) => Err(PhaseFault::Memory),
     }
 }
 
-/// Decides whether a package is accepted, whose files are within the limits. An Err is the refusal that decides.
-pub fn judge_files(alloc: Global, name: &str, files: &[Vec<u8>]) -> Result<(), PhaseFault>
+/// Decides whether a package that is read is accepted: by its names, then by its types, then by what isn't built.
+fn judge_read(alloc: Global, parsed: Package) -> Result<usize, PhaseFault>
+    requires { length parsed.decls < 2 ^ 32 - 1 }
+    ensures { JudgesRead parsed result }
+{
+    let unbuilt = first_unbuilt(&parsed);
+    match resolve(alloc, parsed) {
+        Ok(named) => judge_named(alloc, &named, unbuilt),
+        Err(misnamed) => Err(misnamed),
+    }
+}
+
+/// Decides whether a package is accepted, whose files are within the limits. Ok is the number of its methods, and Err the
+/// refusal that decides.
+pub fn judge_files(alloc: Global, name: &str, files: &[Vec<u8>]) -> Result<usize, PhaseFault>
     requires { too_large (map (λ bytes. bytes.items) files.now) ≡ None }
     ensures { Judges name.now (map (λ bytes. bytes.items) files.now) result }
 {
     match parse(alloc, name, files) {
-        Ok(parsed) => judge_read(alloc, &parsed),
+        Ok(parsed) => judge_read(alloc, parsed),
         Err(fault) => Err(fault),
     }
 }
 
-/// Takes the files with these names, which aren't too many, and judges the package that they make.
+/// Takes the files with these names, which aren't too many, and judges the package that they make. Ok is the number of its
+/// methods.
 fn judge_few<I: Inputs>(
     alloc: Global,
     name: &str,
     names: &[String],
     inputs: &mut I,
-) -> Result<(), TakingFault>
+) -> Result<usize, TakingFault>
     requires few { too_many (length names.now) ≡ None }
     requires number { length names.now ≤ 16 }
     requires faults { I.faults inputs.old < 2 ^ 64 - 1 }
@@ -77,7 +92,7 @@ fn judge_few<I: Inputs>(
 {
     match take_files(alloc, names, inputs) {
         Ok(files) => match judge_files(alloc, name, files.as_slice()) {
-            Ok(()) => Ok(()),
+            Ok(methods) => Ok(methods),
             Err(PhaseFault::Refused(refusal)) => Err(TakingFault::Refused(refusal)),
             Err(PhaseFault::Memory) => Err(TakingFault::Memory),
         },
@@ -85,13 +100,13 @@ fn judge_few<I: Inputs>(
     }
 }
 
-/// Judges the package with this name, whose files have these names.
+/// Judges the package with this name, whose files have these names. Ok is the number of its methods.
 pub fn judge_package<I: Inputs>(
     alloc: Global,
     name: &str,
     names: &[String],
     inputs: &mut I,
-) -> Result<(), TakingFault>
+) -> Result<usize, TakingFault>
     requires { I.faults inputs.old < 2 ^ 64 - 1 }
     ensures verdict { JudgesPackage (I.held inputs.old) name.now (map (λ name. string_bytes name) names.now) result }
     ensures count { CountsTaking (I.faults inputs.old) (I.faults inputs.new) result }

@@ -1,19 +1,21 @@
 // The program as one call: from the words of a command to what is written and how the program ends, over any
-// inputs and any sink. `check PACKAGE FILE...` is the one command. A package is read whole; statuses and numeric
-// constants are built.
+// inputs and any sink. `check PACKAGE FILE...` is the one command. A package is read whole and judged by the rules of names,
+// of types and of effects; methods without statements are built.
 #![tactic(auto)]
 
 mod building;
-mod declarations;
+#[cfg(test)]
+mod declared_type_tests;
 pub mod ending;
 mod judging;
 mod laws;
 mod lines;
-mod status_rule;
 mod taking;
 #[cfg(test)]
 mod tests;
 pub mod tool;
+#[cfg(test)]
+mod type_tests;
 mod words;
 
 pub use ending::Ending;

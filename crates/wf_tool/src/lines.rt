@@ -13,11 +13,12 @@ pub fn usage_line(alloc: Global) -> Result<String, AllocError>
     String::from_str(alloc, "usage: wuffsc COMMAND PKG [SCRIPT] FILE\n")
 }
 
-/// What an accepted package gets.
-pub fn accepted_line(alloc: Global) -> Result<String, AllocError>
-    ensures { IfOk result (λ line. string_bytes line ≡ accepted_line) }
+/// `ok N methods`, which an accepted package with so many methods gets.
+#[tactic(auto, unfolding(crate::specs::Lines::accepted_line))]
+pub fn accepted_line(alloc: Global, methods: usize) -> Result<String, AllocError>
+    ensures { IfOk result (λ line. string_bytes line ≡ accepted_line methods) }
 {
-    String::from_str(alloc, "ok 0 methods\n")
+    format!(in alloc; "ok {methods} methods\n")
 }
 
 /// `refused RULE FILE:LINE:COL`

@@ -60,6 +60,27 @@ fn answers(
     Ok(came == ending && written.as_slice() == line.as_bytes())
 }
 
+/// Whether a file of these parts makes the program write this line, and end as it says.
+pub fn tells(alloc: Global, parts: &[&str], line: &str) -> Result<bool, AllocError> {
+    let mut bytes: Vec<u8> = Vec::new(alloc);
+    for part in parts {
+        bytes.extend_from_slice(part.as_bytes())?;
+    }
+    let ending = if line.starts_with("ok") {
+        Ending::Done
+    } else {
+        Ending::Refused
+    };
+    let line = format!(in alloc; "{line}\n")?;
+    answers(
+        alloc,
+        "check k k.wuffs",
+        bytes.as_slice(),
+        ending,
+        line.as_str(),
+    )
+}
+
 // How the program ends and what it writes, over files `f0`, `f1` and so on, in this order.
 fn outcome_of(alloc: Global, files: &[&[u8]]) -> Result<(Ending, Vec<u8>), AllocError> {
     let mut words = words_of(alloc, "check k")?;
@@ -131,7 +152,7 @@ fn judges_files(rt: HostRuntime) -> Result<(), Fail> {
         (b"pub status \"#\"", "refused T5 k.wuffs:1:12\n"),
         (b"pub status \"#a??\"", "refused T5 k.wuffs:1:12\n"),
         (b"pub status \"#a?b?\"", "ok 0 methods\n"),
-        (b"pub struct s()", "refused N9 k.wuffs:1:5\n"),
+        (b"pub struct s()", "ok 0 methods\n"),
         (b"pub status ok", "refused S5 k.wuffs:1:12\n"),
         (
             b"pri const X : base.u16 = 65536; pub",
@@ -142,32 +163,29 @@ fn judges_files(rt: HostRuntime) -> Result<(), Fail> {
             b"pri const X : base.u8 = ((256))",
             "refused T5 k.wuffs:1:27\n",
         ),
-        (b"pri const X : base.u8 = 1 + 2", "refused N9 k.wuffs:1:5\n"),
-        (
-            b"pri const X : base.u8[..= 9] = 1",
-            "refused N9 k.wuffs:1:5\n",
-        ),
+        (b"pri const X : base.u8 = 1 + 2", "ok 0 methods\n"),
+        (b"pri const X : base.u8[..= 9] = 1", "ok 0 methods\n"),
         (
             b"pri const X : slice base.u8 = 1",
-            "refused N9 k.wuffs:1:5\n",
+            "refused T1 k.wuffs:1:15\n",
         ),
         (
             b"pri const X : array[2] base.u8 = 1",
-            "refused N9 k.wuffs:1:5\n",
+            "refused T1 k.wuffs:1:15\n",
         ),
-        (b"pri const X : base.status = 1", "refused N9 k.wuffs:1:5\n"),
+        (
+            b"pri const X : base.status = 1",
+            "refused T1 k.wuffs:1:15\n",
+        ),
         (
             b"pri const X : s = 1\npub struct s()",
-            "refused N9 k.wuffs:1:5\n",
+            "refused T1 k.wuffs:1:15\n",
         ),
         (
             b"pri const X : base.u8 = 256\npub struct s()",
-            "refused N9 k.wuffs:2:5\n",
+            "refused T5 k.wuffs:1:25\n",
         ),
-        (
-            b"pub func s.f() { }\npub struct s()",
-            "refused N9 k.wuffs:1:5\n",
-        ),
+        (b"pub func s.f() { }\npub struct s()", "ok 1 methods\n"),
         (
             b"pub struct s()\npub func s.f() { x = a * b + 1\n}",
             "refused S6 k.wuffs:2:28\n",
@@ -203,7 +221,7 @@ fn judges_names(rt: HostRuntime) -> Result<(), Fail> {
         ),
         (
             b"pub struct a(b : c)\npub struct c(d : base.u8)",
-            "refused N9 k.wuffs:1:5\n",
+            "ok 0 methods\n",
         ),
         (
             b"pub struct s()\npub func s.f() {\nbreak\n}",
@@ -219,7 +237,7 @@ fn judges_names(rt: HostRuntime) -> Result<(), Fail> {
         ),
         (
             b"pub struct s()\npri func s.g(a: base.u8) {}\npub func s.f!() {\nthis.g!(a: 1)\n}",
-            "refused N9 k.wuffs:1:5\n",
+            "refused E3 k.wuffs:4:6\n",
         ),
         (
             b"pub struct t()\npub func t.g() {}\npub struct s()\npub func s.f!() {\nthis.g!()\n}",
@@ -229,10 +247,7 @@ fn judges_names(rt: HostRuntime) -> Result<(), Fail> {
             b"pub struct s(a : array[65537] base.u8)",
             "refused L7 k.wuffs:1:14\n",
         ),
-        (
-            b"pub struct s(a : array[65536] base.u8)",
-            "refused N9 k.wuffs:1:5\n",
-        ),
+        (b"pub struct s(a : array[65536] base.u8)", "ok 0 methods\n"),
         (
             b"pub struct s()\npri const A : base.u8 = B",
             "refused N1 k.wuffs:2:25\n",
@@ -245,6 +260,63 @@ fn judges_names(rt: HostRuntime) -> Result<(), Fail> {
         (
             b"pri const X : base.u8 = Y\npub",
             "refused S5 k.wuffs:2:4\n",
+        ),
+    ];
+    for (bytes, line) in rows {
+        let ending = if line.starts_with("ok") {
+            Ending::Done
+        } else {
+            Ending::Refused
+        };
+        let good = answers(rt.alloc(), "check k k.wuffs", bytes, ending, line)?;
+        assert!(rt; good, "{line}");
+    }
+    Ok(())
+}
+
+// Rules of types and effects come behind those of names, and in front of methods that aren't built.
+#[test]
+fn judges_types(rt: HostRuntime) -> Result<(), Fail> {
+    let rows: [(&[u8], &str); 10] = [
+        (
+            b"pri const A : base.u8 = (1 + 2) * 100\npub struct n()",
+            "refused T5 k.wuffs:1:33\n",
+        ),
+        (
+            b"pri const A : base.u8 = (1 + 2) * 80\npub struct n()",
+            "ok 0 methods\n",
+        ),
+        (
+            b"pub struct s()\npub func s.f() {}\npri func s.g?(a: base.u8) {\nvar b : base.bool\n}",
+            "ok 2 methods\n",
+        ),
+        (
+            b"pub struct s()\npub func s.f() {\nreturn nothing\n}",
+            "refused N9 k.wuffs:2:5\n",
+        ),
+        (
+            b"pub struct s()\npub func s.f() {}\npri func s.g() {\nvar b : base.u8\nb = 1\n}\npri func s.h() {\nreturn nothing\n}",
+            "refused N9 k.wuffs:3:5\n",
+        ),
+        (
+            b"pub struct s()\npub func s.f() {\nreturn 1\n}",
+            "refused T4 k.wuffs:3:1\n",
+        ),
+        (
+            b"pub struct s()\npub func s.f() {\nreturn nothing\n}\npri const A : base.u8 = 256",
+            "refused T5 k.wuffs:5:25\n",
+        ),
+        (
+            b"pub struct s()\npub func s.f() {\nyield? ok\n}",
+            "refused E2 k.wuffs:3:1\n",
+        ),
+        (
+            b"pri const A : base.u8 = 256\npri const A : base.u8 = 1",
+            "refused N2 k.wuffs:2:11\n",
+        ),
+        (
+            b"pub struct s()\npub func s.f() {\nreturn nothing\n}\npri const A : t = 1",
+            "refused N1 k.wuffs:5:15\n",
         ),
     ];
     for (bytes, line) in rows {
@@ -286,7 +358,7 @@ fn judges_names_of_packages(rt: HostRuntime) -> Result<(), Fail> {
         )?
     );
     assert!(rt; answers_files(alloc, &[unknown, cut], refused, "refused S5 f1:2:4\n")?);
-    assert!(rt; answers_files(alloc, &[unknown, known], refused, "refused N9 f0:1:5\n")?);
+    assert!(rt; answers_files(alloc, &[unknown, known], Ending::Done, "ok 0 methods\n")?);
     Ok(())
 }
 
@@ -297,13 +369,14 @@ fn judges_packages(rt: HostRuntime) -> Result<(), Fail> {
     let other: &[u8] = b"pub status \"#b\"";
     let cut: &[u8] = b"\npub";
     let large: &[u8] = b"pri const X : base.u8 = 256";
-    let unbuilt: &[u8] = b"pri struct s()";
+    let unbuilt: &[u8] = b"pri struct s()\npri func s.f() {\nreturn nothing\n}";
     let refused = Ending::Refused;
     assert!(rt; answers_files(alloc, &[fine, other], Ending::Done, "ok 0 methods\n")?);
     assert!(rt; answers_files(alloc, &[fine, cut], refused, "refused S5 f1:2:4\n")?);
     assert!(rt; answers_files(alloc, &[cut, cut], refused, "refused S5 f0:2:4\n")?);
     assert!(rt; answers_files(alloc, &[large, cut], refused, "refused S5 f1:2:4\n")?);
-    assert!(rt; answers_files(alloc, &[large, unbuilt], refused, "refused N9 f1:1:5\n")?);
+    assert!(rt; answers_files(alloc, &[fine, unbuilt], refused, "refused N9 f1:2:5\n")?);
+    assert!(rt; answers_files(alloc, &[unbuilt, large], refused, "refused T5 f1:1:25\n")?);
     assert!(rt; answers_files(alloc, &[fine, large], refused, "refused T5 f1:1:25\n")?);
     Ok(())
 }

@@ -15,7 +15,7 @@ use wf_text::NoMemory;
 /// Runs the command that `words` name, which come behind the program's name, over `inputs`, and writes its answer
 /// to `out`.
 ///
-/// `check PACKAGE FILE...`: `ok 0 methods` and Done, or `refused RULE FILE:LINE:COL` and Refused. Other words: a
+/// `check PACKAGE FILE...`: `ok N methods` and Done, or `refused RULE FILE:LINE:COL` and Refused. Other words: a
 /// line on usage, and Usage. An input that fails: `input fault FILE`, and InputFault. A sink that fails:
 /// OutputFault, with the first bytes of a line that was called for written. NoMemory with nothing written.
 pub fn wuffs_tool<I: Inputs, O: Sink>(
@@ -91,7 +91,7 @@ fn find_answer<I: Inputs>(
         return Answer::of(Ending::Usage, usage_line(alloc));
     };
     match judge_package(alloc, asked.package, asked.files, inputs) {
-        Ok(()) => Answer::of(Ending::Done, accepted_line(alloc)),
+        Ok(methods) => Answer::of(Ending::Done, accepted_line(alloc, methods)),
         Err(TakingFault::Refused(refusal)) => {
             let file = file_name(asked.files, refusal.at.file as usize);
             Answer::of(Ending::Refused, refused_line(alloc, file, refusal))

@@ -5,7 +5,7 @@ use Rattle.wf_tool.proofs.building.first_unbuilt.Given as goal
 
 abbrev pub invariant-loop-number : goal.invariant-loop-number
 invariant-loop-number l = record {
-  same : first_unbuilt l.parsed.texts (drop l.number (decls_of l.parsed)) ≡ first_unbuilt l.parsed.texts (decls_of l.parsed);
+  same : first_unbuilt (drop l.number (decls_of l.parsed)) ≡ first_unbuilt (decls_of l.parsed);
   count : l.count ≡ length l.parsed.decls;
 }
 

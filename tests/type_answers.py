@@ -1,0 +1,335 @@
+#!/usr/bin/env python3
+"""Small packages and what the rules of types and effects say of each, written by hand from the rules.
+
+usage: type_answers.py PROGRAM [NAME]    only the packages whose name has NAME in it
+Each package is one file n.wuffs of package n; a bar with blanks round it ends a line. An answer is a rule with its
+line and column, or `later` where no rule is broken: then N9 has to come at the word of the first method that has a
+statement other than `var`, and where there is none the package is accepted.
+"""
+import os
+import pathlib
+import subprocess
+import sys
+import tempfile
+
+# A struct in lines 3 to 9, behind two statuses; its method in line 10, with locals in lines 11 to 15.
+S = ('pub status "#bad" | pri status "$wait" | pub struct s?( | n : base.u32, | f : base.bool, | t : base.status, '
+     '| a : array[4] base.u8, | r : array[4] base.u8[..= 9], | )')
+V = ("var x : base.u8", "var y : base.u16", "var b : base.bool", "var q : base.status", "var l : slice base.u8")
+IO = "r: base.io_reader, w: base.io_writer, k: base.u8"
+
+
+def method(*body, args=IO, mark="?", gives=""):
+    """The method f of the struct s in line 10; its statements stand from line 16 on."""
+    return f"{S} | pub func s.f{mark}({args}){gives} {{ | " + " | ".join(V + body) + " | }"
+
+
+def beside(declaration, *body, mark="?"):
+    """The same, in front of a method of the struct in one line: the statements stand from line 17 on."""
+    return f"{S} | {declaration} | pub func s.f{mark}({IO}) {{ | " + " | ".join(V + body) + " | }"
+
+
+def small(*body, mark="", gives=""):
+    """A method of a struct without fields, in line 2; its statements stand from line 3 on."""
+    return f"pub struct s() | pub func s.g{mark}(k: base.u8, c: base.bool){gives} {{ | " + " | ".join(body) + " | }"
+
+
+def constant(of, value):
+    return f"pri const A : {of} = {value}"
+
+
+G = "pri func s.g!(k: base.u8) {}"
+C = "pri func s.c?(k: base.u8) {}"
+P = "pri func s.p(k: base.u8) base.u8 { return args.k }"
+# A struct p in a field of s: its methods in lines 2 and 3, and s in lines 4 to 7.
+SUB = "pri struct p!() | pub func p.open!(k: base.u8) {} | pub func p.go?() {} | pub struct s?( | x : p, | n : base.u32, | )"
+
+
+def through(*body, mark="?"):
+    """A method of the struct s with a field of struct type, in line 8; its statements stand from line 10 on."""
+    return f"{SUB} | pub func s.f{mark}() {{ | var q : base.status | " + " | ".join(body) + " | }"
+
+
+PACKAGES = [
+    # T1: operands
+    ("two numbers of one width", method("x = x + x"), "later"),
+    ("two numbers of two widths", method("x = x + y"), "T1 16:9"),
+    ("a bool in front of a number", method("x = b + x"), "T1 16:5"),
+    ("a bool behind a number", method("x = x + b"), "T1 16:9"),
+    ("the third operand of a chain", method("x = x + x + y"), "T1 16:13"),
+    ("a constant beside a number", method("x = x + 1"), "later"),
+    ("numbers of two widths compared", method("b = x < y"), "T1 16:9"),
+    ("two statuses compared", method("b = q == ok"), "later"),
+    ("a status and a number compared", method("b = q == x"), "T1 16:10"),
+    ("a number and a status compared", method("b = x == q"), "T1 16:10"),
+    ("statuses in order", method("b = q < q"), "T1 16:5"),
+    ("two bools joined", method("b = b and (x < 1)"), "later"),
+    ("a bool and a number joined", method("b = b or x"), "T1 16:10"),
+    ("not a number", method("b = not x"), "T1 16:9"),
+    ("not a bool", method("b = not b"), "later"),
+    ("a shift by another width", method("x = x << y"), "later"),
+    ("a shift by more than the width", method("x = x << 300"), "later"),
+    ("a shift by a bool", method("x = x << b"), "T1 16:10"),
+    ("a shift of a bool", method("x = b << 1"), "T1 16:5"),
+    ("a literal shifted by a variable", method("x = 1 << x"), "T1 16:10"),
+    ("a number converted", method("x = y as base.u8"), "later"),
+    ("a bool converted", method("x = b as base.u8"), "T1 16:5"),
+    ("a number converted to a bool", method("b = x as base.bool"), "T1 16:10"),
+    ("a number converted to a refined type", method("x = y as base.u8[..= 255]"), "T1 16:10"),
+    ("an element by a number of another width", method("x = this.a[y]"), "later"),
+    ("an element by a bool", method("x = this.a[b]"), "T1 16:12"),
+    ("an element of a number", method("x = x[0]"), "T1 16:5"),
+    ("an element of a slice", method("x = l[0]"), "later"),
+    ("a part of an array", method("l = this.a[y ..]"), "later"),
+    ("a part of an array of refined elements", method("l = this.r[..]"), "T1 16:5"),
+    ("a part up to a bool", method("l = l[.. b]"), "T1 16:10"),
+    ("a part of a number", method("l = this.n[..]"), "T1 16:5"),
+    ("a whole array as a value", method("x = this.a"), "T1 16:5"),
+    ("a reader as a value", method("x = args.r"), "T1 16:5"),
+    ("the length of an array", method("b = this.a.length() == 4"), "later"),
+    ("a field of struct type as a value", through("this.n = this.x"), "T1 10:10"),
+    # T1: arguments
+    ("an argument of its type", beside(G, "this.g!(k: x)"), "later"),
+    ("an argument of another width", beside(G, "this.g!(k: y)"), "T1 17:12"),
+    ("a bool for a number", beside(G, "this.g!(k: b)"), "T1 17:12"),
+    ("an array as an argument", beside(G, "this.g!(k: this.a)"), "T1 17:12"),
+    ("a reader handed on", beside("pri func s.g!(o: base.io_reader) {}", "this.g!(o: args.r)"), "later"),
+    ("a writer for a reader", beside("pri func s.g!(o: base.io_reader) {}", "this.g!(o: args.w)"), "T1 17:12"),
+    ("a number of bytes to skip", method("args.r.skip_u32?(n: this.n)"), "later"),
+    ("a byte of bytes to skip", method("args.r.skip_u32?(n: x)"), "T1 16:21"),
+    ("a slice to copy from", method("args.w.copy_from_slice!(s: l)"), "later"),
+    ("an array to copy from", method("args.w.copy_from_slice!(s: this.a)"), "T1 16:28"),
+    ("a letter of an axiom that is a bool", method('assert b via "a < b: a < c; c < b"(c: b)'), "T1 16:39"),
+    ("a letter of an axiom that is a number", method('assert b via "a < b: a < c; c < b"(c: x)'), "later"),
+    # T1: types
+    ("no type of the language", "pub struct s( | n : base.foo, | )", "T1 2:5"),
+    ("a slice as a field", "pub struct s( | n : slice base.u8, | )", "T1 2:5"),
+    ("a reader as a field", "pub struct s( | n : base.io_reader, | )", "T1 2:5"),
+    ("an array of bools", "pub struct s( | n : array[2] base.bool, | )", "T1 2:5"),
+    ("an array of structs", "pub struct p() | pub struct s( | n : array[2] p, | )", "T1 3:5"),
+    ("bounds of a bool", "pub struct s( | n : base.bool[..= 1], | )", "T1 2:5"),
+    ("a bound that is no number", "pub struct s( | n : base.u8[..= true], | )", "T1 2:5"),
+    ("a length that is no number", "pub struct s( | n : array[true] base.u8, | )", "T1 2:5"),
+    ("a length that is a field", "pub struct s( | m : base.u8, | n : array[this.m] base.u8, | )", "T1 3:5"),
+    ("every type that a field may have", "pub struct p() | pub struct s( | a : base.u64, | b : base.bool, | c : base.status, | d : array[3] base.u16[..= 9], | e : p, | f : base.u8[0 ..= 7], | )", "later"),
+    ("an array as a local", "pub struct s() | pub func s.g() { | var a : array[2] base.u8 | }", "T1 3:9"),
+    ("a struct as a local", "pub struct s() | pub func s.g() { | var a : s | }", "T1 3:9"),
+    ("a slice of bools", "pub struct s() | pub func s.g() { | var a : slice base.bool | }", "T1 3:9"),
+    ("a slice of refined bytes", "pub struct s() | pub func s.g() { | var a : slice base.u8[..= 255] | }", "T1 3:9"),
+    ("a bound that is a local", "pub struct s() | pub func s.g() { | var a : base.u8 | var c : base.u8[..= a] | }", "T1 4:9"),
+    ("a status as an argument", "pub struct s() | pub func s.g(k: base.status) {}", "T1 2:17"),
+    ("an array as an argument's type", "pub struct s() | pub func s.g(k: array[2] base.u8) {}", "T1 2:17"),
+    ("a slice as an argument", "pub struct s() | pub func s.g(k: slice base.u16, m: base.io_writer) {}", "later"),
+    ("a reader as a result", "pub struct s() | pub func s.g() base.io_reader {}", "T1 2:16"),
+    ("a result of a coroutine", "pub struct s() | pub func s.g?() base.u8 {}", "T1 2:17"),
+    ("a bool as a constant's type", constant("base.bool", "1"), "T1 1:15"),
+    ("a constant that is a bool", constant("base.u8", "true"), "T1 1:25"),
+    ("a constant that adds a bool", constant("base.u8", "1 + true"), "T1 1:29"),
+    # T2: targets
+    ("an argument as a target", method("args.k = 1"), "T2 16:1"),
+    ("a constant as a target", "pri const K : base.u8 = 1 | pub struct s() | pub func s.g() { | K = 1 | }", "T2 4:1"),
+    ("a whole array as a target", method("this.a = 1"), "T2 16:1"),
+    ("a field of struct type as a target", through("this.x = 1"), "T2 10:1"),
+    ("an element as a target", method("this.a[0] = x"), "later"),
+    ("an element of a slice as a target", method("l[0] = x"), "later"),
+    ("a number for an element of another width", method("this.a[0] = y"), "T2 16:7"),
+    ("a bool for a number", method("x = b"), "T2 16:1"),
+    ("a number for a bool", method("b = 1"), "T2 16:1"),
+    ("a number of another width", method("x = y"), "T2 16:1"),
+    ("a number for a status", method("q = 0"), "T2 16:1"),
+    ("a status for a status", method('q = "#bad"'), "later"),
+    ("a slice for a slice", method("l = l[1 ..]"), "later"),
+    ("a byte that is read", method("x = args.r.read_u8?()"), "later"),
+    ("two bytes that are read for one", method("x = args.r.read_u16le?()"), "T2 16:1"),
+    ("a call that gives nothing", method("x = args.r.skip_u32?(n: 1)"), "T2 16:1"),
+    ("an own method that gives nothing", beside(G, "x = this.g!(k: 1)"), "T2 17:1"),
+    ("an own method that gives a byte", beside(P, "x = this.p(k: 1)"), "later"),
+    ("an own method's byte for a bool", beside(P, "b = this.p(k: 1)"), "T2 17:1"),
+    ("a coroutine's answer by `=`", beside(C, "q = this.c?(k: 1)"), "T2 17:1"),
+    ("a coroutine's answer through a field by `=`", through("q = this.x.go?()"), "T2 10:1"),
+    ("an operator with `=`", method("x += 255"), "later"),
+    ("an operator with `=` and another width", method("x += y"), "T1 16:6"),
+    ("an operator with `=` on a bool", method("b += 1"), "T1 16:1"),
+    ("an operator with `=` on an argument", method("args.k += 1"), "T2 16:1"),
+    ("a shift with `=`", method("x <<= y"), "later"),
+    # T3: conditions
+    ("an `if` on a number", method("if x {", "}"), "T3 16:4"),
+    ("an `else if` on a number", method("if b {", "} else if x {", "}"), "T3 17:11"),
+    ("an `if` on a bool", method("if b {", "}"), "later"),
+    ("a loop on a status", method("while q {", "} endwhile"), "T3 16:7"),
+    ("a loop that promises a number", method("while b, inv x {", "} endwhile"), "T3 16:14"),
+    ("a loop that promises a bool", method("while b, inv x < 9, post b {", "} endwhile"), "later"),
+    ("an assertion of a number", method("assert x"), "T3 16:8"),
+    # T4: results
+    ("a result", small("return args.k", gives=" base.u8"), "later"),
+    ("no result", small("return", gives=" base.u8"), "T4 3:1"),
+    ("a bool for a byte", small("return args.c", gives=" base.u8"), "T4 3:1"),
+    ("a result where there is none", small("return 1"), "T4 3:1"),
+    ("nothing where there is none", small("return nothing"), "later"),
+    ("a coroutine without a status", small("return", mark="?"), "T4 3:1"),
+    ("a coroutine with a number", small("return 1", mark="?"), "T4 3:1"),
+    ("a coroutine with a status", small("return ok", mark="?"), "later"),
+    ("the end of a method with a result", small("if args.c {", "return 1", "}", gives=" base.u8"), "T4 6:1"),
+    ("both ways return", small("if args.c {", "return 1", "} else {", "return 2", "}", gives=" base.u8"), "later"),
+    ("one of three ways goes on", small("if args.c {", "return 1", "} else if args.c {", "} else {", "return 2", "}", gives=" base.u8"), "T4 9:1"),
+    ("a loop without end", small("while true {", "} endwhile", gives=" base.u8"), "later"),
+    ("a loop that is left", small("while true {", "break", "} endwhile", gives=" base.u8"), "T4 6:1"),
+    ("a loop in which another is left", small("while true {", "while true {", "break", "} endwhile", "} endwhile", gives=" base.u8"), "later"),
+    ("an outer loop that is left", small("while.o true {", "while true {", "break.o", "} endwhile", "} endwhile.o", gives=" base.u8"), "T4 8:1"),
+    ("a loop that may end", small("while args.c {", "return 1", "} endwhile", gives=" base.u8"), "T4 6:1"),
+    ("a loop on the word in parentheses", small("while (true) {", "} endwhile", gives=" base.u8"), "later"),
+    ("a loop on a comparison that holds", small("while 1 == 1 {", "} endwhile", gives=" base.u8"), "T4 5:1"),
+    # T5: constants
+    ("a constant of its type", constant("base.u8", "255"), "later"),
+    ("a constant outside its type", constant("base.u8", "256"), "T5 1:25"),
+    ("a sum outside the type", constant("base.u8", "(255 + 1) * 1"), "T5 1:35"),
+    ("a difference below 0", constant("base.u8", "(1 - 2) + 3"), "T5 1:28"),
+    ("a difference from 64 bits' end", constant("base.u64", "18446744073709551615 - 1"), "later"),
+    ("a sum above 64 bits", constant("base.u64", "18446744073709551615 + 1"), "T5 1:47"),
+    ("a whole product of 0", constant("base.u64", "9223372036854775808 * 2 * 0"), "later"),
+    ("a division by 0", constant("base.u8", "1 / 0"), "T5 1:27"),
+    ("a remainder by 0", constant("base.u8", "1 % 0"), "T5 1:27"),
+    ("a shift by 64", constant("base.u64", "1 << 64"), "T5 1:28"),
+    ("a shift by 63", constant("base.u64", "1 << 63"), "later"),
+    ("a number of 300 in a byte between", constant("base.u16", "300 as base.u8"), "T5 1:30"),
+    ("a width of its own", constant("base.u8", "(255 as base.u8) + 1"), "T5 1:42"),
+    ("a constant beside a byte", constant("base.u16", "300 + (1 as base.u8)"), "T5 1:26"),
+    ("a constant from a wider one", "pri const A : base.u16 = 7 | pri const B : base.u8 = A", "later"),
+    ("a constant from one that is too large", "pri const A : base.u16 = 300 | pri const B : base.u8 = A", "T5 2:25"),
+    ("a constant of one that has no value", "pri const A : base.u8 = 300 | pri const B : base.u8 = A + 1", "T5 1:25"),
+    ("a constant outside its bounds", constant("base.u8[2 ..= 5]", "1"), "T5 1:34"),
+    ("a constant within its bounds", constant("base.u8[2 ..= 5]", "5"), "later"),
+    ("bounds that cross", constant("base.u8[9 ..= 5]", "5"), "T5 1:23"),
+    ("a bound above the type", constant("base.u8[..= 256]", "5"), "T5 1:27"),
+    ("a field that can't be 0", "pub struct s( | n : base.u8[1 ..= 3], | )", "T5 2:5"),
+    ("an argument that can't be 0", "pub struct s() | pub func s.g(k: base.u8[1 ..= 3]) {}", "later"),
+    ("a local that can't be 0", "pub struct s() | pub func s.g() { | var a : base.u8[1 ..= 3] | }", "T5 3:9"),
+    ("a result that can't be 0", "pub struct s() | pub func s.g() base.u8[1 ..= 3] { | return 1 | }", "T5 2:16"),
+    ("elements that can't be 0", "pub struct s( | n : array[2] base.u8[1 ..= 3], | )", "T5 2:14"),
+    ("an array without elements", "pub struct s( | n : array[0] base.u8, | )", "T5 2:11"),
+    ("an array without elements by its value", "pub struct s( | n : array[1 - 1] base.u8, | )", "T5 2:13"),
+    ("a constant beside a byte variable", method("x = x + 256"), "T5 16:9"),
+    ("a constant in front of a byte variable", method("x = 256 + x"), "T5 16:5"),
+    ("a constant compared with a byte", method("b = x < 256"), "T5 16:9"),
+    ("a constant for a byte", method("x = 256"), "T5 16:5"),
+    ("a constant for a byte's operator", method("x += 256"), "T5 16:6"),
+    ("a constant argument", beside(G, "this.g!(k: 256)"), "T5 17:12"),
+    ("a constant result", small("return 256", gives=" base.u8"), "T5 3:8"),
+    ("a status without a mark", 'pub status "bad"', "T5 1:12"),
+    ("a status of a mark alone", 'pub status "#"', "T5 1:12"),
+    ("a status with two question marks", 'pub status "#a??"', "T5 1:12"),
+    ("a status with a question mark", 'pub status "#a?b?"', "later"),
+    # E1: pure methods
+    ("a pure method that writes a field", method("this.n = 1", mark=""), "E1 16:1"),
+    ("a pure method that writes an element", method("this.a[0] = 1", mark=""), "E1 16:7"),
+    ("a pure method that writes an element of a slice", method("l[0] = 1", mark=""), "E1 16:2"),
+    ("a pure method that writes a local", method("x = 1", mark=""), "later"),
+    ("an impure method that writes a field", method("this.n = 1", mark="!"), "later"),
+    ("a pure method that calls an impure one", beside(G, "this.g!(k: 1)", mark=""), "E1 17:6"),
+    ("a pure method that writes to a writer", method("args.w.write_u8_fast!(a: 1)", mark=""), "E1 16:8"),
+    ("a pure method that calls a pure one", beside(P, "x = this.p(k: 1)", mark=""), "later"),
+    # E2: coroutines
+    ("an impure method that calls a coroutine", beside(C, "this.c?(k: 1)", mark="!"), "E2 17:6"),
+    ("an impure method that reads", method("x = args.r.read_u8?()", mark="!"), "E2 16:12"),
+    ("an impure method that yields", method('yield? "$wait"', mark="!"), "E2 16:1"),
+    ("an impure method that keeps a status", beside(C, "q =? this.c?(k: 1)", mark="!"), "E2 17:11"),
+    ("a coroutine that calls a coroutine", beside(C, "this.c?(k: 1)"), "later"),
+    # E3: marks, and calls inside expressions
+    ("a call with another mark", beside("pri func s.g!(k: base.u8) base.u8 { return 1 }", "x = this.g(k: 1)"), "E3 17:10"),
+    ("a coroutine called as impure", beside(C, "this.c!(k: 1)"), "E3 17:6"),
+    ("a pure base method with a mark", method("x = 1 + (this.a.length!() as base.u8)"), "E3 16:17"),
+    ("a read inside an expression", method("x = x + args.r.read_u8?()"), "E3 16:16"),
+    ("an own call inside an expression", beside(P, "x = x + this.p(k: 1)"), "E3 17:14"),
+    ("an own call as an argument", beside(P, "x = this.p(k: this.p(k: 1))"), "E3 17:20"),
+    ("an own call in parentheses", beside(P, "x = (this.p(k: 1))"), "later"),
+    ("an own call as a condition", beside("pri func s.p() base.bool { return true }", "if this.p() {", "}"), "E3 17:9"),
+    ("a call through a field inside an expression", through("this.n = 1 + this.x.go?()"), "E3 10:21"),
+    ("a call through a field", through("this.x.open!(k: 1)"), "later"),
+    # E4: `=?`
+    ("a coroutine's status kept", beside(C, "q =? this.c?(k: 1)"), "later"),
+    ("a coroutine's status kept through a field", through("q =? this.x.go?()"), "later"),
+    ("a status kept in a number", beside(C, "x =? this.c?(k: 1)"), "E4 17:11"),
+    ("a status kept in a field", beside(C, "this.t =? this.c?(k: 1)"), "later"),
+    ("a status kept in an argument", beside(C, "args.k =? this.c?(k: 1)"), "T2 17:1"),
+    ("an impure method's status kept", beside(G, "q =? this.g!(k: 1)"), "E4 17:11"),
+    ("a base coroutine's status kept", method("q =? args.r.skip_u32?(n: 1)"), "E4 16:13"),
+    # E5: `yield?`
+    ("a suspension yielded", method('yield? "$wait"'), "later"),
+    ("a suspension of the language yielded", method('yield? base."$short read"'), "later"),
+    ("an error yielded", method('yield? "#bad"'), "E5 16:8"),
+    ("ok yielded", method("yield? ok"), "E5 16:8"),
+    ("a variable yielded", method("yield? q"), "E5 16:8"),
+    # two in one package: the lesser place
+    ("a result in front of an argument of another type", beside(P, "b = this.p(k: y)"), "T1 17:15"),
+    ("an effect in front of a type", method("this.n = 1", "x = b", mark=""), "E1 16:1"),
+    ("a type in front of an effect", method("x = b", "this.n = 1", mark=""), "T2 16:1"),
+    ("a constant in front of a method", "pri const A : base.u8 = 256 | " + small("return 1"), "T5 1:25"),
+    # two rules at one place: the earlier rule
+    ("a pure method that writes a bool to a number", method("this.n = true", mark=""), "T2 16:1"),
+    ("an impure method that calls an impure one as a coroutine", beside(G, "this.g?(k: 1)", mark="!"), "E2 17:6"),
+    ("a pure method that calls a pure one as impure", beside(P, "this.p!(k: 1)", mark=""), "E1 17:6"),
+    # what breaks a rule has no type, and what holds it breaks none by that
+    ("a sum with a wrong operand for a bool", method("b = x + b"), "T1 16:9"),
+    ("a wrong operand in a condition", method("if x + b {", "}"), "T1 16:8"),
+    ("a wrong operand beside another width", method("y = y + (x + b)"), "T1 16:14"),
+]
+
+
+def lines_of(text):
+    return text.split(" | ")
+
+
+def has_statement(lines, number):
+    """Whether the body of the method that begins at a line has a statement other than `var`."""
+    if lines[number].endswith("}"):
+        return not lines[number].endswith("{}")
+    body = lines[number + 1:]
+    first = next(line for line in body if not line.startswith("var "))
+    return first != "}"
+
+
+def later(text):
+    """What comes where the rules are kept."""
+    lines = lines_of(text)
+    methods = [number for number, line in enumerate(lines) if line[4:].startswith("func ")]
+    for number in methods:
+        if has_statement(lines, number):
+            return f"refused N9 n.wuffs:{number + 1}:5\n"
+    return f"ok {len(methods)} methods\n"
+
+
+def wanted_line(text, right):
+    if right == "later":
+        return later(text)
+    rule, place = right.split(" ")
+    return f"refused {rule} n.wuffs:{place}\n"
+
+
+def run(program, text):
+    with tempfile.TemporaryDirectory() as folder:
+        pathlib.Path(folder, "n.wuffs").write_text("\n".join(lines_of(text)) + "\n")
+        ended = subprocess.run([program, "check", "n", "n.wuffs"], cwd=folder, stdin=subprocess.DEVNULL, capture_output=True, timeout=60)
+        return ended.stdout.decode(errors="replace"), ended.returncode
+
+
+def main():
+    program = os.path.abspath(sys.argv[1])
+    wanted = sys.argv[2] if len(sys.argv) > 2 else ""
+    passed = failed = 0
+    for name, text, right in PACKAGES:
+        if wanted not in name:
+            continue
+        line = wanted_line(text, right)
+        answer = line, int(line.startswith("refused"))
+        came = run(program, text)
+        if came == answer:
+            passed += 1
+        else:
+            failed += 1
+            print(f"{name}:\n  wanted {answer!r}\n  came   {came!r}")
+    print(f"{passed} passed, {failed} failed")
+    sys.exit(failed != 0)
+
+
+if __name__ == "__main__":
+    main()
