@@ -126,7 +126,7 @@ module _ (bs : List ℕ) (i d : ℕ) (h : i < length bs) (before whole : Bool) (
   behind_one = sym (ap (questions_behind before) (drop-one bs i d h)) ∙ e
 
   pub question_passed : (before && nat_eq (slice_index_or bs i d) 63) ≡ false → questions_behind (nat_eq (slice_index_or bs i d) 63) (drop (i + 1) bs) ≡ whole
-  question_passed no = sym (ap (λ q. q || questions_behind (nat_eq (slice_index_or bs i d) 63) (drop (i + 1) bs)) no) ∙ behind_one
+  question_passed apart = sym (ap (λ q. q || questions_behind (nat_eq (slice_index_or bs i d) 63) (drop (i + 1) bs)) apart) ∙ behind_one
 
   pub question_found : (before && nat_eq (slice_index_or bs i d) 63) ≡ true → true ≡ whole
   question_found found = sym (ap (λ q. q || questions_behind (nat_eq (slice_index_or bs i d) 63) (drop (i + 1) bs)) found) ∙ behind_one

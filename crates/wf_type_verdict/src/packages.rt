@@ -2,11 +2,13 @@
 
 ghost use Rattle.std.specs.Prelude.{◌≡◌, ◌++◌, length, map, IfOk};
 ghost use Rattle.std.specs.List.{AllByRecursion, flat_map};
+ghost use Rattle.wf_text.specs.Precedence.{Decides};
 ghost use Rattle.wf_named.specs.NamedParts.{exprs_of, stmts_of, named_package, NamedVarBelow, NamedMethodBelow};
 ghost use Rattle.wf_named.specs.NamedTrees.{var_made, method_made};
 ghost use Rattle.wf_types.specs.DeclaredTypes.{among_constants, declared, for_types, in_method, types_in, result_in};
 ghost use Rattle.wf_types.specs.FirstBreak.{deciding};
 ghost use Rattle.wf_types.specs.Parts.{variables_parts, result_parts, method_sites, at_sites};
+ghost use Rattle.wf_types.specs.TypeRules.{Breaks};
 ghost use Rattle.wf_types.specs.declared.settings.Role.TheVariants as roles;
 ghost use Rattle.wf_judging.specs.Judged.{judged};
 ghost use Rattle.wf_type_verdict.specs.Packages.{decided, IsAround, field_types};
@@ -330,7 +332,8 @@ pub fn judge_package(alloc: Global, nodes: &NamedNodes) -> Result<Option<Refusal
 
 /// The refusal by the rules of types and effects that decides, and None where the package keeps every rule.
 pub fn type_refusal(alloc: Global, named: &Named) -> Result<Option<Refusal>, NoMemory>
-    ensures { IfOk result (λ r. r ≡ deciding (named_package named.now)) }
+    ensures decides { IfOk result (Decides (Breaks (named_package named.now))) }
+    ensures computed { IfOk result (λ r. r ≡ deciding (named_package named.now)) }
 {
     judge_package(alloc, named.nodes())
 }

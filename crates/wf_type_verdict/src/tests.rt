@@ -1,17 +1,21 @@
-// Small packages, built as the names phase builds them, with the refusal that decides.
+// Small packages, built as the names phase builds them, with the refusal that decides. A part's line tells where it stands.
 
-use crate::packages::judge_package;
+ghost use Rattle.wf_named.specs.NamedParts.{NamedExprParts, NamedTypeBelow};
+
+use crate::packages::{judge_package, type_refusal};
 use std::alloc::{AllocError, Global};
 use std::test::Fail;
-use wf_ast::parsed::{Block, Name};
-use wf_ast::{ExprId, FieldId, Sequence};
+use wf_ast::parsed::{Block, Link, Name, Prefix};
+use wf_ast::{ConstId, FieldId, Op, Sequence};
 use wf_base::{Mark, Width};
 use wf_named::{
-    BaseType, NamedConst, NamedCore, NamedExpr, NamedExprNode, NamedMethod, NamedNodes, NamedPath,
-    NamedStmt, NamedStmtNode, NamedStruct, NamedTarget, NamedType, NamedVar, Variable,
+    BaseType, Named, NamedCall, NamedCallee, NamedConst, NamedCore, NamedExpr, NamedExprNode,
+    NamedMethod, NamedNodes, NamedPath, NamedStmt, NamedStmtNode, NamedStruct, NamedTarget,
+    NamedType, NamedVar, Variable,
 };
+use wf_text::faults::NoMemory;
 use wf_text::rules::{Refusal, Rule};
-use wf_text::{Place, StructId};
+use wf_text::{MethodId, Place, StructId};
 
 fn at(line: u32) -> Place {
     Place {
@@ -21,43 +25,159 @@ fn at(line: u32) -> Place {
     }
 }
 
-fn base(alloc: Global, of: BaseType, line: u32) -> NamedType {
-    NamedType {
-        prefixes: Sequence::new(alloc),
-        core: NamedCore::Base {
-            of: Some(of),
-            at: at(line),
-        },
-        bounds: None,
-    }
+fn refused(rule: Rule, line: u32) -> Option<Refusal> {
+    Some(Refusal { rule, at: at(line) })
 }
 
-fn decided(alloc: Global, nodes: &NamedNodes) -> Result<Option<Refusal>, Fail> {
-    match judge_package(alloc, nodes) {
+fn answer(found: Result<Option<Refusal>, NoMemory>) -> Result<Option<Refusal>, Fail> {
+    match found {
         Ok(found) => Ok(found),
         Err(_) => Err(Fail::from(AllocError)),
     }
 }
 
-fn expr(nodes: &mut NamedNodes, expr: NamedExpr, line: u32) -> Result<ExprId, Fail> {
-    let e = nodes.push_expr(NamedExprNode { expr, at: at(line) })?;
-    Ok(e)
+fn base(alloc: Global, of: Option<BaseType>, line: u32) -> NamedType
+    ensures { (k : _) → NamedTypeBelow k result }
+{
+    NamedType {
+        prefixes: Sequence::new(alloc),
+        core: NamedCore::Base { of, at: at(line) },
+        bounds: None,
+    }
 }
 
-// A byte constant with this value, and nothing more.
-fn constant(alloc: Global, value: u64) -> Result<Option<Refusal>, Fail> {
+fn byte(alloc: Global, line: u32) -> NamedType
+    ensures { (k : _) → NamedTypeBelow k result }
+{
+    base(alloc, Some(BaseType::Number(Width::W8)), line)
+}
+
+// A constant in line 1 with this value in line 2.
+fn constant(
+    alloc: Global,
+    of: Option<BaseType>,
+    value: NamedExpr,
+) -> Result<Option<Refusal>, Fail>
+    requires { NamedExprParts 0 value }
+{
     let mut nodes = NamedNodes::new(alloc, b"demo")?;
     let text = nodes.intern(b"X")?;
-    let value = expr(&mut nodes, NamedExpr::Number(value), 2)?;
+    let value = nodes.push_expr(NamedExprNode {
+        expr: value,
+        at: at(2),
+    })?;
     nodes.push_const(NamedConst {
         name: Name { text, at: at(1) },
-        of: base(alloc, BaseType::Number(Width::W8), 1),
+        of: base(alloc, of, 1),
         value,
     })?;
-    decided(alloc, &nodes)
+    answer(judge_package(alloc, &nodes))
 }
 
-// A struct with a byte, and a method with a result that does `this.n = VALUE` and reaches its end.
+// X of 200 in line 2, and X + `more` in line 3, both bytes.
+fn two_constants(alloc: Global, more: u64) -> Result<Option<Refusal>, Fail> {
+    let mut nodes = NamedNodes::new(alloc, b"demo")?;
+    let text = nodes.intern(b"X")?;
+    let name = Name { text, at: at(1) };
+    let first = nodes.push_expr(NamedExprNode {
+        expr: NamedExpr::Number(200),
+        at: at(2),
+    })?;
+    let path = NamedPath {
+        of: Variable::Const(ConstId(0)),
+        at: at(3),
+    };
+    let before = nodes.push_expr(NamedExprNode {
+        expr: NamedExpr::Path(path),
+        at: at(3),
+    })?;
+    let operand = nodes.push_expr(NamedExprNode {
+        expr: NamedExpr::Number(more),
+        at: at(3),
+    })?;
+    let mut links = Sequence::new(alloc);
+    links.push(Link {
+        sign: at(3),
+        operand,
+    })?;
+    let sum = nodes.push_expr(NamedExprNode {
+        expr: NamedExpr::Chain {
+            op: Op::Add,
+            first: before,
+            links,
+        },
+        at: at(3),
+    })?;
+    nodes.push_const(NamedConst {
+        name,
+        of: byte(alloc, 2),
+        value: first,
+    })?;
+    nodes.push_const(NamedConst {
+        name,
+        of: byte(alloc, 3),
+        value: sum,
+    })?;
+    answer(judge_package(alloc, &nodes))
+}
+
+// A byte of 256 in line 5, and a status with this text in this line.
+fn constant_and_status(alloc: Global, text: &[u8], line: u32) -> Result<Option<Refusal>, Fail> {
+    let mut nodes = NamedNodes::new(alloc, b"demo")?;
+    let text = nodes.intern(text)?;
+    let value = nodes.push_expr(NamedExprNode {
+        expr: NamedExpr::Number(256),
+        at: at(5),
+    })?;
+    nodes.push_const(NamedConst {
+        name: Name { text, at: at(4) },
+        of: byte(alloc, 4),
+        value,
+    })?;
+    nodes.push_status(Name { text, at: at(line) })?;
+    answer(judge_package(alloc, &nodes))
+}
+
+// A package with nothing but a status with this text in line 1.
+fn with_a_status(alloc: Global, text: &[u8]) -> Result<Named, Fail> {
+    let mut nodes = NamedNodes::new(alloc, b"demo")?;
+    let text = nodes.intern(text)?;
+    nodes.push_status(Name { text, at: at(1) })?;
+    Ok(Named::new(nodes))
+}
+
+fn status(alloc: Global, text: &[u8]) -> Result<Option<Refusal>, Fail> {
+    answer(type_refusal(alloc, &with_a_status(alloc, text)?))
+}
+
+// A field in line 1: a byte, or a slice of bytes.
+fn field(alloc: Global, is_slice: bool) -> Result<Option<Refusal>, Fail> {
+    let mut nodes = NamedNodes::new(alloc, b"demo")?;
+    let text = nodes.intern(b"n")?;
+    let name = Name { text, at: at(1) };
+    let mut prefixes = Sequence::new(alloc);
+    if is_slice {
+        prefixes.push(Prefix::Slice(at(1)))?;
+    }
+    let of = NamedType {
+        prefixes,
+        core: NamedCore::Base {
+            of: Some(BaseType::Number(Width::W8)),
+            at: at(1),
+        },
+        bounds: None,
+    };
+    let mut fields = Sequence::new(alloc);
+    fields.push(NamedVar { name, of })?;
+    nodes.push_struct(NamedStruct {
+        name,
+        public: true,
+        fields,
+    })?;
+    answer(judge_package(alloc, &nodes))
+}
+
+// A struct with a byte, and a method with a result that writes VALUE into it in line 5 and reaches its end in line 9.
 fn writing(
     alloc: Global,
     mark: Mark,
@@ -67,7 +187,10 @@ fn writing(
     let mut nodes = NamedNodes::new(alloc, b"demo")?;
     let text = nodes.intern(b"n")?;
     let name = Name { text, at: at(1) };
-    let value = expr(&mut nodes, NamedExpr::Number(value), 5)?;
+    let value = nodes.push_expr(NamedExprNode {
+        expr: NamedExpr::Number(value),
+        at: at(5),
+    })?;
     let path = NamedPath {
         of: Variable::Field(FieldId(0)),
         at: at(4),
@@ -84,7 +207,7 @@ fn writing(
     let mut fields = Sequence::new(alloc);
     fields.push(NamedVar {
         name,
-        of: base(alloc, BaseType::Number(Width::W8), 2),
+        of: byte(alloc, 2),
     })?;
     nodes.push_struct(NamedStruct {
         name,
@@ -94,7 +217,7 @@ fn writing(
     let mut items = Sequence::new(alloc);
     items.push(stmt)?;
     let gives = match gives {
-        Some(of) => Some(base(alloc, of, 3)),
+        Some(of) => Some(base(alloc, Some(of), 3)),
         None => None,
     };
     nodes.push_method(NamedMethod {
@@ -110,36 +233,130 @@ fn writing(
             close: at(9),
         },
     })?;
-    decided(alloc, &nodes)
+    answer(judge_package(alloc, &nodes))
 }
 
-fn is_at(found: Option<Refusal>, rule: Rule, line: u32) -> bool {
-    match found {
-        Some(refusal) => refusal.rule == rule && refusal.at == at(line),
-        None => false,
-    }
+// A method with `!` that takes a byte, and one that calls it in line 6 by this mark with this value in line 7.
+fn calling(alloc: Global, caller: Mark, mark: Mark, value: u64) -> Result<Option<Refusal>, Fail> {
+    let mut nodes = NamedNodes::new(alloc, b"demo")?;
+    let text = nodes.intern(b"n")?;
+    let name = Name { text, at: at(1) };
+    let value = nodes.push_expr(NamedExprNode {
+        expr: NamedExpr::Number(value),
+        at: at(7),
+    })?;
+    let mut given = Sequence::new(alloc);
+    given.push(value)?;
+    let call = NamedCall {
+        callee: NamedCallee::Own(MethodId(0)),
+        at: at(6),
+        mark,
+        args: given,
+    };
+    let stmt = nodes.push_stmt(NamedStmtNode {
+        stmt: NamedStmt::Call(call),
+        at: at(6),
+    })?;
+    let mut args = Sequence::new(alloc);
+    args.push(NamedVar {
+        name,
+        of: byte(alloc, 2),
+    })?;
+    nodes.push_method(NamedMethod {
+        name,
+        of: StructId(0),
+        public: true,
+        mark: Mark::Impure,
+        args,
+        locals: Sequence::new(alloc),
+        gives: None,
+        body: Block {
+            items: Sequence::new(alloc),
+            close: at(3),
+        },
+    })?;
+    let mut items = Sequence::new(alloc);
+    items.push(stmt)?;
+    nodes.push_method(NamedMethod {
+        name,
+        of: StructId(0),
+        public: true,
+        mark: caller,
+        args: Sequence::new(alloc),
+        locals: Sequence::new(alloc),
+        gives: None,
+        body: Block {
+            items,
+            close: at(8),
+        },
+    })?;
+    answer(judge_package(alloc, &nodes))
 }
 
 #[test]
-fn constants_lie_in_their_types(rt: HostRuntime) -> Result<(), Fail> {
+fn constants_have_numbers_in_their_types(rt: HostRuntime) -> Result<(), Fail> {
     let alloc = rt.alloc();
-    assert!(rt; constant(alloc, 255)?.is_none());
-    assert!(rt; is_at(constant(alloc, 256)?, Rule::T5, 2));
+    let of = Some(BaseType::Number(Width::W8));
+    assert_eq!(rt; constant(alloc, of, NamedExpr::Number(255))?, None);
+    assert_eq!(rt; constant(alloc, of, NamedExpr::Number(256))?, refused(Rule::T5, 2));
+    assert_eq!(rt; constant(alloc, of, NamedExpr::Truth(true))?, refused(Rule::T1, 2));
+    assert_eq!(rt; constant(alloc, None, NamedExpr::Number(1))?, refused(Rule::T1, 1));
+    Ok(())
+}
+
+#[test]
+fn constants_know_those_in_front(rt: HostRuntime) -> Result<(), Fail> {
+    assert_eq!(rt; two_constants(rt.alloc(), 55)?, None);
+    assert_eq!(rt; two_constants(rt.alloc(), 56)?, refused(Rule::T5, 3));
+    Ok(())
+}
+
+#[test]
+fn the_earliest_place_decides(rt: HostRuntime) -> Result<(), Fail> {
+    assert_eq!(rt; constant_and_status(rt.alloc(), b"bad", 1)?, refused(Rule::T5, 1));
+    assert_eq!(rt; constant_and_status(rt.alloc(), b"bad", 9)?, refused(Rule::T5, 5));
+    assert_eq!(rt; constant_and_status(rt.alloc(), b"#bad", 1)?, refused(Rule::T5, 5));
+    Ok(())
+}
+
+#[test]
+fn statuses_are_spelt(rt: HostRuntime) -> Result<(), Fail> {
+    let alloc = rt.alloc();
+    assert_eq!(rt; status(alloc, b"#bad")?, None);
+    assert_eq!(rt; status(alloc, b"@a?b?")?, None);
+    assert_eq!(rt; status(alloc, b"bad")?, refused(Rule::T5, 1));
+    assert_eq!(rt; status(alloc, b"#")?, refused(Rule::T5, 1));
+    assert_eq!(rt; status(alloc, b"$a??")?, refused(Rule::T5, 1));
+    Ok(())
+}
+
+#[test]
+fn fields_are_no_slices(rt: HostRuntime) -> Result<(), Fail> {
+    assert_eq!(rt; field(rt.alloc(), false)?, None);
+    assert_eq!(rt; field(rt.alloc(), true)?, refused(Rule::T1, 1));
     Ok(())
 }
 
 #[test]
 fn writes_keep_types_and_effects(rt: HostRuntime) -> Result<(), Fail> {
     let alloc = rt.alloc();
-    assert!(rt; writing(alloc, Mark::Impure, 255, None)?.is_none());
-    assert!(rt; is_at(writing(alloc, Mark::Impure, 256, None)?, Rule::T5, 5));
-    assert!(rt; is_at(writing(alloc, Mark::Pure, 255, None)?, Rule::E1, 4));
-    assert!(rt;
-        is_at(
-            writing(alloc, Mark::Impure, 255, Some(BaseType::Flag))?,
-            Rule::T4,
-            9
-        )
-    );
+    assert_eq!(rt; writing(alloc, Mark::Impure, 255, None)?, None);
+    assert_eq!(rt; writing(alloc, Mark::Impure, 256, None)?, refused(Rule::T5, 5));
+    assert_eq!(rt; writing(alloc, Mark::Pure, 255, None)?, refused(Rule::E1, 4));
+    let flag = Some(BaseType::Flag);
+    assert_eq!(rt; writing(alloc, Mark::Impure, 255, flag)?, refused(Rule::T4, 9));
+    let reader = Some(BaseType::Reader);
+    assert_eq!(rt; writing(alloc, Mark::Impure, 255, reader)?, refused(Rule::T1, 3));
+    Ok(())
+}
+
+#[test]
+fn calls_keep_types_and_effects(rt: HostRuntime) -> Result<(), Fail> {
+    let alloc = rt.alloc();
+    assert_eq!(rt; calling(alloc, Mark::Impure, Mark::Impure, 255)?, None);
+    assert_eq!(rt; calling(alloc, Mark::Impure, Mark::Impure, 256)?, refused(Rule::T5, 7));
+    assert_eq!(rt; calling(alloc, Mark::Impure, Mark::Pure, 255)?, refused(Rule::E3, 6));
+    assert_eq!(rt; calling(alloc, Mark::Pure, Mark::Impure, 255)?, refused(Rule::E1, 6));
+    assert_eq!(rt; calling(alloc, Mark::Impure, Mark::Coroutine, 255)?, refused(Rule::E2, 6));
     Ok(())
 }
