@@ -1,5 +1,7 @@
 // Small packages, built as the names phase builds them, with the refusal that decides. A part's line tells where it stands.
 
+ghost use Rattle.std.specs.List.{AllByRecursion};
+ghost use Rattle.wf_ast.specs.ParsedParts.{PrefixBelow};
 ghost use Rattle.wf_named.specs.NamedParts.{NamedExprParts, NamedTypeBelow};
 
 use crate::packages::{judge_package, type_refusal};
@@ -139,6 +141,7 @@ fn constant_and_status(alloc: Global, text: &[u8], line: u32) -> Result<Option<R
 }
 
 // A package with nothing but a status with this text in line 1.
+#[tactic(auto, unfolding(wf_named::specs::NamedParts::named_package, wf_named::specs::WellNamed::well_named))]
 fn with_a_status(alloc: Global, text: &[u8]) -> Result<Named, Fail> {
     let mut nodes = NamedNodes::new(alloc, b"demo")?;
     let text = nodes.intern(text)?;
@@ -150,15 +153,13 @@ fn status(alloc: Global, text: &[u8]) -> Result<Option<Refusal>, Fail> {
     answer(type_refusal(alloc, &with_a_status(alloc, text)?))
 }
 
-// A field in line 1: a byte, or a slice of bytes.
-fn field(alloc: Global, is_slice: bool) -> Result<Option<Refusal>, Fail> {
+// A field in line 1: a byte, behind these prefixes.
+fn field(alloc: Global, prefixes: Sequence<Prefix>) -> Result<Option<Refusal>, Fail>
+    requires { AllByRecursion (PrefixBelow 0) prefixes }
+{
     let mut nodes = NamedNodes::new(alloc, b"demo")?;
     let text = nodes.intern(b"n")?;
     let name = Name { text, at: at(1) };
-    let mut prefixes = Sequence::new(alloc);
-    if is_slice {
-        prefixes.push(Prefix::Slice(at(1)))?;
-    }
     let of = NamedType {
         prefixes,
         core: NamedCore::Base {
@@ -332,8 +333,11 @@ fn statuses_are_spelt(rt: HostRuntime) -> Result<(), Fail> {
 
 #[test]
 fn fields_are_no_slices(rt: HostRuntime) -> Result<(), Fail> {
-    assert_eq!(rt; field(rt.alloc(), false)?, None);
-    assert_eq!(rt; field(rt.alloc(), true)?, refused(Rule::T1, 1));
+    let alloc = rt.alloc();
+    assert_eq!(rt; field(alloc, Sequence::new(alloc))?, None);
+    let mut slice = Sequence::new(alloc);
+    slice.push(Prefix::Slice(at(1)))?;
+    assert_eq!(rt; field(alloc, slice)?, refused(Rule::T1, 1));
     Ok(())
 }
 
