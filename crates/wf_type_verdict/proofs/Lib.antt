@@ -1,0 +1,2 @@
+pub mod DeclarationLemmas
+pub mod PackageLemmas
