@@ -1,0 +1,3 @@
+pub mod ReadOrder
+pub mod StatementPlaces
+pub mod TypedOrder

@@ -1,0 +1,9 @@
+pub mod BoolLemmas
+pub mod DeclForms
+pub mod ExprForms
+pub mod ExprsKept
+pub mod PackageKept
+pub mod ReadPackages
+pub mod SpeltTokens
+pub mod StmtForms
+pub mod StmtsKept

@@ -1,0 +1,4 @@
+pub mod Examples
+pub mod FormLaws
+pub mod TokenForms
+pub mod WellFormed
