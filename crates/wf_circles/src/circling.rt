@@ -8,14 +8,14 @@ ghost use Rattle.wf_circles.specs.Circling.{DecidesWith};
 use std::alloc::Global;
 use wf_ast::Sequence;
 use wf_ast::parsed::Name;
+use wf_components::circles::circle_flags;
 use wf_names::lists::flagged;
-use wf_names::search::circles;
 use wf_text::faults::NoMemory;
 use wf_text::rules::Refusal;
 
 /// What decides of what was found before and of N4 at the names whose numbers have a way back to themselves.
 /// `rows` lists for each number those that it goes to, and `names` has the name of each. `Err` where memory was
-/// refused. The time is at most that of one walk over the graph for each number.
+/// refused. The time is in proportion to the numbers and what they go to.
 pub fn circling(
     alloc: Global,
     found: Option<Refusal>,
@@ -27,7 +27,7 @@ pub fn circling(
     requires names { length names.now ≡ length rows.now }
     ensures { IfOk result (λ all. DecidesWith (RecursName rows.now names.now) found all) }
 {
-    match circles(alloc, rows) {
+    match circle_flags(alloc, rows) {
         Ok(flags) => Ok(flagged(found, flags.as_slice(), names)),
         Err(fault) => Err(fault),
     }

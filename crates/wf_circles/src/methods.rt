@@ -118,7 +118,7 @@ pub fn method_names(alloc: Global, decls: &[DeclNode]) -> Result<Vec<Name>, NoMe
 
 /// What decides of what was found before and of N4 at each method that can reach itself by calls. `rows` has for
 /// each method, in order, those that it calls, as `method_row` makes them. `Err` where memory was refused. The time
-/// is at most that of one walk over all rows for each method.
+/// is in proportion to the methods and all their calls.
 pub fn method_circles(
     alloc: Global,
     found: Option<Refusal>,

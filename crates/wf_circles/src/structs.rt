@@ -149,8 +149,7 @@ pub fn struct_rows(
 }
 
 /// What decides of what was found before and of N4 at each struct that holds itself through fields whose whole
-/// types are structs. `Err` where memory was refused. The time is at most that of one walk over all fields for each
-/// struct.
+/// types are structs. `Err` where memory was refused. The time is in proportion to the structs and all their fields.
 pub fn struct_circles(
     alloc: Global,
     found: Option<Refusal>,

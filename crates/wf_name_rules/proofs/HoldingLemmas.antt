@@ -1,5 +1,5 @@
 -- The graph of the structs by their rows, and which structs hold themselves by it.
-use Rattle.std.proofs.Common.{◌≡◌, ℕ, zero, suc, ◌+◌, Bool, true, false, cond, ◌||◌, List, [], ◌∷◌, ◌++◌, length, Option, Some, None, slice_get, nat_eq, refl, sym, ap, ◌∙◌, subst}
+use Rattle.std.proofs.Common.{◌≡◌, ℕ, zero, suc, ◌+◌, ◌-◌, ◌^◌, ◌<◌, Bool, true, false, cond, ◌||◌, List, [], ◌∷◌, ◌++◌, length, Option, Some, None, slice_get, nat_eq, refl, sym, ap, ◌∙◌, subst}
 use Rattle.std.specs.List.{list_any, position_from}
 use Rattle.std.proofs.lemmas.List.Folds.{list_any-append}
 use Rattle.wf_ast.specs.declared.parsed.DeclNode.{DeclNode}
@@ -10,11 +10,13 @@ use Rattle.wf_ast.specs.ParsedTree as tree
 use Rattle.wf_ast.specs.ParsedTree.{ExprTree, StmtTree, TypeTree}
 use Rattle.wf_ast.specs.ParsedTrees.{expr_trees, stmt_trees, decls_made, decl_trees}
 use Rattle.wf_names.specs.Declarations.{Variable, Structure, Declared, declared, is_spelt, struct_named, structs_of}
-use Rattle.wf_names.specs.Graphs.{holds, row_in, goes, AreCircles}
+use Rattle.wf_names.specs.Graphs.{holds, row_in, goes, AreWithin, AreCircles}
 use Rattle.wf_names.specs.Sizes.{struct_held, is_the, fields_at, holds_struct}
 use Rattle.wf_circles.specs.Held.{number_of, names_of, one_number, held_by, held_in, held_rows}
+use Rattle.wf_circles.proofs.HeldLemmas.{graph-few, graph-within}
 use Rattle.wf_sizes.specs.StructSizes.{AreHolding}
 use Rattle.wf_sizes.proofs.CircleLemmas.{circles-hold}
+use Rattle.wf_name_rules.specs.StructRows.{AreStructRows}
 
 or_false : (t : Bool) → (t || false) ≡ t
 or_false true = refl
@@ -51,7 +53,7 @@ module _ (d : Declared) (f : ℕ → Option ℕ) (same : (text : ℕ) → f text
   row-held (s ∷ ss) zero = fields-held s.fields
   row-held (s ∷ ss) (suc a) = row-held ss a
 
--- Of the rows of the structs the circles are the structs that hold themselves.
+-- What is made of the names and the fields of the structs lists what each holds.
 module _ (d : Declared) (names : List Name) (f : ℕ → Option ℕ) (rows : List (List ℕ)) (named : names ≡ names_of d.structs)
     (numbered : (text : ℕ) → f text ≡ number_of names text) (made : rows ≡ held_rows f d.structs) where
   f-is : (text : ℕ) → f text ≡ struct_named d text
@@ -60,17 +62,22 @@ module _ (d : Declared) (names : List Name) (f : ℕ → Option ℕ) (rows : Lis
   goes-is : (a b : ℕ) → goes rows a b ≡ holds_struct d a b
   goes-is a b = ap (λ rs. goes rs a b) made ∙ row-held d f f-is b d.structs a
 
-  pub flags-of : (flags : List Bool) → AreCircles rows flags (length rows) → AreHolding d flags
-  flags-of flags h =
-      let P : ℕ → Type 0 = λ n. AreCircles rows flags n in
-      circles-hold d rows flags goes-is (subst P (ap length made ∙ rows-long f d.structs) h)
+  rows-are : AreWithin rows (length rows) → length rows < 2 ^ 32 - 1 → AreStructRows d rows
+  rows-are within few = record { len = ap length made ∙ rows-long f d.structs; same = goes-is; within = within; few = few }
 
 -- The same of what is made of a package's nodes.
 module _ (texts : List (List ℕ)) (exprs : List ExprNode) (stmts : List StmtNode) (nodes : List DeclNode) (names : List Name) (f : ℕ → Option ℕ) (rows : List (List ℕ))
     (named : (es : List ExprTree) (ts : List StmtTree) → names ≡ names_of (structs_of (decls_made es ts nodes)))
     (numbered : (text : ℕ) → f text ≡ number_of names text)
     (made : (es : List ExprTree) (ts : List StmtTree) → rows ≡ held_rows f (structs_of (decls_made es ts nodes))) where
-  pub flags-hold : (flags : List Bool) → AreCircles rows flags (length rows) → AreHolding (declared texts (decl_trees exprs stmts nodes)) flags
+  pub rows-made : length nodes < 2 ^ 32 - 1 → AreStructRows (declared texts (decl_trees exprs stmts nodes)) rows
   unfolding decl_trees
-  flags-hold flags h =
-      flags-of (declared texts (decl_trees exprs stmts nodes)) names f rows (named (expr_trees exprs) (stmt_trees exprs stmts)) numbered (made (expr_trees exprs) (stmt_trees exprs stmts)) flags h
+  rows-made few =
+      rows-are (declared texts (decl_trees exprs stmts nodes)) names f rows (named (expr_trees exprs) (stmt_trees exprs stmts)) numbered (made (expr_trees exprs) (stmt_trees exprs stmts))
+      (graph-within texts exprs stmts nodes names f rows named numbered made) (graph-few texts exprs stmts nodes names f rows named numbered made _ few)
+
+-- Of the rows of the structs the circles are the structs that hold themselves.
+pub flags-hold : (d : Declared) (rows : List (List ℕ)) (flags : List Bool) → AreStructRows d rows → AreCircles rows flags (length rows) → AreHolding d flags
+flags-hold d rows flags h circles =
+    let P : ℕ → Type 0 = λ n. AreCircles rows flags n in
+    circles-hold d rows flags h.same (subst P h.len circles)

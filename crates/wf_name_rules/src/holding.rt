@@ -1,20 +1,20 @@
-// Which structs hold themselves.
+// Which structs hold themselves, by the graph of the structs.
 
 ghost use Rattle.std.specs.Prelude.{◌≡◌, ◌<◌, ◌-◌, ◌^◌, length, IfOk};
 ghost use Rattle.wf_known.specs.Agreeing.{package_of};
 ghost use Rattle.wf_sizes.specs.StructSizes.{AreHolding};
+ghost use Rattle.wf_name_rules.specs.StructRows.{AreStructRows};
 
 use std::alloc::Global;
-use wf_ast::Package;
+use wf_ast::{Package, Sequence};
 use wf_circles::structs::{numbered, struct_names, struct_rows};
-use wf_names::search::circles;
+use wf_components::circles::circle_flags;
 use wf_text::faults::NoMemory;
 
-/// Of each struct that is declared, in order, whether it holds itself through fields whose whole types are structs.
-/// `Err` where memory was refused. The time is at most that of one walk over all fields for each struct.
-pub fn struct_flags(alloc: Global, parsed: &Package) -> Result<Vec<bool>, NoMemory>
+// For each struct that is declared, in order, the numbers of those that it holds.
+fn struct_graph(alloc: Global, parsed: &Package) -> Result<Vec<Sequence<usize>>, NoMemory>
     requires { length parsed.now.decls < 2 ^ 32 - 1 }
-    ensures { IfOk result (λ flags. AreHolding (package_of parsed.now) flags.items) }
+    ensures { IfOk result (λ rows. AreStructRows (package_of parsed.now) rows.items) }
 {
     let names = match struct_names(alloc, parsed.decls()) {
         Ok(names) => names,
@@ -24,8 +24,17 @@ pub fn struct_flags(alloc: Global, parsed: &Package) -> Result<Vec<bool>, NoMemo
         Ok(numbers) => numbers,
         Err(fault) => return Err(fault),
     };
-    match struct_rows(alloc, &numbers, parsed.decls()) {
-        Ok(rows) => circles(alloc, rows.as_slice()),
+    struct_rows(alloc, &numbers, parsed.decls())
+}
+
+/// Of each struct that is declared, in order, whether it holds itself through fields whose whole types are structs.
+/// `Err` where memory was refused. The time is in proportion to the structs and all their fields.
+pub fn struct_flags(alloc: Global, parsed: &Package) -> Result<Vec<bool>, NoMemory>
+    requires { length parsed.now.decls < 2 ^ 32 - 1 }
+    ensures { IfOk result (λ flags. AreHolding (package_of parsed.now) flags.items) }
+{
+    match struct_graph(alloc, parsed) {
+        Ok(rows) => circle_flags(alloc, rows.as_slice()),
         Err(fault) => Err(fault),
     }
 }

@@ -13,7 +13,7 @@ use Rattle.wf_names.specs.NameRules.{Breaks, DeclarationBreaks, UseBreaks, Circl
 use Rattle.wf_known.specs.Agreeing.{package_of}
 use Rattle.wf_circles.specs.Called.{AreRows}
 use Rattle.wf_resolve.specs.Package.{resolved_package}
-use Rattle.wf_order.specs.Orders.{IsOrder, HasCircle}
+use Rattle.wf_components.specs.Orders.{IsOrder, HasCircle}
 use Rattle.wf_order.proofs.FrontLemmas.{calls-open, circle-breaks, order-front, order-long, rows-few}
 use Rattle.wf_well_named.specs.Ordered.{HasOrder}
 use Rattle.wf_well_named.proofs.PackageLaws.{package-named}

@@ -11,13 +11,13 @@ ghost use Rattle.wf_naming.specs.Naming.{IsMisnamed, IsResolved};
 
 use std::alloc::Global;
 use wf_ast::Package;
+use wf_components::order::callees_first;
 use wf_known::tables::tables;
 use wf_name_rules::calls::call_rows;
 use wf_name_rules::deciding::deciding;
 use wf_named::{Named, NamedNodes};
 use wf_names::tables::Tables;
 use wf_numbering::packages::number_package;
-use wf_order::order::callees_first;
 use wf_resolver::packages::resolve_package;
 use wf_text::faults::{NoMemory, PhaseFault};
 

@@ -29,10 +29,10 @@ use Rattle.wf_circles.specs.Called.{AreRows}
 use Rattle.wf_resolve.specs.Standing.{standing_at}
 use Rattle.wf_resolve.specs.Resolved.{resolved_block}
 use Rattle.wf_resolve.specs.Package.{method_in, resolved_methods, resolved_package}
-use Rattle.wf_order.specs.Orders.{IsOrder, HasCircle}
+use Rattle.wf_components.specs.Orders.{IsOrder, HasCircle}
 use Rattle.wf_order.specs.Calling.{AreOpen}
-use Rattle.wf_order.proofs.WalkLemmas.{holds-pushed}
-use Rattle.wf_order.proofs.OrderLemmas.{once-apart, goes-below}
+use Rattle.wf_components.proofs.WalkLemmas.{holds-pushed}
+use Rattle.wf_components.proofs.OrderLemmas.{once-apart, goes-below}
 use Rattle.wf_order.proofs.CallingLemmas.{both-so, fine_callee, is_fine, are_fine, fine-parts, block-only}
 
 -- The methods of a resolved package are those that are declared.

@@ -1,4 +1,2 @@
 pub mod CallingLemmas
 pub mod FrontLemmas
-pub mod OrderLemmas
-pub mod WalkLemmas

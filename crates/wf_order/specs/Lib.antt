@@ -1,3 +1,1 @@
 pub mod Calling
-pub mod Orders
-pub mod Walking

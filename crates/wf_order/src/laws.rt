@@ -12,12 +12,7 @@ ghost use Rattle.wf_names.specs.NameRules.{DeclarationBreaks, UseBreaks, CircleB
 ghost use Rattle.wf_circles.specs.Called.{AreRows};
 ghost use Rattle.wf_resolve.specs.Package.{resolved_package};
 ghost use Rattle.wf_order.specs.Calling.{AreOpen};
-ghost use Rattle.wf_order.specs.Orders.{IsOrder, HasCircle};
-
-/// A graph that has an order has no circle: so the order that is found, and the circle that is met, exclude each other.
-pub fn an_order_has_no_circle()
-    ensures { (rows : List (List ℕ)) (order : List ℕ) → IsOrder rows order → HasCircle rows → ⊥ }
-{}
+ghost use Rattle.wf_components.specs.Orders.{IsOrder, HasCircle};
 
 /// The rows of the calls of a package are a graph over their own numbers (clause `within`), which is small where no rule
 /// of declarations is broken (clause `few`), and a circle in it breaks a rule (clause `circle`).

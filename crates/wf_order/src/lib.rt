@@ -2,7 +2,3 @@
 #![tactic(auto)]
 
 pub mod laws;
-pub mod order;
-#[cfg(test)]
-mod tests;
-mod walk;

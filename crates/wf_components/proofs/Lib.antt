@@ -1,0 +1,4 @@
+pub mod LabelLemmas
+pub mod OrderLemmas
+pub mod TurnLemmas
+pub mod WalkLemmas

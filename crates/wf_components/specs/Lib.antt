@@ -1,0 +1,4 @@
+pub mod Labels
+pub mod Leaving
+pub mod Orders
+pub mod Walking
