@@ -4,3 +4,4 @@ pub mod FormLaws
 pub mod GrowthLemmas
 pub mod PushLemmas
 pub mod WalkLemmas
+pub mod WidthLemmas

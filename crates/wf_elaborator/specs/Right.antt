@@ -3,8 +3,9 @@ use Rattle.std.specs.Prelude.{◌≡◌, ◌+◌, ℕ, ⊤, Bool, true, false, L
 use Rattle.wf_ast.specs.declared.types.Ty.{Ty}
 use Rattle.wf_ast.specs.declared.types.Ty.TheVariants as types
 use Rattle.wf_ast.specs.WellTyped.{Context}
+use Rattle.wf_named.specs.declared.nodes.NamedCall.{NamedCall}
 use Rattle.wf_named.specs.declared.nodes.NamedPath.{NamedPath}
-use Rattle.wf_named.specs.NamedTree.{NamedExprTree, NamedPartTree, absent, present, NamedLinkTrees, no_link, link}
+use Rattle.wf_named.specs.NamedTree.{NamedExprTree, answer, NamedPartTree, absent, present, NamedLinkTrees, no_link, link, NamedArgTrees, call}
 use Rattle.wf_named.specs.WellNamed.{Scope, named_expr}
 use Rattle.wf_types.specs.declared.meanings.Meaning.{Meaning}
 use Rattle.wf_types.specs.declared.meanings.Meaning.TheVariants as meanings
@@ -50,6 +51,11 @@ pub record IsRightPath (s : Setting) (statuses : ℕ) (p : NamedPath) : Type 0 w
   pub of : Meaning
   pub means : variable s p.of ≡ Some of
   pub whole : is_struct of ≡ false
+
+-- A call inside an expression, with some arguments.
+pub record IsRightAnswer (s : Setting) (statuses : ℕ) (c : NamedCall) : Type 0 where
+  pub args : NamedArgTrees
+  pub right : IsRight s statuses (answer (call c.callee c.at c.mark args))
 
 -- An end of a slice likewise, and the operands of a chain behind its first.
 abbrev pub IsRightEnd : Setting → ℕ → NamedPartTree → Type 0

@@ -128,8 +128,14 @@ fn core_width(core: NamedCore) -> Option<Width>
 pub fn plain_width(of: &NamedType) -> Option<Width>
     ensures { (ts : _) → result ≡ width_written (type_at ts of.now) }
 {
-    match (of.prefixes.as_slice(), of.bounds) {
-        ([], None) => core_width(of.core),
-        _ => None,
+    match of.bounds {
+        Some(_) => None,
+        None => {
+            if of.prefixes.as_slice().is_empty() {
+                core_width(of.core)
+            } else {
+                None
+            }
+        }
     }
 }

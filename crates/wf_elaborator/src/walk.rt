@@ -13,7 +13,7 @@ ghost use Rattle.wf_elaborated.specs.ElaboratedExprs.{type_meant as type_of_mean
 ghost use Rattle.wf_elaborator.specs.Growth.{Grows};
 ghost use Rattle.wf_elaborator.specs.Nodes.{number_meant, Stands, StandsForExpr, StandsForPath, StandsForEnd, MakesExpr};
 ghost use Rattle.wf_elaborator.specs.Chains.{AddsOperand, AddsLinks, AreOperands};
-ghost use Rattle.wf_elaborator.specs.Right.{IsRight, IsRightPath, IsRightEnd, AreRight};
+ghost use Rattle.wf_elaborator.specs.Right.{IsRight, IsRightPath, IsRightAnswer, IsRightEnd, AreRight};
 
 use crate::building::Building;
 use crate::elaborated::{Elaborated, MadeNode, MadeOperands};
@@ -300,7 +300,7 @@ fn elaborate_answer(
     around: &Setting,
     call: &NamedCall,
 ) -> Result<MadeNode, NoMemory>
-    requires { (args : _) → IsRight around.now (length nodes.old.statuses) (tree.answer (tree.call call.now.callee call.now.at call.now.mark args)) }
+    requires { IsRightAnswer around.now (length nodes.old.statuses) call.now }
     ensures grows { OnOk result (Grows nodes.old nodes.new) }
     ensures made { IfOk result (λ n. (args : _) → MakesExpr around.now (tree.answer (tree.call call.now.callee call.now.at call.now.mark args)) nodes.new n) }
 {
@@ -321,7 +321,8 @@ fn elaborate_answer(
                 Err(fault) => Err(fault),
             }
         }
-        NamedCallee::Own(_) | NamedCallee::Sub { .. } => unreachable!(),
+        NamedCallee::Own(_) => unreachable!(),
+        NamedCallee::Sub { .. } => unreachable!(),
     }
 }
 
