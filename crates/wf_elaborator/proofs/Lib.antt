@@ -1,0 +1,7 @@
+pub mod AroundLaws
+pub mod ChainLaws
+pub mod FormLaws
+pub mod GrowthLemmas
+pub mod PushLemmas
+pub mod WalkLemmas
+pub mod WidthLemmas
