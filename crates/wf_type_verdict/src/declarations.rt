@@ -12,7 +12,6 @@ ghost use Rattle.wf_types.specs.declared.settings.Role.TheVariants as roles;
 ghost use Rattle.wf_judging.specs.Judged.{judged};
 ghost use Rattle.wf_type_verdict.specs.Packages.{decided, constant_found};
 
-use wf_type_rules::targets::judge_value;
 use std::alloc::Global;
 use wf_ast::parsed::Name;
 use wf_ast::{Sequence, Ty};
@@ -29,6 +28,7 @@ use wf_text::faults::NoMemory;
 use wf_text::precedence::sooner;
 use wf_text::rules::{Refusal, Rule};
 use wf_text::status_text::category;
+use wf_type_rules::targets::judge_value;
 use wf_types::{Constant, Meaning, Role, Setting};
 
 const BASE_STATUSES: [&str; 10] = [

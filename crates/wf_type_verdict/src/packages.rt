@@ -15,14 +15,14 @@ ghost use Rattle.wf_type_verdict.specs.Packages.{decided, IsAround, field_types}
 
 use crate::declarations::{judge_consts, judge_statuses, status_texts};
 use crate::declared_types::{fields_of, judge_fields, judge_result, judge_variables, method_types};
-use wf_type_rules::ends::judge_whole_body;
-use wf_type_rules::statements::judge_block;
 use std::alloc::Global;
 use wf_ast::{Sequence, Ty};
 use wf_base::Mark;
 use wf_named::{Named, NamedMethod, NamedNodes};
 use wf_text::faults::NoMemory;
 use wf_text::rules::Refusal;
+use wf_type_rules::ends::judge_whole_body;
+use wf_type_rules::statements::judge_block;
 use wf_types::{Constant, MethodType, Role, Setting};
 
 /// The variables that a method declares: what decides so far, and the types of its arguments and its locals.
