@@ -1,5 +1,5 @@
 -- The graph of the structs by their rows, and which structs hold themselves by it.
-use Rattle.std.proofs.Common.{◌≡◌, ℕ, zero, suc, ◌+◌, ◌-◌, ◌^◌, ◌<◌, Bool, true, false, cond, ◌||◌, List, [], ◌∷◌, ◌++◌, length, Option, Some, None, slice_get, nat_eq, refl, sym, ap, ◌∙◌, subst}
+use Rattle.std.proofs.Common.{◌≡◌, ℕ, zero, suc, ◌+◌, ◌-◌, ◌^◌, ◌<◌, Bool, true, false, cond, ◌||◌, List, [], ◌∷◌, ◌++◌, length, Option, Some, None, slice_get, nat_eq, refl, sym, ap, ◌∙◌, subst, arith}
 use Rattle.std.specs.List.{list_any, position_from}
 use Rattle.std.proofs.lemmas.List.Folds.{list_any-append}
 use Rattle.wf_ast.specs.declared.parsed.DeclNode.{DeclNode}
@@ -15,7 +15,9 @@ use Rattle.wf_names.specs.Sizes.{struct_held, is_the, fields_at, holds_struct}
 use Rattle.wf_circles.specs.Held.{number_of, names_of, one_number, held_by, held_in, held_rows}
 use Rattle.wf_circles.proofs.HeldLemmas.{graph-few, graph-within}
 use Rattle.wf_sizes.specs.StructSizes.{AreHolding}
-use Rattle.wf_sizes.proofs.CircleLemmas.{circles-hold}
+use Rattle.wf_sizes.specs.Orders.{IsHoldingOrder}
+use Rattle.wf_sizes.proofs.CircleLemmas.{circles-hold, order-holds}
+use Rattle.wf_components.specs.Orders.{IsOrderOffCircles}
 use Rattle.wf_name_rules.specs.StructRows.{AreStructRows}
 
 or_false : (t : Bool) → (t || false) ≡ t
@@ -81,3 +83,7 @@ pub flags-hold : (d : Declared) (rows : List (List ℕ)) (flags : List Bool) →
 flags-hold d rows flags h circles =
     let P : ℕ → Type 0 = λ n. AreCircles rows flags n in
     circles-hold d rows flags h.same (subst P h.len circles)
+
+-- An order of the rows is one of the structs.
+pub order-stands : (d : Declared) (rows : List (List ℕ)) (order : List ℕ) → AreStructRows d rows → IsOrderOffCircles rows order → IsHoldingOrder d order
+order-stands d rows order h o = order-holds d rows order h.same (λ s l. o.every s (omega (arith, l, h.len))) (λ s k. omega (arith, o.within s k, h.len)) o.behind

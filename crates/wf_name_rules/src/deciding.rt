@@ -11,7 +11,7 @@ ghost use Rattle.wf_circles.specs.Circling.{DecidesWith};
 ghost use Rattle.wf_sizes.specs.Deciding.{DecidesBehind};
 
 use crate::calls::call_rows;
-use crate::holding::struct_flags;
+use crate::holding::{struct_flags, struct_order};
 use std::alloc::Global;
 use wf_ast::Package;
 use wf_circles::methods::name_circles;
@@ -65,8 +65,12 @@ fn by_sizes(
     requires { length parsed.now.decls < 2 ^ 32 - 1 }
     ensures { IfOk result (λ all. DecidesBehind (SizeBreaks (package_of parsed.now)) found all) }
 {
-    match struct_flags(alloc, parsed) {
-        Ok(flags) => size_breaks(alloc, found, parsed, flags.as_slice()),
+    let flags = match struct_flags(alloc, parsed) {
+        Ok(flags) => flags,
+        Err(fault) => return Err(fault),
+    };
+    match struct_order(alloc, parsed) {
+        Ok(order) => size_breaks(alloc, found, parsed, flags.as_slice(), order.as_slice()),
         Err(fault) => Err(fault),
     }
 }

@@ -1,7 +1,8 @@
-// Which structs hold themselves, by the graph of the structs.
+// Which structs hold themselves, and an order of the structs, by the graph of the structs.
 
 ghost use Rattle.std.specs.Prelude.{◌≡◌, ◌<◌, ◌-◌, ◌^◌, length, IfOk};
 ghost use Rattle.wf_known.specs.Agreeing.{package_of};
+ghost use Rattle.wf_sizes.specs.Orders.{IsHoldingOrder};
 ghost use Rattle.wf_sizes.specs.StructSizes.{AreHolding};
 ghost use Rattle.wf_name_rules.specs.StructRows.{AreStructRows};
 
@@ -9,6 +10,7 @@ use std::alloc::Global;
 use wf_ast::{Package, Sequence};
 use wf_circles::structs::{numbered, struct_names, struct_rows};
 use wf_components::circles::circle_flags;
+use wf_components::order::order_off_circles;
 use wf_text::faults::NoMemory;
 
 // For each struct that is declared, in order, the numbers of those that it holds.
@@ -35,6 +37,19 @@ pub fn struct_flags(alloc: Global, parsed: &Package) -> Result<Vec<bool>, NoMemo
 {
     match struct_graph(alloc, parsed) {
         Ok(rows) => circle_flags(alloc, rows.as_slice()),
+        Err(fault) => Err(fault),
+    }
+}
+
+/// The structs that are declared, by their numbers, in an order in which each stands behind those that it holds, apart
+/// from those that hold themselves. `Err` where memory was refused. The time is in proportion to the structs and all
+/// their fields.
+pub fn struct_order(alloc: Global, parsed: &Package) -> Result<Vec<u32>, NoMemory>
+    requires { length parsed.now.decls < 2 ^ 32 - 1 }
+    ensures { IfOk result (λ order. IsHoldingOrder (package_of parsed.now) order.items) }
+{
+    match struct_graph(alloc, parsed) {
+        Ok(rows) => order_off_circles(alloc, rows.as_slice()),
         Err(fault) => Err(fault),
     }
 }
