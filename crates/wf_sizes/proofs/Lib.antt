@@ -3,8 +3,9 @@ pub mod CircleLemmas
 pub mod DecidingLaws
 pub mod LargeLaws
 pub mod LongLaws
+pub mod OrderTests
 pub mod PartLemmas
-pub mod RoundLemmas
+pub mod SettleLemmas
 pub mod TableLemmas
 pub mod TakeLemmas
 pub mod ValueLemmas

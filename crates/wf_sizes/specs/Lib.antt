@@ -1,6 +1,7 @@
 pub mod Capped
 pub mod Deciding
 pub mod LongArrays
+pub mod Orders
 pub mod Packages
 pub mod StructSizes
 pub mod ValuesBy

@@ -1,6 +1,6 @@
--- The sizes of structs, found in rounds: each struct's size is known once those that it holds are known. Numbers
--- above the limit all count as the one above it.
-use Rattle.std.specs.Prelude.{◌≡◌, ℕ, ◌+◌, ◌<◌, ◌≤◌, Bool, true, false, not, ◌&&◌, ◌||◌, List, [], ◌∷◌, ◌++◌, map, Option, Some, None, slice_get, slice_set, is_some, nat_lt, nat_eq, min}
+-- The sizes of structs: each struct's size is known once those that it holds are known. Numbers above the limit all
+-- count as the one above it.
+use Rattle.std.specs.Prelude.{◌≡◌, ℕ, ◌+◌, ◌<◌, ◌≤◌, Bool, true, false, not, ◌&&◌, List, [], ◌∷◌, ◌++◌, map, Option, Some, None, slice_get, is_some, nat_lt, nat_eq, min}
 use Rattle.std.specs.List.{position_from}
 use Rattle.indexmap.specs.IndexMap.{IndexMap, get}
 use Rattle.wf_text.specs.declared.rules.Refusal.{Refusal}
@@ -89,40 +89,6 @@ IsSettled flags sizes row s = is_some (sum_after flags sizes (Some 0) row) ≡ t
 abbrev pub AreSettled : (flags : List Bool) → (sizes : List (Option ℕ)) → (rows : List (List Part)) → Type 0
 AreSettled flags sizes rows = (s : ℕ) (row : List Part) → slice_get rows s ≡ Some row → IsSettled flags sizes row s
 
--- A struct whose size becomes known, and whether it does.
-abbrev pub settled_at : (size : Option ℕ) → List (Option ℕ) → ℕ → (sum : Option ℕ) → List (Option ℕ)
-settled_at (Some m) sizes s sum = sizes
-settled_at None sizes s None = sizes
-settled_at None sizes s (Some n) = slice_set sizes s (Some n)
-
-abbrev pub settles_at : (size sum : Option ℕ) → Bool
-settles_at (Some m) sum = false
-settles_at None sum = is_some sum
-
-abbrev pub settled : (flags : List Bool) → List (Option ℕ) → List Part → ℕ → List (Option ℕ)
-settled flags sizes row s = settled_at (size_in (slice_get sizes s)) sizes s (sum_after flags sizes (Some 0) row)
-
-abbrev pub settles : (flags : List Bool) → List (Option ℕ) → List Part → ℕ → Bool
-settles flags sizes row s = settles_at (size_in (slice_get sizes s)) (sum_after flags sizes (Some 0) row)
-
--- The sizes behind a round over structs with numbers from `s` on, and whether one becomes known in it.
-abbrev pub round_after : (flags : List Bool) → List (Option ℕ) → (s : ℕ) → List (List Part) → List (Option ℕ)
-round_after flags sizes s [] = sizes
-round_after flags sizes s (row ∷ rows) = round_after flags (settled flags sizes row s) (s + 1) rows
-
-abbrev pub round_moves : (flags : List Bool) → List (Option ℕ) → (s : ℕ) → List (List Part) → Bool
-round_moves flags sizes s [] = false
-round_moves flags sizes s (row ∷ rows) = settles flags sizes row s || round_moves flags (settled flags sizes row s) (s + 1) rows
-
--- How many sizes aren't known.
-abbrev pub unknown_one : Option ℕ → ℕ
-unknown_one None = 1
-unknown_one (Some n) = 0
-
-abbrev pub unknown : List (Option ℕ) → ℕ
-unknown [] = 0
-unknown (size ∷ sizes) = unknown_one size + unknown sizes
-
 -- The numbers of the structs by their names.
 abbrev pub AreNumbers : {S : Type 0} → IndexMap ℕ ℕ S → List Structure → Type 0
 AreNumbers table structs = (text : ℕ) → get nat_eq table text ≡ position_from (λ s. is_spelt text s.name) 0 structs
@@ -142,8 +108,3 @@ pub record HasLargeField (d : Declared) (s : Refusal) : Type 0 where
   pub takes_since : Take d (front ++ variable ∷ []) since
   pub most : 1048576 < since
   pub refused : s ≡ record { rule = L7; at = variable.name.at }
-
--- A flag as a number: what a round's measure counts beside the sizes that aren't known.
-abbrev pub flag_number : Bool → ℕ
-flag_number true = 1
-flag_number false = 0

@@ -10,6 +10,7 @@ ghost use Rattle.wf_names.specs.Declarations.{declared, variables, structs_of};
 ghost use Rattle.wf_names.specs.ConstantValues.{known_constants};
 ghost use Rattle.wf_names.specs.NameRules.{SizeBreaks};
 ghost use Rattle.wf_sizes.specs.Deciding.{DecidesBehind};
+ghost use Rattle.wf_sizes.specs.Orders.{IsHoldingOrder};
 ghost use Rattle.wf_sizes.specs.Packages.{of_package};
 ghost use Rattle.wf_sizes.specs.ValuesBy.{Knows};
 ghost use Rattle.wf_sizes.specs.StructSizes.{passes as passes_limit, large_of, struct_large, row_of, AreHolding, AreNumbers, AreSizes, AreSettled, HasLargeField};
@@ -18,7 +19,7 @@ use crate::arrays::long_by_constants;
 use crate::constants::constants;
 use crate::numbers::Value;
 use crate::parts::field_part;
-use crate::rounds::{added, part_bytes, sizes};
+use crate::struct_sizes::{added, part_bytes, sizes};
 use crate::tables::{numbers, rows};
 use indexmap::{IndexMap, IndexSet};
 use std::alloc::Global;
@@ -139,22 +140,25 @@ fn known_sizes(
     nothing: &IndexSet<u32>,
     structs: &IndexMap<u32, usize>,
     flags: &[bool],
+    order: &[u32],
 ) -> Result<Vec<Option<u32>>, NoMemory>
     requires knows { Knows constants.now (known_constants (of_package parsed.now)) }
     requires nothing { nothing.now.keys ≡ [] }
     requires structs { AreNumbers structs.now (of_package parsed.now).structs }
     requires holding { AreHolding (of_package parsed.now) flags.now }
+    requires order { IsHoldingOrder (of_package parsed.now) order.now }
     ensures settled { IfOk result (λ sizes. AreSettled flags.now sizes.items (map (row_of (of_package parsed.now)) (of_package parsed.now).structs)) }
     ensures sound { IfOk result (λ sizes. AreSizes (of_package parsed.now) sizes.items) }
 {
     match rows(alloc, parsed, constants, nothing, structs) {
-        Ok(rows) => sizes(alloc, rows.as_slice(), flags),
+        Ok(rows) => sizes(alloc, rows.as_slice(), flags, order),
         Err(fault) => Err(fault),
     }
 }
 
 /// Structs whose fields take more than 1,048,576 bytes together, each refused by L7 at the field that passes this
-/// limit, and what decides of these and of what was found before. A flag tells of each struct whether it holds itself.
+/// limit, and what decides of these and of what was found before. A flag tells of each struct whether it holds itself;
+/// `order` has the numbers of all structs, each behind those that it holds, but for those that hold themselves.
 pub fn large_structs(
     alloc: Global,
     found: Option<Refusal>,
@@ -162,17 +166,19 @@ pub fn large_structs(
     constants: &IndexMap<u32, Option<Value>>,
     nothing: &IndexSet<u32>,
     flags: &[bool],
+    order: &[u32],
 ) -> Result<Option<Refusal>, NoMemory>
     requires knows { Knows constants.now (known_constants (of_package parsed.now)) }
     requires nothing { nothing.now.keys ≡ [] }
     requires holding { AreHolding (of_package parsed.now) flags.now }
+    requires order { IsHoldingOrder (of_package parsed.now) order.now }
     ensures { IfOk result (λ all. DecidesBehind (HasLargeField (of_package parsed.now)) found all) }
 {
     let structs = match numbers(alloc, parsed) {
         Ok(structs) => structs,
         Err(fault) => return Err(fault),
     };
-    match known_sizes(alloc, parsed, constants, nothing, &structs, flags) {
+    match known_sizes(alloc, parsed, constants, nothing, &structs, flags, order) {
         Ok(sizes) => Ok(large_in_structs(
             found,
             parsed,
@@ -187,14 +193,17 @@ pub fn large_structs(
 }
 
 /// Arrays that are too long and structs that are too large, and what decides of these and of what was found before.
-/// A flag tells of each struct whether it holds itself.
+/// A flag tells of each struct whether it holds itself; `order` has the numbers of all structs, each behind those that
+/// it holds, but for those that hold themselves. `Err` where memory was refused.
 pub fn size_breaks(
     alloc: Global,
     found: Option<Refusal>,
     parsed: &Package,
     flags: &[bool],
+    order: &[u32],
 ) -> Result<Option<Refusal>, NoMemory>
-    requires { AreHolding (of_package parsed.now) flags.now }
+    requires holding { AreHolding (of_package parsed.now) flags.now }
+    requires order { IsHoldingOrder (of_package parsed.now) order.now }
     ensures { IfOk result (λ all. DecidesBehind (SizeBreaks (declared parsed.now.texts (decl_trees parsed.now.exprs parsed.now.stmts parsed.now.decls))) found all) }
 {
     let constants = match constants(alloc, parsed) {
@@ -204,7 +213,7 @@ pub fn size_breaks(
     match long_by_constants(alloc, found, parsed, &constants) {
         Ok(found) => {
             let nothing = IndexSet::new(alloc);
-            large_structs(alloc, found, parsed, &constants, &nothing, flags)
+            large_structs(alloc, found, parsed, &constants, &nothing, flags, order)
         }
         Err(fault) => Err(fault),
     }

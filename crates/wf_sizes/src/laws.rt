@@ -1,14 +1,15 @@
 // What the passes find is what the rules say. Each law is the contract of a function that does nothing.
 
-ghost use Rattle.std.specs.Prelude.{◌≡◌, ℕ, Bool, List, Option, None, length};
+ghost use Rattle.std.specs.Prelude.{◌≡◌, ◌⊎◌, ◌<◌, ℕ, Bool, true, List, Option, None, Some, length, take, slice_get};
 ghost use Rattle.wf_text.specs.declared.rules.Refusal.{Refusal};
 ghost use Rattle.wf_text.specs.Precedence.{Decides};
 ghost use Rattle.wf_names.specs.Declarations.{Declared, Variable};
-ghost use Rattle.wf_names.specs.Graphs.{goes, AreCircles};
+ghost use Rattle.wf_names.specs.Graphs.{Path, holds, goes, AreCircles};
 ghost use Rattle.wf_names.specs.NameRules.{SizeBreaks};
 ghost use Rattle.wf_names.specs.Sizes.{Take, holds_struct};
 ghost use Rattle.wf_sizes.specs.Deciding.{DecidesBehind};
 ghost use Rattle.wf_sizes.specs.LongArrays.{HasLongArray, arrays_found};
+ghost use Rattle.wf_sizes.specs.Orders.{IsHoldingOrder};
 ghost use Rattle.wf_sizes.specs.StructSizes.{AreHolding};
 
 /// Arrays that are too long: each breaks a rule of the table, and of what the pass finds the first decides.
@@ -31,4 +32,13 @@ pub fn first_size_decides()
 pub fn circles_are_the_structs_that_hold_themselves()
     ensures { (d : Declared) (rows : List (List ℕ)) (flags : List Bool) → ((a b : ℕ) → goes rows a b ≡ holds_struct d a b)
         → AreCircles rows flags (length d.structs) → AreHolding d flags }
+{}
+
+/// An order of all numbers of that graph, in which what a number goes to stands in front of it or has a way to it, has
+/// each struct behind those that it holds, but for those that hold themselves.
+pub fn numbers_left_by_a_walk_are_an_order_of_structs()
+    ensures { (d : Declared) (rows : List (List ℕ)) (order : List ℕ) → ((a b : ℕ) → goes rows a b ≡ holds_struct d a b)
+        → ((s : ℕ) → s < length d.structs → holds order s ≡ true) → ((s : ℕ) → holds order s ≡ true → s < length d.structs)
+        → ((i a b : ℕ) → slice_get order i ≡ Some a → goes rows a b ≡ true → (holds (take i order) b ≡ true) ⊎ Path (goes rows) b a)
+        → IsHoldingOrder d order }
 {}

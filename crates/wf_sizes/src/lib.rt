@@ -8,7 +8,7 @@ pub mod large;
 pub mod laws;
 pub mod numbers;
 pub mod parts;
-pub mod rounds;
+pub mod struct_sizes;
 pub mod tables;
 #[cfg(test)]
 mod tests;

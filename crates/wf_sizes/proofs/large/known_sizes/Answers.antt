@@ -1,10 +1,19 @@
-use Rattle.std.proofs.Common.{◌≡◌, List, map, ◌∙◌, subst}
+use Rattle.std.proofs.Common.{◌≡◌, List, map, sym, ◌∙◌, subst}
 use Rattle.wf_names.specs.Declarations.{Declared}
 use Rattle.wf_sizes.specs.declared.parts.Part.{Part}
 use Rattle.wf_sizes.specs.Packages.{of_package}
+use Rattle.wf_sizes.specs.Orders.{IsSettlingOrder}
 use Rattle.wf_sizes.specs.StructSizes.{row_of, AreHolding, AreSizes, AreSettled}
+use Rattle.wf_sizes.proofs.SettleLemmas.{order-settles}
 use Rattle.wf_sizes.proofs.ValueLemmas.{if_ok}
 use Rattle.wf_sizes.proofs.large.known_sizes.Goals as goal
+
+pub sizes-requires : goal.sizes-requires
+sizes-requires c =
+    let d = of_package c.args.parsed.now in
+    let rows : c.as_slice.result.now ≡ map (row_of d) d.structs = c.as_slice.ensures.value ∙ c.in-Ok.ensures in
+    let P : List (List Part) → Type 0 = λ xs. IsSettlingOrder c.args.flags.now xs c.args.order.now in
+    subst P (sym rows) (order-settles d c.args.flags.now c.args.order.now c.requires.holding c.requires.order)
 
 pub returns-in-Ok-clause-settled : goal.returns-in-Ok-clause-settled
 returns-in-Ok-clause-settled c =

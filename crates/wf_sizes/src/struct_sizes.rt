@@ -1,11 +1,12 @@
-// The sizes of structs, found in rounds over all of them: in each round those sizes become known whose structs hold
-// only structs of known sizes. A last round finds none. The time is that of the rounds, of which there are at most
-// one more than structs, and two where each struct stands behind those that it holds.
+// The sizes of structs, found in one pass along an order: each struct stands behind those that it holds, but for those
+// that hold themselves, so that the sizes that it needs are known when its turn comes. The time is that of a walk over
+// all fields.
 
-ghost use Rattle.std.specs.Prelude.{◌≡◌, ◌+◌, ◌<◌, ◌||◌, None, Some, length, map, replicate, slice_get, vec_len, IfOk};
+ghost use Rattle.std.specs.Prelude.{◌≡◌, ◌+◌, ◌<◌, None, Some, length, map, replicate, slice_get, slice_set, vec_len, IfOk};
 ghost use Rattle.wf_names.specs.Declarations.{Declared};
 ghost use Rattle.wf_names.specs.Passes.{is_flagged as flags_at};
-ghost use Rattle.wf_sizes.specs.StructSizes.{capped, row_of, added as sum_of_both, struct_bytes as bytes_of_struct, size_in, part_bytes as bytes_of_part, sum_after, settled_at, settles_at, settled, settles, round_after, round_moves, AreHolding, AreSizes, AreSettled};
+ghost use Rattle.wf_sizes.specs.Orders.{IsSettlingOrder};
+ghost use Rattle.wf_sizes.specs.StructSizes.{capped, row_of, added as sum_of_both, struct_bytes as bytes_of_struct, size_in, part_bytes as bytes_of_part, sum_after, AreHolding, AreSizes, AreSettled};
 
 use crate::parts::{MOST_BYTES, Part};
 use std::alloc::Global;
@@ -79,34 +80,13 @@ fn sum(row: &[Part], flags: &[bool], sizes: &[Option<u32>]) -> Option<u32>
     sum
 }
 
-// Keeps the size of a struct, if there is one; whether there is.
-fn put(sizes: &mut Vec<Option<u32>>, s: usize, size: Option<u32>) -> bool
+// Keeps the size of a struct, where those of all that it holds are known.
+fn settle(sizes: &mut Vec<Option<u32>>, row: &[Part], flags: &[bool], s: usize)
     requires { s < vec_len sizes.old }
-    ensures known { result ≡ settles_at None size }
-    ensures sizes { sizes.new.items ≡ settled_at None sizes.old.items s size }
+    ensures { sizes.new.items ≡ slice_set sizes.old.items s (sum_after flags.now sizes.old.items (Some 0) row.now) }
 {
-    match size {
-        Some(size) => {
-            sizes[s] = Some(size);
-            true
-        }
-        None => false,
-    }
-}
-
-// Whether the size of a struct becomes known, which then is kept.
-fn settle(sizes: &mut Vec<Option<u32>>, row: &[Part], flags: &[bool], s: usize) -> bool
-    requires { s < vec_len sizes.old }
-    ensures known { result ≡ settles flags.now sizes.old.items row.now s }
-    ensures sizes { sizes.new.items ≡ settled flags.now sizes.old.items row.now s }
-{
-    match size_at(sizes.as_slice(), s) {
-        Some(_) => false,
-        None => {
-            let sum = sum(row, flags, sizes.as_slice());
-            put(sizes, s, sum)
-        }
-    }
+    let sum = sum(row, flags, sizes.as_slice());
+    sizes[s] = sum;
 }
 
 fn row(rows: &[Sequence<Part>], s: usize) -> &[Part]
@@ -114,26 +94,6 @@ fn row(rows: &[Sequence<Part>], s: usize) -> &[Part]
     ensures { slice_get rows.now s ≡ Some result.now }
 {
     rows[s].as_slice()
-}
-
-fn either(a: bool, b: bool) -> bool
-    ensures { result ≡ (a || b) }
-{
-    a || b
-}
-
-// A round over all structs; whether a size became known.
-fn round(sizes: &mut Vec<Option<u32>>, rows: &[Sequence<Part>], flags: &[bool]) -> bool
-    requires { vec_len sizes.old ≡ length rows.now }
-    ensures known { result ≡ round_moves flags.now sizes.old.items 0 rows.now }
-    ensures sizes { sizes.new.items ≡ round_after flags.now sizes.old.items 0 rows.now }
-{
-    let mut progress = false;
-    for s in 0..rows.len() {
-        let settled = settle(sizes, row(rows, s), flags, s);
-        progress = either(progress, settled);
-    }
-    progress
 }
 
 fn no_sizes(alloc: Global, count: usize) -> Result<Vec<Option<u32>>, NoMemory>
@@ -147,12 +107,15 @@ fn no_sizes(alloc: Global, count: usize) -> Result<Vec<Option<u32>>, NoMemory>
 }
 
 /// The size of each struct's fields, of which numbers above 1,048,577 count as that. It is known wherever the fields
-/// have one. A struct that is flagged counts 8 bytes in those that hold it.
+/// have one. A struct that is flagged counts 8 bytes in those that hold it; each other stands in `order` in front of
+/// those that hold it. `Err` where memory was refused.
 pub fn sizes(
     alloc: Global,
     rows: &[Sequence<Part>],
     flags: &[bool],
+    order: &[u32],
 ) -> Result<Vec<Option<u32>>, NoMemory>
+    requires { IsSettlingOrder flags.now rows.now order.now }
     ensures settled { IfOk result (λ sizes. AreSettled flags.now sizes.items rows.now) }
     ensures sound { IfOk result (λ sizes. (d : Declared) → rows.now ≡ map (row_of d) d.structs → AreHolding d flags.now → AreSizes d sizes.items) }
 {
@@ -160,9 +123,9 @@ pub fn sizes(
         Ok(sizes) => sizes,
         Err(fault) => return Err(fault),
     };
-    let mut progress = true;
-    while progress {
-        progress = round(&mut sizes, rows, flags);
+    for s in order {
+        let s = *s as usize;
+        settle(&mut sizes, row(rows, s), flags, s);
     }
     Ok(sizes)
 }
