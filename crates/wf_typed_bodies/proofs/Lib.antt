@@ -1,0 +1,7 @@
+pub mod BlockLemmas
+pub mod GrowthLemmas
+pub mod ListLemmas
+pub mod PushLemmas
+pub mod SimpleLemmas
+pub mod StepLemmas
+pub mod StmtLemmas
