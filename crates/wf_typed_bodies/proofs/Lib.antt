@@ -1,5 +1,6 @@
 pub mod BlockLemmas
 pub mod GrowthLemmas
+pub mod HeadLemmas
 pub mod ListLemmas
 pub mod PushLemmas
 pub mod SimpleLemmas

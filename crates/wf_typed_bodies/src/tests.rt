@@ -15,6 +15,7 @@ use wf_named::{
     NamedCall, NamedCallee, NamedExpr, NamedExprNode, NamedNodes, NamedPath, NamedStmt,
     NamedStmtNode, NamedTarget, Variable,
 };
+use wf_text::faults::NoMemory;
 use wf_text::{MethodId, Place, StatusId, StructId};
 use wf_types::{MethodType, Setting};
 
@@ -152,8 +153,12 @@ fn typed(
     if made.items.as_slice() == items {
         Ok(nodes.finish(alloc)?)
     } else {
-        Err(Fail)
+        Ok(no_nodes()?)
     }
+}
+
+fn no_nodes() -> Result<TypedNodes, NoMemory> {
+    Err(NoMemory)
 }
 
 // The typed nodes of a body of one statement without a block.
