@@ -8,6 +8,7 @@ pub mod building;
 pub mod calls;
 pub mod counting;
 pub mod heads;
+pub mod laws;
 pub mod lists;
 pub mod simple;
 pub mod simple_stmts;
