@@ -145,23 +145,23 @@ fn joined(
 
 // What the nodes of an expression come to, as it is handed on by `finish`, and its value.
 #[derive(Drop)]
-struct Typed {
+struct Outcome {
     nodes: TypedNodes,
     value: Value,
 }
 
-fn typed(alloc: Global, named: &NamedNodes, e: ExprId) -> Result<Typed, Fail> {
+fn typed(alloc: Global, named: &NamedNodes, e: ExprId) -> Result<Outcome, Fail> {
     let mut nodes = Building::new(alloc, declared(alloc)?);
     let made = elaborate_expr(alloc, &mut nodes, named, &around(alloc)?, e)?;
     let value = made.value;
-    Ok(Typed {
+    Ok(Outcome {
         nodes: nodes.finish(alloc)?,
         value,
     })
 }
 
 // The types and the numbers of all nodes.
-fn are(all: &Typed, types: &[Ty], constants: &[Option<u64>]) -> bool {
+fn are(all: &Outcome, types: &[Ty], constants: &[Option<u64>]) -> bool {
     all.nodes.types.as_slice() == types
         && all.nodes.constants.as_slice() == constants
         && all.nodes.exprs.as_slice().len() == types.len()
@@ -169,7 +169,7 @@ fn are(all: &Typed, types: &[Ty], constants: &[Option<u64>]) -> bool {
 }
 
 // What the whole means, and where it stands.
-fn means(all: &Typed, of: Meaning, col: u32) -> bool {
+fn means(all: &Outcome, of: Meaning, col: u32) -> bool {
     all.value
         == Value {
             of: Some(of),
@@ -186,13 +186,13 @@ fn no_signs(node: &ExprNode, col: u32) -> bool {
 }
 
 // One expression that has no parts.
-fn alone(alloc: Global, expr: NamedExpr) -> Result<Typed, Fail> {
+fn alone(alloc: Global, expr: NamedExpr) -> Result<Outcome, Fail> {
     let mut named = NamedNodes::new(alloc, b"demo")?;
     let e = added(&mut named, expr, 5)?;
     typed(alloc, &named, e)
 }
 
-fn number_is_typed(all: &Typed) -> bool {
+fn number_is_typed(all: &Outcome) -> bool {
     let node = match all.nodes.exprs.as_slice().last() {
         Some(node) => node,
         None => return false,
@@ -213,7 +213,7 @@ fn numbers_have_64_bits(rt: HostRuntime) -> Result<(), Fail> {
     Ok(())
 }
 
-fn status_is_typed(all: &Typed) -> bool {
+fn status_is_typed(all: &Outcome) -> bool {
     let node = match all.nodes.exprs.as_slice().last() {
         Some(node) => node,
         None => return false,
@@ -230,7 +230,7 @@ fn statuses_are_told_by_number(rt: HostRuntime) -> Result<(), Fail> {
     Ok(())
 }
 
-fn truth_is_typed(all: &Typed) -> bool {
+fn truth_is_typed(all: &Outcome) -> bool {
     let node = match all.nodes.exprs.as_slice().last() {
         Some(node) => node,
         None => return false,
@@ -247,7 +247,7 @@ fn truths_are_flags(rt: HostRuntime) -> Result<(), Fail> {
     Ok(())
 }
 
-fn local_is_typed(all: &Typed) -> bool {
+fn local_is_typed(all: &Outcome) -> bool {
     let node = match all.nodes.exprs.as_slice().last() {
         Some(node) => node,
         None => return false,
@@ -265,7 +265,7 @@ fn paths_have_the_types_of_what_they_name(rt: HostRuntime) -> Result<(), Fail> {
     Ok(())
 }
 
-fn constant_is_typed(all: &Typed) -> bool {
+fn constant_is_typed(all: &Outcome) -> bool {
     let node = match all.nodes.exprs.as_slice().last() {
         Some(node) => node,
         None => return false,
@@ -287,17 +287,17 @@ fn constants_have_all_numbers_of_their_width(rt: HostRuntime) -> Result<(), Fail
 }
 
 // A path that is no value, by itself.
-fn source(alloc: Global) -> Result<Typed, Fail> {
+fn source(alloc: Global) -> Result<Outcome, Fail> {
     let mut nodes = Building::new(alloc, declared(alloc)?);
     let made = elaborate_path(alloc, &mut nodes, &around(alloc)?, path(SOURCE, 9))?;
     let value = made.value;
-    Ok(Typed {
+    Ok(Outcome {
         nodes: nodes.finish(alloc)?,
         value,
     })
 }
 
-fn argument_is_typed(all: &Typed) -> bool {
+fn argument_is_typed(all: &Outcome) -> bool {
     let node = match all.nodes.exprs.as_slice().last() {
         Some(node) => node,
         None => return false,
@@ -315,7 +315,7 @@ fn readers_are_paths(rt: HostRuntime) -> Result<(), Fail> {
 }
 
 // this.cells[x]
-fn element(alloc: Global) -> Result<Typed, Fail> {
+fn element(alloc: Global) -> Result<Outcome, Fail> {
     let mut named = NamedNodes::new(alloc, b"demo")?;
     let index = variable(&mut named, X, 12)?;
     let base = path(CELLS, 1);
@@ -323,7 +323,7 @@ fn element(alloc: Global) -> Result<Typed, Fail> {
     typed(alloc, &named, e)
 }
 
-fn element_is_typed(all: &Typed) -> bool {
+fn element_is_typed(all: &Outcome) -> bool {
     let node = match all.nodes.exprs.as_slice().last() {
         Some(node) => node,
         None => return false,
@@ -353,7 +353,7 @@ fn what_is_indexed_stands_in_front_of_the_index(rt: HostRuntime) -> Result<(), F
 }
 
 // s[x ..], s[.. x], s[..] or s[x .. x]
-fn slice(alloc: Global, has_from: bool, has_to: bool) -> Result<Typed, Fail> {
+fn slice(alloc: Global, has_from: bool, has_to: bool) -> Result<Outcome, Fail> {
     let mut named = NamedNodes::new(alloc, b"demo")?;
     let first = variable(&mut named, X, 3)?;
     let last = variable(&mut named, X, 8)?;
@@ -369,7 +369,7 @@ fn slice(alloc: Global, has_from: bool, has_to: bool) -> Result<Typed, Fail> {
     typed(alloc, &named, e)
 }
 
-fn cut_is_typed(all: &Typed, from: Option<ExprId>, to: Option<ExprId>) -> bool {
+fn cut_is_typed(all: &Outcome, from: Option<ExprId>, to: Option<ExprId>) -> bool {
     let node = match all.nodes.exprs.as_slice().last() {
         Some(node) => node,
         None => return false,
@@ -386,7 +386,7 @@ fn cut_is_typed(all: &Typed, from: Option<ExprId>, to: Option<ExprId>) -> bool {
 }
 
 // The place of a node.
-fn place_is(all: &Typed, number: usize, col: u32) -> bool {
+fn place_is(all: &Outcome, number: usize, col: u32) -> bool {
     match all.nodes.exprs.as_slice().get(number) {
         Some(node) => node.at == at(col),
         None => false,
@@ -420,7 +420,7 @@ fn ends_of_slices_stand_in_order(rt: HostRuntime) -> Result<(), Fail> {
 }
 
 // x + (2 + 3)
-fn sum(alloc: Global) -> Result<Typed, Fail> {
+fn sum(alloc: Global) -> Result<Outcome, Fail> {
     let mut named = NamedNodes::new(alloc, b"demo")?;
     let two = added(&mut named, NamedExpr::Number(2), 6)?;
     let three = added(&mut named, NamedExpr::Number(3), 10)?;
@@ -430,7 +430,7 @@ fn sum(alloc: Global) -> Result<Typed, Fail> {
     typed(alloc, &named, sum)
 }
 
-fn sum_is_typed(all: &Typed) -> bool {
+fn sum_is_typed(all: &Outcome) -> bool {
     let node = match all.nodes.exprs.as_slice().last() {
         Some(node) => node,
         None => return false,
@@ -460,7 +460,7 @@ fn parts_stand_in_front_of_their_whole(rt: HostRuntime) -> Result<(), Fail> {
 }
 
 // flag and true and flag
-fn three(alloc: Global) -> Result<Typed, Fail> {
+fn three(alloc: Global) -> Result<Outcome, Fail> {
     let mut named = NamedNodes::new(alloc, b"demo")?;
     let first = variable(&mut named, FLAG, 1)?;
     let second = added(&mut named, NamedExpr::Truth(true), 10)?;
@@ -479,7 +479,7 @@ fn three(alloc: Global) -> Result<Typed, Fail> {
     typed(alloc, &named, e)
 }
 
-fn three_are_typed(all: &Typed) -> bool {
+fn three_are_typed(all: &Outcome) -> bool {
     let node = match all.nodes.exprs.as_slice().last() {
         Some(node) => node,
         None => return false,
@@ -520,7 +520,7 @@ fn width_32(alloc: Global, col: u32) -> NamedType {
 }
 
 // s.length() as base.u32
-fn length(alloc: Global) -> Result<Typed, Fail> {
+fn length(alloc: Global) -> Result<Outcome, Fail> {
     let mut named = NamedNodes::new(alloc, b"demo")?;
     let call = NamedCall {
         callee: NamedCallee::Base {
@@ -537,7 +537,7 @@ fn length(alloc: Global) -> Result<Typed, Fail> {
     typed(alloc, &named, e)
 }
 
-fn length_is_typed(all: &Typed) -> bool {
+fn length_is_typed(all: &Outcome) -> bool {
     let node = match all.nodes.exprs.as_slice().get(1) {
         Some(node) => node,
         None => return false,
@@ -552,7 +552,7 @@ fn length_is_typed(all: &Typed) -> bool {
     expr && no_signs(node, 3)
 }
 
-fn conversion_is_typed(all: &Typed) -> bool {
+fn conversion_is_typed(all: &Outcome) -> bool {
     let node = match all.nodes.exprs.as_slice().last() {
         Some(node) => node,
         None => return false,
@@ -578,7 +578,7 @@ fn base_methods_stand_behind_what_they_are_called_on(rt: HostRuntime) -> Result<
 }
 
 // limit as base.u32
-fn converted(alloc: Global) -> Result<Typed, Fail> {
+fn converted(alloc: Global) -> Result<Outcome, Fail> {
     let mut named = NamedNodes::new(alloc, b"demo")?;
     let of = variable(&mut named, LIMIT, 1)?;
     let to = width_32(alloc, 10);
@@ -599,7 +599,7 @@ fn converted_constants_keep_their_numbers(rt: HostRuntime) -> Result<(), Fail> {
 }
 
 // not (st.is_error())
-fn failed(alloc: Global) -> Result<Typed, Fail> {
+fn failed(alloc: Global) -> Result<Outcome, Fail> {
     let mut named = NamedNodes::new(alloc, b"demo")?;
     let call = NamedCall {
         callee: NamedCallee::Base {
@@ -615,7 +615,7 @@ fn failed(alloc: Global) -> Result<Typed, Fail> {
     typed(alloc, &named, e)
 }
 
-fn negation_is_typed(all: &Typed) -> bool {
+fn negation_is_typed(all: &Outcome) -> bool {
     let node = match all.nodes.exprs.as_slice().last() {
         Some(node) => node,
         None => return false,
