@@ -3,7 +3,7 @@
 ghost use Rattle.std.specs.Prelude.{◌≡◌, ◌<◌, ◌++◌, [], ◌∷◌, true, length, IfOk, OnOk, OnErr};
 ghost use Rattle.wf_ast.specs.TypedTrees.{tree_of, made_or_number, type_of_node, constant_of_node};
 ghost use Rattle.wf_ast.specs.TypedInvariant.{parts_below, node_fits};
-ghost use Rattle.wf_elaborator.specs.Growth.{Grows};
+ghost use Rattle.wf_elaborator.specs.Growth.{Grows, IsBuilt};
 
 use crate::finishing::taken_apart;
 use crate::typed_exprs::TypedExpr;
@@ -70,7 +70,8 @@ impl Building {
 
     /// The package that is built.
     pub fn finish(self, alloc: Global) -> Result<TypedNodes, NoMemory>
-        ensures { IfOk result (λ nodes. nodes ≡ self) }
+        ensures nodes { IfOk result (λ nodes. nodes ≡ self) }
+        ensures built { IfOk result IsBuilt }
     {
         match taken_apart(alloc, self.exprs) {
             Ok(all) => Ok(TypedNodes {

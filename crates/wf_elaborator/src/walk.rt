@@ -98,6 +98,29 @@ pub fn elaborate_expr(
     }
 }
 
+/// Adds the nodes of an element that is written to, as those of the expression that it would be. `Err` also comes where no
+/// number is left.
+pub fn elaborate_element(
+    alloc: Global,
+    nodes: &mut Building,
+    named: &NamedNodes,
+    around: &Setting,
+    base: NamedPath,
+    index: ExprId,
+    at: Place,
+) -> Result<Elaborated, NoMemory>
+    requires there { index.0 < length named.now.exprs }
+    requires right { IsRight around.now (length nodes.old.statuses) (tree.index base (expr_at (exprs_of named.now) index) at) }
+    ensures grows { OnOk result (Grows nodes.old nodes.new) }
+    ensures stands { IfOk result (λ r. StandsForExpr around.now (tree.index base (expr_at (exprs_of named.now) index) at) nodes.new r.node) }
+    ensures value { IfOk result (λ r. r.value ≡ value_of around.now (tree.index base (expr_at (exprs_of named.now) index) at)) }
+{
+    match elaborate_index(alloc, nodes, named, around, base, index, at) {
+        Ok(made) => put(nodes, made, at),
+        Err(fault) => Err(fault),
+    }
+}
+
 // The node of an expression, whose parts are added.
 #[cycle(elaborate_exprs)]
 fn elaborate_node(

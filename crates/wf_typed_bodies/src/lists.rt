@@ -1,0 +1,63 @@
+// Lists of a few items, and of all that a vector has.
+
+ghost use Rattle.std.specs.Prelude.{◌≡◌, [], ◌∷◌, IfOk};
+
+use std::alloc::Global;
+use wf_ast::{Sequence, StmtNode};
+use wf_text::faults::NoMemory;
+
+/// A list of one.
+pub fn one<T: Drop>(alloc: Global, a: T) -> Result<Sequence<T>, NoMemory>
+    ensures { IfOk result (λ all. all ≡ a ∷ []) }
+{
+    let mut all = Sequence::new(alloc);
+    match all.push(a) {
+        Ok(()) => Ok(all),
+        Err(_) => Err(NoMemory),
+    }
+}
+
+/// A list of two.
+pub fn two<T: Drop>(alloc: Global, a: T, b: T) -> Result<Sequence<T>, NoMemory>
+    ensures { IfOk result (λ all. all ≡ a ∷ b ∷ []) }
+{
+    match one(alloc, a) {
+        Ok(first) => {
+            let mut all = first;
+            match all.push(b) {
+                Ok(()) => Ok(all),
+                Err(_) => Err(NoMemory),
+            }
+        }
+        Err(fault) => Err(fault),
+    }
+}
+
+/// The statements of a vector.
+pub fn all_of(alloc: Global, stmts: Vec<StmtNode>) -> Result<Sequence<StmtNode>, NoMemory>
+    ensures { IfOk result (λ all. all ≡ stmts.items) }
+{
+    let mut all = Sequence::new(alloc);
+    for stmt in stmts {
+        match all.push(stmt) {
+            Ok(()) => {}
+            Err(_) => return Err(NoMemory),
+        }
+    }
+    Ok(all)
+}
+
+/// A number in front of others.
+pub fn in_front(alloc: Global, first: u32, others: &[u32]) -> Result<Vec<u32>, NoMemory>
+    ensures { IfOk result (λ all. all.items ≡ first ∷ others.now) }
+{
+    let mut all = Vec::new(alloc);
+    match all.push(first) {
+        Ok(()) => {}
+        Err(_) => return Err(NoMemory),
+    }
+    match all.extend_from_slice(others) {
+        Ok(()) => Ok(all),
+        Err(_) => Err(NoMemory),
+    }
+}
