@@ -25,7 +25,7 @@ use Rattle.wf_named.specs.NamedTrees.{word_at, method_made}
 use Rattle.wf_types.specs.DeclaredTypes.{in_method}
 use Rattle.wf_elaborated.specs.ElaboratedPackage.{seen_text}
 use Rattle.wf_elaborated.specs.ElaboratedStmts.{count_block}
-use Rattle.wf_typed_bodies.specs.StmtGrowth.{jump_below, jumps_below, without_nodes, GrowsStmts, Adds, Declares, StandsForBlock}
+use Rattle.wf_typed_bodies.specs.StmtGrowth.{jump_below, jumps_below, without_nodes, GrowsStmts, Adds, IsBegun, StandsForBlock}
 use Rattle.wf_typing.specs.Bodies.{IsBody, AreBodies, count_methods, BodiesMade}
 use Rattle.wf_typing.specs.DeclaredNodes.{declared_method, seen_statuses, declared_nodes}
 
@@ -89,9 +89,10 @@ count_more [] m = omega arith
 count_more (l ∷ ms) m = let e = count_more ms m in omega (arith, e)
 
 pub bodies_next : (q : NamedParts) (done : List NamedMethodTree) (old new : TypedNodes) (bs : List resolved.Block) (m : NamedMethodTree) (b : resolved.Block) → BodiesMade q done old bs
-    → Adds [] old new → StandsForBlock (in_method (named_package q) m) [] (length old.stmts) m.body new b → BodiesMade q (done ++ m ∷ []) new (bs ++ b ∷ [])
-bodies_next q done old new bs m b made adds stands = record {
+    → Adds [] old new → IsBegun q new → StandsForBlock (in_method (named_package q) m) [] (length old.stmts) m.body new b → BodiesMade q (done ++ m ∷ []) new (bs ++ b ∷ [])
+bodies_next q done old new bs m b made adds begun stands = record {
   declared = adds.grows.rest ∙ made.declared;
+  begun = begun;
   jumps = adds.jumps (length new.stmts) refl (omega arith) (jumps_wider (length old.stmts) (length new.stmts) old.stmts adds.grows.stmts made.jumps);
   count = stands.count ∙ ap (λ n. n + count_block m.body) made.count ∙ sym (count_more done m);
   bodies =
@@ -99,13 +100,6 @@ bodies_next q done old new bs m b made adds stands = record {
       bodies_more (named_package q) new m b 0 done bs (bodies_kept (named_package q) old new adds.grows 0 done bs made.bodies)
       (moved (named_package q) new m b (length old.stmts) (0 + count_methods done) (omega (arith, made.count)) is);
 }
-
-none_made : (q : NamedParts) → BodiesMade q [] (declared_nodes q) []
-unfolding declared_nodes
-none_made q = record { declared = refl; jumps = refl; count = refl; bodies = tt }
-
-pub bodies_begun : (q : NamedParts) (nodes : TypedNodes) → nodes ≡ declared_nodes q → BodiesMade q [] nodes []
-bodies_begun q nodes h = let P : TypedNodes → Type 0 = λ x. BodiesMade q [] x [] in subst P (sym h) (none_made q)
 
 -- What is declared among the nodes.
 texts_declared : (q : NamedParts) → (declared_nodes q).texts ≡ q.texts
@@ -126,12 +120,16 @@ marks_declared : (q : NamedParts) → map (λ (m : Method). m.mark) (declared_no
 unfolding declared_nodes named_package
 marks_declared q = marks_of q q.methods
 
-pub declares : (q : NamedParts) (nodes : TypedNodes) → without_nodes nodes ≡ declared_nodes q → Declares q nodes
-declares q nodes h = record {
-  texts = ap (λ (x : TypedNodes). x.texts) h ∙ texts_declared q;
-  statuses = ap (λ (x : TypedNodes). length x.statuses) h ∙ statuses_declared q;
-  marks = ap (λ (x : TypedNodes). map (λ (m : Method). m.mark) x.methods) h ∙ marks_declared q;
-}
+begun : (q : NamedParts) → IsBegun q (declared_nodes q)
+unfolding declared_nodes
+begun q = record { texts = texts_declared q; statuses = statuses_declared q; marks = marks_declared q; stmts = record { ordered = refl; few = omega arith } }
+
+none_made : (q : NamedParts) → BodiesMade q [] (declared_nodes q) []
+unfolding declared_nodes
+none_made q = record { declared = refl; begun = begun q; jumps = refl; count = refl; bodies = tt }
+
+pub bodies_begun : (q : NamedParts) (nodes : TypedNodes) → nodes ≡ declared_nodes q → BodiesMade q [] nodes []
+bodies_begun q nodes h = let P : TypedNodes → Type 0 = λ x. BodiesMade q [] x [] in subst P (sym h) (none_made q)
 
 -- The methods in order.
 methods_are : (q : NamedParts) → (named_package q).methods ≡ map (method_made q.texts (exprs_of q) (stmts_of q)) q.methods
@@ -143,14 +141,14 @@ methods_more made xs i x low is =
     ap (map made) (take_more xs i x low ∙ ap (λ y. take i xs ++ y ∷ []) (sym is)) ∙ map-append made (take i xs) (x ∷ [])
 
 pub bodies_with : (q : NamedParts) (i : ℕ) (m : NamedMethod) → i < length q.methods → m ≡ get_or q.methods i m → (old new : TypedNodes) (bs cs : List resolved.Block) (b : resolved.Block)
-    → BodiesMade q (map (method_made q.texts (exprs_of q) (stmts_of q)) (take i q.methods)) old bs → Adds [] old new
+    → BodiesMade q (map (method_made q.texts (exprs_of q) (stmts_of q)) (take i q.methods)) old bs → Adds [] old new → IsBegun q new
     → StandsForBlock (in_method (named_package q) (method_made q.texts (exprs_of q) (stmts_of q) m)) [] (length old.stmts) (method_made q.texts (exprs_of q) (stmts_of q) m).body new b
     → cs ≡ bs ++ b ∷ [] → BodiesMade q (map (method_made q.texts (exprs_of q) (stmts_of q)) (take (i + 1) q.methods)) new cs
-bodies_with q i m low is old new bs cs b made adds stands e =
+bodies_with q i m low is old new bs cs b made adds begun stands e =
     let of = method_made q.texts (exprs_of q) (stmts_of q) in
     let P : List NamedMethodTree → Type 0 = λ ms. BodiesMade q ms new cs in
     let R : List resolved.Block → Type 0 = λ xs. BodiesMade q (map of (take i q.methods) ++ of m ∷ []) new xs in
-    subst P (sym (methods_more of q.methods i m low is)) (subst R (sym e) (bodies_next q (map of (take i q.methods)) old new bs (of m) b made adds stands))
+    subst P (sym (methods_more of q.methods i m low is)) (subst R (sym e) (bodies_next q (map of (take i q.methods)) old new bs (of m) b made adds begun stands))
 
 pub bodies_over : (q : NamedParts) (i : ℕ) (nodes : TypedNodes) (bs : List resolved.Block) → length q.methods ≤ i
     → BodiesMade q (map (method_made q.texts (exprs_of q) (stmts_of q)) (take i q.methods)) nodes bs → BodiesMade q (named_package q).methods nodes bs

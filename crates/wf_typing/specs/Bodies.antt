@@ -1,5 +1,5 @@
 -- The bodies of a package's methods among its nodes.
-use Rattle.std.specs.Prelude.{◌≡◌, ◌+◌, ℕ, ⊤, true, List, [], ◌∷◌, length, slice_get, Some}
+use Rattle.std.specs.Prelude.{◌≡◌, ◌+◌, ℕ, ⊤, Bool, true, ◌&&◌, List, [], ◌∷◌, length, slice_get, Some, nat_lt}
 use Rattle.wf_ast.specs.declared.resolved.Block as resolved
 use Rattle.wf_ast.specs.declared.typed_nodes.TypedNodes.{TypedNodes}
 use Rattle.wf_ast.specs.TypedTrees.{block_of}
@@ -10,7 +10,7 @@ use Rattle.wf_types.specs.DeclaredTypes.{in_method}
 use Rattle.wf_elaborated.specs.ElaboratedStmts.{count_block, block_tree}
 use Rattle.wf_elaborator.specs.Growth.{IsBuilt}
 use Rattle.wf_typed_bodies.specs.Right.{known_in, IsRightBlock}
-use Rattle.wf_typed_bodies.specs.StmtGrowth.{without_nodes, jumps_below, AreStmtsBuilt}
+use Rattle.wf_typed_bodies.specs.StmtGrowth.{without_nodes, jumps_below, AreStmtsBuilt, IsBegun}
 use Rattle.wf_typing.specs.DeclaredNodes.{declared_nodes}
 
 -- What is declared there.
@@ -36,6 +36,7 @@ count_methods (m ∷ ms) = count_block m.body + count_methods ms
 -- What is made while the bodies of methods are added one by one: `done` are the methods that have theirs.
 pub record BodiesMade (q : NamedParts) (done : List NamedMethodTree) (nodes : TypedNodes) (made : List resolved.Block) : Type 0 where
   pub declared : without_nodes nodes ≡ declared_nodes q
+  pub begun : IsBegun q nodes
   pub jumps : jumps_below (length nodes.stmts) nodes.stmts ≡ true
   pub count : length nodes.stmts ≡ count_methods done
   pub bodies : AreBodies (named_package q) nodes 0 done made
@@ -51,3 +52,7 @@ pub record IsWhole (q : NamedParts) (nodes : TypedNodes) : Type 0 where
 -- The bodies of all methods break no rule.
 abbrev pub AreRightBodies : NamedPackageTree → Type 0
 AreRightBodies p = (i : ℕ) (m : NamedMethodTree) → slice_get p.methods i ≡ Some m → IsRightBlock (in_method p m) (known_in p) 0 m.body
+
+-- Each status, each struct and each method has a number.
+abbrev pub has_numbers : TypedNodes → Bool
+has_numbers nodes = nat_lt (length nodes.statuses) 4294967296 && (nat_lt (length nodes.structs) 4294967296 && nat_lt (length nodes.methods) 4294967296)

@@ -6,7 +6,7 @@ ghost use Rattle.wf_named.specs.NamedTrees.{method_made};
 ghost use Rattle.wf_types.specs.DeclaredTypes.{for_types, in_method};
 ghost use Rattle.wf_type_verdict.specs.Packages.{IsAround, field_types};
 ghost use Rattle.wf_typed_bodies.specs.Right.{known_in, IsRightBlock};
-ghost use Rattle.wf_typed_bodies.specs.StmtGrowth.{Adds, Declares, StandsForBlock};
+ghost use Rattle.wf_typed_bodies.specs.StmtGrowth.{Adds, IsBegun, StandsForBlock};
 ghost use Rattle.wf_typing.specs.Bodies.{AreRightBodies, BodiesMade};
 ghost use Rattle.wf_typing.specs.DeclaredNodes.{declared_nodes};
 
@@ -39,9 +39,10 @@ fn elaborate_method(
     requires fields { fields.now ≡ field_types (named_package named.now) }
     requires around { IsAround (named_package named.now) around }
     requires below { NamedMethodBelow (length named.now.texts) (length named.now.exprs) (length named.now.stmts) method.now }
-    requires declares { Declares named.now nodes.old }
+    requires begun { IsBegun named.now nodes.old }
     requires right { IsRightBlock (in_method (named_package named.now) (method_made named.now.texts (exprs_of named.now) (stmts_of named.now) method.now)) (known_in (named_package named.now)) 0 (method_made named.now.texts (exprs_of named.now) (stmts_of named.now) method.now).body }
     ensures adds { OnOk result (Adds [] nodes.old nodes.new) }
+    ensures begun { OnOk result (IsBegun named.now nodes.new) }
     ensures stands { IfOk result (λ made. StandsForBlock (in_method (named_package named.now) (method_made named.now.texts (exprs_of named.now) (stmts_of named.now) method.now)) [] (length nodes.old.stmts) (method_made named.now.texts (exprs_of named.now) (stmts_of named.now) method.now).body nodes.new made.body) }
     ensures around { IfOk result (λ made. IsAround (named_package named.now) made.around) }
 {

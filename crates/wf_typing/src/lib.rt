@@ -5,3 +5,4 @@ pub mod bodies;
 pub mod declared;
 pub mod declaring;
 pub mod texts;
+pub mod typing;

@@ -2,14 +2,14 @@ use Rattle.std.proofs.Common.{◌≡◌, ◌∙◌, ◌<◌, ◌≤◌, Some, le
 use Rattle.std.proofs.lemmas.Option.{slice_get-get_or}
 use Rattle.wf_named.specs.NamedParts.{exprs_of, stmts_of}
 use Rattle.wf_named.specs.NamedTrees.{method_made}
-use Rattle.wf_typing.proofs.BodyLemmas.{bodies_begun, bodies_with, bodies_over, declares, method_at}
+use Rattle.wf_typing.proofs.BodyLemmas.{bodies_begun, bodies_with, bodies_over, method_at}
 use Rattle.wf_typing.proofs.bodies.elaborate_bodies.Goals as goal
 
 pub loop-method-init : goal.loop-method-init
 loop-method-init c = (c.requires.around, rw c.new-all.ensures (bodies_begun c.args.named.now c.args.nodes.now c.requires.declared))
 
-pub elaborate_method-requires-clause-declares : goal.elaborate_method-requires-clause-declares
-elaborate_method-requires-clause-declares c = declares c.args.named.now c.loop-method.nodes c.loop-method.invariant.1.declared
+pub elaborate_method-requires-clause-begun : goal.elaborate_method-requires-clause-begun
+elaborate_method-requires-clause-begun c = c.loop-method.invariant.1.begun
 
 pub elaborate_method-requires-clause-right : goal.elaborate_method-requires-clause-right
 elaborate_method-requires-clause-right c =
@@ -29,7 +29,7 @@ loop-method-preserved c =
     let is : m ≡ get_or q.methods i m = rw c.methods-method-items.ensures.all at c.method-item.is in
     (
       c.in-Ok.ensures.around,
-      bodies_with q i m low is c.loop-method.nodes c.elaborate_method.new.nodes c.loop-method.all c.push.new.self c.in-Ok.made.body c.loop-method.invariant.1 c.in-Ok.ensures.adds c.in-Ok.ensures.stands c.in-Ok-push.ensures.ok,
+      bodies_with q i m low is c.loop-method.nodes c.elaborate_method.new.nodes c.loop-method.all c.push.new.self c.in-Ok.made.body c.loop-method.invariant.1 c.in-Ok.ensures.adds c.in-Ok.ensures.begun c.in-Ok.ensures.stands c.in-Ok-push.ensures.ok,
     )
 
 pub returns : goal.returns
