@@ -1,12 +1,14 @@
 use Rattle.std.proofs.Common.{◌≡◌, ◌∙◌, ap, sym, true}
 use Rattle.wf_ast.specs.TypedPackage.{package_of}
+use Rattle.wf_named.specs.NamedParts.{named_package}
+use Rattle.wf_typed_bodies.proofs.RightLaws.{body_is_right}
 use Rattle.wf_typing.specs.Bodies.{has_numbers}
 use Rattle.wf_typing.proofs.PackageLaws.{package_same}
 use Rattle.wf_typing.proofs.TypedLaws.{nodes_typed}
 use Rattle.wf_typing.proofs.typing.typed.Goals as goal
 
 pub typed_nodes-requires : goal.typed_nodes-requires
-typed_nodes-requires c = ?
+typed_nodes-requires c = body_is_right (named_package c.args.named.now) c.requires.kept c.requires.names c.requires.grammar
 
 pub new-requires : goal.new-requires
 new-requires c =
