@@ -1,12 +1,10 @@
 -- The bodies of methods while statements are added: what was there keeps its numbers and what it makes.
-use Rattle.std.proofs.Common.{◌≡◌, ◌∙◌, refl, sym, ap, subst, ℕ, ◌+◌, ◌<◌, ◌≤◌, Bool, true, ◌&&◌, List, [], ◌∷◌, ◌++◌, length, map, take, slice_get, get_or, Option, Some, None, option_map, nat_lt, length-append, arith}
+use Rattle.std.proofs.Common.{◌≡◌, ◌∙◌, refl, sym, ap, subst, ℕ, ◌+◌, ◌<◌, ◌≤◌, Bool, true, ◌&&◌, List, [], ◌∷◌, ◌++◌, length, map, take, slice_get, get_or, Some, option_map, nat_lt, length-append, arith}
 use Rattle.std.specs.Prelude.{unwrap_or}
-use Rattle.std.specs.Bool.{⊤}
 use Rattle.std.specs.List.{list_all}
 use Rattle.std.proofs.lemmas.Bool.Decides.{nat_tests}
 use Rattle.std.proofs.lemmas.List.{length-map, map-append, take_more, take_all}
-use Rattle.std.proofs.lemmas.Option.{slice_get-map, slice_get-get_or}
-use Rattle.wf_base.specs.declared.marks.Mark.{Mark}
+use Rattle.std.proofs.lemmas.Option.{slice_get-map}
 use Rattle.wf_ast.specs.declared.declarations.Method.{Method}
 use Rattle.wf_ast.specs.declared.numbers.StmtId.{StmtId}
 use Rattle.wf_ast.specs.declared.resolved.Block as resolved
@@ -25,9 +23,9 @@ use Rattle.wf_named.specs.NamedTrees.{word_at, method_made}
 use Rattle.wf_types.specs.DeclaredTypes.{in_method}
 use Rattle.wf_elaborated.specs.ElaboratedPackage.{seen_text}
 use Rattle.wf_elaborated.specs.ElaboratedStmts.{count_block}
-use Rattle.wf_typed_bodies.specs.StmtGrowth.{jump_below, jumps_below, without_nodes, GrowsStmts, Adds, IsBegun, StandsForBlock}
+use Rattle.wf_typed_bodies.specs.StmtGrowth.{jump_below, jumps_below, GrowsStmts, Adds, IsBegun, StandsForBlock}
 use Rattle.wf_typing.specs.Bodies.{IsBody, AreBodies, count_methods, BodiesMade}
-use Rattle.wf_typing.specs.DeclaredNodes.{declared_method, seen_statuses, declared_nodes}
+use Rattle.wf_typing.specs.DeclaredNodes.{declared_method, declared_nodes}
 
 and_true : (a b : Bool) → a ≡ true → b ≡ true → (a && b) ≡ true
 and_true a b h k = rw (h, k) refl

@@ -1,26 +1,24 @@
 -- The nodes of a package with its bodies make its typed tree.
-use Rattle.std.proofs.Common.{◌≡◌, ◌∙◌, refl, sym, ap, subst, ℕ, ◌+◌, List, [], ◌∷◌, ◌++◌, map, slice_get, Option, Some, None, option_map}
+use Rattle.std.proofs.Common.{◌≡◌, ◌∙◌, refl, ap, ℕ, ◌+◌, List, [], ◌∷◌, map, slice_get, Option, Some, None, option_map}
 use Rattle.std.specs.Prelude.{unwrap_or}
-use Rattle.wf_base.specs.declared.marks.Mark.{Mark}
 use Rattle.wf_ast.specs.declared.parsed.Name.{Name}
-use Rattle.wf_ast.specs.declared.declarations.Method.{Method}
 use Rattle.wf_ast.specs.declared.resolved.Block as resolved
 use Rattle.wf_ast.specs.declared.typed_nodes.TypedNodes.{TypedNodes}
 use Rattle.wf_ast.specs.declared.types.Ty.{Ty}
-use Rattle.wf_ast.specs.TypedTrees.{text_of, block_of}
+use Rattle.wf_ast.specs.TypedTrees.{text_of}
 use Rattle.wf_ast.specs.TypedPackage.{Variable, StructTree, MethodTree, PackageTree, variable_of, struct_of, method_of, methods_of, package_of}
 use Rattle.wf_named.specs.declared.declarations.NamedMethod.{NamedMethod}
 use Rattle.wf_named.specs.declared.declarations.NamedStruct.{NamedStruct}
 use Rattle.wf_named.specs.declared.declarations.NamedVar.{NamedVar}
 use Rattle.wf_named.specs.NamedParts.{NamedParts, exprs_of, stmts_of, named_package}
-use Rattle.wf_named.specs.NamedTree.{NamedTypeTree, NamedMethodTree}
+use Rattle.wf_named.specs.NamedTree.{NamedTypeTree}
 use Rattle.wf_named.specs.NamedTrees.{text_or, word_at, var_made, struct_made, method_made}
 use Rattle.wf_types.specs.declared.settings.Role.{Role}
 use Rattle.wf_types.specs.declared.settings.Role.TheVariants as roles
-use Rattle.wf_types.specs.DeclaredTypes.{declared, for_types, types_in, in_method}
-use Rattle.wf_elaborated.specs.ElaboratedStmts.{count_block, block_tree}
+use Rattle.wf_types.specs.DeclaredTypes.{declared, for_types, types_in}
+use Rattle.wf_elaborated.specs.ElaboratedStmts.{count_block}
 use Rattle.wf_elaborated.specs.ElaboratedPackage.{type_declared, typed_variable, typed_struct, typed_method, typed_methods, typed_package}
-use Rattle.wf_typing.specs.DeclaredNodes.{type_or_flag, variable_with, variables_with, declared_struct, declared_method, seen_statuses, declared_nodes}
+use Rattle.wf_typing.specs.DeclaredNodes.{type_or_flag, variables_with, declared_struct, declared_method, seen_statuses, declared_nodes}
 use Rattle.wf_typing.specs.Bodies.{IsBody, AreBodies, without_bodies}
 
 same_text : (text : Option (List ℕ)) → unwrap_or text [] ≡ text_or text

@@ -1,5 +1,5 @@
 -- The nodes of a package that breaks no rule are those of a typed package.
-use Rattle.std.proofs.Common.{◌≡◌, ◌∙◌, refl, sym, ap, subst, ℕ, ◌+◌, ◌<◌, ◌^◌, Bool, true, false, not, ◌&&◌, List, [], ◌∷◌, ◌++◌, length, map, take, drop, Option, Some, None, nat_lt, arith}
+use Rattle.std.proofs.Common.{◌≡◌, ◌∙◌, refl, sym, ap, subst, ℕ, ◌+◌, ◌<◌, true, not, List, [], ◌∷◌, length, map, take, drop, None, nat_lt, arith}
 use Rattle.std.specs.List.{list_all}
 use Rattle.std.proofs.lemmas.Bool.Decides.{nat_tests}
 use Rattle.std.proofs.lemmas.List.{length-map}
@@ -11,10 +11,9 @@ use Rattle.wf_ast.specs.declared.resolved.Stmt.{Stmt}
 use Rattle.wf_ast.specs.declared.resolved.Stmt.TheVariants as stmts
 use Rattle.wf_ast.specs.declared.resolved.StmtNode.{StmtNode}
 use Rattle.wf_ast.specs.declared.typed_nodes.TypedNodes.{TypedNodes}
-use Rattle.wf_ast.specs.BaseStatuses.{base_statuses}
 use Rattle.wf_ast.specs.StatementOrder.{stand_in_order}
 use Rattle.wf_ast.specs.TypedInvariant.{each_numbered, stmt_below, block_below, has_kind_byte, IsTyped}
-use Rattle.wf_ast.specs.TypedPackage.{PackageTree, package_of}
+use Rattle.wf_ast.specs.TypedPackage.{PackageTree}
 use Rattle.wf_ast.specs.TypedTrees.{block_of, expr_trees, stmt_makers}
 use Rattle.wf_ast.specs.Value.{same_category}
 use Rattle.wf_ast.specs.WellTyped.{well_typed}
@@ -23,10 +22,9 @@ use Rattle.wf_named.specs.NamedParts.{NamedParts, exprs_of, stmts_of, named_pack
 use Rattle.wf_named.specs.NamedTree.{Word, NamedMethodTree, NamedPackageTree}
 use Rattle.wf_named.specs.NamedTrees.{word_at, method_made}
 use Rattle.wf_named.specs.WellNamed.{well_named}
-use Rattle.wf_types.specs.declared.settings.Setting.{Setting}
 use Rattle.wf_types.specs.DeclaredTypes.{for_types}
 use Rattle.wf_types.specs.FirstBreak.{deciding}
-use Rattle.wf_types.specs.Judgements.{two_questions, is_status_text, wrong_status}
+use Rattle.wf_types.specs.Judgements.{is_status_text, wrong_status}
 use Rattle.wf_types.specs.Parts.{status_declared, at_sites, const_sites, sites}
 use Rattle.wf_types.specs.TypeRules as rules
 use Rattle.wf_elaborated.specs.ElaboratedPackage.{seen_text, typed_package}
@@ -36,9 +34,9 @@ use Rattle.wf_elaborated.proofs.BlockLaws.{package-keeps}
 use Rattle.wf_elaborated.proofs.ConstantLaws.{AllFineSites, sites-fine, sites-split, parts-fine}
 use Rattle.wf_elaborated.proofs.NoBreaks.{AllFine, at-none, not-not}
 use Rattle.wf_elaborator.specs.Growth.{IsBuilt}
-use Rattle.wf_typed_bodies.specs.StmtGrowth.{without_nodes, stmt_there, jump_below, jumps_below, AreStmtsBuilt}
+use Rattle.wf_typed_bodies.specs.StmtGrowth.{without_nodes, stmt_there, jump_below, jumps_below}
 use Rattle.wf_typing.specs.Bodies.{without_bodies, AreBodies, BodiesMade, IsWhole, has_numbers}
-use Rattle.wf_typing.specs.DeclaredNodes.{declared_struct, declared_method, seen_statuses, declared_nodes}
+use Rattle.wf_typing.specs.DeclaredNodes.{declared_method, seen_statuses, declared_nodes}
 use Rattle.wf_typing.proofs.PackageLaws.{package_same}
 
 -- Status texts that break no rule begin with the byte of their kind, also as a caller sees them.

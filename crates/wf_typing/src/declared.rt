@@ -61,11 +61,7 @@ pub fn variables(
 }
 
 /// A struct, whose fields have these types.
-pub fn structure(
-    alloc: Global,
-    of: &NamedStruct,
-    types: &[Option<Ty>],
-) -> Result<Struct, NoMemory>
+pub fn structure(alloc: Global, of: &NamedStruct, types: &[Option<Ty>]) -> Result<Struct, NoMemory>
     requires { length types.now ≡ length of.now.fields }
     ensures { IfOk result (λ s. s ≡ struct_with of.now types.now) }
 {

@@ -133,11 +133,7 @@ fn seen_from(
 }
 
 /// The text of a status of the package with this name, as a caller sees it.
-pub fn seen_text(
-    alloc: Global,
-    package_name: &[u8],
-    text: &[u8],
-) -> Result<Sequence<u8>, NoMemory>
+pub fn seen_text(alloc: Global, package_name: &[u8], text: &[u8]) -> Result<Sequence<u8>, NoMemory>
     ensures { IfOk result (λ all. all ≡ text_seen package_name.now text.now) }
 {
     match text {

@@ -26,8 +26,7 @@ loop-method-preserved c =
     let i = c.loop-method.method-index in
     let m = c.method-item.result in
     let low : i < length q.methods = rw c.methods-method-items.ensures.all at c.loop-method-test.true in
-    let is : m ≡ get_or q.methods i m = rw c.methods-method-items.ensures.all at c.method-item.is in
-    (
+    let is : m ≡ get_or q.methods i m = rw c.methods-method-items.ensures.all at c.method-item.is in (
       c.in-Ok.ensures.around,
       bodies_with q i m low is c.loop-method.nodes c.elaborate_method.new.nodes c.loop-method.all c.push.new.self c.in-Ok.made.body c.loop-method.invariant.1 c.in-Ok.ensures.adds c.in-Ok.ensures.begun c.in-Ok.ensures.stands c.in-Ok-push.ensures.ok,
     )

@@ -1,7 +1,5 @@
-use Rattle.std.proofs.Common.{◌≡◌, ◌∙◌, ◌∷◌, ◌++◌, ◌<◌, [], length, map, get_or, ap, sym, arith}
+use Rattle.std.proofs.Common.{◌≡◌, ◌∙◌, ◌∷◌, ◌++◌, ◌<◌, [], length, map, get_or, ap, arith}
 use Rattle.std.proofs.lemmas.List.{length-map}
-use Rattle.wf_ast.specs.declared.declarations.Struct.{Struct}
-use Rattle.wf_named.specs.declared.declarations.NamedStruct.{NamedStruct}
 use Rattle.wf_named.specs.NamedParts.{named_package}
 use Rattle.wf_named.specs.NamedTree.{VarTree}
 use Rattle.wf_named.specs.NamedTrees.{expr_trees, var_made}
@@ -36,5 +34,5 @@ loop-number-preserved c =
     let low : i < length q.structs = rw c.structs-of.ensures.all at c.loop-number-test.true in
     let is : s ≡ get_or q.structs i s = rw c.structs-of.ensures.all at c.index-of-number.is in
     let one : c.in-Ok.one ≡ declared_struct q s =
-        c.in-Ok.ensures ∙ ap (struct_with s) (c.as_slice.ensures ∙ fields_at q c.args.fields.now c.requires i s c.index-fields-number.result low is c.index-fields-number.is) in
+    c.in-Ok.ensures ∙ ap (struct_with s) (c.as_slice.ensures ∙ fields_at q c.args.fields.now c.requires i s c.index-fields-number.result low is c.index-fields-number.is) in
     made_next (declared_struct q) q.structs i s low is c.loop-number.all c.push.new.self (c.in-Ok-push.ensures.ok ∙ ap (λ x. c.loop-number.all ++ x ∷ []) one) ∙ c.loop-number.invariant

@@ -1,4 +1,4 @@
-use Rattle.std.proofs.Common.{◌≡◌, ◌∙◌, ◌∷◌, ◌++◌, [], sym, ap}
+use Rattle.std.proofs.Common.{◌∙◌, ◌∷◌, ◌++◌, [], sym, ap}
 use Rattle.wf_typing.proofs.DeclaredLemmas.{take_next}
 use Rattle.wf_typing.proofs.texts.texts_copied.Goals as goal
 
