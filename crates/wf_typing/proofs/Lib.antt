@@ -1,0 +1,4 @@
+pub mod BodyLemmas
+pub mod DeclaredLemmas
+pub mod PackageLaws
+pub mod TypedLaws

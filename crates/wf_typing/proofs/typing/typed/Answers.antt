@@ -1,0 +1,19 @@
+use Rattle.std.proofs.Common.{◌≡◌, ◌∙◌, ap, sym, true}
+use Rattle.wf_ast.specs.TypedPackage.{package_of}
+use Rattle.wf_named.specs.NamedParts.{named_package}
+use Rattle.wf_typed_bodies.proofs.RightLaws.{body_is_right}
+use Rattle.wf_typing.specs.Bodies.{has_numbers}
+use Rattle.wf_typing.proofs.PackageLaws.{package_same}
+use Rattle.wf_typing.proofs.TypedLaws.{nodes_typed}
+use Rattle.wf_typing.proofs.typing.typed.Goals as goal
+
+pub typed_nodes-requires : goal.typed_nodes-requires
+typed_nodes-requires c = body_is_right (named_package c.args.named.now) c.requires.kept c.requires.names c.requires.grammar
+
+pub new-requires : goal.new-requires
+new-requires c =
+    let numbered : has_numbers c.in-Ok.nodes ≡ true = sym c.has_numbers.ensures ∙ c.if-has_numbers.true in
+    nodes_typed c.args.named.now c.in-Ok.nodes c.in-Ok.ensures c.requires.kept c.requires.names c.requires.grammar c.requires.placed numbered
+
+pub returns-then-has_numbers : goal.returns-then-has_numbers
+returns-then-has_numbers c = ap package_of c.new.ensures ∙ package_same c.args.named.now c.in-Ok.nodes c.in-Ok.ensures.declared c.in-Ok.ensures.bodies

@@ -1,0 +1,11 @@
+use Rattle.std.proofs.Common.{◌∙◌, ap}
+use Rattle.wf_typed_bodies.specs.StmtGrowth.{without_nodes}
+use Rattle.wf_typing.proofs.TypedLaws.{declared_bare, whole_at}
+use Rattle.wf_typing.proofs.typing.whole_nodes.Goals as goal
+
+pub elaborate_bodies-requires-clause-declared : goal.elaborate_bodies-requires-clause-declared
+elaborate_bodies-requires-clause-declared c = c.new-building.ensures ∙ ap without_nodes c.in-Ok.ensures ∙ declared_bare c.args.named.now
+
+pub returns-in-Ok-finish : goal.returns-in-Ok-finish
+returns-in-Ok-finish c =
+    whole_at c.args.named.now c.elaborate_bodies.new.nodes c.in-Ok-finish.all c.with_bodies.result c.in-Ok-elaborate_bodies.bodies c.in-Ok-elaborate_bodies.ensures c.in-Ok-finish.ensures.nodes c.in-Ok-finish.ensures.exprs c.with_bodies.ensures
