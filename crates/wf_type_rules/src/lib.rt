@@ -7,5 +7,3 @@ pub mod ends;
 pub mod results;
 pub mod statements;
 pub mod targets;
-#[cfg(test)]
-mod tests;
