@@ -1,5 +1,5 @@
 -- What stands round the body of a method in a package that breaks no rule.
-use Rattle.std.proofs.Common.{◌≡◌, ℕ, zero, suc, ◌+◌, Bool, true, ◌&&◌, List, [], ◌∷◌, length, map, Option, Some, None, refl, subst}
+use Rattle.std.proofs.Common.{◌≡◌, ℕ, zero, suc, ◌+◌, true, ◌&&◌, List, [], ◌∷◌, length, Some, None, refl, subst}
 use Rattle.std.specs.Prelude.{slice_get}
 use Rattle.wf_ast.specs.declared.types.Ty.{Ty}
 use Rattle.wf_named.specs.NamedTree.{NamedTypeTree, VarTree, NamedMethodTree, NamedPackageTree}

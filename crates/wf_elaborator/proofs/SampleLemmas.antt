@@ -1,5 +1,5 @@
 -- What stands round the small method of the tests is right, and so are the expressions of the tests.
-use Rattle.std.proofs.Common.{◌≡◌, ℕ, true, [], Some, None, refl}
+use Rattle.std.proofs.Common.{true, Some, refl}
 use Rattle.wf_text.specs.declared.place.Place.{Place}
 use Rattle.wf_base.specs.declared.marks.Mark.TheVariants.{Pure}
 use Rattle.wf_base.specs.declared.widths.Width.TheVariants.{W8, W32}

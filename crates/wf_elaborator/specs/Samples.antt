@@ -1,6 +1,6 @@
 -- A small method and what stands round it, for the tests: a constant `K : base.u8 = 48`, a field `cells` with four bytes,
 -- and the locals `x : base.u8` and `part : slice base.u8`.
-use Rattle.std.specs.Prelude.{ℕ, false, None, Some, [], ◌∷◌, codes}
+use Rattle.std.specs.Prelude.{false, None, Some, [], ◌∷◌, codes}
 use Rattle.wf_base.specs.declared.widths.Width.TheVariants.{W8}
 use Rattle.wf_base.specs.declared.marks.Mark.TheVariants.{Impure}
 use Rattle.wf_ast.specs.declared.types.Ty.TheVariants as types

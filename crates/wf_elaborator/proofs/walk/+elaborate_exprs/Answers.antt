@@ -1,6 +1,6 @@
-use Rattle.std.proofs.Common.{◌≡◌, ◌∙◌, length, drop, sym, ap, arith}
+use Rattle.std.proofs.Common.{◌≡◌, ◌∙◌, length, sym, ap, arith}
 use Rattle.wf_ast.specs.ParsedParts.{LinksBelow}
-use Rattle.wf_named.specs.NamedTree.{index, slice, chain, convert}
+use Rattle.wf_named.specs.NamedTree.{index, slice, chain}
 use Rattle.wf_named.specs.NamedTrees.{expr_trees, expr_at, part_at, links_at, args_at, type_at}
 use Rattle.wf_types.specs.Meanings.{variable}
 use Rattle.wf_types.specs.ExprTypes.{meaning}
