@@ -1,5 +1,5 @@
 -- The node of a chain makes the chain's tree, and its operands have the kinds that its operator takes.
-use Rattle.std.proofs.Common.{◌≡◌, ℕ, ◌+◌, ◌<◌, ◌^◌, Bool, true, false, not, ◌&&◌, ◌||◌, List, [], ◌∷◌, ◌++◌, length, map, Option, Some, None, nat_lt, refl, sym, ap, ◌∙◌, subst, arith}
+use Rattle.std.proofs.Common.{◌≡◌, ℕ, ◌^◌, Bool, true, false, ◌&&◌, ◌||◌, List, [], ◌∷◌, length, map, Option, Some, None, nat_lt, refl, sym, ap, ◌∙◌, subst, arith}
 use Rattle.std.specs.Prelude.{option_and_then, option_map, if◌then◌else◌}
 use Rattle.std.specs.Bool.{⊤}
 use Rattle.std.specs.List.{list_all}
@@ -13,12 +13,12 @@ use Rattle.wf_ast.specs.declared.types.Ty.{Ty}
 use Rattle.wf_ast.specs.declared.types.Ty.TheVariants as types
 use Rattle.wf_ast.specs.declared.resolved.Expr.TheVariants as exprs
 use Rattle.wf_ast.specs.declared.typed_nodes.TypedNodes.{TypedNodes}
-use Rattle.wf_ast.specs.TypedTree.{ValueTree, Arith, plus, times, bits_and, bits_or, bits_xor, Order, less, at_most, equal, differs, at_least, greater}
+use Rattle.wf_ast.specs.TypedTree.{Arith, plus, times, bits_and, bits_or, bits_xor, less, at_most, equal, differs, at_least, greater}
 use Rattle.wf_ast.specs.TypedTrees.{Sort, arithmetic, ordering, joining, sort_of, made_or_number, tree_of, type_of_node, chain_of}
-use Rattle.wf_ast.specs.TypedInvariant.{parts_below, is_numeric, is_logical, is_state, all_numeric, compares_kinds, chain_fits, node_fits}
+use Rattle.wf_ast.specs.TypedInvariant.{is_numeric, is_logical, is_state, chain_fits, node_fits}
 use Rattle.wf_ast.specs.WellTyped.{is_shift}
 use Rattle.wf_named.specs.NamedTree.{NamedExprTree, chain, NamedLinkTrees, no_link, link}
-use Rattle.wf_named.specs.WellNamed.{Scope, named_expr, named_links}
+use Rattle.wf_named.specs.WellNamed.{named_expr, named_links}
 use Rattle.wf_types.specs.declared.meanings.Meaning.{Meaning}
 use Rattle.wf_types.specs.declared.meanings.Meaning.TheVariants as meanings
 use Rattle.wf_types.specs.declared.meanings.Operand.{Operand}
@@ -35,7 +35,7 @@ use Rattle.wf_elaborated.proofs.OperandLaws.{taken-parts, first-holds, one-width
 use Rattle.wf_elaborated.proofs.AllOperators.{shift-parts}
 use Rattle.wf_elaborated.proofs.ExprLaws.{expr-means}
 use Rattle.wf_elaborator.specs.declared.elaborated.MadeOperands.{MadeOperands}
-use Rattle.wf_elaborator.specs.Nodes.{number_meant, Stands, StandsForExpr, Makes, MakesExpr}
+use Rattle.wf_elaborator.specs.Nodes.{number_meant, StandsForExpr, MakesExpr}
 use Rattle.wf_elaborator.specs.Chains.{StandForLinks, AreOperands}
 use Rattle.wf_elaborator.specs.Right.{Around, IsRight, AreRight}
 use Rattle.wf_elaborator.proofs.FormLaws.{number-numeric, flag-logical, status-state, constant-fits}

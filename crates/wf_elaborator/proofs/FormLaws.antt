@@ -1,9 +1,8 @@
 -- The node of each form of expression makes the expression's tree, and has the kind of its type, where the nodes of its
 -- parts stand for these.
-use Rattle.std.proofs.Common.{◌≡◌, ℕ, ◌+◌, ◌<◌, ◌^◌, Bool, true, false, not, ◌&&◌, ◌||◌, List, [], ◌∷◌, length, map, Option, Some, None, nat_lt, refl, sym, ap, ◌∙◌, subst, arith}
+use Rattle.std.proofs.Common.{◌≡◌, ℕ, ◌<◌, ◌^◌, Bool, true, false, ◌&&◌, ◌||◌, [], length, Option, Some, None, nat_lt, refl, sym, ap, ◌∙◌, subst, arith}
 use Rattle.std.specs.Prelude.{option_and_then, option_map, if◌then◌else◌, slice_get}
 use Rattle.std.specs.Bool.{⊤}
-use Rattle.std.specs.List.{list_all}
 use Rattle.std.proofs.lemmas.Bool.Decides.{nat_tests}
 use Rattle.wf_text.specs.declared.place.Place.{Place}
 use Rattle.wf_text.specs.declared.numbers.StatusId.{StatusId}
@@ -17,7 +16,6 @@ use Rattle.wf_base.specs.declared.base_methods.Kind.TheVariants as kinds
 use Rattle.wf_base.specs.declared.base_methods.BaseSig.{BaseSig}
 use Rattle.wf_base.specs.BaseTable.{bits_of, row_of}
 use Rattle.wf_ast.specs.declared.numbers.ExprId.{ExprId}
-use Rattle.wf_ast.specs.declared.variables.ConstId.{ConstId}
 use Rattle.wf_ast.specs.declared.types.Ty.{Ty}
 use Rattle.wf_ast.specs.declared.types.Ty.TheVariants as types
 use Rattle.wf_ast.specs.declared.resolved.Expr.{Expr}
@@ -26,13 +24,13 @@ use Rattle.wf_ast.specs.declared.typed_nodes.TypedNodes.{TypedNodes}
 use Rattle.wf_ast.specs.TypedTree as typed
 use Rattle.wf_ast.specs.TypedTree.{ValueTree, numeric, logical, state, elements, element, cut}
 use Rattle.wf_ast.specs.TypedTrees.{made_or_number, tree_of, type_of_node, end_in, num_type, num_in, cond_in, slice_in, answer_of}
-use Rattle.wf_ast.specs.TypedInvariant.{parts_below, cut_parts, is_numeric, is_logical, is_state, is_list, is_io, is_given, has_kind, kind_fits, node_fits, optional_numeric}
+use Rattle.wf_ast.specs.TypedInvariant.{parts_below, is_numeric, is_logical, is_state, is_list, is_io, is_given, has_kind, node_fits, optional_numeric}
 use Rattle.wf_ast.specs.WellTyped.{is_pure, same_mark}
 use Rattle.wf_named.specs.declared.nodes.NamedCallee.TheVariants as callees
 use Rattle.wf_named.specs.declared.nodes.NamedPath.{NamedPath}
 use Rattle.wf_named.specs.declared.nodes.Variable.{Variable}
 use Rattle.wf_named.specs.declared.nodes.Variable.TheVariants as variables
-use Rattle.wf_named.specs.NamedTree.{NamedExprTree, number, status, truth, path, index, slice, answer, chain, convert, negation, NamedPartTree, absent, present, NamedArgTrees, call, NamedTypeTree}
+use Rattle.wf_named.specs.NamedTree.{NamedExprTree, number, status, truth, path, index, slice, answer, convert, negation, NamedPartTree, absent, present, NamedArgTrees, call, NamedTypeTree}
 use Rattle.wf_named.specs.WellNamed as names
 use Rattle.wf_named.specs.WellNamed.{is_there, named_expr, named_part, named_links, named_args, named_type, type_of_variable, kind_of, is_wanted, args_wanted, count_args}
 use Rattle.wf_types.specs.declared.meanings.Meaning.{Meaning}
@@ -44,16 +42,15 @@ use Rattle.wf_types.specs.Meanings.{all_of, there, as_constant, variable, is_val
 use Rattle.wf_types.specs.DeclaredTypes.{may_be}
 use Rattle.wf_types.specs.ExprTypes as told
 use Rattle.wf_types.specs.ExprTypes.{only_where, element_of, if_number, if_end, given_by_base, pure_answer, plain_width, converted, meaning}
-use Rattle.wf_judging.specs.Judged.{value_of}
-use Rattle.wf_elaborated.specs.ElaboratedExprs.{path_to, variable_tree, path_tree, type_meant, number_or, end_tree, expr_tree}
-use Rattle.wf_elaborated.specs.Grammar.{by_grammar, end_by_grammar}
+use Rattle.wf_elaborated.specs.ElaboratedExprs.{variable_tree, path_tree, type_meant, number_or, end_tree, expr_tree}
+use Rattle.wf_elaborated.specs.Grammar.{end_by_grammar}
 use Rattle.wf_elaborated.specs.MeaningTrees.{kind_meant}
 use Rattle.wf_elaborated.proofs.NumberLemmas.{both, and-true, then-parts, map-parts, where-parts, in-64}
 use Rattle.wf_elaborated.proofs.ExprLaws.{numbered, kind-wanted}
 use Rattle.wf_elaborator.specs.declared.elaborated.Elaborated.{Elaborated}
 use Rattle.wf_elaborator.specs.Forms.{naming, node_of, end_kept}
-use Rattle.wf_elaborator.specs.Nodes.{number_meant, Stands, StandsForExpr, StandsForPath, StandsForEnd, Makes, MakesExpr}
-use Rattle.wf_elaborator.specs.Right.{MayStand, Around, IsRight, is_struct, IsRightPath, IsRightEnd}
+use Rattle.wf_elaborator.specs.Nodes.{number_meant, StandsForExpr, StandsForPath, StandsForEnd, Makes, MakesExpr}
+use Rattle.wf_elaborator.specs.Right.{Around, IsRight, is_struct, IsRightPath, IsRightEnd}
 
 lower : (m n : ℕ) → m < n → nat_lt m n ≡ true
 lower m n h = grind (arith, nat_tests, h)

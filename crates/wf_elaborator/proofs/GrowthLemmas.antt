@@ -1,19 +1,19 @@
 -- Growing step by step, and what keeps while it does.
-use Rattle.std.proofs.Common.{◌≡◌, ℕ, ◌<◌, ◌≤◌, true, List, [], ◌∷◌, Option, Some, None, Result, Ok, Err, IfOk, OnOk, length, refl, sym, ap, ◌∙◌, subst, arith}
-use Rattle.std.specs.Prelude.{slice_get, unwrap_or}
+use Rattle.std.proofs.Common.{◌≡◌, ℕ, ◌≤◌, true, List, [], ◌∷◌, Option, Some, None, Result, Ok, Err, IfOk, OnOk, length, refl, sym, ap, ◌∙◌, subst, arith}
+use Rattle.std.specs.Prelude.{unwrap_or}
 use Rattle.wf_ast.specs.declared.numbers.ExprId.{ExprId}
 use Rattle.wf_ast.specs.declared.typed_nodes.TypedNodes.{TypedNodes}
 use Rattle.wf_ast.specs.declared.types.Ty.TheVariants as types
 use Rattle.wf_ast.specs.TypedTree.{ValueTree, lost}
-use Rattle.wf_ast.specs.TypedTrees.{expr_trees, tree_of, made_or_number, type_of_node, constant_of_node}
+use Rattle.wf_ast.specs.TypedTrees.{expr_trees, tree_of, made_or_number}
 use Rattle.wf_ast.specs.TypedInvariant.{node_fits}
-use Rattle.wf_named.specs.NamedTree.{NamedExprTree, NamedPartTree, absent, present, NamedLinkTrees, no_link, link}
+use Rattle.wf_named.specs.NamedTree.{NamedPartTree, absent, present, NamedLinkTrees, no_link, link}
 use Rattle.wf_types.specs.declared.meanings.Meaning.{Meaning}
 use Rattle.wf_types.specs.declared.settings.Setting.{Setting}
 use Rattle.wf_types.specs.ExprTypes.{meaning}
 use Rattle.wf_elaborated.specs.ElaboratedExprs.{type_meant, expr_tree}
 use Rattle.wf_elaborator.specs.declared.elaborated.Elaborated.{Elaborated}
-use Rattle.wf_elaborator.specs.Growth.{Keeps, Grows, without_exprs}
+use Rattle.wf_elaborator.specs.Growth.{Keeps, Grows}
 use Rattle.wf_elaborator.specs.declared.elaborated.MadeNode.{MadeNode}
 use Rattle.wf_elaborator.specs.Nodes.{number_meant, Stands, StandsForEnd, Makes}
 use Rattle.wf_elaborator.specs.Chains.{StandForLinks}

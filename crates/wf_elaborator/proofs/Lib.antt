@@ -3,5 +3,6 @@ pub mod ChainLaws
 pub mod FormLaws
 pub mod GrowthLemmas
 pub mod PushLemmas
+pub mod SampleLemmas
 pub mod WalkLemmas
 pub mod WidthLemmas

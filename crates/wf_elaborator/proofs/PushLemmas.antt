@@ -1,13 +1,11 @@
 -- One expression more: its tree joins the others, and these keep theirs.
-use Rattle.std.proofs.Common.{◌≡◌, ℕ, zero, suc, ◌+◌, ◌<◌, ◌≤◌, Bool, true, false, ◌&&◌, List, [], ◌∷◌, ◌++◌, length, map, Option, Some, None, nat_lt, refl, sym, ap, ◌∙◌, subst, arith, length-append}
+use Rattle.std.proofs.Common.{◌≡◌, ℕ, suc, ◌+◌, ◌<◌, ◌≤◌, Bool, true, false, ◌&&◌, List, [], ◌∷◌, ◌++◌, length, map, Option, Some, None, nat_lt, refl, sym, ap, ◌∙◌, subst, arith, length-append}
 use Rattle.std.specs.Prelude.{if◌then◌else◌, slice_get, unwrap_or}
 use Rattle.std.specs.Bool.{⊤}
 use Rattle.std.specs.List.{list_all}
 use Rattle.std.proofs.lemmas.Bool.Decides.{nat_tests}
 use Rattle.std.proofs.lemmas.List.{map-append}
-use Rattle.wf_text.specs.declared.place.Place.{Place}
 use Rattle.wf_ast.specs.declared.numbers.ExprId.{ExprId}
-use Rattle.wf_ast.specs.declared.operators.Op.{Op}
 use Rattle.wf_ast.specs.declared.types.Ty.{Ty}
 use Rattle.wf_ast.specs.declared.types.Ty.TheVariants as types
 use Rattle.wf_ast.specs.declared.resolved.Expr.{Expr}
@@ -20,7 +18,7 @@ use Rattle.wf_ast.specs.TypedInvariant.{parts_of, parts_below, each_numbered, is
 use Rattle.wf_ast.proofs.Arena.{both_true, get_front, get_seam}
 use Rattle.wf_elaborated.proofs.NumberLemmas.{and-true}
 use Rattle.wf_elaborator.specs.declared.typed_exprs.TypedExpr.{TypedExpr}
-use Rattle.wf_elaborator.specs.Growth.{with_exprs, IsBuilt, Keeps, Grows}
+use Rattle.wf_elaborator.specs.Growth.{with_exprs, IsBuilt, Grows}
 
 below : (m n : ℕ) → nat_lt m n ≡ true → m < n
 below m n h = grind (arith, nat_tests, h)

@@ -3,25 +3,22 @@ use Rattle.std.proofs.Common.{◌≡◌, ℕ, zero, suc, ◌+◌, ◌<◌, List,
 use Rattle.std.specs.Prelude.{option_map}
 use Rattle.std.proofs.lemmas.List.{append_assoc, append-nil}
 use Rattle.wf_text.specs.declared.place.Place.{Place}
-use Rattle.wf_ast.specs.declared.numbers.ExprId.{ExprId}
 use Rattle.wf_ast.specs.declared.parsed.Link.{Link}
 use Rattle.wf_ast.specs.declared.typed_nodes.TypedNodes.{TypedNodes}
-use Rattle.wf_named.specs.declared.nodes.NamedPath.{NamedPath}
-use Rattle.wf_named.specs.NamedTree.{NamedExprTree, NamedPartTree, absent, present, NamedLinkTrees, no_link, link}
+use Rattle.wf_named.specs.NamedTree.{NamedExprTree, NamedPartTree, NamedLinkTrees, no_link, link}
 use Rattle.wf_named.specs.NamedTrees.{expr_at, links_at}
 use Rattle.wf_types.specs.declared.meanings.Meaning.{Meaning}
 use Rattle.wf_types.specs.declared.meanings.Operand.{Operand}
 use Rattle.wf_types.specs.declared.settings.Setting.{Setting}
 use Rattle.wf_types.specs.Meanings.{place_of}
-use Rattle.wf_types.specs.ExprTypes.{meaning, in_front, operand_at, operands_behind, operands}
+use Rattle.wf_types.specs.ExprTypes.{meaning, in_front, operand_at, operands_behind}
 use Rattle.wf_judging.specs.Judged.{value_of, operand_pushed, operand_behind, operands_joined}
 use Rattle.wf_judging.proofs.ListLemmas.{drop-one, joined-none, operands_begun}
 use Rattle.wf_elaborated.specs.ElaboratedExprs.{signs_in, expr_tree}
 use Rattle.wf_elaborator.specs.declared.elaborated.MadeOperands.{MadeOperands}
 use Rattle.wf_elaborator.specs.Growth.{Grows}
-use Rattle.wf_elaborator.specs.Nodes.{StandsForExpr}
-use Rattle.wf_elaborator.specs.Chains.{StandForLinks, AddsOperand, AddsLinks, AreOperands}
-use Rattle.wf_elaborator.specs.Right.{IsRight, IsRightPath, IsRightEnd, AreRight}
+use Rattle.wf_elaborator.specs.Chains.{AddsOperand, AddsLinks, AreOperands}
+use Rattle.wf_elaborator.specs.Right.{IsRight, IsRightEnd, AreRight}
 use Rattle.wf_elaborator.proofs.GrowthLemmas.{grows_more, statuses_kept, stands_kept}
 
 -- What breaks no rule breaks none when expressions are added.

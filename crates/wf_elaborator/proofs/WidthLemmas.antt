@@ -1,5 +1,5 @@
 -- Types that are not plain widths.
-use Rattle.std.proofs.Common.{◌≡◌, false, List, [], ◌∷◌, length, Option, Some, None, refl}
+use Rattle.std.proofs.Common.{◌≡◌, false, List, [], ◌∷◌, length, Some, None, refl}
 use Rattle.std.specs.Bool.{◌==◌}
 use Rattle.wf_ast.specs.declared.parsed.Bounds.{Bounds}
 use Rattle.wf_ast.specs.declared.parsed.Prefix.{Prefix}

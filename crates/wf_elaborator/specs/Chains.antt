@@ -1,6 +1,5 @@
 -- The nodes of a chain's operands, as they are added one by one.
 use Rattle.std.specs.Prelude.{◌≡◌, ⊤, List, [], ◌∷◌, ◌++◌}
-use Rattle.wf_text.specs.declared.place.Place.{Place}
 use Rattle.wf_ast.specs.declared.numbers.ExprId.{ExprId}
 use Rattle.wf_ast.specs.declared.typed_nodes.TypedNodes.{TypedNodes}
 use Rattle.wf_named.specs.NamedTree.{NamedExprTree, NamedLinkTrees, no_link, link}

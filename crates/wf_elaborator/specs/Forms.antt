@@ -1,5 +1,5 @@
 -- What the parts of an expression come to, by what they mean.
-use Rattle.std.specs.Prelude.{Option, None, Some, option_map, option_and_then}
+use Rattle.std.specs.Prelude.{Option, None, Some}
 use Rattle.wf_ast.specs.declared.numbers.ExprId.{ExprId}
 use Rattle.wf_ast.specs.declared.resolved.Expr.{Expr}
 use Rattle.wf_ast.specs.declared.resolved.Expr.TheVariants as exprs

@@ -3,3 +3,4 @@ pub mod Forms
 pub mod Growth
 pub mod Nodes
 pub mod Right
+pub mod Samples

@@ -1,24 +1,38 @@
-// Small expressions, built as the names phase builds them, get their typed nodes with ample memory: each form of
-// expression once, and some in one another.
+// Small expressions, built as the names phase builds them, get their typed nodes with ample memory.
+
+ghost use Rattle.std.specs.Prelude.{◌≡◌, ◌<◌, [], Some, None, length, IfOk};
+ghost use Rattle.wf_base.specs.declared.base_methods.BaseSig.TheVariants as sigs;
+ghost use Rattle.wf_base.specs.declared.marks.Mark.TheVariants.{Pure};
+ghost use Rattle.wf_base.specs.declared.widths.Width.TheVariants.{W8, W32};
+ghost use Rattle.wf_named.specs.declared.nodes.BaseType.TheVariants as bases;
+ghost use Rattle.wf_named.specs.declared.nodes.NamedCallee.TheVariants as callees;
+ghost use Rattle.wf_named.specs.declared.nodes.NamedCore.TheVariants as cores;
+ghost use Rattle.wf_named.specs.declared.nodes.Variable.TheVariants as variables;
+ghost use Rattle.wf_named.specs.NamedParts.{exprs_of, NamedExprParts};
+ghost use Rattle.wf_named.specs.NamedTree as tree;
+ghost use Rattle.wf_named.specs.NamedTrees.{expr_at, expr_made};
+ghost use Rattle.wf_elaborator.specs.Right.{IsRight};
+ghost use Rattle.wf_elaborator.specs.Samples.{small};
 
 use crate::building::Building;
-use crate::walk::{elaborate_expr, elaborate_path};
+use crate::forms::unsigned;
+use crate::typed_exprs::TypedExpr;
+use crate::walk::elaborate_expr;
 use std::alloc::Global;
 use std::test::Fail;
 use wf_ast::parsed::Link;
-use wf_ast::{
-    ArgId, ConstId, Expr, ExprId, ExprNode, FieldId, LocalId, Op, Sequence, Ty, TypedNodes,
-};
+use wf_ast::{ConstId, Expr, ExprId, FieldId, LocalId, Op, Sequence, Ty, TypedNodes};
 use wf_base::{BaseSig, Mark, Width};
-use wf_judging::found::Value;
 use wf_named::{
     BaseType, NamedCall, NamedCallee, NamedCore, NamedExpr, NamedExprNode, NamedNodes, NamedPath,
     NamedType, Variable,
 };
-use wf_text::{Place, StatusId};
-use wf_types::{Constant, Meaning, Setting};
+use wf_text::Place;
+use wf_types::{Constant, Setting};
 
-fn at(col: u32) -> Place {
+fn at(col: u32) -> Place
+    ensures { result ≡ record { file = 0; line = 1; col = col } }
+{
     Place {
         file: 0,
         line: 1,
@@ -32,76 +46,70 @@ const BYTE: Ty = Ty::Num {
     hi: 0xff,
 };
 
-const HALF: Ty = Ty::Num {
-    width: Width::W16,
-    lo: 0,
-    hi: 0xffff,
-};
-
-const WORD: Ty = Ty::Num {
-    width: Width::W32,
-    lo: 0,
-    hi: 0xffff_ffff,
-};
-
 const ALL: Ty = Ty::Num {
     width: Width::W64,
     lo: 0,
     hi: 0xffff_ffff_ffff_ffff,
 };
 
-const BYTES: Ty = Ty::Slice(Width::W8);
-
-const TABLE: Ty = Ty::Array {
-    width: Width::W16,
-    lo: 1,
-    hi: 9,
-    len: 4,
-};
-
-const X: Variable = Variable::Local(LocalId(0));
-const S: Variable = Variable::Local(LocalId(1));
-const FLAG: Variable = Variable::Local(LocalId(2));
-const STATE: Variable = Variable::Local(LocalId(3));
-const LIMIT: Variable = Variable::Const(ConstId(0));
-const CELLS: Variable = Variable::Field(FieldId(0));
-const SOURCE: Variable = Variable::Arg(ArgId(0));
-
-// A method with four locals, a constant of 16 bits, a field with an array and a reader as argument.
-fn around(alloc: Global) -> Result<Setting, Fail> {
+// A method with two locals, a constant and a field.
+fn around(alloc: Global) -> Result<Setting, Fail>
+    ensures { IfOk result (λ s. s ≡ small) }
+{
     let mut constants = Sequence::new(alloc);
     constants.push(Some(Constant {
-        width: Width::W16,
-        value: 300,
+        width: Width::W8,
+        value: 48,
     }))?;
     let mut fields = Sequence::new(alloc);
-    fields.push(Some(TABLE))?;
-    let mut args = Sequence::new(alloc);
-    args.push(Some(Ty::Reader))?;
+    fields.push(Some(Ty::Array {
+        width: Width::W8,
+        lo: 0,
+        hi: 255,
+        len: 4,
+    }))?;
     let mut locals = Sequence::new(alloc);
-    locals.push(Some(BYTE))?;
-    locals.push(Some(BYTES))?;
-    locals.push(Some(Ty::Flag))?;
-    locals.push(Some(Ty::Status))?;
+    locals.push(Some(Ty::Num {
+        width: Width::W8,
+        lo: 0,
+        hi: 255,
+    }))?;
+    locals.push(Some(Ty::Slice(Width::W8)))?;
     Ok(Setting {
         constants,
         fields,
-        args,
+        args: Sequence::new(alloc),
         locals,
         methods: Sequence::new(alloc),
         statuses: Sequence::new(alloc),
-        mark: Mark::Pure,
+        mark: Mark::Impure,
         gives: None,
     })
 }
 
-// A package of which only its order is declared.
-fn declared(alloc: Global) -> Result<TypedNodes, Fail> {
+// Texts for so many statuses.
+fn statuses(alloc: Global, count: usize) -> Result<Sequence<Sequence<u8>>, Fail>
+    ensures { IfOk result (λ all. length all ≡ count) }
+{
+    let mut all = Sequence::new(alloc);
+    let mut n = 0;
+    while n < count {
+        all.push(Sequence::new(alloc))?;
+        n += 1;
+    }
+    Ok(all)
+}
+
+// A package of which only the number of its statuses and its order are declared.
+fn declared(alloc: Global) -> Result<TypedNodes, Fail>
+    ensures { IfOk result (λ nodes. length nodes.statuses ≡ 10) }
+{
+    let statuses = statuses(alloc, 10)?;
     let mut order = Sequence::new(alloc);
     order.push(7)?;
     Ok(TypedNodes {
         package: Sequence::new(alloc),
-        statuses: Sequence::new(alloc),
+        statuses,
         texts: Sequence::new(alloc),
         exprs: Sequence::new(alloc),
         types: Sequence::new(alloc),
@@ -114,520 +122,283 @@ fn declared(alloc: Global) -> Result<TypedNodes, Fail> {
     })
 }
 
-fn path(of: Variable, col: u32) -> NamedPath {
+// A number and a truth.
+fn built(alloc: Global) -> Result<TypedNodes, Fail> {
+    let mut nodes = Building::new(alloc, declared(alloc)?);
+    nodes.push_expr(TypedExpr {
+        node: unsigned(alloc, Expr::Number(77), at(5)),
+        ty: ALL,
+        constant: Some(77),
+    })?;
+    nodes.push_expr(TypedExpr {
+        node: unsigned(alloc, Expr::Truth(true), at(9)),
+        ty: Ty::Flag,
+        constant: None,
+    })?;
+    Ok(nodes.finish(alloc)?)
+}
+
+// The types and the numbers of all nodes.
+fn are(nodes: &TypedNodes, types: &[Ty], constants: &[Option<u64>]) -> bool {
+    nodes.types.as_slice() == types && nodes.constants.as_slice() == constants
+}
+
+fn are_built(nodes: &TypedNodes) -> bool {
+    let all = match nodes.exprs.as_slice() {
+        [first, second] => {
+            matches!(first.expr, Expr::Number(77)) && matches!(second.expr, Expr::Truth(true))
+        }
+        _ => false,
+    };
+    all && nodes.order.as_slice() == [7].as_slice()
+}
+
+#[test]
+fn what_was_added_is_handed_over(rt: HostRuntime) -> Result<(), Fail> {
+    let nodes = built(rt.alloc())?;
+    let right = are_built(&nodes) && are(&nodes, &[ALL, Ty::Flag], &[Some(77), None]);
+    assert!(rt; right);
+    Ok(())
+}
+
+fn path(of: Variable, col: u32) -> NamedPath
+    ensures { result ≡ record { of = of; at = record { file = 0; line = 1; col = col } } }
+{
     NamedPath { of, at: at(col) }
 }
 
-fn added(named: &mut NamedNodes, expr: NamedExpr, col: u32) -> Result<ExprId, Fail> {
-    Ok(named.push_expr(NamedExprNode { expr, at: at(col) })?)
+fn pushed(named: &mut NamedNodes, expr: NamedExpr, col: u32) -> Result<ExprId, Fail>
+    requires { NamedExprParts (length named.old.exprs) expr }
+    ensures there { IfOk result (λ e. e.0 < length named.new.exprs) }
+    ensures made { IfOk result (λ e. expr_at (exprs_of named.new) e ≡ expr_made (exprs_of named.old) expr (record { file = 0; line = 1; col = col })) }
+{
+    let e = named.push_expr(NamedExprNode { expr, at: at(col) })?;
+    Ok(e)
 }
 
-fn variable(named: &mut NamedNodes, of: Variable, col: u32) -> Result<ExprId, Fail> {
-    added(named, NamedExpr::Path(path(of, col)), col)
-}
-
-// A chain of two operands.
-fn joined(
+// An operator between an expression and itself.
+fn twice(
     alloc: Global,
     named: &mut NamedNodes,
     op: Op,
     first: ExprId,
-    sign: u32,
-    last: ExprId,
-) -> Result<ExprId, Fail> {
+    col: u32,
+) -> Result<ExprId, Fail>
+    requires { first.0 < length named.old.exprs }
+    ensures there { IfOk result (λ e. e.0 < length named.new.exprs) }
+    ensures made { IfOk result (λ e. expr_at (exprs_of named.new) e ≡ tree.chain op (expr_at (exprs_of named.old) first) (tree.link (record { file = 0; line = 1; col = col }) (expr_at (exprs_of named.old) first) tree.no_link) (record { file = 0; line = 1; col = col })) }
+{
     let mut links = Sequence::new(alloc);
     links.push(Link {
-        sign: at(sign),
-        operand: last,
+        sign: at(col),
+        operand: first,
     })?;
-    added(named, NamedExpr::Chain { op, first, links }, sign)
+    let e = pushed(named, NamedExpr::Chain { op, first, links }, col)?;
+    Ok(e)
 }
 
-// What the nodes of an expression come to, as it is handed on by `finish`, and its value.
-#[derive(Drop)]
-struct Outcome {
-    nodes: TypedNodes,
-    value: Value,
+// cells[2] + cells[2], with its one element twice
+fn sum(alloc: Global, named: &mut NamedNodes) -> Result<ExprId, Fail>
+    ensures there { IfOk result (λ e. e.0 < length named.new.exprs) }
+    ensures right { IfOk result (λ e. IsRight small 10 (expr_at (exprs_of named.new) e)) }
+{
+    let index = pushed(named, NamedExpr::Number(2), 7)?;
+    let base = path(Variable::Field(FieldId(0)), 1);
+    let element = pushed(named, NamedExpr::Index { base, index }, 6)?;
+    let e = twice(alloc, named, Op::Add, element, 10)?;
+    Ok(e)
 }
 
-fn typed(alloc: Global, named: &NamedNodes, e: ExprId) -> Result<Outcome, Fail> {
-    let mut nodes = Building::new(alloc, declared(alloc)?);
-    let made = elaborate_expr(alloc, &mut nodes, named, &around(alloc)?, e)?;
-    let value = made.value;
-    Ok(Outcome {
-        nodes: nodes.finish(alloc)?,
-        value,
-    })
+// part[K .. K]
+fn cut(named: &mut NamedNodes) -> Result<ExprId, Fail>
+    ensures there { IfOk result (λ e. e.0 < length named.new.exprs) }
+    ensures right { IfOk result (λ e. IsRight small 10 (expr_at (exprs_of named.new) e)) }
+{
+    let limit = path(Variable::Const(ConstId(0)), 6);
+    let end = pushed(named, NamedExpr::Path(limit), 6)?;
+    let base = path(Variable::Local(LocalId(1)), 1);
+    let from = Some(end);
+    let to = Some(end);
+    let e = pushed(named, NamedExpr::Slice { base, from, to }, 5)?;
+    Ok(e)
 }
 
-// The types and the numbers of all nodes.
-fn are(all: &Outcome, types: &[Ty], constants: &[Option<u64>]) -> bool {
-    all.nodes.types.as_slice() == types
-        && all.nodes.constants.as_slice() == constants
-        && all.nodes.exprs.as_slice().len() == types.len()
-        && all.nodes.order.as_slice() == [7].as_slice()
+// not true
+fn negation(named: &mut NamedNodes) -> Result<ExprId, Fail>
+    ensures there { IfOk result (λ e. e.0 < length named.new.exprs) }
+    ensures right { IfOk result (λ e. IsRight small 10 (expr_at (exprs_of named.new) e)) }
+{
+    let of = pushed(named, NamedExpr::Truth(true), 5)?;
+    let e = pushed(named, NamedExpr::Not(of), 1)?;
+    Ok(e)
 }
 
-// What the whole means, and where it stands.
-fn means(all: &Outcome, of: Meaning, col: u32) -> bool {
-    all.value
-        == Value {
-            of: Some(of),
-            at: at(col),
-        }
-}
-
-fn stands_at(node: &ExprNode, col: u32, signs: &[Place]) -> bool {
-    node.at == at(col) && node.signs.as_slice() == signs
-}
-
-fn no_signs(node: &ExprNode, col: u32) -> bool {
-    node.at == at(col) && node.signs.as_slice().is_empty()
-}
-
-// One expression that has no parts.
-fn alone(alloc: Global, expr: NamedExpr) -> Result<Outcome, Fail> {
-    let mut named = NamedNodes::new(alloc, b"demo")?;
-    let e = added(&mut named, expr, 5)?;
-    typed(alloc, &named, e)
-}
-
-fn number_is_typed(all: &Outcome) -> bool {
-    let node = match all.nodes.exprs.as_slice().last() {
-        Some(node) => node,
-        None => return false,
-    };
-    matches!(node.expr, Expr::Number(77)) && no_signs(node, 5)
-}
-
-#[test]
-fn numbers_have_64_bits(rt: HostRuntime) -> Result<(), Fail> {
-    let all = alone(rt.alloc(), NamedExpr::Number(77))?;
-    let of = Meaning::Constant {
-        width: None,
-        value: 77,
-    };
-    assert!(rt; number_is_typed(&all));
-    assert!(rt; are(&all, &[ALL], &[Some(77)]));
-    assert!(rt; means(&all, of, 5));
-    Ok(())
-}
-
-fn status_is_typed(all: &Outcome) -> bool {
-    let node = match all.nodes.exprs.as_slice().last() {
-        Some(node) => node,
-        None => return false,
-    };
-    matches!(node.expr, Expr::Status(StatusId(3))) && no_signs(node, 5)
-}
-
-#[test]
-fn statuses_are_told_by_number(rt: HostRuntime) -> Result<(), Fail> {
-    let all = alone(rt.alloc(), NamedExpr::Status(StatusId(3)))?;
-    assert!(rt; status_is_typed(&all));
-    assert!(rt; are(&all, &[Ty::Status], &[None]));
-    assert!(rt; means(&all, Meaning::Typed(Ty::Status), 5));
-    Ok(())
-}
-
-fn truth_is_typed(all: &Outcome) -> bool {
-    let node = match all.nodes.exprs.as_slice().last() {
-        Some(node) => node,
-        None => return false,
-    };
-    matches!(node.expr, Expr::Truth(true)) && no_signs(node, 5)
-}
-
-#[test]
-fn truths_are_flags(rt: HostRuntime) -> Result<(), Fail> {
-    let all = alone(rt.alloc(), NamedExpr::Truth(true))?;
-    assert!(rt; truth_is_typed(&all));
-    assert!(rt; are(&all, &[Ty::Flag], &[None]));
-    assert!(rt; means(&all, Meaning::Typed(Ty::Flag), 5));
-    Ok(())
-}
-
-fn local_is_typed(all: &Outcome) -> bool {
-    let node = match all.nodes.exprs.as_slice().last() {
-        Some(node) => node,
-        None => return false,
-    };
-    matches!(node.expr, Expr::Local(LocalId(0))) && no_signs(node, 4)
-}
-
-// A path stands where it begins, whatever its node says.
-#[test]
-fn paths_have_the_types_of_what_they_name(rt: HostRuntime) -> Result<(), Fail> {
-    let all = alone(rt.alloc(), NamedExpr::Path(path(X, 4)))?;
-    assert!(rt; local_is_typed(&all));
-    assert!(rt; are(&all, &[BYTE], &[None]));
-    assert!(rt; means(&all, Meaning::Typed(BYTE), 4));
-    Ok(())
-}
-
-fn constant_is_typed(all: &Outcome) -> bool {
-    let node = match all.nodes.exprs.as_slice().last() {
-        Some(node) => node,
-        None => return false,
-    };
-    matches!(node.expr, Expr::Const(ConstId(0))) && no_signs(node, 4)
-}
-
-#[test]
-fn constants_have_all_numbers_of_their_width(rt: HostRuntime) -> Result<(), Fail> {
-    let all = alone(rt.alloc(), NamedExpr::Path(path(LIMIT, 4)))?;
-    let of = Meaning::Constant {
-        width: Some(Width::W16),
-        value: 300,
-    };
-    assert!(rt; constant_is_typed(&all));
-    assert!(rt; are(&all, &[HALF], &[Some(300)]));
-    assert!(rt; means(&all, of, 4));
-    Ok(())
-}
-
-// A path that is no value, by itself.
-fn source(alloc: Global) -> Result<Outcome, Fail> {
-    let mut nodes = Building::new(alloc, declared(alloc)?);
-    let made = elaborate_path(alloc, &mut nodes, &around(alloc)?, path(SOURCE, 9))?;
-    let value = made.value;
-    Ok(Outcome {
-        nodes: nodes.finish(alloc)?,
-        value,
-    })
-}
-
-fn argument_is_typed(all: &Outcome) -> bool {
-    let node = match all.nodes.exprs.as_slice().last() {
-        Some(node) => node,
-        None => return false,
-    };
-    matches!(node.expr, Expr::Arg(ArgId(0))) && no_signs(node, 9)
-}
-
-#[test]
-fn readers_are_paths(rt: HostRuntime) -> Result<(), Fail> {
-    let all = source(rt.alloc())?;
-    assert!(rt; argument_is_typed(&all));
-    assert!(rt; are(&all, &[Ty::Reader], &[None]));
-    assert!(rt; means(&all, Meaning::Typed(Ty::Reader), 9));
-    Ok(())
-}
-
-// this.cells[x]
-fn element(alloc: Global) -> Result<Outcome, Fail> {
-    let mut named = NamedNodes::new(alloc, b"demo")?;
-    let index = variable(&mut named, X, 12)?;
-    let base = path(CELLS, 1);
-    let e = added(&mut named, NamedExpr::Index { base, index }, 11)?;
-    typed(alloc, &named, e)
-}
-
-fn element_is_typed(all: &Outcome) -> bool {
-    let node = match all.nodes.exprs.as_slice().last() {
-        Some(node) => node,
-        None => return false,
-    };
-    let expr = matches!(
-        node.expr,
-        Expr::Index {
-            base: ExprId(0),
-            at: ExprId(1)
-        }
-    );
-    expr && no_signs(node, 11)
-}
-
-#[test]
-fn what_is_indexed_stands_in_front_of_the_index(rt: HostRuntime) -> Result<(), Fail> {
-    let all = element(rt.alloc())?;
-    let of = Ty::Num {
-        width: Width::W16,
-        lo: 1,
-        hi: 9,
-    };
-    assert!(rt; element_is_typed(&all));
-    assert!(rt; are(&all, &[TABLE, BYTE, of], &[None, None, None]));
-    assert!(rt; means(&all, Meaning::Typed(of), 11));
-    Ok(())
-}
-
-// s[x ..], s[.. x], s[..] or s[x .. x]
-fn slice(alloc: Global, has_from: bool, has_to: bool) -> Result<Outcome, Fail> {
-    let mut named = NamedNodes::new(alloc, b"demo")?;
-    let first = variable(&mut named, X, 3)?;
-    let last = variable(&mut named, X, 8)?;
-    let e = added(
-        &mut named,
-        NamedExpr::Slice {
-            base: path(S, 1),
-            from: if has_from { Some(first) } else { None },
-            to: if has_to { Some(last) } else { None },
+fn length_call(alloc: Global) -> NamedCall
+    ensures { result ≡ record { callee = callees.Base (record { of = variables.Local (record { 0 = 1 }); at = record { file = 0; line = 1; col = 1 } }) (sigs.SliceLength W8); at = record { file = 0; line = 1; col = 6 }; mark = Pure; args = [] } }
+{
+    NamedCall {
+        callee: NamedCallee::Base {
+            on: path(Variable::Local(LocalId(1)), 1),
+            sig: BaseSig::SliceLength(Width::W8),
         },
-        2,
-    )?;
-    typed(alloc, &named, e)
-}
-
-fn cut_is_typed(all: &Outcome, from: Option<ExprId>, to: Option<ExprId>) -> bool {
-    let node = match all.nodes.exprs.as_slice().last() {
-        Some(node) => node,
-        None => return false,
-    };
-    let expr = match node.expr {
-        Expr::Cut {
-            base,
-            from: first,
-            to: last,
-        } => base == ExprId(0) && first == from && last == to,
-        _ => false,
-    };
-    expr && no_signs(node, 2)
-}
-
-// The place of a node.
-fn place_is(all: &Outcome, number: usize, col: u32) -> bool {
-    match all.nodes.exprs.as_slice().get(number) {
-        Some(node) => node.at == at(col),
-        None => false,
+        at: at(6),
+        mark: Mark::Pure,
+        args: Sequence::new(alloc),
     }
 }
 
-#[test]
-fn ends_of_slices_may_be_absent(rt: HostRuntime) -> Result<(), Fail> {
-    let whole = slice(rt.alloc(), false, false)?;
-    assert!(rt; cut_is_typed(&whole, None, None));
-    assert!(rt; are(&whole, &[BYTES, BYTES], &[None, None]));
-    let rest = slice(rt.alloc(), true, false)?;
-    assert!(rt; cut_is_typed(&rest, Some(ExprId(1)), None));
-    assert!(rt; are(&rest, &[BYTES, BYTE, BYTES], &[None, None, None]));
-    assert!(rt; place_is(&rest, 1, 3));
-    let front = slice(rt.alloc(), false, true)?;
-    assert!(rt; cut_is_typed(&front, None, Some(ExprId(1))));
-    assert!(rt; place_is(&front, 1, 8));
-    Ok(())
-}
-
-#[test]
-fn ends_of_slices_stand_in_order(rt: HostRuntime) -> Result<(), Fail> {
-    let both = slice(rt.alloc(), true, true)?;
-    assert!(rt; cut_is_typed(&both, Some(ExprId(1)), Some(ExprId(2))));
-    assert!(rt; are(&both, &[BYTES, BYTE, BYTE, BYTES], &[None, None, None, None]));
-    assert!(rt; place_is(&both, 1, 3));
-    assert!(rt; place_is(&both, 2, 8));
-    assert!(rt; means(&both, Meaning::Typed(BYTES), 2));
-    Ok(())
-}
-
-// x + (2 + 3)
-fn sum(alloc: Global) -> Result<Outcome, Fail> {
-    let mut named = NamedNodes::new(alloc, b"demo")?;
-    let two = added(&mut named, NamedExpr::Number(2), 6)?;
-    let three = added(&mut named, NamedExpr::Number(3), 10)?;
-    let five = joined(alloc, &mut named, Op::Add, two, 8, three)?;
-    let x = variable(&mut named, X, 1)?;
-    let sum = joined(alloc, &mut named, Op::Add, x, 3, five)?;
-    typed(alloc, &named, sum)
-}
-
-fn sum_is_typed(all: &Outcome) -> bool {
-    let node = match all.nodes.exprs.as_slice().last() {
-        Some(node) => node,
-        None => return false,
-    };
-    let expr = match &node.expr {
-        Expr::Chain { op, parts } => {
-            *op == Op::Add && parts.as_slice() == [ExprId(0), ExprId(3)].as_slice()
-        }
-        _ => false,
-    };
-    expr && stands_at(node, 3, &[at(3)])
-}
-
-#[test]
-fn parts_stand_in_front_of_their_whole(rt: HostRuntime) -> Result<(), Fail> {
-    let all = sum(rt.alloc())?;
-    assert!(rt; sum_is_typed(&all));
-    assert!(rt;
-        are(
-            &all,
-            &[BYTE, ALL, ALL, ALL, BYTE],
-            &[None, Some(2), Some(3), Some(5), None]
-        )
-    );
-    assert!(rt; means(&all, Meaning::Typed(BYTE), 3));
-    Ok(())
-}
-
-// flag and true and flag
-fn three(alloc: Global) -> Result<Outcome, Fail> {
-    let mut named = NamedNodes::new(alloc, b"demo")?;
-    let first = variable(&mut named, FLAG, 1)?;
-    let second = added(&mut named, NamedExpr::Truth(true), 10)?;
-    let third = variable(&mut named, FLAG, 19)?;
-    let mut links = Sequence::new(alloc);
-    links.push(Link {
-        sign: at(6),
-        operand: second,
-    })?;
-    links.push(Link {
-        sign: at(15),
-        operand: third,
-    })?;
-    let op = Op::And;
-    let e = added(&mut named, NamedExpr::Chain { op, first, links }, 6)?;
-    typed(alloc, &named, e)
-}
-
-fn three_are_typed(all: &Outcome) -> bool {
-    let node = match all.nodes.exprs.as_slice().last() {
-        Some(node) => node,
-        None => return false,
-    };
-    let expr = match &node.expr {
-        Expr::Chain { op, parts } => {
-            *op == Op::And && parts.as_slice() == [ExprId(0), ExprId(1), ExprId(2)].as_slice()
-        }
-        _ => false,
-    };
-    expr && stands_at(node, 6, &[at(6), at(15)])
-}
-
-#[test]
-fn operands_and_signs_stand_in_order(rt: HostRuntime) -> Result<(), Fail> {
-    let all = three(rt.alloc())?;
-    assert!(rt; three_are_typed(&all));
-    assert!(rt;
-        are(
-            &all,
-            &[Ty::Flag, Ty::Flag, Ty::Flag, Ty::Flag],
-            &[None, None, None, None]
-        )
-    );
-    assert!(rt; means(&all, Meaning::Typed(Ty::Flag), 6));
-    Ok(())
-}
-
-fn width_32(alloc: Global, col: u32) -> NamedType {
+fn word_type(alloc: Global) -> NamedType
+    ensures { result ≡ record { prefixes = []; core = cores.Base (Some (bases.Number W32)) (record { file = 0; line = 1; col = 18 }); bounds = None } }
+{
     NamedType {
         prefixes: Sequence::new(alloc),
         core: NamedCore::Base {
             of: Some(BaseType::Number(Width::W32)),
-            at: at(col),
+            at: at(18),
         },
         bounds: None,
     }
 }
 
-// s.length() as base.u32
-fn length(alloc: Global) -> Result<Outcome, Fail> {
+// part.length() as base.u32
+fn converted(alloc: Global, named: &mut NamedNodes) -> Result<ExprId, Fail>
+    ensures there { IfOk result (λ e. e.0 < length named.new.exprs) }
+    ensures right { IfOk result (λ e. IsRight small 10 (expr_at (exprs_of named.new) e)) }
+{
+    let of = pushed(named, NamedExpr::Call(length_call(alloc)), 6)?;
+    let to = word_type(alloc);
+    let e = pushed(named, NamedExpr::Convert { of, to }, 15)?;
+    Ok(e)
+}
+
+// The nodes of an expression.
+fn typed(alloc: Global, named: &NamedNodes, e: ExprId) -> Result<TypedNodes, Fail>
+    requires there { e.0 < length named.now.exprs }
+    requires right { IsRight small 10 (expr_at (exprs_of named.now) e) }
+{
+    let setting = around(alloc)?;
+    let nodes = declared(alloc)?;
+    let mut building = Building::new(alloc, nodes);
+    elaborate_expr(alloc, &mut building, named, &setting, e)?;
+    Ok(building.finish(alloc)?)
+}
+
+fn typed_sum(alloc: Global) -> Result<TypedNodes, Fail> {
     let mut named = NamedNodes::new(alloc, b"demo")?;
-    let call = NamedCall {
-        callee: NamedCallee::Base {
-            on: path(S, 1),
-            sig: BaseSig::SliceLength(Width::W8),
-        },
-        at: at(3),
-        mark: Mark::Pure,
-        args: Sequence::new(alloc),
-    };
-    let of = added(&mut named, NamedExpr::Call(call), 3)?;
-    let to = width_32(alloc, 15);
-    let e = added(&mut named, NamedExpr::Convert { of, to }, 12)?;
+    let e = sum(alloc, &mut named)?;
     typed(alloc, &named, e)
 }
 
-fn length_is_typed(all: &Outcome) -> bool {
-    let node = match all.nodes.exprs.as_slice().get(1) {
+fn sum_stands(nodes: &TypedNodes) -> bool {
+    let node = match nodes.exprs.as_slice().last() {
         Some(node) => node,
         None => return false,
     };
-    let expr = matches!(
-        node.expr,
-        Expr::Base {
-            on: ExprId(0),
-            sig: BaseSig::SliceLength(Width::W8)
+    let parts = match &node.expr {
+        Expr::Chain { op, parts } => {
+            *op == Op::Add && parts.as_slice() == [ExprId(2), ExprId(5)].as_slice()
         }
-    );
-    expr && no_signs(node, 3)
-}
-
-fn conversion_is_typed(all: &Outcome) -> bool {
-    let node = match all.nodes.exprs.as_slice().last() {
-        Some(node) => node,
-        None => return false,
+        _ => false,
     };
-    let expr = matches!(
-        node.expr,
-        Expr::Convert {
-            of: ExprId(1),
-            to: Width::W32
-        }
-    );
-    expr && no_signs(node, 12)
+    parts && node.at == at(10) && node.signs.as_slice() == [at(10)].as_slice()
 }
 
 #[test]
-fn base_methods_stand_behind_what_they_are_called_on(rt: HostRuntime) -> Result<(), Fail> {
-    let all = length(rt.alloc())?;
-    assert!(rt; length_is_typed(&all));
-    assert!(rt; conversion_is_typed(&all));
-    assert!(rt; are(&all, &[BYTES, ALL, WORD], &[None, None, None]));
-    assert!(rt; means(&all, Meaning::Typed(WORD), 12));
+fn parts_stand_in_front_of_their_whole(rt: HostRuntime) -> Result<(), Fail> {
+    let nodes = typed_sum(rt.alloc())?;
+    let array = Ty::Array {
+        width: Width::W8,
+        lo: 0,
+        hi: 255,
+        len: 4,
+    };
+    let types = [array, ALL, BYTE, array, ALL, BYTE, BYTE];
+    let numbers = [None, Some(2), None, None, Some(2), None, None];
+    let right = sum_stands(&nodes) && are(&nodes, &types, &numbers);
+    assert!(rt; right);
     Ok(())
 }
 
-// limit as base.u32
-fn converted(alloc: Global) -> Result<Outcome, Fail> {
+fn typed_cut(alloc: Global) -> Result<TypedNodes, Fail> {
     let mut named = NamedNodes::new(alloc, b"demo")?;
-    let of = variable(&mut named, LIMIT, 1)?;
-    let to = width_32(alloc, 10);
-    let e = added(&mut named, NamedExpr::Convert { of, to }, 7)?;
+    let e = cut(&mut named)?;
     typed(alloc, &named, e)
+}
+
+fn cut_stands(nodes: &TypedNodes) -> bool {
+    match nodes.exprs.as_slice().last() {
+        Some(node) => matches!(
+            node.expr,
+            Expr::Cut {
+                base: ExprId(0),
+                from: Some(ExprId(1)),
+                to: Some(ExprId(2))
+            }
+        ),
+        None => false,
+    }
 }
 
 #[test]
-fn converted_constants_keep_their_numbers(rt: HostRuntime) -> Result<(), Fail> {
-    let all = converted(rt.alloc())?;
-    let of = Meaning::Constant {
-        width: Some(Width::W32),
-        value: 300,
-    };
-    assert!(rt; are(&all, &[HALF, WORD], &[Some(300), Some(300)]));
-    assert!(rt; means(&all, of, 7));
+fn ends_of_slices_stand_in_order(rt: HostRuntime) -> Result<(), Fail> {
+    let nodes = typed_cut(rt.alloc())?;
+    let bytes = Ty::Slice(Width::W8);
+    let numbers = [None, Some(48), Some(48), None];
+    let right = cut_stands(&nodes) && are(&nodes, &[bytes, BYTE, BYTE, bytes], &numbers);
+    assert!(rt; right);
     Ok(())
 }
 
-// not (st.is_error())
-fn failed(alloc: Global) -> Result<Outcome, Fail> {
+fn typed_negation(alloc: Global) -> Result<TypedNodes, Fail> {
     let mut named = NamedNodes::new(alloc, b"demo")?;
-    let call = NamedCall {
-        callee: NamedCallee::Base {
-            on: path(STATE, 6),
-            sig: BaseSig::IsError,
-        },
-        at: at(9),
-        mark: Mark::Pure,
-        args: Sequence::new(alloc),
-    };
-    let asked = added(&mut named, NamedExpr::Call(call), 9)?;
-    let e = added(&mut named, NamedExpr::Not(asked), 1)?;
+    let e = negation(&mut named)?;
     typed(alloc, &named, e)
 }
 
-fn negation_is_typed(all: &Outcome) -> bool {
-    let node = match all.nodes.exprs.as_slice().last() {
-        Some(node) => node,
-        None => return false,
-    };
-    matches!(node.expr, Expr::Not(ExprId(1))) && no_signs(node, 1)
+fn negation_stands(nodes: &TypedNodes) -> bool {
+    match nodes.exprs.as_slice().last() {
+        Some(node) => matches!(node.expr, Expr::Not(ExprId(0))),
+        None => false,
+    }
 }
 
 #[test]
 fn negations_stand_behind_what_they_negate(rt: HostRuntime) -> Result<(), Fail> {
-    let all = failed(rt.alloc())?;
-    assert!(rt; negation_is_typed(&all));
-    assert!(rt; are(&all, &[Ty::Status, Ty::Flag, Ty::Flag], &[None, None, None]));
-    assert!(rt; means(&all, Meaning::Typed(Ty::Flag), 1));
+    let nodes = typed_negation(rt.alloc())?;
+    let right = negation_stands(&nodes) && are(&nodes, &[Ty::Flag, Ty::Flag], &[None, None]);
+    assert!(rt; right);
+    Ok(())
+}
+
+fn typed_length(alloc: Global) -> Result<TypedNodes, Fail> {
+    let mut named = NamedNodes::new(alloc, b"demo")?;
+    let e = converted(alloc, &mut named)?;
+    typed(alloc, &named, e)
+}
+
+fn length_stands(nodes: &TypedNodes) -> bool {
+    match nodes.exprs.as_slice().last() {
+        Some(node) => matches!(
+            node.expr,
+            Expr::Convert {
+                of: ExprId(1),
+                to: Width::W32
+            }
+        ),
+        None => false,
+    }
+}
+
+#[test]
+fn base_methods_stand_behind_what_they_are_called_on(rt: HostRuntime) -> Result<(), Fail> {
+    let nodes = typed_length(rt.alloc())?;
+    let word = Ty::Num {
+        width: Width::W32,
+        lo: 0,
+        hi: 0xffff_ffff,
+    };
+    let types = [Ty::Slice(Width::W8), ALL, word];
+    let right = length_stands(&nodes) && are(&nodes, &types, &[None, None, None]);
+    assert!(rt; right);
     Ok(())
 }

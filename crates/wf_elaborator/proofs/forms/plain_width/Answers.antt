@@ -7,7 +7,6 @@ use Rattle.wf_elaborator.proofs.forms.plain_width.Goals as goal
 pub returns-in-Some : goal.returns-in-Some
 returns-in-Some c = λ ts. rw c.in-Some.is (sym (bounded-no_width ts c.args.of.now.prefixes c.args.of.now.core _))
 
-
 pub returns-else-is_empty : goal.returns-else-is_empty
 returns-else-is_empty c =
     let t = c.args.of.now in

@@ -1,6 +1,6 @@
-use Rattle.std.proofs.Common.{◌≡◌, ◌∙◌, length, drop, sym, ap, arith}
+use Rattle.std.proofs.Common.{◌≡◌, ◌∙◌, length, sym, ap, arith}
 use Rattle.wf_ast.specs.ParsedParts.{LinksBelow}
-use Rattle.wf_named.specs.NamedTree.{index, slice, chain, convert}
+use Rattle.wf_named.specs.NamedTree.{index, slice, chain}
 use Rattle.wf_named.specs.NamedTrees.{expr_trees, expr_at, part_at, links_at, args_at, type_at}
 use Rattle.wf_types.specs.Meanings.{variable}
 use Rattle.wf_types.specs.ExprTypes.{meaning}
@@ -98,8 +98,7 @@ pub elaborate_node-elaborate_chain-requires : goal.elaborate_node-elaborate_chai
 elaborate_node-elaborate_chain-requires t c =
     let parts = rw c.in-Chain.is at c.expr-node.ensures.parts in
     let below : LinksBelow c.args.e.0 c.as_slice.result.now = rw c.as_slice.ensures parts.1 in
-    let right = rw (c.expr-node.ensures.made, c.in-Chain.is, ← c.as_slice.ensures) at c.requires.right in
-    (
+    let right = rw (c.expr-node.ensures.made, c.in-Chain.is, ← c.as_slice.ensures) at c.requires.right in (
       omega (arith, parts.0, links_above c.args.e.0 c.as_slice.result.now below, c.decreases),
       (omega (arith, parts.0, c.requires.there), (links_more c.args.e.0 (length c.args.named.now.exprs) (omega (arith, c.requires.there)) c.as_slice.result.now below, right)),
     )

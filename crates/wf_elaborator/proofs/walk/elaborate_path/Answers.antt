@@ -1,4 +1,3 @@
-use Rattle.std.proofs.Common.{◌∙◌, sym}
 use Rattle.wf_types.specs.Meanings.{variable}
 use Rattle.wf_elaborated.specs.ElaboratedExprs.{path_tree}
 use Rattle.wf_elaborator.specs.Nodes.{Makes}

@@ -1,5 +1,5 @@
-use Rattle.std.proofs.Common.{◌∙◌, arith}
-use Rattle.wf_elaborator.proofs.PushLemmas.{pushed_is, pushed_grows, pushed_made, pushed_typed, pushed_counted, pushed_there, pushed_built}
+use Rattle.std.proofs.Common.{arith}
+use Rattle.wf_elaborator.proofs.PushLemmas.{pushed_is, pushed_grows, pushed_made, pushed_typed, pushed_counted, pushed_built}
 use Rattle.wf_elaborator.proofs.building.Building.push_expr.Goals as goal
 
 pub invariant_of-self : goal.invariant_of-self
