@@ -1,5 +1,5 @@
 -- What a resolved package breaks of the rules of types and effects stands where the package stands.
-use Rattle.std.proofs.Common.{◌≡◌, Bool, true, Option, Some, IfSome}
+use Rattle.std.proofs.Common.{Option, IfSome}
 use Rattle.wf_text.specs.declared.place.Place.{Place}
 use Rattle.wf_text.specs.declared.rules.Refusal.{Refusal}
 use Rattle.wf_named.specs.NamedTree.{NamedPackageTree}

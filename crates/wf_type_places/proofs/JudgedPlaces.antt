@@ -1,8 +1,6 @@
 -- What is judged to be wrong with a part stands where the part stands, rule by rule.
-use Rattle.std.proofs.Common.{◌≡◌, ℕ, ◌^◌, Bool, true, false, not, ◌&&◌, ◌||◌, List, [], ◌∷◌, Option, None, Some, IfSome, option_map, is_some, slice_get}
-use Rattle.std.specs.List.{AllByRecursion}
+use Rattle.std.proofs.Common.{true, ◌&&◌, [], Option, None, Some, IfSome, option_map, is_some}
 use Rattle.wf_text.specs.declared.place.Place.{Place}
-use Rattle.wf_base.specs.BaseTable.{bits_of}
 use Rattle.wf_ast.specs.TypedTrees.{sort_of}
 use Rattle.wf_named.specs.declared.nodes.BaseType.TheVariants as bases
 use Rattle.wf_named.specs.NamedTree as tree

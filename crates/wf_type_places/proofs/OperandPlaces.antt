@@ -1,5 +1,5 @@
 -- Where operands stand, there stands the first that an operator doesn't take.
-use Rattle.std.proofs.Common.{◌≡◌, ℕ, Bool, true, false, not, if◌then◌else◌, List, [], ◌∷◌, Option, None, Some, IfSome, option_map}
+use Rattle.std.proofs.Common.{Bool, not, if◌then◌else◌, List, [], ◌∷◌, Option, None, Some, IfSome, option_map}
 use Rattle.std.specs.List.{AllByRecursion}
 use Rattle.wf_text.specs.declared.place.Place.{Place}
 use Rattle.wf_base.specs.declared.widths.Width.{Width}
@@ -15,7 +15,7 @@ use Rattle.wf_types.specs.Meanings.{is_number, is_status, is_flag, width_of, pla
 use Rattle.wf_types.specs.ExprTypes.{meaning, in_front, operand_at, operands_behind, operands}
 use Rattle.wf_types.specs.Operands.{first_not, first_of, differs_in, not_of_one_width, shift_takes, not_shifted, not_compared, not_taken, fits_width, common_width, not_fitting}
 use Rattle.wf_type_places.specs.NamedPlaces.{ExprIsIn, LinksAreIn}
-use Rattle.wf_type_places.proofs.PlaceLemmas.{either-in, mapped-in}
+use Rattle.wf_type_places.proofs.PlaceLemmas.{either-in}
 
 abbrev pub OperandIsIn : (Place → Type 0) → Operand → Type 0
 OperandIsIn In o = In o.at

@@ -1,11 +1,10 @@
 -- Where the declarations of a package stand, there stands the resolved package.
-use Rattle.std.proofs.Common.{◌≡◌, ℕ, Bool, true, List, [], ◌∷◌, ◌++◌, map}
+use Rattle.std.proofs.Common.{ℕ, List, [], ◌∷◌, ◌++◌, map}
 use Rattle.std.specs.List.{AllByRecursion}
 use Rattle.wf_text.specs.declared.place.Place.{Place}
 use Rattle.wf_ast.specs.declared.parsed.Name.{Name}
 use Rattle.wf_ast.specs.ParsedTree as parsed
 use Rattle.wf_ast.specs.ParsedTree.{ResultTree, DeclTree}
-use Rattle.wf_named.specs.NamedTree.{Word, VarTree}
 use Rattle.wf_names.specs.Declarations.{Variable, Constant, Method, Structure, Declared, declared, variables, locals_of, structs_of, methods_of, as_variable, text_of}
 use Rattle.wf_names.specs.Uses.{constant_scope, struct_scope, method_scope}
 use Rattle.wf_resolve.specs.Standing.{Standing, standing_at}

@@ -1,5 +1,5 @@
 -- What a package that is read breaks of the rules of types and effects stands in one of its files.
-use Rattle.std.proofs.Common.{◌<◌, ℕ, List, length}
+use Rattle.std.proofs.Common.{length}
 use Rattle.wf_parse.specs.Parsing.{decls_of}
 use Rattle.wf_parse.proofs.DeclPlaces.{decls_have_files}
 use Rattle.wf_places.proofs.FilePlaces.{Below, decls-below}
