@@ -69,7 +69,7 @@ at-take (k ∷ ks) (suc i) (suc j) a l h = or-right (nat_eq a k) (holds (take i 
     or-right false y h = h
 
 -- A number of a list with no two equal doesn't stand in front of itself.
-once-apart : (ks : List ℕ) (i a : ℕ) → IsDistinct nat_eq ks → slice_get ks i ≡ Some a → holds (take i ks) a ≡ true → ⊥
+pub once-apart : (ks : List ℕ) (i a : ℕ) → IsDistinct nat_eq ks → slice_get ks i ≡ Some a → holds (take i ks) a ≡ true → ⊥
 once-apart ks i a h at k =
     let r = take-at ks i a k in
     one-place ks r.0 i a h r.1.0 r.1.1 at
