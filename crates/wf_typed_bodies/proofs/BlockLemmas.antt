@@ -1,5 +1,5 @@
 -- Statements of a block and arms of an `if`, one after the other.
-use Rattle.std.proofs.Common.{◌≡◌, ◌∙◌, refl, sym, ap, subst, ℕ, suc, ◌+◌, ◌<◌, ◌≤◌, Bool, true, false, ◌&&◌, List, [], ◌∷◌, ◌++◌, length, drop, slice_index_or, Option, Some, None, nat_lt, arith, length-append}
+use Rattle.std.proofs.Common.{◌≡◌, ◌∙◌, refl, sym, ap, subst, ℕ, ◌+◌, ◌<◌, ◌≤◌, Bool, true, false, List, [], ◌∷◌, ◌++◌, length, drop, slice_index_or, Option, Some, None, nat_lt, arith, length-append}
 use Rattle.std.specs.List.{list_all}
 use Rattle.wf_text.specs.declared.place.Place.{Place}
 use Rattle.wf_ast.specs.declared.numbers.ExprId.{ExprId}
@@ -14,7 +14,7 @@ use Rattle.wf_ast.specs.TypedTrees.{cond_in, tree_of, block_made, otherwise_made
 use Rattle.wf_ast.specs.TypedInvariant.{is_expr, block_below, optional_block_below}
 use Rattle.wf_ast.proofs.Arena.{both_true}
 use Rattle.wf_named.specs.NamedParts.{NamedParts}
-use Rattle.wf_named.specs.NamedTree.{NamedExprTree, NamedStmtTree, NamedBlockTree, NamedArmTrees, no_else, otherwise, arm}
+use Rattle.wf_named.specs.NamedTree.{NamedExprTree, NamedStmtTree, NamedArmTrees, no_else}
 use Rattle.wf_named.specs.NamedTrees.{expr_at, stmt_at, items_at, block_at, else_at, arms_at}
 use Rattle.wf_types.specs.declared.settings.Setting.{Setting}
 use Rattle.wf_judging.proofs.ListLemmas.{drop-one}
@@ -23,7 +23,7 @@ use Rattle.wf_elaborated.specs.ElaboratedStmts.{count_stmt, count_block, count_a
 use Rattle.wf_elaborated.specs.Grammar.{has_condition}
 use Rattle.wf_elaborated.proofs.NumberLemmas.{and-true}
 use Rattle.wf_elaborator.specs.Right.{IsRight}
-use Rattle.wf_typed_bodies.specs.Blocks.{arms_onto, arm_exists, StandsForArm, StandForArms, else_made, StandsForElse}
+use Rattle.wf_typed_bodies.specs.Blocks.{arms_onto, arm_exists, StandsForArm, StandForArms, else_made}
 use Rattle.wf_typed_bodies.specs.Right.{Known, IsRightStmt, IsRightBlock, AreRightArms}
 use Rattle.wf_typed_bodies.specs.StmtGrowth.{GrowsStmts, Adds, IsBegun, StandsForStmt, StandsForBlock}
 use Rattle.wf_typed_bodies.proofs.GrowthLemmas.{below, less, all_more, expr_more, tree_kept, maker_kept, adds_self, adds_more}
@@ -206,8 +206,8 @@ module _ (s : Setting) (k : Known) (loops : List ℕ) (named : NamedParts) (es :
         let here : (last : NamedArmTrees) → count_arms (arms_at es ts (drop i arms) last) ≡ count_block (block_at ts x.body) + count_arms (arms_at es ts (drop (i + 1) arms) last) =
         λ last. ap (λ xs. count_arms (arms_at es ts xs last)) split in
         let makes : (of : Site) (chained : Bool) (last : NamedArmTrees) (rest : Block)
-            → arms_onto (tree_of r) R of chained (made ++ a ∷ []) (λ behind more. arms_tree s loops (length r.stmts) of behind (arms_at es ts (drop (i + 1) arms) last) more) rest
-            ≡ arms_tree s loops (length p.stmts) of chained (arms_at es ts arms last) rest =
+        → arms_onto (tree_of r) R of chained (made ++ a ∷ []) (λ behind more. arms_tree s loops (length r.stmts) of behind (arms_at es ts (drop (i + 1) arms) last) more) rest
+        ≡ arms_tree s loops (length p.stmts) of chained (arms_at es ts arms last) rest =
         λ of chained last rest.
         let others = arms_at es ts (drop (i + 1) arms) last in
         let F : Bool → Block → Block = λ behind more. arms_tree s loops (length q.stmts) of behind (arms_at es ts (drop i arms) last) more in

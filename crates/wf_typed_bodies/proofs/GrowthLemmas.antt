@@ -1,5 +1,5 @@
 -- Growing step by step, and what keeps while it does.
-use Rattle.std.proofs.Common.{◌≡◌, ℕ, ◌+◌, ◌<◌, ◌≤◌, ◌^◌, Bool, true, ◌&&◌, List, [], ◌∷◌, length, map, Option, Some, None, Result, Ok, Err, IfOk, OnOk, nat_lt, refl, sym, ap, ◌∙◌, subst, arith}
+use Rattle.std.proofs.Common.{◌≡◌, ℕ, ◌<◌, ◌≤◌, Bool, true, ◌&&◌, List, [], ◌∷◌, length, map, Option, Some, None, Result, Ok, Err, IfOk, OnOk, nat_lt, refl, sym, ap, ◌∙◌, subst, arith}
 use Rattle.std.specs.Prelude.{slice_get, unwrap_or}
 use Rattle.std.specs.List.{list_all}
 use Rattle.std.proofs.lemmas.Bool.Decides.{nat_tests}
@@ -25,13 +25,13 @@ use Rattle.wf_ast.specs.TypedTree.{ValueTree, Block, lost}
 use Rattle.wf_ast.specs.TypedTrees.{sort_of, chain_of, made_or_number, expr_trees, tree_of, no_stmt, onto, stmt_makers, stmts_after}
 use Rattle.wf_ast.specs.TypedInvariant.{each_numbered, is_expr, is_optional_expr, callee_exists, axiom_exists, block_below}
 use Rattle.wf_ast.proofs.Arena.{both_true}
-use Rattle.wf_named.specs.NamedParts.{NamedParts, named_package}
+use Rattle.wf_named.specs.NamedParts.{NamedParts}
 use Rattle.wf_types.specs.declared.meanings.Meaning.{Meaning}
 use Rattle.wf_elaborated.proofs.NumberLemmas.{and-true}
 use Rattle.wf_elaborator.specs.Growth.{Keeps, Grows}
 use Rattle.wf_elaborator.specs.Nodes.{Stands}
 use Rattle.wf_elaborator.proofs.GrowthLemmas.{grows_self, grows_more}
-use Rattle.wf_typed_bodies.specs.StmtGrowth.{with_stmts, stmt_there, AreStmtsBuilt, jump_below, jumps_below, loops_below, without_nodes, GrowsStmts, GrowsExprs, Adds, AddsParts, IsBegun}
+use Rattle.wf_typed_bodies.specs.StmtGrowth.{with_stmts, stmt_there, AreStmtsBuilt, jump_below, jumps_below, loops_below, GrowsStmts, GrowsExprs, Adds, AddsParts, IsBegun}
 use Rattle.wf_typed_bodies.specs.Parts.{HasTree}
 use Rattle.wf_typed_bodies.proofs.StmtLemmas.{after_same}
 use Rattle.wf_typed_bodies.proofs.PushLemmas.{numbered_more, trees_stay, tree_stays}

@@ -1,5 +1,5 @@
 -- What stands in front of a loop's body.
-use Rattle.std.proofs.Common.{◌≡◌, ◌∙◌, ap, Bool, List, map}
+use Rattle.std.proofs.Common.{◌≡◌, ◌∙◌, ap, Bool, List}
 use Rattle.wf_text.specs.declared.place.Place.{Place}
 use Rattle.wf_ast.specs.declared.numbers.ExprId.{ExprId}
 use Rattle.wf_ast.specs.declared.parsed.Clause.{Clause}

@@ -1,5 +1,5 @@
 -- Arguments, promises and letters, one after the other.
-use Rattle.std.proofs.Common.{◌≡◌, ◌∙◌, refl, sym, ap, subst, ℕ, zero, suc, ◌+◌, ◌<◌, Bool, true, ◌&&◌, List, [], ◌∷◌, ◌++◌, length, map, drop, slice_index_or, Option, Some, None, nat_lt, arith}
+use Rattle.std.proofs.Common.{◌≡◌, ◌∙◌, refl, sym, ap, subst, ℕ, zero, suc, ◌+◌, ◌<◌, Bool, true, List, [], ◌∷◌, ◌++◌, length, map, drop, slice_index_or, Option, Some, None, nat_lt, arith}
 use Rattle.std.specs.Prelude.{slice_get, unwrap_or}
 use Rattle.std.specs.List.{list_all}
 use Rattle.std.proofs.lemmas.List.{append-nil, append_assoc, map-append}
@@ -14,7 +14,7 @@ use Rattle.wf_ast.specs.TypedTrees.{num_in, cond_in, tree_of, text_of}
 use Rattle.wf_ast.specs.TypedInvariant.{is_expr}
 use Rattle.wf_ast.proofs.Arena.{both_true}
 use Rattle.wf_named.specs.NamedParts.{NamedParts, LettersBelow}
-use Rattle.wf_named.specs.NamedTree.{NamedExprTree, more_args, more_clauses, more_letters}
+use Rattle.wf_named.specs.NamedTree.{NamedExprTree}
 use Rattle.wf_named.specs.NamedTrees.{expr_at, args_at, clauses_at, letters_at, word_at, text_or}
 use Rattle.wf_types.specs.declared.settings.Setting.{Setting}
 use Rattle.wf_judging.proofs.ListLemmas.{drop-one}
@@ -25,7 +25,7 @@ use Rattle.wf_elaborator.specs.Right.{IsRight}
 use Rattle.wf_typed_bodies.specs.Parts.{HasTree, StandForArgs, conditions_made, StandForClauses, letter_exists, letters_made, StandForLetters}
 use Rattle.wf_typed_bodies.specs.Right.{Known, IsRightArg, AreRightArgs, AreRightClauses, AreRightLetters}
 use Rattle.wf_typed_bodies.specs.StmtGrowth.{GrowsExprs, IsBegun}
-use Rattle.wf_typed_bodies.proofs.GrowthLemmas.{less, exprs_self, exprs_more_still, exprs_more, conditions_more, letters_more, stmts_of_exprs, tree_kept, all_more}
+use Rattle.wf_typed_bodies.proofs.GrowthLemmas.{less, exprs_self, exprs_more_still, exprs_more, conditions_more, letters_more, stmts_of_exprs, tree_kept}
 
 -- Items in front of others.
 chained : {Y : Type 0} (a b : List Y) (x y : Y) (rest all : List Y) → a ≡ b → x ≡ y → b ++ (y ∷ rest) ≡ all → (a ++ x ∷ []) ++ rest ≡ all

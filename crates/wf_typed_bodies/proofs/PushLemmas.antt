@@ -1,5 +1,5 @@
 -- One statement more: what it makes joins the others, and these make what they made.
-use Rattle.std.proofs.Common.{◌≡◌, ℕ, ◌+◌, ◌<◌, ◌≤◌, ◌^◌, Bool, true, List, [], ◌∷◌, ◌++◌, length, Option, Some, None, nat_lt, refl, sym, ap, ◌∙◌, subst, arith, length-append}
+use Rattle.std.proofs.Common.{◌≡◌, ℕ, ◌+◌, ◌<◌, Bool, true, List, [], ◌∷◌, ◌++◌, length, Option, Some, None, refl, sym, ap, ◌∙◌, subst, arith, length-append}
 use Rattle.std.specs.Prelude.{◌&&◌, slice_get, unwrap_or}
 use Rattle.std.specs.List.{list_all}
 use Rattle.wf_ast.specs.declared.numbers.ExprId.{ExprId}
@@ -16,7 +16,6 @@ use Rattle.wf_ast.specs.TypedTrees.{made_or_number, tree_in, tree_of, expr_trees
 use Rattle.wf_ast.specs.TypedInvariant.{each_numbered, is_expr, is_optional_expr, callee_exists}
 use Rattle.wf_ast.proofs.Arena.{both_true, get_front, get_seam}
 use Rattle.wf_elaborated.proofs.NumberLemmas.{and-true}
-use Rattle.wf_elaborator.specs.Growth.{Keeps}
 use Rattle.wf_typed_bodies.specs.StmtGrowth.{with_stmts, stmt_there, AreStmtsBuilt, GrowsStmts}
 use Rattle.wf_typed_bodies.proofs.StmtLemmas.{node_same, after_same}
 

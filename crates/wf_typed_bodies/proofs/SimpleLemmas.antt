@@ -1,5 +1,5 @@
 -- What statements without blocks make.
-use Rattle.std.proofs.Common.{◌≡◌, ◌∙◌, refl, sym, ap, subst, ℕ, zero, suc, ◌+◌, ◌<◌, Bool, true, false, ◌&&◌, List, [], ◌∷◌, length, map, Option, Some, None, nat_lt, arith}
+use Rattle.std.proofs.Common.{◌≡◌, ◌∙◌, refl, sym, ap, subst, ℕ, zero, suc, Bool, true, false, List, [], ◌∷◌, length, map, Option, Some, None, nat_lt, arith}
 use Rattle.std.specs.Prelude.{option_map, slice_get, unwrap_or}
 use Rattle.std.specs.List.{list_all}
 use Rattle.std.proofs.lemmas.Bool.Decides.{nat_tests}
@@ -15,13 +15,12 @@ use Rattle.wf_base.specs.declared.marks.Mark.TheVariants.{Pure}
 use Rattle.wf_ast.specs.declared.resolved.AxiomRef.{AxiomRef}
 use Rattle.wf_ast.specs.declared.resolved.Callee.{Callee}
 use Rattle.wf_ast.specs.declared.resolved.Callee.TheVariants as callees
-use Rattle.wf_ast.specs.declared.resolved.Stmt.{Stmt}
 use Rattle.wf_ast.specs.declared.resolved.Stmt.TheVariants as stmts
 use Rattle.wf_ast.specs.declared.resolved.StmtNode.{StmtNode}
 use Rattle.wf_ast.specs.declared.typed_nodes.TypedNodes.{TypedNodes}
 use Rattle.wf_ast.specs.TypedTree.{ValueTree, Target, Simple, break_from, continue_in, give_back, yield, invoke, own, sub, Block, plain}
 use Rattle.wf_ast.specs.TypedTree as typed
-use Rattle.wf_ast.specs.TypedTrees.{cond_in, sort_of, tree_of, target_of, optional_target, arith_in, mark_of, base_call, call_made, axiom_made, stmt_made, stmt_makers, onto}
+use Rattle.wf_ast.specs.TypedTrees.{cond_in, sort_of, tree_of, target_of, optional_target, arith_in, mark_of, base_call, call_made, axiom_made}
 use Rattle.wf_ast.specs.TypedInvariant.{is_expr, is_optional_expr, callee_exists, axiom_exists}
 use Rattle.wf_ast.proofs.Arena.{both_true}
 use Rattle.wf_named.specs.declared.nodes.NamedCallee.{NamedCallee}
@@ -29,7 +28,7 @@ use Rattle.wf_named.specs.declared.nodes.NamedCallee.TheVariants as named_callee
 use Rattle.wf_named.specs.declared.nodes.NamedPath.{NamedPath}
 use Rattle.wf_base.specs.declared.base_methods.BaseSig.{BaseSig}
 use Rattle.wf_named.specs.NamedParts.{NamedParts, named_package}
-use Rattle.wf_named.specs.NamedTree.{NamedExprTree, number, status, truth, path, index, slice, answer, chain, convert, negation, NamedPartTree, absent, present, NamedArgTrees, NamedCallTree, call, NamedTargetTree, NamedViaTree, NamedStmtTree, leave, again}
+use Rattle.wf_named.specs.NamedTree.{NamedExprTree, number, status, truth, path, index, slice, answer, chain, convert, negation, NamedPartTree, NamedArgTrees, NamedCallTree, call, NamedTargetTree, NamedViaTree, NamedStmtTree, leave, again}
 use Rattle.wf_types.specs.declared.settings.Setting.{Setting}
 use Rattle.wf_elaborated.specs.ElaboratedExprs.{path_tree, expr_tree, arg_trees}
 use Rattle.wf_elaborated.specs.ElaboratedStmts.{target_tree, update_tree, call_tree, assign_tree, returned_tree, axiom_tree, loop_meant, count_stmt, site, stmt_tree}
@@ -40,7 +39,7 @@ use Rattle.wf_type_rules.specs.Targets.{call_in}
 use Rattle.wf_elaborator.specs.Right.{IsRight}
 use Rattle.wf_typed_bodies.specs.Right.{Known, is_answer, IsRightArg, IsRightBy, IsRightValue}
 use Rattle.wf_typed_bodies.specs.StmtGrowth.{loops_below, GrowsExprs, IsBegun, MakesStmt}
-use Rattle.wf_typed_bodies.proofs.GrowthLemmas.{count_same, callee_more, optional_more, stmts_of_exprs, tree_kept}
+use Rattle.wf_typed_bodies.proofs.GrowthLemmas.{count_same, callee_more, stmts_of_exprs, tree_kept}
 
 -- A statement without blocks is one.
 pub made_simple : (s : Setting) (loops : List ℕ) (p q : TypedNodes) (t : NamedStmtTree) (x : Simple) (at : Place) (node : StmtNode) → GrowsExprs p q → count_stmt t ≡ 1

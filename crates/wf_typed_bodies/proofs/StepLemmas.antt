@@ -1,5 +1,5 @@
 -- One statement behind another: an `if`, a loop, and the step that adds a statement.
-use Rattle.std.proofs.Common.{◌≡◌, ◌∙◌, refl, sym, ap, subst, ℕ, suc, ◌+◌, ◌<◌, ◌≤◌, Bool, true, false, ◌&&◌, List, [], ◌∷◌, ◌++◌, length, Option, Some, None, nat_lt, arith, length-append}
+use Rattle.std.proofs.Common.{◌≡◌, ◌∙◌, refl, ap, ℕ, ◌+◌, ◌<◌, Bool, true, false, List, [], ◌∷◌, ◌++◌, length, Option, nat_lt, arith, length-append}
 use Rattle.std.specs.List.{list_all}
 use Rattle.wf_text.specs.declared.place.Place.{Place}
 use Rattle.wf_ast.specs.declared.numbers.StmtId.{StmtId}
@@ -14,22 +14,22 @@ use Rattle.wf_ast.specs.declared.resolved.StmtNode.{StmtNode}
 use Rattle.wf_ast.specs.declared.typed_nodes.TypedNodes.{TypedNodes}
 use Rattle.wf_ast.specs.TypedTree.{Block, Site, choose}
 use Rattle.wf_ast.specs.TypedTree as typed
-use Rattle.wf_ast.specs.TypedTrees.{head_made, tree_of, block_made, stmt_made, stmt_makers, onto}
+use Rattle.wf_ast.specs.TypedTrees.{tree_of, block_made, stmt_made, stmt_makers, onto}
 use Rattle.wf_ast.specs.TypedInvariant.{each_numbered, is_expr, block_below, optional_block_below, stmt_below}
 use Rattle.wf_ast.proofs.Arena.{both_true}
 use Rattle.wf_named.specs.NamedTree.{NamedExprTree, NamedStmtTree, NamedBlockTree, NamedClauseTrees, NamedArmTrees, no_else, branch, loop}
 use Rattle.wf_named.specs.NamedTrees.{arms_at, else_at}
 use Rattle.wf_types.specs.declared.settings.Setting.{Setting}
-use Rattle.wf_elaborated.specs.ElaboratedStmts.{count_stmt, count_block, count_arms, site, head_tree, stmt_tree, block_tree, arms_tree}
+use Rattle.wf_elaborated.specs.ElaboratedStmts.{count_block, count_arms, site, head_tree, block_tree, arms_tree}
 use Rattle.wf_elaborated.specs.Grammar.{has_condition}
 use Rattle.wf_elaborated.proofs.NumberLemmas.{and-true}
-use Rattle.wf_typed_bodies.specs.Blocks.{arms_onto, arm_exists, StandForArms, else_made, StandsForElse}
+use Rattle.wf_typed_bodies.specs.Blocks.{arm_exists, StandForArms, else_made, StandsForElse}
 use Rattle.wf_typed_bodies.specs.Parts.{StandsForHead}
 use Rattle.wf_typed_bodies.specs.Right.{Known, AreRightArms}
 use Rattle.wf_typed_bodies.specs.StmtGrowth.{stmt_there, AreStmtsBuilt, jump_below, jumps_below, loops_below, GrowsStmts, GrowsExprs, Adds, AddsParts, MakesStmt, StandsForStmt, StandsForBlock}
-use Rattle.wf_typed_bodies.proofs.GrowthLemmas.{below, less, count_same, stmts_of_exprs, stmts_more, jumps_more}
+use Rattle.wf_typed_bodies.proofs.GrowthLemmas.{less, count_same, stmts_of_exprs, stmts_more, jumps_more}
 use Rattle.wf_typed_bodies.proofs.ListLemmas.{all_push}
-use Rattle.wf_typed_bodies.proofs.BlockLemmas.{ids_more, made_kept, arms_kept, arms_exist, arms_same, if_onto, has_arm}
+use Rattle.wf_typed_bodies.proofs.BlockLemmas.{ids_more, arms_kept, arms_exist, arms_same, if_onto, has_arm}
 
 -- A statement that makes what is meant is added, and stands for it.
 pub added : (loops : List ℕ) (p q r : TypedNodes) (node : StmtNode) → ((limit : ℕ) → loops_below limit loops ≡ true → jump_below limit node.stmt ≡ true) → AddsParts loops p q → GrowsStmts q r

@@ -1,5 +1,5 @@
 -- What statements make keeps while expressions are added.
-use Rattle.std.proofs.Common.{◌≡◌, ℕ, ◌+◌, ◌<◌, Bool, true, ◌&&◌, List, [], ◌∷◌, ◌++◌, length, map, Option, Some, None, nat_lt, refl, sym, ap, ◌∙◌, subst, arith}
+use Rattle.std.proofs.Common.{◌≡◌, ℕ, ◌+◌, ◌<◌, Bool, true, ◌&&◌, List, [], ◌∷◌, ◌++◌, length, map, Option, Some, None, nat_lt, refl, ap, ◌∙◌, arith}
 use Rattle.std.specs.List.{list_all}
 use Rattle.std.proofs.lemmas.Bool.Decides.{nat_tests}
 use Rattle.wf_text.specs.declared.place.Place.{Place}
@@ -16,8 +16,8 @@ use Rattle.wf_ast.specs.declared.resolved.Stmt.{Stmt}
 use Rattle.wf_ast.specs.declared.resolved.Stmt.TheVariants as stmts
 use Rattle.wf_ast.specs.declared.resolved.StmtNode.{StmtNode}
 use Rattle.wf_ast.specs.declared.typed_nodes.TypedNodes.{TypedNodes}
-use Rattle.wf_ast.specs.TypedTree.{ValueTree, Target, Site, Block, plain, assign, loop, give_back, claim}
-use Rattle.wf_ast.specs.TypedTrees.{num_in, cond_in, target_of, optional_target, assigned_by, call_made, text_of, axiom_made, head_made, otherwise_made, if_made, stmt_made, no_stmt, onto, stmts_after}
+use Rattle.wf_ast.specs.TypedTree.{ValueTree, Target, Site, Block, plain, give_back}
+use Rattle.wf_ast.specs.TypedTrees.{optional_target, call_made, axiom_made, otherwise_made, if_made, stmt_made, onto, stmts_after}
 use Rattle.wf_ast.specs.TypedInvariant.{each_numbered, is_expr, is_optional_expr, callee_exists, axiom_exists, block_below, optional_block_below}
 use Rattle.wf_ast.proofs.Arena.{both_true}
 use Rattle.wf_typed_bodies.specs.Parts.{conditions_made, letters_made}

@@ -42,17 +42,7 @@ pub fn add_simple(
             op,
             sign,
             value,
-        } => add_assign(
-            alloc,
-            nodes,
-            named,
-            around,
-            *target,
-            *op,
-            *sign,
-            *value,
-            at,
-        ),
+        } => add_assign(alloc, nodes, named, around, *target, *op, *sign, *value, at),
         NamedStmt::Keep { target, call } => {
             add_keep(alloc, nodes, named, around, *target, call, at)
         }

@@ -1,4 +1,4 @@
-use Rattle.std.proofs.Common.{◌≡◌, ◌+◌, ◌*◌, max}
+use Rattle.std.proofs.Common.{◌+◌, ◌*◌, max}
 use Rattle.wf_named.specs.NamedParts.{named_package}
 use Rattle.wf_named.specs.NamedTrees.{expr_trees, stmt_trees}
 use Rattle.wf_type_rules.specs.Above.{above_block, above_else, above_arms}
