@@ -4,8 +4,6 @@
 #![tactic(auto)]
 
 mod building;
-#[cfg(test)]
-mod declared_type_tests;
 pub mod ending;
 mod judging;
 mod laws;
@@ -14,8 +12,6 @@ mod taking;
 #[cfg(test)]
 mod tests;
 pub mod tool;
-#[cfg(test)]
-mod type_tests;
 mod words;
 
 pub use ending::Ending;
