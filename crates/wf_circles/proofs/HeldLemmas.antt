@@ -19,7 +19,7 @@ use Rattle.wf_names.specs.Declarations.{Variable, Structure, Declared, declared,
 use Rattle.wf_names.specs.Graphs.{holds, row_in, goes, AreWithin}
 use Rattle.wf_names.specs.Found.{RecursName}
 use Rattle.wf_names.specs.Sizes.{struct_held, is_the, fields_at as fields_in_struct, holds_struct}
-use Rattle.wf_names.proofs.SearchLemmas.{same_number}
+use Rattle.wf_names.proofs.NumberLemmas.{same_number}
 use Rattle.wf_names.proofs.WalkLemmas.{drop-one}
 use Rattle.wf_circles.specs.Circling.{DecidesWith, HoldsItself}
 use Rattle.wf_circles.specs.Held.{number_of, names_of, one_number, held_by, held_in, held_rows}

@@ -28,7 +28,7 @@ use Rattle.wf_names.specs.Meanings.{Known, known_at, method_known, path_sort, th
 use Rattle.wf_names.specs.Graphs.{holds, row_in, goes, AreWithin}
 use Rattle.wf_names.specs.Found.{RecursName}
 use Rattle.wf_names.specs.NameRules.{is_callee, calls_it, method_calls, calls, CircleBreaks, recursion, holds_itself}
-use Rattle.wf_names.proofs.SearchLemmas.{same_number}
+use Rattle.wf_names.proofs.NumberLemmas.{same_number}
 use Rattle.wf_circles.specs.Called.{with_callee, with_call, with_calls, called_in, AgreeOnCalls, IsRowOf, AreRows, AreRowsInFront, method_names}
 use Rattle.wf_circles.specs.Circling.{DecidesWith, HoldsItself, CallsItself}
 use Rattle.wf_circles.proofs.CircleLemmas.{DecidesWith-map, decides-with, path-map}

@@ -5,7 +5,7 @@ use Rattle.std.proofs.lemmas.Bool.Decides.{nat_tests}
 use Rattle.std.proofs.lemmas.Map.Keys.{IsDistinct-push}
 use Rattle.std.proofs.lemmas.Map.Steps.{length-le_from_distinct_below}
 use Rattle.wf_names.specs.Graphs.{Path, last, more, holds, goes}
-use Rattle.wf_names.proofs.SearchLemmas.{same_number, number_self, numbers_equivalence, holds_at}
+use Rattle.wf_names.proofs.NumberLemmas.{same_number, number_self, numbers_equivalence, holds_at}
 use Rattle.wf_components.specs.Leaving.{IsLeaving}
 use Rattle.wf_components.specs.Labels.{goes_back, label, AreTied, AreLabels, AreGiven, AreJoined, IsRound}
 use Rattle.wf_components.proofs.WalkLemmas.{either, found-at, place, get-front, get-within, holds-pushed, keeps-pushed, has-pushed, take-more}

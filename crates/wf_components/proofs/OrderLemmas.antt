@@ -7,7 +7,7 @@ use Rattle.std.proofs.lemmas.Map.Made.{length-le_from_is_member}
 use Rattle.std.proofs.lemmas.Map.Steps.{length-le_from_distinct_below}
 use Rattle.wf_text.specs.declared.faults.NoMemory.{NoMemory}
 use Rattle.wf_names.specs.Graphs.{Path, last, more, holds, goes}
-use Rattle.wf_names.proofs.SearchLemmas.{same_number, number_self, numbers_equivalence}
+use Rattle.wf_names.proofs.NumberLemmas.{same_number, number_self, numbers_equivalence}
 use Rattle.wf_components.specs.declared.walk.Walk.{Walk}
 use Rattle.wf_components.specs.Leaving.{IsLeaving}
 use Rattle.wf_components.specs.Orders.{IsOrder, IsOrderOffCircles, HasCircle}

@@ -8,7 +8,7 @@ use Rattle.std.proofs.lemmas.Map.Keys.{IsDistinct-push, IsDistinct-IsPermutation
 use Rattle.std.proofs.lemmas.Map.Steps.{length-le_from_distinct_below}
 use Rattle.std.proofs.lemmas.Option.{get_or_from_slice_get, slice_get_within}
 use Rattle.wf_names.specs.Graphs.{Path, last, holds, row_at, goes, AreWithin}
-use Rattle.wf_names.proofs.SearchLemmas.{same_number, number_self, numbers_equivalence, path-push, holds_at}
+use Rattle.wf_names.proofs.NumberLemmas.{same_number, number_self, numbers_equivalence, path-push, holds_at}
 use Rattle.wf_components.specs.declared.walk.Walk.{Walk}
 use Rattle.wf_components.specs.Leaving.{IsNest}
 use Rattle.wf_components.specs.Walking.{AreFlagsOf, ArePassed, IsOpen, IsWalk, Walks, IsNext, IsDone, Advances, has_begun}

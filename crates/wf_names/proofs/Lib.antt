@@ -1,6 +1,6 @@
 pub mod ArgumentLemmas
 pub mod ListLaws
-pub mod SearchLemmas
+pub mod NumberLemmas
 pub mod StmtLemmas
 pub mod TypeLemmas
 pub mod WalkLemmas

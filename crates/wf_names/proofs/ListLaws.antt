@@ -13,7 +13,7 @@ use Rattle.wf_names.specs.Reserved.{is_reserved, is_initialize}
 use Rattle.wf_names.specs.Passes.{refused_if, doubles_of, bytes_at, reserved_item, reserved_of, initialize_item, initializes_of, is_flagged, flagged_from}
 use Rattle.wf_names.specs.NameRules.{IsRepeated, twice}
 use Rattle.wf_names.specs.Found.{Finds, RepeatsName, ReservesName, InitializesName, RecursName}
-use Rattle.wf_names.proofs.SearchLemmas.{insert-keeps, insert-has, insert-only}
+use Rattle.wf_names.proofs.NumberLemmas.{insert-keeps, insert-has, insert-only}
 
 refusal : Rule → Place → Refusal
 refusal rule at = record { rule = rule; at = at }

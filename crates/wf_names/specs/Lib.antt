@@ -10,7 +10,6 @@ pub mod NameRules
 pub mod NodeUses
 pub mod Passes
 pub mod Reserved
-pub mod Searching
 pub mod Tables
 pub mod Sizes
 pub mod Uses

@@ -7,7 +7,6 @@ pub mod callees;
 pub mod laws;
 pub mod lists;
 pub mod reserved;
-pub mod search;
 pub mod seen;
 pub mod sorts;
 pub mod tables;

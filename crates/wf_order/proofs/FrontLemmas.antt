@@ -19,7 +19,7 @@ use Rattle.wf_names.specs.Uses.{Use, Scope, block_uses, result_uses, variable_us
 use Rattle.wf_names.specs.Meanings.{known_at, callee_of}
 use Rattle.wf_names.specs.NameRules.{DeclarationBreaks, too_many_methods, UseBreaks, CircleBreaks, recursion, IsUsed, is_callee, calls_it, method_calls, calls}
 use Rattle.wf_names.specs.Graphs.{Path, last, more, holds, goes}
-use Rattle.wf_names.proofs.SearchLemmas.{number_self, holds_at}
+use Rattle.wf_names.proofs.NumberLemmas.{number_self, holds_at}
 use Rattle.wf_uses.specs.Fitting.{is_open}
 use Rattle.wf_known.specs.UsesFound.{uses_found}
 use Rattle.wf_uses.proofs.UseLaws.{uses_found-decides}

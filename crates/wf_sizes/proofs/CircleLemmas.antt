@@ -7,7 +7,7 @@ use Rattle.wf_names.specs.Declarations.{Structure, Declared}
 use Rattle.wf_names.specs.Graphs.{Path, last, more, holds, goes, AreCircles}
 use Rattle.wf_names.specs.Passes.{is_flagged}
 use Rattle.wf_names.specs.Sizes.{fields_at, holds_struct, is_the, struct_held}
-use Rattle.wf_names.proofs.SearchLemmas.{path-push}
+use Rattle.wf_names.proofs.NumberLemmas.{path-push}
 use Rattle.wf_sizes.specs.Orders.{IsHoldingOrder}
 use Rattle.wf_sizes.specs.StructSizes.{AreHolding}
 

@@ -3,7 +3,7 @@ use Rattle.std.proofs.Common.{◌≡◌, ℕ, zero, suc, ◌<◌, Bool, true, fa
 use Rattle.std.proofs.lemmas.Bool.Decides.{nat_tests}
 use Rattle.wf_names.specs.Graphs.{holds}
 use Rattle.wf_names.specs.Passes.{is_flagged}
-use Rattle.wf_names.proofs.SearchLemmas.{same_number}
+use Rattle.wf_names.proofs.NumberLemmas.{same_number}
 use Rattle.wf_sizes.specs.declared.parts.Part.{Part}
 use Rattle.wf_sizes.specs.declared.parts.Part.TheVariants as parts
 use Rattle.wf_sizes.specs.Orders.{is_struct, has_struct, IsSettlingOrder}

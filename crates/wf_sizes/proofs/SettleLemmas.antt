@@ -7,7 +7,7 @@ use Rattle.wf_names.specs.Declarations.{Variable, Structure, Declared}
 use Rattle.wf_names.specs.Graphs.{holds}
 use Rattle.wf_names.specs.Passes.{is_flagged}
 use Rattle.wf_names.specs.Sizes.{fields_at, is_the, struct_held, plain_bytes, Take}
-use Rattle.wf_names.proofs.SearchLemmas.{same_number, number_self}
+use Rattle.wf_names.proofs.NumberLemmas.{same_number, number_self}
 use Rattle.wf_sizes.specs.declared.parts.Part.{Part}
 use Rattle.wf_sizes.specs.declared.parts.Part.TheVariants as parts
 use Rattle.wf_sizes.specs.Orders.{is_struct, has_struct, IsHoldingOrder, IsSettlingOrder}

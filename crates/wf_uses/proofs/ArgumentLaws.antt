@@ -12,7 +12,7 @@ use Rattle.wf_names.specs.declared.sorts.Sort.{Sort}
 use Rattle.wf_names.specs.Graphs.{holds}
 use Rattle.wf_names.specs.Meanings.{GivenValue, Parameters, is_parameter, is_io_arg, passed_at, passed_arg}
 use Rattle.wf_names.specs.Judged.{arg_path_at, arg_path, passed_item, passed_seen, passed_of, unknown_item, unknown_of}
-use Rattle.wf_names.proofs.SearchLemmas.{insert-keeps, insert-has, insert-only}
+use Rattle.wf_names.proofs.NumberLemmas.{insert-keeps, insert-has, insert-only}
 use Rattle.wf_uses.proofs.FoundLemmas.{Has, refused-cause, refused-so, not-cause, not-so, both, both-so}
 
 -- An argument of the calling method that a value is.

@@ -11,7 +11,7 @@ use Rattle.wf_names.specs.Meanings.{args_in}
 use Rattle.wf_names.specs.Graphs.{holds}
 use Rattle.wf_names.specs.NameRules as rules
 use Rattle.wf_names.specs.NameRules.{Breaks, by_declaration, declared_twice, IsRepeated, twice, variable_names}
-use Rattle.wf_names.proofs.SearchLemmas.{same_number, number_self}
+use Rattle.wf_names.proofs.NumberLemmas.{same_number, number_self}
 use Rattle.wf_well_named.proofs.ListLemmas.{position-first}
 
 same-text : (a b : Name) → a.text.0 ≡ b.text.0 → a.text ≡ b.text

@@ -16,7 +16,7 @@ use Rattle.wf_names.specs.Uses.{type_uses, struct_scope}
 use Rattle.wf_names.specs.Graphs.{Path, last, holds}
 use Rattle.wf_names.specs.Sizes.{struct_held, is_the, fields_at, holds_struct}
 use Rattle.wf_names.specs.NameRules.{Breaks, by_circle, holds_itself}
-use Rattle.wf_names.proofs.SearchLemmas.{same_number, number_self, numbers_equivalence, path-push}
+use Rattle.wf_names.proofs.NumberLemmas.{same_number, number_self, numbers_equivalence, path-push}
 use Rattle.wf_uses.proofs.FoundLemmas.{both-so}
 use Rattle.wf_resolve.specs.Standing.{Standing, standing_at}
 use Rattle.wf_resolve.specs.Resolved.{number_or, resolved_type}

@@ -1,6 +1,6 @@
 use Rattle.std.proofs.Common.{◌≡◌, ◌<◌, ◌≤◌, ◌∙◌, true, slice_index_or, length, inl, inr, sym, ap, arith}
 use Rattle.wf_names.specs.Graphs.{holds, goes}
-use Rattle.wf_names.proofs.SearchLemmas.{holds_index}
+use Rattle.wf_names.proofs.NumberLemmas.{holds_index}
 use Rattle.wf_components.specs.Labels.{label}
 use Rattle.wf_components.proofs.WalkLemmas.{take-more, take-whole}
 use Rattle.wf_components.proofs.LabelLemmas.{label-read, stays-sound, stays-complete}

@@ -1,6 +1,6 @@
 use Rattle.std.proofs.Common.{◌≡◌, ◌<◌, ◌≤◌, ◌∙◌, ◌+◌, ℕ, Bool, true, if◌then◌else◌, List, Vec, Global, nat_eq, length, slice_index_or, inl, inr, refl, sym, ap, arith}
 use Rattle.wf_names.specs.Graphs.{holds, goes}
-use Rattle.wf_names.proofs.SearchLemmas.{holds_at, holds_index}
+use Rattle.wf_names.proofs.NumberLemmas.{holds_at, holds_index}
 use Rattle.wf_components.specs.Labels.{goes_back, label}
 use Rattle.wf_components.proofs.WalkLemmas.{take-more, take-whole}
 use Rattle.wf_components.proofs.LabelLemmas.{place-read, label-read, label-held, next-label, place-labelled, row-ends}

@@ -1,5 +1,5 @@
 use Rattle.std.proofs.Common.{◌≡◌, ◌<◌, ◌≤◌, ◌∙◌, ℕ, length, sym, subst, arith}
-use Rattle.wf_names.proofs.SearchLemmas.{holds_at}
+use Rattle.wf_names.proofs.NumberLemmas.{holds_at}
 use Rattle.wf_components.specs.Labels.{goes_back, IsRound}
 use Rattle.wf_components.proofs.LabelLemmas.{place-read, label-read, next-label, round-begins, round-skipped, round-ends, queue-few}
 use Rattle.wf_components.proofs.labels.round.Goals as goal

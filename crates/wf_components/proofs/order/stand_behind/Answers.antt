@@ -1,6 +1,6 @@
 use Rattle.std.proofs.Common.{◌≡◌, ◌∙◌, ◌+◌, true, false, Some, length, take, slice_index_or, slice_get, refl, sym, ap, arith}
 use Rattle.wf_names.specs.Graphs.{holds, goes}
-use Rattle.wf_names.proofs.SearchLemmas.{holds_at}
+use Rattle.wf_names.proofs.NumberLemmas.{holds_at}
 use Rattle.wf_components.proofs.WalkLemmas.{flags-set}
 use Rattle.wf_components.proofs.OrderLemmas.{take-next, behind-more, order-holds, circle-shown}
 use Rattle.wf_components.proofs.LabelLemmas.{place-get}

@@ -1,6 +1,6 @@
 use Rattle.std.proofs.Common.{◌≤◌, ◌||◌, ◌&&◌, ◌∙◌, List, ℕ, nat_eq, slice_index_or, length, refl, ap, arith}
 use Rattle.wf_names.specs.Graphs.{holds, goes}
-use Rattle.wf_names.proofs.SearchLemmas.{holds_index}
+use Rattle.wf_names.proofs.NumberLemmas.{holds_index}
 use Rattle.wf_components.proofs.TurnLemmas.{row-begins, row-more, take-over}
 use Rattle.wf_components.proofs.turned.join_row.Goals as goal
 

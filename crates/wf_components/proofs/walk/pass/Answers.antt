@@ -1,5 +1,5 @@
 use Rattle.std.proofs.Common.{◌≤◌, ◌∙◌, true, false, slice_index_or, length, sym, arith}
-use Rattle.wf_names.proofs.SearchLemmas.{holds_index}
+use Rattle.wf_names.proofs.NumberLemmas.{holds_index}
 use Rattle.wf_components.proofs.WalkLemmas.{take-whole, passed-flags, flags-begun, goes-row}
 use Rattle.wf_components.proofs.walk.pass.Goals as goal
 
