@@ -1,5 +1,5 @@
 -- What the nodes of a package say of its methods, declaration by declaration.
-use Rattle.std.proofs.Common.{◌≡◌, ◌≤◌, ◌<◌, ◌+◌, ℕ, zero, suc, Bool, true, false, not, ◌||◌, List, [], ◌∷◌, length, drop, Option, None, Some, refl, sym, ap, ◌∙◌, subst, arith}
+use Rattle.std.proofs.Common.{◌≡◌, ◌≤◌, ◌+◌, ℕ, zero, suc, not, ◌||◌, List, [], ◌∷◌, length, drop, Option, None, Some, refl, sym, ap, ◌∙◌, subst, arith}
 use Rattle.std.specs.Option.{option_or}
 use Rattle.std.specs.List.{slice_get}
 use Rattle.wf_text.specs.declared.place.Place.{Place}
@@ -7,7 +7,7 @@ use Rattle.wf_text.specs.declared.rules.Refusal.{Refusal}
 use Rattle.wf_ast.specs.declared.numbers.StmtId.{StmtId}
 use Rattle.wf_ast.specs.declared.parsed.DeclNode.{DeclNode}
 use Rattle.wf_ast.specs.ParsedParts.{Parsed}
-use Rattle.wf_ast.specs.ParsedTree.{ExprTree, StmtTree, DeclTree}
+use Rattle.wf_ast.specs.ParsedTree.{ExprTree, StmtTree}
 use Rattle.wf_ast.specs.ParsedTrees.{decl_made, decl_trees, decls_made, expr_trees, stmt_trees, items_at, stmt_at}
 use Rattle.wf_parse.specs.Parsing.{decls_of}
 use Rattle.wf_tool.specs.Built.{declares_local, has_statement, first_unbuilt, unbuilt}

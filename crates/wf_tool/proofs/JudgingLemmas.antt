@@ -1,5 +1,5 @@
 -- From a package that is resolved to one that is read, and from this to the verdict on its files.
-use Rattle.std.proofs.Common.{◌≡◌, ◌⊎◌, ℕ, suc, List, [], ◌∷◌, length, Option, None, Some, Result, Ok, Err, inl, inr, refl, sym, ap, ◌∙◌, subst}
+use Rattle.std.proofs.Common.{◌≡◌, ◌⊎◌, ℕ, suc, true, List, [], ◌∷◌, length, Option, None, Some, Result, Ok, Err, inl, inr, refl, sym, ap, ◌∙◌, subst}
 use Rattle.std.proofs.lemmas.List.{length-map}
 use Rattle.wf_text.specs.declared.faults.PhaseFault.{PhaseFault}
 use Rattle.wf_text.specs.declared.faults.PhaseFault.TheVariants as phase
@@ -8,6 +8,7 @@ use Rattle.wf_text.specs.Precedence.{Decides, IsFirst}
 use Rattle.wf_text.proofs.PrecedenceLaws.{Decides-map}
 use Rattle.wf_ast.specs.ParsedParts.{Parsed}
 use Rattle.wf_ast.specs.ParsedTree.{DeclTree, status, constant, structure, method}
+use Rattle.wf_ast.specs.StatementOrder.{stand_in_order}
 use Rattle.wf_parse.specs.Parsing.{IsParsed, decls_of}
 use Rattle.wf_named.specs.declared.declarations.NamedMethod.{NamedMethod}
 use Rattle.wf_named.specs.NamedParts.{NamedParts, exprs_of, stmts_of, named_package}
@@ -17,7 +18,10 @@ use Rattle.wf_names.specs.Declarations.{Declared, declared, methods_of}
 use Rattle.wf_naming.specs.Naming.{IsMisnamed, IsResolved}
 use Rattle.wf_resolve.specs.Package.{resolved_methods, resolved_package}
 use Rattle.wf_types.specs.TypeRules.{Breaks}
-use Rattle.wf_tool.specs.Built.{first_unbuilt, method_count}
+use Rattle.wf_elaborated.specs.ElaboratedPackage.{typed_package}
+use Rattle.wf_elaborated.specs.Grammar.{package_by_grammar}
+use Rattle.wf_typing.specs.Typing.{IsMistyped}
+use Rattle.wf_tool.specs.Built.{first_unbuilt}
 use Rattle.wf_tool.specs.Sizes.{too_large}
 use Rattle.wf_tool.specs.Taken.{Judges, JudgesNamed, JudgesRead}
 use Rattle.wf_tool.specs.Verdict as verdicts
@@ -29,6 +33,11 @@ pub methods-told : (p q : NamedParts) (told : List NamedMethod) → told ≡ q.m
 unfolding named_package
 methods-told p q told are same =
     ap length (are ∙ ap (λ (x : NamedParts). x.methods) same) ∙ sym (length-map p.methods (method_made p.texts (exprs_of p) (stmts_of p)))
+
+-- What the phase of types refuses is refused.
+pub mistyped-judged : (named : NamedParts) (found : Option Refusal) (fault : PhaseFault) → IsMistyped named fault → JudgesNamed (named_package named) found (Err fault)
+mistyped-judged named found (phase.Refused refusal) h = inl h
+mistyped-judged named found phase.Memory h = tt
 
 -- As many methods are resolved as are declared.
 methods-counted : (d : Declared) (decls : List DeclTree) → length (resolved_methods d decls) ≡ length (methods_of decls)
@@ -61,6 +70,15 @@ module _ (read : Parsed) where
   named-judged named found result is resolved h =
       let J : NamedPackageTree → Type 0 = λ p. JudgesNamed p found result in
       ordered-judged resolved.order found result is resolved.kept (subst J resolved.tree h)
+
+  -- What holds of the resolved package in whatever order its methods stand, holds of the one that is resolved.
+  pub named-by-grammar : (named : NamedParts) → IsResolved read named → ((order : List ℕ) → package_by_grammar (resolved_package read.name read.texts (decls_of read) order) ≡ true)
+      → package_by_grammar (named_package named) ≡ true
+  named-by-grammar named resolved all = ap package_by_grammar resolved.tree ∙ all resolved.order
+
+  pub named-placed : (named : NamedParts) → IsResolved read named → ((order : List ℕ) → stand_in_order (typed_package (resolved_package read.name read.texts (decls_of read) order)) ≡ true)
+      → stand_in_order (typed_package (named_package named)) ≡ true
+  named-placed named resolved all = ap (λ (p : NamedPackageTree). stand_in_order (typed_package p)) resolved.tree ∙ all resolved.order
 
   pub misnamed-judged : (fault : PhaseFault) → IsMisnamed read fault → JudgesRead read (Err fault)
   misnamed-judged (phase.Refused refusal) h = inl h

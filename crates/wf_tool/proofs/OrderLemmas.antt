@@ -1,5 +1,5 @@
 -- What a resolved package breaks of the rules of types doesn't depend on the order in which its methods are told.
-use Rattle.std.proofs.Common.{◌≡◌, ℕ, List, Option, Some, slice_get, refl, sym, ap, ◌∙◌}
+use Rattle.std.proofs.Common.{◌≡◌, ℕ, List, Option, slice_get, refl, sym, ap, ◌∙◌}
 use Rattle.wf_text.specs.declared.place.Place.{Place}
 use Rattle.wf_text.specs.declared.rules.Refusal.{Refusal}
 use Rattle.wf_ast.specs.ParsedTree.{DeclTree}

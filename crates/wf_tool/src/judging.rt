@@ -1,7 +1,15 @@
 // The files of a package are taken, and their bytes are judged.
 
-ghost use Rattle.std.specs.Prelude.{◌≡◌, ◌-◌, ◌^◌, ◌<◌, ◌≤◌, None, length, map, string_bytes, IfErr, IfNone};
+ghost use Rattle.std.specs.Prelude.{◌≡◌, ◌-◌, ◌^◌, ◌<◌, ◌≤◌, ℕ, true, None, List, length, map, string_bytes, IfErr, IfNone, OnOk};
+ghost use Rattle.wf_ast.specs.StatementOrder.{stand_in_order};
+ghost use Rattle.wf_parse.specs.Parsing.{decls_of};
 ghost use Rattle.wf_named.specs.NamedParts.{named_package};
+ghost use Rattle.wf_resolve.specs.Package.{resolved_package};
+ghost use Rattle.wf_elaborated.specs.ElaboratedPackage.{typed_package};
+ghost use Rattle.wf_elaborated.specs.Grammar.{package_by_grammar};
+ghost use Rattle.wf_text.specs.Precedence.{Decides};
+ghost use Rattle.wf_types.specs.TypeRules.{Breaks};
+ghost use Rattle.wf_typing.specs.Typing.{IsMistyped};
 ghost use Rattle.wf_tool.specs.Built.{first_unbuilt};
 ghost use Rattle.wf_tool.specs.Sizes.{too_large, too_many};
 ghost use Rattle.wf_tool.specs.Taken.{CountsTaking, Judges, JudgesNamed, JudgesPackage, JudgesRead, NamesFailed};
@@ -15,7 +23,7 @@ use wf_naming::resolving::resolve;
 use wf_outside::Inputs;
 use wf_parse::parse;
 use wf_text::{PhaseFault, Refusal, Rule};
-use wf_type_verdict::packages::type_refusal;
+use wf_typing::typing::type_check;
 
 /// How many files a package may have.
 const MOST_FILES: usize = 16;
@@ -35,29 +43,53 @@ fn too_many(count: usize) -> Option<Refusal>
     }
 }
 
+/// How many methods a package has whose names are resolved.
+fn number_of_methods(named: &Named) -> usize
+    ensures { result ≡ length (named_package named.now).methods }
+{
+    named.nodes().methods().len()
+}
+
+/// Gives the types of a package whose names are resolved. Its typed tree is let go, since nothing behind the types reads it.
+fn give_types(alloc: Global, named: Named) -> Result<(), PhaseFault>
+    requires grammar { package_by_grammar (named_package named) ≡ true }
+    requires placed { stand_in_order (typed_package (named_package named)) ≡ true }
+    ensures refused { IfErr result (IsMistyped named) }
+    ensures kept { OnOk result (Decides (Breaks (named_package named)) None) }
+{
+    match type_check(alloc, named) {
+        Ok(_) => Ok(()),
+        Err(mistyped) => Err(mistyped),
+    }
+}
+
 /// Decides whether a package whose names are resolved is accepted: by its types and effects, then by what isn't built. Ok is
 /// the number of its methods.
-fn judge_named(alloc: Global, named: &Named, unbuilt: Option<Refusal>) -> Result<usize, PhaseFault>
-    ensures { JudgesNamed (named_package named.now) unbuilt result }
+fn judge_named(alloc: Global, named: Named, unbuilt: Option<Refusal>) -> Result<usize, PhaseFault>
+    requires grammar { package_by_grammar (named_package named) ≡ true }
+    requires placed { stand_in_order (typed_package (named_package named)) ≡ true }
+    ensures { JudgesNamed (named_package named) unbuilt result }
 {
-    match type_refusal(alloc, named) {
-        Ok(None) => match unbuilt {
-            None => Ok(named.nodes().methods().len()),
+    let methods = number_of_methods(&named);
+    match give_types(alloc, named) {
+        Ok(()) => match unbuilt {
+            None => Ok(methods),
             Some(refusal) => Err(PhaseFault::Refused(refusal)),
         },
-        Ok(Some(mistyped)) => Err(PhaseFault::Refused(mistyped)),
-        Err(_) => Err(PhaseFault::Memory),
+        Err(fault) => Err(fault),
     }
 }
 
 /// Decides whether a package that is read is accepted: by its names, then by its types, then by what isn't built.
 fn judge_read(alloc: Global, parsed: Package) -> Result<usize, PhaseFault>
-    requires { length parsed.decls < 2 ^ 32 - 1 }
+    requires few { length parsed.decls < 2 ^ 32 - 1 }
+    requires grammar { (order : List ℕ) → package_by_grammar (resolved_package parsed.name parsed.texts (decls_of parsed) order) ≡ true }
+    requires placed { (order : List ℕ) → stand_in_order (typed_package (resolved_package parsed.name parsed.texts (decls_of parsed) order)) ≡ true }
     ensures { JudgesRead parsed result }
 {
     let unbuilt = first_unbuilt(&parsed);
     match resolve(alloc, parsed) {
-        Ok(named) => judge_named(alloc, &named, unbuilt),
+        Ok(named) => judge_named(alloc, named, unbuilt),
         Err(misnamed) => Err(misnamed),
     }
 }

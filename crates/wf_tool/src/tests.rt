@@ -60,25 +60,15 @@ fn answers(
     Ok(came == ending && written.as_slice() == line.as_bytes())
 }
 
-/// Whether a file of these parts makes the program write this line, and end as it says.
-pub fn tells(alloc: Global, parts: &[&str], line: &str) -> Result<bool, AllocError> {
-    let mut bytes: Vec<u8> = Vec::new(alloc);
-    for part in parts {
-        bytes.extend_from_slice(part.as_bytes())?;
-    }
+/// Whether a file of these bytes makes the program write this line, and end as it says.
+pub fn tells(alloc: Global, bytes: &[u8], line: &str) -> Result<bool, AllocError> {
     let ending = if line.starts_with("ok") {
         Ending::Done
     } else {
         Ending::Refused
     };
     let line = format!(in alloc; "{line}\n")?;
-    answers(
-        alloc,
-        "check k k.wuffs",
-        bytes.as_slice(),
-        ending,
-        line.as_str(),
-    )
+    answers(alloc, "check k k.wuffs", bytes, ending, line.as_str())
 }
 
 // How the program ends and what it writes, over files `f0`, `f1` and so on, in this order.
