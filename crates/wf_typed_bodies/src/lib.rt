@@ -13,6 +13,8 @@ pub mod lists;
 pub mod simple;
 pub mod simple_stmts;
 pub mod targets;
+#[cfg(test)]
+mod tests;
 
 pub use bodies::elaborate_body;
 pub use building::BodyBuilding;
