@@ -7,3 +7,5 @@ pub mod ends;
 pub mod results;
 pub mod statements;
 pub mod targets;
+#[cfg(test)]
+mod tests;
