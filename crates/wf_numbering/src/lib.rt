@@ -7,4 +7,6 @@ pub mod numbers;
 pub mod packages;
 pub mod scopes;
 pub mod structs;
+#[cfg(test)]
+mod tests;
 pub mod variables;
