@@ -53,7 +53,7 @@ fn refusal(alloc: Global, text: &str) -> Result<Option<(Rule, u32, u32)>, Fail> 
     }
 }
 
-fn resolved(alloc: Global, text: &str) -> Result<Named, Fail> {
+pub fn resolved(alloc: Global, text: &str) -> Result<Named, Fail> {
     match answer(alloc, read(alloc, text)?) {
         Ok(named) => Ok(named),
         Err(_) => Err(Fail::from(AllocError)),
@@ -77,7 +77,7 @@ fn is_method(alloc: Global, text: &str, m: usize, name: &str, of: u32) -> Result
     }
 }
 
-fn has_text(nodes: &NamedNodes, number: TextId, text: &[u8]) -> bool {
+pub fn has_text(nodes: &NamedNodes, number: TextId, text: &[u8]) -> bool {
     (number.0 as usize) < nodes.texts() && nodes.text(number) == text
 }
 
