@@ -9,6 +9,8 @@ pub mod numbers;
 pub mod operators;
 pub mod runs;
 pub mod symbols;
+#[cfg(test)]
+mod tests;
 pub mod words;
 
 pub use headers::behind_lines;
