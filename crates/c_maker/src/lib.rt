@@ -16,6 +16,8 @@ pub mod pops;
 pub mod shapes;
 pub mod stack;
 pub mod statements;
+#[cfg(test)]
+mod tests;
 pub mod values;
 
 pub use maker::Maker;
