@@ -8,6 +8,8 @@ mod table_items;
 mod table_stmts;
 mod table_tokens;
 mod table_types;
+#[cfg(test)]
+mod tests;
 pub mod wants;
 
 pub use moves::Move;
