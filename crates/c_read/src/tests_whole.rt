@@ -287,11 +287,11 @@ fn every_alternative_comes_back(rt: HostRuntime) {
     assert!(rt;
         prints(
             rt.alloc(),
-            &[ITEMS, EXPRESSIONS, STATEMENTS],
-            &[ITEMS, EXPRESSIONS, STATEMENTS]
+            &[ITEMS, EXPRESSIONS, STATEMENTS, LOOKS],
+            &[ITEMS, EXPRESSIONS, STATEMENTS, LOOKS]
         )
     );
-    assert!(rt; comes_back(rt.alloc(), &[ITEMS, EXPRESSIONS, STATEMENTS]));
+    assert!(rt; comes_back(rt.alloc(), &[ITEMS, EXPRESSIONS, STATEMENTS, LOOKS]));
 }
 
 #[test]
