@@ -26,6 +26,8 @@ use Rattle.wf_elaborated.specs.ElaboratedStmts.{count_block}
 use Rattle.wf_typed_bodies.specs.StmtGrowth.{jump_below, jumps_below, GrowsStmts, Adds, IsBegun, StandsForBlock}
 use Rattle.wf_typing.specs.Bodies.{IsBody, AreBodies, count_methods, BodiesMade}
 use Rattle.wf_typing.specs.DeclaredNodes.{declared_method, declared_nodes}
+use Rattle.wf_typing.specs.Locals.{places_of, HaveNodes, MethodsHaveNodes, LocalsHaveNodes}
+use Rattle.wf_typing.proofs.LocalLemmas.{methods_with}
 
 and_true : (a b : Bool) → a ≡ true → b ≡ true → (a && b) ≡ true
 and_true a b h k = rw (h, k) refl
@@ -153,6 +155,22 @@ pub bodies_over : (q : NamedParts) (i : ℕ) (nodes : TypedNodes) (bs : List res
 bodies_over q i nodes bs past made =
     let P : List NamedMethodTree → Type 0 = λ ms. BodiesMade q ms nodes bs in
     subst P (ap (map (method_made q.texts (exprs_of q) (stmts_of q))) (take_all i q.methods past) ∙ sym (methods_are q)) made
+
+-- The nodes of their locals likewise.
+pub locals_with : (q : NamedParts) (i : ℕ) (m : NamedMethod) → i < length q.methods → m ≡ get_or q.methods i m → (old new : TypedNodes)
+    → MethodsHaveNodes (named_package q) old (map (method_made q.texts (exprs_of q) (stmts_of q)) (take i q.methods)) → Adds [] old new
+    → HaveNodes (in_method (named_package q) (method_made q.texts (exprs_of q) (stmts_of q) m)) new (places_of (method_made q.texts (exprs_of q) (stmts_of q) m).locals)
+    → MethodsHaveNodes (named_package q) new (map (method_made q.texts (exprs_of q) (stmts_of q)) (take (i + 1) q.methods))
+locals_with q i m low is old new done adds here =
+    let of = method_made q.texts (exprs_of q) (stmts_of q) in
+    let P : List NamedMethodTree → Type 0 = λ ms. MethodsHaveNodes (named_package q) new ms in
+    subst P (sym (methods_more of q.methods i m low is)) (methods_with (named_package q) old new (map of (take i q.methods)) (of m) adds.grows done here)
+
+pub locals_over : (q : NamedParts) (i : ℕ) (nodes : TypedNodes) → length q.methods ≤ i
+    → MethodsHaveNodes (named_package q) nodes (map (method_made q.texts (exprs_of q) (stmts_of q)) (take i q.methods)) → LocalsHaveNodes (named_package q) nodes
+locals_over q i nodes past done =
+    let P : List NamedMethodTree → Type 0 = λ ms. MethodsHaveNodes (named_package q) nodes ms in
+    subst P (ap (map (method_made q.texts (exprs_of q) (stmts_of q))) (take_all i q.methods past) ∙ sym (methods_are q)) done
 
 pub method_at : (q : NamedParts) (i : ℕ) (m : NamedMethod) → slice_get q.methods i ≡ Some m → slice_get (named_package q).methods i ≡ Some (method_made q.texts (exprs_of q) (stmts_of q) m)
 method_at q i m h = ap (λ ms. slice_get ms i) (methods_are q) ∙ slice_get-map (method_made q.texts (exprs_of q) (stmts_of q)) q.methods i ∙ ap (option_map (method_made q.texts (exprs_of q) (stmts_of q))) h

@@ -1,4 +1,5 @@
 pub mod BodyLemmas
 pub mod DeclaredLemmas
+pub mod LocalLemmas
 pub mod PackageLaws
 pub mod TypedLaws

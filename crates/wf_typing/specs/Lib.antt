@@ -1,3 +1,4 @@
 pub mod Bodies
 pub mod DeclaredNodes
+pub mod Locals
 pub mod Typing

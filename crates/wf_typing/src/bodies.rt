@@ -9,7 +9,9 @@ ghost use Rattle.wf_typed_bodies.specs.Right.{known_in, IsRightBlock};
 ghost use Rattle.wf_typed_bodies.specs.StmtGrowth.{Adds, IsBegun, StandsForBlock};
 ghost use Rattle.wf_typing.specs.Bodies.{AreRightBodies, BodiesMade};
 ghost use Rattle.wf_typing.specs.DeclaredNodes.{declared_nodes};
+ghost use Rattle.wf_typing.specs.Locals.{places_of, HaveNodes, AreRightPaths, LocalsHaveNodes, AreRightLocals};
 
+use crate::locals::elaborate_locals;
 use std::alloc::Global;
 use wf_ast::{Block, Sequence, Ty};
 use wf_named::{NamedMethod, NamedNodes};
@@ -25,7 +27,7 @@ struct MadeBody {
     around: Setting,
 }
 
-// Adds the nodes of a method's body.
+// Adds the nodes of a method: of the names of its locals, and behind them those of its body.
 fn elaborate_method(
     alloc: Global,
     nodes: &mut BodyBuilding,
@@ -41,9 +43,11 @@ fn elaborate_method(
     requires below { NamedMethodBelow (length named.now.texts) (length named.now.exprs) (length named.now.stmts) method.now }
     requires begun { IsBegun named.now nodes.old }
     requires right { IsRightBlock (in_method (named_package named.now) (method_made named.now.texts (exprs_of named.now) (stmts_of named.now) method.now)) (known_in (named_package named.now)) 0 (method_made named.now.texts (exprs_of named.now) (stmts_of named.now) method.now).body }
+    requires paths { AreRightPaths (in_method (named_package named.now) (method_made named.now.texts (exprs_of named.now) (stmts_of named.now) method.now)) (known_in (named_package named.now)).statuses (places_of (method_made named.now.texts (exprs_of named.now) (stmts_of named.now) method.now).locals) }
     ensures adds { OnOk result (Adds [] nodes.old nodes.new) }
     ensures begun { OnOk result (IsBegun named.now nodes.new) }
     ensures stands { IfOk result (λ made. StandsForBlock (in_method (named_package named.now) (method_made named.now.texts (exprs_of named.now) (stmts_of named.now) method.now)) [] (length nodes.old.stmts) (method_made named.now.texts (exprs_of named.now) (stmts_of named.now) method.now).body nodes.new made.body) }
+    ensures locals { OnOk result (HaveNodes (in_method (named_package named.now) (method_made named.now.texts (exprs_of named.now) (stmts_of named.now) method.now)) nodes.new (places_of (method_made named.now.texts (exprs_of named.now) (stmts_of named.now) method.now).locals)) }
     ensures around { IfOk result (λ made. IsAround (named_package named.now) made.around) }
 {
     let head = match judge_head(alloc, None, named, types, method) {
@@ -52,6 +56,10 @@ fn elaborate_method(
     };
     match round_body(alloc, named, around, head, fields, method) {
         Ok(inside) => {
+            match elaborate_locals(alloc, nodes, named, &inside, method.locals.as_slice()) {
+                Ok(()) => {}
+                Err(fault) => return Err(fault),
+            }
             match elaborate_body(alloc, nodes, named, &inside, &method.body) {
                 Ok(body) => Ok(MadeBody {
                     body,
@@ -64,8 +72,9 @@ fn elaborate_method(
     }
 }
 
-/// Adds the nodes of the bodies of all methods, and answers their blocks. `types` knows the constants, `fields` are the
-/// types of fields by struct, and `around` stands round every method. `Err` also comes where no number is left.
+/// Adds the nodes of the locals and of the bodies of all methods, and answers the blocks of their bodies. `types` knows the
+/// constants, `fields` are the types of fields by struct, and `around` stands round every method. `Err` also comes where no
+/// number is left.
 pub fn elaborate_bodies(
     alloc: Global,
     nodes: &mut BodyBuilding,
@@ -79,7 +88,9 @@ pub fn elaborate_bodies(
     requires around { IsAround (named_package named.now) around }
     requires declared { nodes.old ≡ declared_nodes named.now }
     requires right { AreRightBodies (named_package named.now) }
-    ensures { IfOk result (λ bodies. BodiesMade named.now (named_package named.now).methods nodes.new bodies) }
+    requires paths { AreRightLocals (named_package named.now) }
+    ensures bodies { IfOk result (λ bodies. BodiesMade named.now (named_package named.now).methods nodes.new bodies) }
+    ensures locals { OnOk result (LocalsHaveNodes (named_package named.now) nodes.new) }
 {
     let mut all = Sequence::new(alloc);
     let mut around = around;

@@ -4,5 +4,6 @@
 pub mod bodies;
 pub mod declared;
 pub mod declaring;
+pub mod locals;
 pub mod texts;
 pub mod typing;

@@ -12,6 +12,7 @@ ghost use Rattle.wf_elaborated.specs.ElaboratedPackage.{typed_package};
 ghost use Rattle.wf_elaborated.specs.Grammar.{package_by_grammar};
 ghost use Rattle.wf_type_verdict.specs.Packages.{IsAround, field_types};
 ghost use Rattle.wf_typing.specs.Bodies.{AreRightBodies, IsWhole, has_numbers as are_numbered};
+ghost use Rattle.wf_typing.specs.Locals.{LocalsHaveNodes, AreRightLocals};
 ghost use Rattle.wf_typing.specs.Typing.{IsMistyped, IsElaborated};
 
 use crate::bodies::elaborate_bodies;
@@ -61,7 +62,9 @@ fn whole_nodes(
     requires fields { fields.now ≡ field_types (named_package named.now) }
     requires around { IsAround (named_package named.now) around }
     requires right { AreRightBodies (named_package named.now) }
-    ensures { IfOk result (IsWhole named.now) }
+    requires paths { AreRightLocals (named_package named.now) }
+    ensures whole { IfOk result (IsWhole named.now) }
+    ensures locals { IfOk result (LocalsHaveNodes (named_package named.now)) }
 {
     let nodes = match declared(alloc, named, types, fields, around.statuses.as_slice()) {
         Ok(nodes) => nodes,
@@ -78,10 +81,12 @@ fn whole_nodes(
     }
 }
 
-// The nodes of a package whose bodies break no rule.
+// The nodes of a package whose bodies and locals break no rule.
 fn typed_nodes(alloc: Global, named: &NamedNodes) -> Result<TypedNodes, NoMemory>
-    requires { AreRightBodies (named_package named.now) }
-    ensures { IfOk result (IsWhole named.now) }
+    requires right { AreRightBodies (named_package named.now) }
+    requires paths { AreRightLocals (named_package named.now) }
+    ensures whole { IfOk result (IsWhole named.now) }
+    ensures locals { IfOk result (LocalsHaveNodes (named_package named.now)) }
 {
     let consts = match judge_consts(alloc, named) {
         Ok(consts) => consts,
@@ -112,7 +117,8 @@ fn typed(alloc: Global, named: &NamedNodes) -> Result<Typed, NoMemory>
     requires names { well_named (named_package named.now) ≡ true }
     requires grammar { package_by_grammar (named_package named.now) ≡ true }
     requires placed { stand_in_order (typed_package (named_package named.now)) ≡ true }
-    ensures { IfOk result (λ typed. package_of typed ≡ typed_package (named_package named.now)) }
+    ensures tree { IfOk result (λ typed. package_of typed ≡ typed_package (named_package named.now)) }
+    ensures locals { IfOk result (LocalsHaveNodes (named_package named.now)) }
 {
     match typed_nodes(alloc, named) {
         Ok(nodes) => {
@@ -128,12 +134,14 @@ fn typed(alloc: Global, named: &NamedNodes) -> Result<Typed, NoMemory>
 
 /// Gives the types of a package. `Refused` where it breaks rules of types and effects, T1 to T5 and E1 to E5: of all that it
 /// breaks by what has the least place, and of one place by the rule that is named first. `Memory` where memory was refused,
-/// or more is counted than there are numbers for.
+/// or more is counted than there are numbers for. Beside the expressions in bodies, the typed package has one for each local
+/// of each method: its path, at the place of its name.
 pub fn type_check(alloc: Global, named: Named) -> Result<Typed, PhaseFault>
     requires grammar { package_by_grammar (named_package named) ≡ true }
     requires placed { stand_in_order (typed_package (named_package named)) ≡ true }
     ensures refused { IfErr result (IsMistyped named) }
     ensures typed { IfOk result (IsElaborated named) }
+    ensures locals { IfOk result (LocalsHaveNodes (named_package named)) }
 {
     match type_refusal(alloc, &named) {
         Ok(None) => {

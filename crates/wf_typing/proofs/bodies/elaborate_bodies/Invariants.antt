@@ -3,10 +3,11 @@ use Rattle.wf_named.specs.NamedParts.{named_package}
 use Rattle.wf_named.specs.NamedTrees.{expr_trees, stmt_trees, method_made}
 use Rattle.wf_type_verdict.specs.Packages.{IsAround}
 use Rattle.wf_typing.specs.Bodies.{BodiesMade}
+use Rattle.wf_typing.specs.Locals.{MethodsHaveNodes}
 use Rattle.wf_typing.proofs.bodies.elaborate_bodies.Given as goal
 
 abbrev pub invariant-loop-method : goal.invariant-loop-method
 invariant-loop-method l =
     let q = l.named in
-    IsAround (named_package q) l.around
-    × BodiesMade q (map (method_made q.texts (expr_trees q.exprs) (stmt_trees q.texts q.exprs q.stmts)) (take l.method-index q.methods)) l.nodes l.all
+    let done = map (method_made q.texts (expr_trees q.exprs) (stmt_trees q.texts q.exprs q.stmts)) (take l.method-index q.methods) in
+    IsAround (named_package q) l.around × (BodiesMade q done l.nodes l.all × MethodsHaveNodes (named_package q) l.nodes done)

@@ -3,17 +3,21 @@ use Rattle.wf_ast.specs.TypedPackage.{package_of}
 use Rattle.wf_named.specs.NamedParts.{named_package}
 use Rattle.wf_typed_bodies.proofs.RightLaws.{body_is_right}
 use Rattle.wf_typing.specs.Bodies.{has_numbers}
+use Rattle.wf_typing.proofs.LocalLemmas.{locals_are_right}
 use Rattle.wf_typing.proofs.PackageLaws.{package_same}
 use Rattle.wf_typing.proofs.TypedLaws.{nodes_typed}
 use Rattle.wf_typing.proofs.typing.typed.Goals as goal
 
-pub typed_nodes-requires : goal.typed_nodes-requires
-typed_nodes-requires c = body_is_right (named_package c.args.named.now) c.requires.kept c.requires.names c.requires.grammar
+pub typed_nodes-requires-clause-right : goal.typed_nodes-requires-clause-right
+typed_nodes-requires-clause-right c = body_is_right (named_package c.args.named.now) c.requires.kept c.requires.names c.requires.grammar
+
+pub typed_nodes-requires-clause-paths : goal.typed_nodes-requires-clause-paths
+typed_nodes-requires-clause-paths c = locals_are_right (named_package c.args.named.now) c.requires.kept c.requires.names
 
 pub new-requires : goal.new-requires
 new-requires c =
     let numbered : has_numbers c.in-Ok.nodes ≡ true = sym c.has_numbers.ensures ∙ c.if-has_numbers.true in
-    nodes_typed c.args.named.now c.in-Ok.nodes c.in-Ok.ensures c.requires.kept c.requires.names c.requires.grammar c.requires.placed numbered
+    nodes_typed c.args.named.now c.in-Ok.nodes c.in-Ok.ensures.whole c.requires.kept c.requires.names c.requires.grammar c.requires.placed numbered
 
-pub returns-then-has_numbers : goal.returns-then-has_numbers
-returns-then-has_numbers c = ap package_of c.new.ensures ∙ package_same c.args.named.now c.in-Ok.nodes c.in-Ok.ensures.declared c.in-Ok.ensures.bodies
+pub returns-then-has_numbers-clause-tree : goal.returns-then-has_numbers-clause-tree
+returns-then-has_numbers-clause-tree c = ap package_of c.new.ensures ∙ package_same c.args.named.now c.in-Ok.nodes c.in-Ok.ensures.whole.declared c.in-Ok.ensures.whole.bodies
