@@ -26,7 +26,7 @@ use Rattle.wf_elaborated.specs.ElaboratedStmts.{count_block}
 use Rattle.wf_typed_bodies.specs.StmtGrowth.{jump_below, jumps_below, GrowsStmts, Adds, IsBegun, StandsForBlock}
 use Rattle.wf_typing.specs.Bodies.{IsBody, AreBodies, count_methods, BodiesMade}
 use Rattle.wf_typing.specs.DeclaredNodes.{declared_method, declared_nodes}
-use Rattle.wf_typing.specs.Locals.{places_of, HaveNodes, MethodsHaveNodes, LocalsHaveNodes}
+use Rattle.wf_typing.specs.Locals.{places_of, HaveNodes, MethodsHaveNodes}
 use Rattle.wf_typing.proofs.LocalLemmas.{methods_with}
 
 and_true : (a b : Bool) → a ≡ true → b ≡ true → (a && b) ≡ true
@@ -167,7 +167,7 @@ locals_with q i m low is old new done adds here =
     subst P (sym (methods_more of q.methods i m low is)) (methods_with (named_package q) old new (map of (take i q.methods)) (of m) adds.grows done here)
 
 pub locals_over : (q : NamedParts) (i : ℕ) (nodes : TypedNodes) → length q.methods ≤ i
-    → MethodsHaveNodes (named_package q) nodes (map (method_made q.texts (exprs_of q) (stmts_of q)) (take i q.methods)) → LocalsHaveNodes (named_package q) nodes
+    → MethodsHaveNodes (named_package q) nodes (map (method_made q.texts (exprs_of q) (stmts_of q)) (take i q.methods)) → MethodsHaveNodes (named_package q) nodes (named_package q).methods
 locals_over q i nodes past done =
     let P : List NamedMethodTree → Type 0 = λ ms. MethodsHaveNodes (named_package q) nodes ms in
     subst P (ap (map (method_made q.texts (exprs_of q) (stmts_of q))) (take_all i q.methods past) ∙ sym (methods_are q)) done

@@ -9,7 +9,9 @@ use Rattle.wf_ast.specs.declared.resolved.Block as resolved
 use Rattle.wf_ast.specs.declared.typed_nodes.TypedNodes.{TypedNodes}
 use Rattle.wf_ast.specs.declared.types.Ty.{Ty}
 use Rattle.wf_ast.specs.declared.types.Ty.TheVariants as types
+use Rattle.wf_ast.specs.TypedTree.{local}
 use Rattle.wf_ast.specs.TypedTrees.{expr_trees, tree_of}
+use Rattle.wf_ast.specs.TypedTrees.{named as named_by}
 use Rattle.wf_named.specs.declared.declarations.NamedVar.{NamedVar}
 use Rattle.wf_named.specs.declared.nodes.Variable.TheVariants as variables
 use Rattle.wf_named.specs.NamedParts.{NamedParts, named_package}
@@ -22,14 +24,16 @@ use Rattle.wf_types.specs.declared.settings.Setting.{Setting}
 use Rattle.wf_types.specs.DeclaredTypes.{may_be, declared, for_types, types_in, in_method}
 use Rattle.wf_types.specs.FirstBreak.{deciding}
 use Rattle.wf_types.specs.Meanings.{there, variable}
-use Rattle.wf_elaborated.specs.ElaboratedExprs.{path_tree}
+use Rattle.wf_elaborated.specs.ElaboratedExprs.{path_tree, variable_tree}
 use Rattle.wf_elaborated.proofs.Agreement.{package-is, method-is, known-at}
 use Rattle.wf_elaborated.proofs.NumberLemmas.{map-parts}
+use Rattle.wf_elaborator.specs.Growth.{IsBuilt}
 use Rattle.wf_elaborator.specs.Nodes.{StandsForPath}
 use Rattle.wf_elaborator.specs.Right.{is_struct}
 use Rattle.wf_elaborator.proofs.AroundLaws as standing
 use Rattle.wf_typed_bodies.specs.StmtGrowth.{GrowsStmts, GrowsExprs, StandsForBlock}
 use Rattle.wf_typed_bodies.proofs.GrowthLemmas.{stands_kept, stmts_of_exprs, count_same}
+use Rattle.wf_typing.proofs.NodePlaces.{read_of, local_read, place_of_read}
 use Rattle.wf_typing.specs.Locals.{places_of, places_named, local_path, HasNode, FirstHaveNodes, HaveNodes, MethodsHaveNodes, LocalsHaveNodes, AreRightPaths, AreRightLocals}
 
 -- What was there stays.
@@ -123,14 +127,15 @@ tree_placed : (nodes : TypedNodes) (bs : List resolved.Block) (e : ExprId) → t
 unfolding expr_trees
 tree_placed nodes bs e = refl
 
-locals_placed : (p : NamedPackageTree) (nodes : TypedNodes) (bs : List resolved.Block) → LocalsHaveNodes p nodes → LocalsHaveNodes p (record nodes { bodies = bs })
+locals_placed : (p : NamedPackageTree) (nodes : TypedNodes) (bs : List resolved.Block) → MethodsHaveNodes p nodes p.methods → MethodsHaveNodes p (record nodes { bodies = bs }) p.methods
 locals_placed p nodes bs h i m e l at here =
     let it = h i m e l at here in
     record { e = it.e; stands = record { there = it.stands.there; tree_is = tree_placed nodes bs it.e ∙ it.stands.tree_is; typed = it.stands.typed; counted = it.stands.counted } }
 
-pub locals_whole : (p : NamedPackageTree) (nodes all whole : TypedNodes) (bs : List resolved.Block) → LocalsHaveNodes p nodes → all ≡ nodes → whole ≡ record all { bodies = bs } → LocalsHaveNodes p whole
+pub locals_whole : (p : NamedPackageTree) (nodes all whole : TypedNodes) (bs : List resolved.Block) → MethodsHaveNodes p nodes p.methods → all ≡ nodes → whole ≡ record all { bodies = bs }
+    → MethodsHaveNodes p whole p.methods
 locals_whole p nodes all whole bs made same is =
-    let P : TypedNodes → Type 0 = λ x. LocalsHaveNodes p x in subst P (sym is) (locals_placed p all bs (subst P (sym same) made))
+    let P : TypedNodes → Type 0 = λ x. MethodsHaveNodes p x p.methods in subst P (sym is) (locals_placed p all bs (subst P (sym same) made))
 
 pub locals_of_same : (q r : NamedParts) (nodes : TypedNodes) → r ≡ q → LocalsHaveNodes (named_package r) nodes → LocalsHaveNodes (named_package q) nodes
 locals_of_same q r nodes same h = let P : NamedParts → Type 0 = λ x. LocalsHaveNodes (named_package x) nodes in subst P same h
@@ -140,17 +145,31 @@ local_whole : (ty : Ty) → may_be roles.Local ty ≡ true → is_struct (meanin
 local_whole (types.Part part) h = absurd (cc h)
 local_whole ty h = refl
 
-pub locals_are_right : (p : NamedPackageTree) → deciding p ≡ None → well_named p ≡ true → AreRightLocals p
-locals_are_right p none named i m e l at here =
+record TypedLocal (p : NamedPackageTree) (m : NamedMethodTree) (l : ℕ) : Type 0 where
+  pub ty : Ty
+  pub means : variable (in_method p m) (variables.Local (record { 0 = l })) ≡ Some (meanings.Typed ty)
+  pub may : may_be roles.Local ty ≡ true
+
+local_is_typed : (p : NamedPackageTree) → deciding p ≡ None → well_named p ≡ true → (i : ℕ) (m : NamedMethodTree) → slice_get p.methods i ≡ Some m
+    → (l : ℕ) (at : Place) → slice_get (places_of m.locals) l ≡ Some at → TypedLocal p m l
+local_is_typed p none named i m e l at here =
     let P : VarTree → Place = λ x. x.name.at in
     let it = map-parts P (slice_get m.locals l) at (sym (slice_get-map P m.locals l) ∙ here) in
     let of = known-at p roles.Local m.locals (method-is p (package-is p none named) i m e).locals l it.of it.is in
     let D : VarTree → Option Ty = λ x. declared (for_types p) roles.Local x.of in
     let is : slice_get (types_in p roles.Local m.locals) l ≡ Some (Some of.0) = slice_get-map D m.locals l ∙ ap (option_map D) it.is ∙ ap Some of.1 in
     let told : there (slice_get (types_in p roles.Local m.locals) l) ≡ Some of.0 = ap there is in
-    record {
-      around = standing.body_is_right p none named i m e;
-      of = meanings.Typed of.0;
-      means = ap (option_map meanings.Typed) told;
-      whole = local_whole of.0 (standing.locals_may p m l of.0 told);
-    }
+    record { ty = of.0; means = ap (option_map meanings.Typed) told; may = standing.locals_may p m l of.0 told }
+
+pub locals_are_right : (p : NamedPackageTree) → deciding p ≡ None → well_named p ≡ true → AreRightLocals p
+locals_are_right p none named i m e l at here =
+    let it = local_is_typed p none named i m e l at here in
+    record { around = standing.body_is_right p none named i m e; of = meanings.Typed it.ty; means = it.means; whole = local_whole it.ty it.may }
+
+-- So its node has the place of its name.
+pub locals_placed_so : (p : NamedPackageTree) (nodes : TypedNodes) → deciding p ≡ None → well_named p ≡ true → IsBuilt nodes → MethodsHaveNodes p nodes p.methods → LocalsHaveNodes p nodes
+locals_placed_so p nodes none named built h i m l at e here =
+    let node = h i m e l at here in
+    let it = local_is_typed p none named i m e l at here in
+    let tree : tree_of nodes node.e ≡ named_by at it.ty (local l) = node.stands.tree_is ∙ ap (variable_tree at (variables.Local (record { 0 = l }))) it.means in
+    record { e = node.e; stands = node.stands; placed = place_of_read nodes node.e at built node.stands.there (ap read_of tree ∙ local_read at it.ty l it.may) }

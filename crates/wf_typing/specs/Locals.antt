@@ -3,6 +3,7 @@ use Rattle.std.specs.Prelude.{◌≡◌, ◌<◌, ℕ, List, map, Some, slice_ge
 use Rattle.wf_text.specs.declared.place.Place.{Place}
 use Rattle.wf_ast.specs.declared.numbers.ExprId.{ExprId}
 use Rattle.wf_ast.specs.declared.typed_nodes.TypedNodes.{TypedNodes}
+use Rattle.wf_ast.specs.Places.{expr_places}
 use Rattle.wf_named.specs.declared.declarations.NamedVar.{NamedVar}
 use Rattle.wf_named.specs.declared.nodes.NamedPath.{NamedPath}
 use Rattle.wf_named.specs.declared.nodes.Variable.TheVariants as variables
@@ -36,12 +37,19 @@ FirstHaveNodes s nodes count places = (l : ℕ) (at : Place) → l < count → s
 abbrev pub HaveNodes : Setting → TypedNodes → List Place → Type 0
 HaveNodes s nodes places = (l : ℕ) (at : Place) → slice_get places l ≡ Some at → HasNode s nodes l at
 
--- Each local of each of these methods has a node at its name, which is its path.
+-- Each local of each of these methods has a node, which is its path.
 abbrev pub MethodsHaveNodes : NamedPackageTree → TypedNodes → List NamedMethodTree → Type 0
 MethodsHaveNodes p nodes ms = (i : ℕ) (m : NamedMethodTree) → slice_get ms i ≡ Some m → HaveNodes (in_method p m) nodes (places_of m.locals)
 
+-- The same of a whole package, whose expressions have their places: that of a local stands at the place of its name.
+pub record HasPlacedNode (s : Setting) (nodes : TypedNodes) (l : ℕ) (at : Place) : Type 0 where
+  pub e : ExprId
+  pub stands : StandsForPath s (local_path l at) nodes e
+  pub placed : slice_get (expr_places nodes) e.0 ≡ Some at
+
 abbrev pub LocalsHaveNodes : NamedPackageTree → TypedNodes → Type 0
-LocalsHaveNodes p nodes = MethodsHaveNodes p nodes p.methods
+LocalsHaveNodes p nodes =
+    (i : ℕ) (m : NamedMethodTree) (l : ℕ) (at : Place) → slice_get p.methods i ≡ Some m → slice_get (places_of m.locals) l ≡ Some at → HasPlacedNode (in_method p m) nodes l at
 
 -- The paths of locals, whose names stand at these places, break no rule.
 abbrev pub AreRightPaths : Setting → (statuses : ℕ) → List Place → Type 0

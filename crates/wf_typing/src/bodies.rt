@@ -9,7 +9,7 @@ ghost use Rattle.wf_typed_bodies.specs.Right.{known_in, IsRightBlock};
 ghost use Rattle.wf_typed_bodies.specs.StmtGrowth.{Adds, IsBegun, StandsForBlock};
 ghost use Rattle.wf_typing.specs.Bodies.{AreRightBodies, BodiesMade};
 ghost use Rattle.wf_typing.specs.DeclaredNodes.{declared_nodes};
-ghost use Rattle.wf_typing.specs.Locals.{places_of, HaveNodes, AreRightPaths, LocalsHaveNodes, AreRightLocals};
+ghost use Rattle.wf_typing.specs.Locals.{places_of, HaveNodes, AreRightPaths, MethodsHaveNodes, AreRightLocals};
 
 use crate::locals::elaborate_locals;
 use std::alloc::Global;
@@ -90,7 +90,7 @@ pub fn elaborate_bodies(
     requires right { AreRightBodies (named_package named.now) }
     requires paths { AreRightLocals (named_package named.now) }
     ensures bodies { IfOk result (λ bodies. BodiesMade named.now (named_package named.now).methods nodes.new bodies) }
-    ensures locals { OnOk result (LocalsHaveNodes (named_package named.now) nodes.new) }
+    ensures locals { OnOk result (MethodsHaveNodes (named_package named.now) nodes.new (named_package named.now).methods) }
 {
     let mut all = Sequence::new(alloc);
     let mut around = around;

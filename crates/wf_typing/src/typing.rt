@@ -12,7 +12,7 @@ ghost use Rattle.wf_elaborated.specs.ElaboratedPackage.{typed_package};
 ghost use Rattle.wf_elaborated.specs.Grammar.{package_by_grammar};
 ghost use Rattle.wf_type_verdict.specs.Packages.{IsAround, field_types};
 ghost use Rattle.wf_typing.specs.Bodies.{AreRightBodies, IsWhole, has_numbers as are_numbered};
-ghost use Rattle.wf_typing.specs.Locals.{LocalsHaveNodes, AreRightLocals};
+ghost use Rattle.wf_typing.specs.Locals.{MethodsHaveNodes, LocalsHaveNodes, AreRightLocals};
 ghost use Rattle.wf_typing.specs.Typing.{IsMistyped, IsElaborated};
 
 use crate::bodies::elaborate_bodies;
@@ -64,7 +64,7 @@ fn whole_nodes(
     requires right { AreRightBodies (named_package named.now) }
     requires paths { AreRightLocals (named_package named.now) }
     ensures whole { IfOk result (IsWhole named.now) }
-    ensures locals { IfOk result (LocalsHaveNodes (named_package named.now)) }
+    ensures locals { IfOk result (λ nodes. MethodsHaveNodes (named_package named.now) nodes (named_package named.now).methods) }
 {
     let nodes = match declared(alloc, named, types, fields, around.statuses.as_slice()) {
         Ok(nodes) => nodes,
@@ -86,7 +86,7 @@ fn typed_nodes(alloc: Global, named: &NamedNodes) -> Result<TypedNodes, NoMemory
     requires right { AreRightBodies (named_package named.now) }
     requires paths { AreRightLocals (named_package named.now) }
     ensures whole { IfOk result (IsWhole named.now) }
-    ensures locals { IfOk result (LocalsHaveNodes (named_package named.now)) }
+    ensures locals { IfOk result (λ nodes. MethodsHaveNodes (named_package named.now) nodes (named_package named.now).methods) }
 {
     let consts = match judge_consts(alloc, named) {
         Ok(consts) => consts,

@@ -1,9 +1,11 @@
-use Rattle.std.proofs.Common.{◌≡◌, ◌∙◌, ap, sym, true}
+use Rattle.std.proofs.Common.{◌≡◌, ◌∙◌, ap, sym, subst, true}
+use Rattle.wf_ast.specs.declared.typed_nodes.TypedNodes.{TypedNodes}
 use Rattle.wf_ast.specs.TypedPackage.{package_of}
 use Rattle.wf_named.specs.NamedParts.{named_package}
 use Rattle.wf_typed_bodies.proofs.RightLaws.{body_is_right}
 use Rattle.wf_typing.specs.Bodies.{has_numbers}
-use Rattle.wf_typing.proofs.LocalLemmas.{locals_are_right}
+use Rattle.wf_typing.specs.Locals.{LocalsHaveNodes}
+use Rattle.wf_typing.proofs.LocalLemmas.{locals_are_right, locals_placed_so}
 use Rattle.wf_typing.proofs.PackageLaws.{package_same}
 use Rattle.wf_typing.proofs.TypedLaws.{nodes_typed}
 use Rattle.wf_typing.proofs.typing.typed.Goals as goal
@@ -21,3 +23,9 @@ new-requires c =
 
 pub returns-then-has_numbers-clause-tree : goal.returns-then-has_numbers-clause-tree
 returns-then-has_numbers-clause-tree c = ap package_of c.new.ensures ∙ package_same c.args.named.now c.in-Ok.nodes c.in-Ok.ensures.whole.declared c.in-Ok.ensures.whole.bodies
+
+pub returns-then-has_numbers-clause-locals : goal.returns-then-has_numbers-clause-locals
+returns-then-has_numbers-clause-locals c =
+    let q = c.args.named.now in
+    let P : TypedNodes → Type 0 = λ x. LocalsHaveNodes (named_package q) x in
+    subst P (sym c.new.ensures) (locals_placed_so (named_package q) c.in-Ok.nodes c.requires.kept c.requires.names c.in-Ok.ensures.whole.exprs c.in-Ok.ensures.locals)
