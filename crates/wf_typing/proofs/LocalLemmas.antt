@@ -10,8 +10,7 @@ use Rattle.wf_ast.specs.declared.typed_nodes.TypedNodes.{TypedNodes}
 use Rattle.wf_ast.specs.declared.types.Ty.{Ty}
 use Rattle.wf_ast.specs.declared.types.Ty.TheVariants as types
 use Rattle.wf_ast.specs.TypedTree.{local}
-use Rattle.wf_ast.specs.TypedTrees.{expr_trees, tree_of}
-use Rattle.wf_ast.specs.TypedTrees.{named as named_by}
+use Rattle.wf_ast.specs.TypedTrees.{named as named_by, expr_trees, tree_of}
 use Rattle.wf_named.specs.declared.declarations.NamedVar.{NamedVar}
 use Rattle.wf_named.specs.declared.nodes.Variable.TheVariants as variables
 use Rattle.wf_named.specs.NamedParts.{NamedParts, named_package}

@@ -41,12 +41,13 @@ HaveNodes s nodes places = (l : ℕ) (at : Place) → slice_get places l ≡ Som
 abbrev pub MethodsHaveNodes : NamedPackageTree → TypedNodes → List NamedMethodTree → Type 0
 MethodsHaveNodes p nodes ms = (i : ℕ) (m : NamedMethodTree) → slice_get ms i ≡ Some m → HaveNodes (in_method p m) nodes (places_of m.locals)
 
--- The same of a whole package, whose expressions have their places: that of a local stands at the place of its name.
+-- The same, and the expression stands at that place.
 pub record HasPlacedNode (s : Setting) (nodes : TypedNodes) (l : ℕ) (at : Place) : Type 0 where
   pub e : ExprId
   pub stands : StandsForPath s (local_path l at) nodes e
   pub placed : slice_get (expr_places nodes) e.0 ≡ Some at
 
+-- Each local of each method of a package has such a node, at the place of its name.
 abbrev pub LocalsHaveNodes : NamedPackageTree → TypedNodes → Type 0
 LocalsHaveNodes p nodes =
     (i : ℕ) (m : NamedMethodTree) (l : ℕ) (at : Place) → slice_get p.methods i ≡ Some m → slice_get (places_of m.locals) l ≡ Some at → HasPlacedNode (in_method p m) nodes l at
