@@ -1,5 +1,5 @@
 -- Statements and arms, one after the other.
-use Rattle.std.proofs.Common.{◌≡◌, ◌∙◌, refl, sym, ap, ℕ, ◌+◌, ◌<◌, Bool, true, false, ◌||◌, ◌&&◌, List, [], ◌∷◌, ◌++◌, length, drop, slice_index_or, Option}
+use Rattle.std.proofs.Common.{◌≡◌, ◌∙◌, refl, sym, ap, ℕ, ◌+◌, ◌<◌, List, [], ◌∷◌, ◌++◌, length, drop, slice_index_or, Option}
 use Rattle.std.proofs.lemmas.List.{append_assoc}
 use Rattle.wf_text.specs.declared.place.Place.{Place}
 use Rattle.wf_text.specs.declared.rules.Refusal.{Refusal}
@@ -8,7 +8,7 @@ use Rattle.wf_ast.specs.declared.parsed.Arm.{Arm}
 use Rattle.wf_named.specs.NamedTree.{NamedExprTree, NamedStmtTree, NamedArmTrees}
 use Rattle.wf_named.specs.NamedTrees.{expr_at, stmt_at, items_at, block_at, arms_at}
 use Rattle.wf_types.specs.declared.settings.Setting.{Setting}
-use Rattle.wf_types.specs.Judgements.{stmt_leaves, block_leaves, arms_leave, stmt_stops, block_stops, arms_stop, closing_brace}
+use Rattle.wf_types.specs.Judgements.{closing_brace}
 use Rattle.wf_types.specs.Parts.{Part, stmt_parts, block_parts, arms_parts, condition_parts}
 use Rattle.wf_judging.specs.Judged.{judged}
 use Rattle.wf_judging.proofs.JudgedLaws.{judged-append}

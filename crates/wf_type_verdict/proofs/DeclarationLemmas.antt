@@ -8,12 +8,12 @@ use Rattle.wf_text.specs.declared.rules.Refusal.{Refusal}
 use Rattle.wf_text.specs.declared.rules.Rule.TheVariants.{T5}
 use Rattle.wf_text.specs.Precedence.{sooner, soonest}
 use Rattle.wf_ast.specs.declared.types.Ty.{Ty}
-use Rattle.wf_named.specs.NamedTree.{ConstTree, Word, NamedStructTree, NamedPackageTree, NamedMethodTree}
+use Rattle.wf_named.specs.NamedTree.{ConstTree, Word, NamedStructTree, NamedPackageTree}
 use Rattle.wf_named.specs.WellNamed.{fields_in}
 use Rattle.wf_types.specs.declared.meanings.Constant.{Constant}
 use Rattle.wf_types.specs.declared.settings.Role.TheVariants as roles
 use Rattle.wf_types.specs.declared.settings.Setting.{Setting}
-use Rattle.wf_types.specs.DeclaredTypes.{declared, among_constants, constant_with, constant_made, constants_after, types_in, in_method}
+use Rattle.wf_types.specs.DeclaredTypes.{declared, among_constants, constant_with, constant_made, constants_after, types_in}
 use Rattle.wf_types.specs.ExprTypes.{number_of}
 use Rattle.wf_types.specs.Meanings.{constant_number}
 use Rattle.wf_types.specs.Judgements.{at_if, two_questions, is_status_text}

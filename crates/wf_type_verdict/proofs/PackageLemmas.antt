@@ -1,26 +1,25 @@
 -- A whole package: what stands round its methods, and what its parts come to.
-use Rattle.std.proofs.Common.{◌≡◌, ◌∙◌, refl, sym, ap, ℕ, List, [], ◌∷◌, ◌++◌, map, Option, None, option_map, Some}
+use Rattle.std.proofs.Common.{◌≡◌, ◌∙◌, refl, sym, ap, List, [], ◌++◌, map, Option, None, option_map, Some}
 use Rattle.std.specs.List.{flat_map}
 use Rattle.std.proofs.lemmas.List.{append_assoc}
 use Rattle.wf_text.specs.declared.rules.Refusal.{Refusal}
 use Rattle.wf_base.specs.declared.marks.Mark.{Mark}
 use Rattle.wf_ast.specs.declared.types.Ty.{Ty}
 use Rattle.wf_named.specs.NamedParts.{NamedParts, exprs_of, stmts_of, named_package}
-use Rattle.wf_named.specs.NamedTree.{VarTree, NamedStructTree, NamedMethodTree, NamedPackageTree, NamedTypeTree}
+use Rattle.wf_named.specs.NamedTree.{VarTree, NamedStructTree, NamedMethodTree, NamedPackageTree}
 use Rattle.wf_named.specs.NamedTrees.{word_at, const_made, struct_made, method_made}
 use Rattle.wf_named.specs.WellNamed.{fields_in}
-use Rattle.wf_types.specs.declared.meanings.Constant.{Constant}
 use Rattle.wf_types.specs.declared.meanings.MethodType.{MethodType}
 use Rattle.wf_types.specs.declared.settings.Role.{Role}
 use Rattle.wf_types.specs.declared.settings.Role.TheVariants as roles
 use Rattle.wf_types.specs.declared.settings.Setting.{Setting}
 use Rattle.wf_types.specs.DeclaredTypes.{declared, among_constants, constants_after, for_types, types_in, result_in, method_type, status_texts, in_method}
-use Rattle.wf_types.specs.FirstBreak.{refusals, deciding}
-use Rattle.wf_types.specs.Parts.{Part, Site, status_declared, variables_parts, at_sites, const_sites, method_sites, sites}
+use Rattle.wf_types.specs.FirstBreak.{deciding}
+use Rattle.wf_types.specs.Parts.{Part, status_declared, variables_parts, at_sites, const_sites, method_sites, sites}
 use Rattle.wf_judging.specs.Judged.{judged}
 use Rattle.wf_judging.proofs.JudgedLaws.{judged-append}
-use Rattle.wf_type_verdict.specs.Packages.{decided, IsAround, field_types, types_or_none}
-use Rattle.wf_type_verdict.proofs.DeclarationLemmas.{decided-append, decided-sites, own_fields}
+use Rattle.wf_type_verdict.specs.Packages.{decided, IsAround, field_types}
+use Rattle.wf_type_verdict.proofs.DeclarationLemmas.{decided-append, decided-sites}
 
 -- What a resolved package is made of.
 pub consts_are : (n : NamedParts) → (named_package n).consts ≡ map (const_made n.texts (exprs_of n)) n.consts

@@ -1,11 +1,8 @@
-use Rattle.std.proofs.Common.{◌≡◌, ◌<◌, ◌∙◌, List, [], length, drop, sym, ap, subst, arith}
+use Rattle.std.proofs.Common.{◌≡◌, ◌<◌, List, length, sym, ap, subst, arith}
 use Rattle.std.specs.List.{AllByRecursion}
-use Rattle.std.proofs.lemmas.List.{drop_all}
 use Rattle.wf_ast.specs.declared.numbers.StmtId.{StmtId}
 use Rattle.wf_ast.specs.declared.parsed.Arm.{Arm}
 use Rattle.wf_ast.specs.ParsedParts.{BlockBelow}
-use Rattle.wf_named.specs.NamedTrees.{expr_trees, stmt_trees, items_at, else_at, arms_at}
-use Rattle.wf_types.specs.Judgements.{block_stops, arms_stop}
 use Rattle.wf_type_rules.specs.Above.{above_stmts}
 use Rattle.wf_type_rules.proofs.AboveLemmas.{else_above, arms_above, else_more, arms_more, stmt_at_place, arm_at_place}
 use Rattle.wf_type_rules.proofs.ends.+stopping.Goals as goal

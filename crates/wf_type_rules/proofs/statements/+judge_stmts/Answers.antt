@@ -1,16 +1,15 @@
-use Rattle.std.proofs.Common.{◌≡◌, ◌<◌, ◌∙◌, ◌++◌, List, [], Option, IfOk, length, drop, sym, ap, subst, arith}
+use Rattle.std.proofs.Common.{◌≡◌, ◌<◌, ◌∙◌, List, [], Option, IfOk, length, drop, sym, ap, subst, arith}
 use Rattle.std.specs.List.{AllByRecursion}
 use Rattle.std.proofs.lemmas.List.{drop_all}
 use Rattle.wf_text.specs.declared.rules.Refusal.{Refusal}
 use Rattle.wf_ast.specs.declared.numbers.StmtId.{StmtId}
 use Rattle.wf_ast.specs.declared.parsed.Arm.{Arm}
-use Rattle.wf_ast.specs.declared.parsed.LoopClause.{LoopClause}
 use Rattle.wf_ast.specs.ParsedParts.{BlockBelow}
 use Rattle.wf_named.specs.NamedTrees.{expr_trees, stmt_trees, expr_at, clauses_at, items_at, block_at, else_at, arms_at}
 use Rattle.wf_types.specs.Parts.{condition_parts, clauses_parts, block_parts, arms_parts}
 use Rattle.wf_judging.specs.Judged.{judged}
 use Rattle.wf_judging.proofs.JudgedLaws.{judged-none}
-use Rattle.wf_type_rules.specs.Above.{above_stmts, above_arms}
+use Rattle.wf_type_rules.specs.Above.{above_stmts}
 use Rattle.wf_type_rules.proofs.AboveLemmas.{block_above, else_above, arms_above, block_more, else_more, arms_more, stmt_at_place, arm_at_place}
 use Rattle.wf_type_rules.proofs.BlockLemmas.{two_parts, three_parts, stmt_next, arm_next}
 use Rattle.wf_type_rules.proofs.statements.+judge_stmts.Goals as goal

@@ -1,4 +1,4 @@
-use Rattle.std.proofs.Common.{◌≡◌, ◌∙◌, ap}
+use Rattle.std.proofs.Common.{◌∙◌, ap}
 use Rattle.wf_named.specs.NamedTrees.{expr_trees, const_made}
 use Rattle.wf_types.specs.DeclaredTypes.{constant_with}
 use Rattle.wf_type_verdict.proofs.DeclarationLemmas.{constant_judged, constant_known}

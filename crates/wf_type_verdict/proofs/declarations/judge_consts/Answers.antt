@@ -1,4 +1,4 @@
-use Rattle.std.proofs.Common.{◌≡◌, ◌≤◌, length, map, arith}
+use Rattle.std.proofs.Common.{◌≤◌, length, map, arith}
 use Rattle.wf_named.specs.NamedTrees.{expr_trees, const_made}
 use Rattle.wf_type_verdict.proofs.DeclarationLemmas.{consts_begun, const_next, consts_passed}
 use Rattle.wf_type_verdict.proofs.declarations.judge_consts.Goals as goal

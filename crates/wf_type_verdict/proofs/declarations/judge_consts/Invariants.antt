@@ -1,4 +1,4 @@
-use Rattle.std.proofs.Common.{◌≡◌, drop, map, None, [], List, Option}
+use Rattle.std.proofs.Common.{drop, map}
 use Rattle.wf_named.specs.NamedTrees.{expr_trees, const_made}
 use Rattle.wf_type_verdict.proofs.DeclarationLemmas.{ConstsJudged}
 use Rattle.wf_type_verdict.proofs.declarations.judge_consts.Given as goal

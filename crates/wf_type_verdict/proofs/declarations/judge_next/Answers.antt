@@ -1,4 +1,3 @@
-use Rattle.std.proofs.Common.{◌≡◌}
 use Rattle.wf_named.specs.NamedTrees.{expr_trees, const_made}
 use Rattle.wf_type_verdict.proofs.DeclarationLemmas.{constants_with}
 use Rattle.wf_type_verdict.proofs.declarations.judge_next.Goals as goal

@@ -1,4 +1,4 @@
-use Rattle.std.proofs.Common.{◌≡◌, ◌∙◌, sym, ap, not}
+use Rattle.std.proofs.Common.{◌∙◌, sym, ap, not}
 use Rattle.wf_named.specs.NamedTrees.{word_at, text_or}
 use Rattle.wf_types.specs.Judgements.{is_status_text}
 use Rattle.wf_type_verdict.proofs.DeclarationLemmas.{status_alone}

@@ -1,4 +1,4 @@
-use Rattle.std.proofs.Common.{◌≡◌, ◌∙◌, ◌≤◌, refl, sym, ap, length, map, arith}
+use Rattle.std.proofs.Common.{◌∙◌, ◌≤◌, refl, sym, ap, length, map, arith}
 use Rattle.wf_named.specs.NamedTrees.{word_at}
 use Rattle.wf_types.specs.Parts.{status_declared}
 use Rattle.wf_judging.specs.Judged.{judged}

@@ -1,4 +1,4 @@
-use Rattle.std.proofs.Common.{◌≡◌, ◌∙◌, ◌∷◌, ◌++◌, [], ◌≤◌, refl, sym, ap, length, map, arith}
+use Rattle.std.proofs.Common.{◌∙◌, ◌∷◌, ◌++◌, [], ◌≤◌, refl, sym, ap, length, map, arith}
 use Rattle.std.proofs.lemmas.List.{append-nil}
 use Rattle.wf_named.specs.NamedTree.{Word}
 use Rattle.wf_named.specs.NamedTrees.{word_at, text_or}

@@ -1,4 +1,4 @@
-use Rattle.std.proofs.Common.{◌≡◌, ap, List, Option}
+use Rattle.std.proofs.Common.{ap, List, Option}
 use Rattle.wf_types.specs.declared.meanings.Constant.{Constant}
 use Rattle.wf_type_verdict.proofs.declarations.with_constant.Goals as goal
 

@@ -1,4 +1,4 @@
-use Rattle.std.proofs.Common.{◌≡◌, ap, Some}
+use Rattle.std.proofs.Common.{ap, Some}
 use Rattle.wf_judging.proofs.JudgedLaws.{judged-none}
 use Rattle.wf_type_verdict.proofs.declared_types.judge_result.Goals as goal
 

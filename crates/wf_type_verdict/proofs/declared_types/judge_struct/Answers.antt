@@ -1,4 +1,4 @@
-use Rattle.std.proofs.Common.{◌≡◌, ◌∙◌, ◌++◌, ◌∷◌, [], ap}
+use Rattle.std.proofs.Common.{◌∙◌, ◌++◌, ◌∷◌, [], ap}
 use Rattle.wf_type_verdict.proofs.declared_types.judge_struct.Goals as goal
 
 pub returns-in-Ok-push-clause-found : goal.returns-in-Ok-push-clause-found

@@ -1,4 +1,4 @@
-use Rattle.std.proofs.Common.{◌≡◌, ◌∙◌, ◌++◌, ◌≤◌, [], refl, sym, ap, drop, length, map, arith}
+use Rattle.std.proofs.Common.{◌≡◌, ◌∙◌, ◌++◌, [], refl, sym, ap, drop, map, arith}
 use Rattle.std.proofs.lemmas.List.{append-nil, drop_all}
 use Rattle.wf_named.specs.NamedTree.{VarTree}
 use Rattle.wf_named.specs.NamedTrees.{expr_trees, var_made}

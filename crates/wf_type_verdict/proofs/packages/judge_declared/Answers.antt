@@ -1,4 +1,4 @@
-use Rattle.std.proofs.Common.{◌≡◌, ◌∙◌, map}
+use Rattle.std.proofs.Common.{◌∙◌, map}
 use Rattle.wf_named.specs.NamedTrees.{expr_trees, var_made}
 use Rattle.wf_types.specs.declared.settings.Role.TheVariants as roles
 use Rattle.wf_types.specs.Parts.{variables_parts}

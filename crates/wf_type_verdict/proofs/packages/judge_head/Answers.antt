@@ -1,7 +1,5 @@
-use Rattle.std.proofs.Common.{◌≡◌, ◌∙◌, refl, sym, subst, map}
 use Rattle.wf_named.specs.NamedParts.{named_package}
-use Rattle.wf_named.specs.NamedTree.{NamedMethodTree}
-use Rattle.wf_named.specs.NamedTrees.{expr_trees, stmt_trees, var_made, method_made}
+use Rattle.wf_named.specs.NamedTrees.{expr_trees, stmt_trees, method_made}
 use Rattle.wf_types.specs.declared.settings.Role.TheVariants as roles
 use Rattle.wf_types.specs.DeclaredTypes.{for_types}
 use Rattle.wf_types.specs.Parts.{variables_parts, result_parts}

@@ -1,4 +1,4 @@
-use Rattle.std.proofs.Common.{◌≡◌, ◌∙◌, refl, ap, slice_get}
+use Rattle.std.proofs.Common.{◌∙◌, refl, ap, slice_get}
 use Rattle.wf_named.specs.NamedParts.{named_package}
 use Rattle.wf_named.specs.NamedTrees.{expr_trees, stmt_trees, method_made}
 use Rattle.wf_type_verdict.specs.Packages.{types_or_none}

@@ -1,4 +1,4 @@
-use Rattle.std.proofs.Common.{◌≡◌, ◌∙◌, ◌++◌, ap, sym, map}
+use Rattle.std.proofs.Common.{◌∙◌, ◌++◌, ap, sym, map}
 use Rattle.wf_ast.specs.BaseStatuses.{base_statuses}
 use Rattle.wf_named.specs.NamedTree.{Word}
 use Rattle.wf_types.specs.declared.settings.Setting.{Setting}
