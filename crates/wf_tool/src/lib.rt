@@ -26,6 +26,8 @@ mod tests;
 pub mod tool;
 #[cfg(test)]
 mod type_tests;
+#[cfg(test)]
+mod typed_tests;
 mod words;
 
 pub use ending::Ending;
