@@ -1,0 +1,34 @@
+"""A second opinion on packages: what the rules of reading, names, types and effects say of a package, written in Python
+from the rules as docs/LANGUAGE.md and docs/RULES.md tell them, and sharing nothing with the program. The two are compared
+on random packages by ../second_opinion.py.
+
+`verdict` is the whole of it. Not judged are the limits that random packages don't reach: bytes, files, tokens and
+statements (L1, L2, L3, L5).
+"""
+from .names import judge_names
+from .reading import Refused, read
+from .trees import Method
+from .types import judge_types
+
+
+def verdict(files):
+    """What `check` has to print of the files with these texts, which are named f0, f1 and so on."""
+    try:
+        declarations = [declaration for number, text in enumerate(files) for declaration in read(text, number)]
+    except Refused as refused:
+        return refusal(refused.rule, refused.place)
+    for judge in (judge_names, judge_types):
+        violations = judge(declarations)
+        if violations:
+            place, rule = min(violations)
+            return refusal(rule.name, place)
+    methods = [declaration for declaration in declarations if isinstance(declaration, Method)]
+    for method in methods:
+        if method.body.statements:
+            return refusal("N9", method.word)
+    return f"ok {len(methods)} methods"
+
+
+def refusal(rule, place):
+    file, line, column = place
+    return f"refused {rule} f{file}:{line}:{column}"
