@@ -74,11 +74,10 @@ class Types(Values):
 
     def judge_result(self, method):
         """A coroutine writes no result."""
-        if method.mark == "?":
-            self.any_type(method.result)
-            self.breaks(Rule.T1, method.result.place)
-        else:
+        if method.mark != "?":
             self.type(method.result, "result")
+        elif self.any_type(method.result):
+            self.breaks(Rule.T1, method.result.place)
 
     # Statements
 
@@ -168,7 +167,7 @@ class Types(Values):
         """`x op= e` is judged as the operator between its two sides."""
         is_target, target = self.judge_target(it.target)
         if is_target:
-            self.operator_value(it.op, it.sign, [(it.target.place, target), (it.value.place, self.value(it.value))])
+            self.operator_value(it.op, it.sign, [(it.target.place, target), (it.value.place, self.whole_value(it.value))])
         else:
             self.whole_value(it.value)
 

@@ -194,11 +194,11 @@ class Values:
         if isinstance(it, Slice):
             return self.slice_value(it)
         if isinstance(it, Operator):
-            return self.operator_value(it.op, it.place, [(operand.place, self.value(operand)) for operand in it.operands])
+            return self.operator_value(it.op, it.place, [(operand.place, self.whole_value(operand)) for operand in it.operands])
         if isinstance(it, Convert):
             return self.converted(it)
         if isinstance(it, Not):
-            value = self.value(it.operand)
+            value = self.whole_value(it.operand)
             return self.of_kind("flag", it.operand, value) if value else None
         return self.called_inside(it)
 
@@ -220,7 +220,7 @@ class Values:
         return of and Value(of.kind, None, of)
 
     def index_value(self, it):
-        base, index = self.path_value(it.base), self.value(it.index)
+        base, index = self.path_value(it.base), self.whole_value(it.index)
         if base is None or index is None:
             return None
         if base.kind[0] not in ("array", "slice"):
@@ -228,7 +228,7 @@ class Values:
         return self.of_kind("number", it.index, index) and Value(("number", base.kind[1]))
 
     def slice_value(self, it):
-        base, ends = self.path_value(it.base), [(end, self.value(end)) for end in (it.low, it.high) if end is not None]
+        base, ends = self.path_value(it.base), [(end, self.whole_value(end)) for end in (it.low, it.high) if end is not None]
         if base is None or any(value is None for _, value in ends):
             return None
         if base.kind[0] != "slice" and not (base.kind[0] == "array" and base.type.is_whole()):
@@ -238,7 +238,7 @@ class Values:
         return Value(("slice", base.kind[1]))
 
     def converted(self, it):
-        value, to = self.value(it.operand), self.type(it.type, "conversion")
+        value, to = self.whole_value(it.operand), self.type(it.type, "conversion")
         if value is None or not self.of_kind("number", it.operand, value) or to is None:
             return None
         if value.constant is not None and to.high < value.constant:
