@@ -1,7 +1,7 @@
 #!/usr/bin/env python3
 """Random packages: what `check` says of each, against a second opinion (second_opinion/).
 
-usage: random_answers.py PROGRAM [COUNT [SEED]]    300 packages with the seed 1 are the default
+usage: random_answers.py PROGRAM [COUNT [SEED]]    1000 packages with the seed 1 are the default
 Ends with how often each rule decided. A package of which the two say different things is printed, and fails.
 """
 import collections
@@ -27,7 +27,7 @@ def answer(program, folder, files):
 
 def main():
     program = os.path.abspath(sys.argv[1])
-    count, seed = (int(word) for word in (sys.argv[2:] + ["300", "1"][len(sys.argv) - 2:])[:2])
+    count, seed = (int(word) for word in (sys.argv[2:] + ["1000", "1"][len(sys.argv) - 2:])[:2])
     source, decided, differ = random.Random(seed), collections.Counter(), 0
     with tempfile.TemporaryDirectory() as folder:
         for _ in range(count):

@@ -3,6 +3,7 @@ whole package is spoilt piece by piece, so that each rule is broken at many plac
 import re
 
 from .base_methods import methods_of
+from .odd_packages import odd_statements, odd_types
 from .reading import ASSIGNED, ASSIGNMENTS, OPERATORS, WORDS
 
 WIDTHS = {8: "base.u8", 16: "base.u16", 32: "base.u32", 64: "base.u64"}
@@ -371,8 +372,14 @@ def spoilt(text, random):
 
 def random_files(random):
     """The texts of one package's files."""
-    text = PackageWriter(random, random.choice([0, 0, .01, .02, .05]), random.choice([0, 0, .05, .3])).package()
-    if random.random() < .3:
+    how = random.random()
+    if how < .4:
+        text = odd_statements(random)
+    elif how < .5:
+        text = odd_types(random)
+    else:
+        text = PackageWriter(random, random.choice([0, 0, .01, .02, .05]), random.choice([0, 0, .05, .3])).package()
+    if random.random() < .2:
         text = spoilt(text, random)
     lines = text.splitlines(keepends=True)
     cut = random.randrange(len(lines)) if random.random() < .1 else 0

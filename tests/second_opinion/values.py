@@ -54,8 +54,8 @@ def most(bits):
 
 
 def constant_value(expression):
-    """The number of a constant expression that breaks no rule, else None."""
-    value = Values().value(expression)
+    """The number of a constant expression that breaks no rule, else None. Names needn't stand for anything yet."""
+    value = None if names_a_variable(expression) else Values().value(expression)
     return value.constant if value else None
 
 
@@ -254,17 +254,23 @@ class Values:
             return Value(("flag",)) if self.all_of_kind("flag", operands) else None
         if op in EQUALITY and operands[0][1].kind == ("status",):
             return Value(("flag",)) if self.all_of_kind("status", operands) else None
-        if not self.all_of_kind("number", operands, one_width=op not in SHIFTS):
-            return None
         if op in SHIFTS:
-            return self.shifted(op, place, operands)
-        bits = next((value.kind[1] for _, value in operands if value.kind[1]), None)
-        for at, value in operands:
-            if value.kind[1] is None and most(bits) < value.constant:
-                return self.breaks(Rule.T5, at)
+            return self.shifted(op, place, operands) if self.all_of_kind("number", operands) else None
+        bits = next((value.kind[1] for _, value in operands if value.is_number() and value.kind[1]), None)
+        fit = self.constants_fit(bits, operands)
+        if not self.all_of_kind("number", operands, one_width=True) or not fit:
+            return None
         if op in ORDERED | EQUALITY:
             return Value(("flag",))
         return self.in_width(op, place, bits, [value.constant for _, value in operands])
+
+    def constants_fit(self, bits, operands):
+        """Whether each constant without a width fits this one; T5 at the first that doesn't."""
+        for place, value in operands:
+            if value.kind == ("number", None) and most(bits) < value.constant:
+                self.breaks(Rule.T5, place)
+                return False
+        return True
 
     def all_of_kind(self, kind, operands, one_width=False):
         """Whether all are of the kind, numbers perhaps of one width; T1 at the first that isn't."""
