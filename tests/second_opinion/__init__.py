@@ -1,6 +1,6 @@
 """A second opinion on packages: what the rules of reading, names, types and effects say of a package, written in Python
-from the rules as docs/LANGUAGE.md and docs/RULES.md tell them, and sharing nothing with the program. The two are compared
-on random packages by ../second_opinion.py.
+from the rules as docs/LANGUAGE.md and docs/RULES.md tell them, with the choices of docs/DECISIONS.md, and sharing no code
+with the program. The two are compared on random packages by ../random_answers.py.
 
 `verdict` is the whole of it. Not judged are the limits that random packages don't reach: bytes, files, tokens and
 statements (L1, L2, L3, L5).

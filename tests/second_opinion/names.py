@@ -13,13 +13,6 @@ RESERVED = set("choose choosy implements io_bind io_limit iterate nptr ptr table
 MOST_METHODS, MOST_LOCALS, MOST_ARGUMENTS, MOST_ELEMENTS, MOST_BYTES = 1024, 256, 64, 65536, 1048576
 
 
-@dataclass(eq=False)
-class OwnMethod:
-    """A method of the package as a callee, of the receiver or through a field."""
-    method: Method
-    through_field: bool
-
-
 @dataclass
 class Scope:
     """What is known at a place: constants, the struct of `this` or None, arguments, locals, and the method or None."""
@@ -209,8 +202,8 @@ class Names:
     def resolve_call(self, call, scope):
         """Whether what is called is known, and every name in what is given."""
         call.callee = self.callee(call, scope)
-        if isinstance(call.callee, OwnMethod) and scope.method is not None:
-            scope.method.callees.add(call.callee.method)
+        if isinstance(call.callee, Method) and scope.method is not None:
+            scope.method.callees.add(call.callee)
         given_known = all([self.resolve_value(value, scope) for _, _, value in call.arguments])
         if call.callee is None or not given_known:
             return False
@@ -218,10 +211,11 @@ class Names:
         return True
 
     def callee(self, call, scope):
+        """The method of the package or of the language that is called, None where it isn't known."""
         if isinstance(call.receiver, This):
             method = scope.struct and self.by_struct.get((scope.struct.name, call.name))
             if method:
-                return OwnMethod(method, False)
+                return method
             somewhere = any(it.name == call.name for it in self.methods)
             return self.breaks(Rule.N8 if somewhere else Rule.N1, call.place)
         if not self.resolve_path(call.receiver, scope):
@@ -242,11 +236,11 @@ class Names:
             return self.breaks(Rule.N1, call.place)
         if not method.public:
             self.breaks(Rule.N8, call.place)
-        return OwnMethod(method, True)
+        return method
 
     def judge_arguments(self, call):
-        callee = call.callee
-        wanted = [it.name for it in callee.method.arguments] if isinstance(callee, OwnMethod) else [it[0] for it in callee.arguments]
+        of_package = isinstance(call.callee, Method)
+        wanted = [it.name if of_package else it[0] for it in call.callee.arguments]
         given, passed = set(), set()
         for name, place, value in call.arguments:
             if name in given:

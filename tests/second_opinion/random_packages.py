@@ -3,7 +3,7 @@ whole package is spoilt piece by piece, so that each rule is broken at many plac
 import re
 
 from .base_methods import methods_of
-from .odd_packages import odd_statements, odd_types
+from .odd_packages import NUMBERS, TYPE_NAMES, odd_statements, odd_types
 from .reading import ASSIGNED, ASSIGNMENTS, OPERATORS, WORDS
 
 WIDTHS = {8: "base.u8", 16: "base.u16", 32: "base.u32", 64: "base.u64"}
@@ -12,17 +12,18 @@ ARITHMETIC = sorted(ASSIGNED)
 HARMLESS = ["+", "&", "|", "^", "~mod+", "~sat+", "~sat-", ">>"]
 SHIFTS = ("<<", ">>", "~mod<<")
 COMPARISONS = ["==", "<>", "<", "<=", ">", ">="]
-STATUSES = ["ok", '"#bad"', '"$wait"', 'base."$short read"', 'base."@end of data"']
+SUSPENSION = '"$wait"'
+STATUSES = ["ok", '"#bad"', SUSPENSION, 'base."$short read"', 'base."@end of data"']
 LESSER_MARKS = {"": [""], "!": ["", "!"], "?": ["", "!", "?"]}
 AXIOMS = ["", "", ' via "a < b: b > a"()', ' via "a < b: a < c; c < b"(c: 1)']
-NUMBERS = "0 1 2 7 8 9 15 16 31 32 63 64 255 256 65535 65536 65537 4294967295 4294967296 18446744073709551615 0xFF 0b1_1".split()
 PIECE = re.compile(r'"[^"\n]*"|\w+|~\w+[+\-*<]*=?|\.\.=|<<=?|>>=?|[=<>]=|<>|=\?|[-+*/%&|^]=|\.\.|\s+|.')
-TYPE_NAMES = "u8 u16 u32 u64 bool status io_reader io_writer utility".split()
 
 
-class Method:
-    def __init__(self, number, owner, name, mark, public):
-        self.number, self.owner, self.name, self.mark, self.public = number, owner, name, mark, public
+class WrittenMethod:
+    """A method as its callers know it; arguments are pairs of name and kind, and `gives` is None where it gives nothing."""
+
+    def __init__(self, owner, name, mark, public):
+        self.owner, self.name, self.mark, self.public = owner, name, mark, public
         self.arguments, self.gives = [], None
 
 
@@ -73,7 +74,7 @@ class PackageWriter:
         return f"{self.one_of('pub', 'pri')} struct {name}{self.one_of('', '!', '?')}({listed})"
 
     def whole_method(self, owner, number):
-        method = self.method = Method(len(self.methods), owner, f"m{number}", self.one_of("", "!", "?", "?"), self.chance(.7))
+        method = self.method = WrittenMethod(owner, f"m{number}", self.one_of("", "!", "?", "?"), self.chance(.7))
         arguments = [(f"a{number}", *self.typed("argument")) for number in self.times(0, 1, 2, 4)]
         method.arguments = [(name, kind) for name, kind, _ in arguments]
         result = ""
@@ -296,7 +297,7 @@ class PackageWriter:
     def give_way(self):
         if self.method.mark != "?" and not self.is_unmarked():
             return None
-        return [f"yield? {self.expression(('status',)) if self.is_unmarked() else STATUSES[2]}"]
+        return [f"yield? {self.expression(('status',)) if self.is_unmarked() else SUSPENSION}"]
 
     def branch(self, depth, loops):
         lines = [f"if {self.flag(2)} {{", *self.statements((0, 1, 2), depth - 1, loops)]

@@ -193,17 +193,21 @@ class Reader:
     def mark(self):
         return self.take().text if self.stands("!") or self.stands("?") else ""
 
-    def fields(self):
+    def named(self, read):
+        """A list in parentheses, of names with what is read behind each."""
         self.expect("(")
-        fields = []
+        named = []
         while self.token().kind == "name":
             name = self.take()
             self.expect(":")
-            fields.append(Variable(name.place, name.text, self.type()))
+            named.append((name, read()))
             if not self.skip(","):
                 break
         self.expect(")")
-        return fields
+        return named
+
+    def fields(self):
+        return [Variable(name.place, name.text, of) for name, of in self.named(self.type)]
 
     def type(self):
         place = self.token().place
@@ -356,16 +360,7 @@ class Reader:
         return Call(name.place, receiver, name.text, mark, self.given())
 
     def given(self):
-        self.expect("(")
-        given = []
-        while self.token().kind == "name":
-            name = self.take()
-            self.expect(":")
-            given.append((name.text, name.place, self.expression()))
-            if not self.skip(","):
-                break
-        self.expect(")")
-        return given
+        return [(name.text, name.place, value) for name, value in self.named(self.expression)]
 
     def expression(self):
         first = self.operand()

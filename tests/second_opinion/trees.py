@@ -242,7 +242,8 @@ class This(Node):
 
 @node
 class Call(Node):
-    """Arguments are triples of a name, its place and a value; `callee` is what is called, once names are judged."""
+    """Arguments are triples of a name, its place and a value; `callee` is the method of the package or of the language that is
+    called, once names are judged."""
     place: tuple
     receiver: Node
     name: str

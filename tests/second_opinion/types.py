@@ -1,5 +1,4 @@
 """The rules of types and effects: T1 to T5 and E1 to E5, over declarations whose names are resolved."""
-from .names import OwnMethod
 from .rules import Rule
 from .trees import (Assert, Assign, Call, CallStatement, Constant, If, Index, Jump, Keep, Method, Return, Status, StatusText,
                     Struct, Truth, While, Yield)
@@ -142,7 +141,7 @@ class Types(Values):
         """Whether it is a call that stands by itself behind `=`; a base method without a mark is an ordinary expression."""
         if not isinstance(expression, Call):
             return False
-        return isinstance(expression.callee, OwnMethod) or expression.mark + expression.callee.mark != ""
+        return isinstance(expression.callee, Method) or expression.mark + expression.callee.mark != ""
 
     def judge_assign(self, it):
         is_target, target = self.judge_target(it.target)
@@ -177,7 +176,7 @@ class Types(Values):
         if self.method.mark != "?":
             self.breaks(Rule.E2, call.place)
         self.judge_call(call)
-        is_coroutine = isinstance(call.callee, OwnMethod) and call.callee.method.mark == "?"
+        is_coroutine = isinstance(call.callee, Method) and call.callee.mark == "?"
         if not is_coroutine or is_target and target and target.kind != ("status",):
             self.breaks(Rule.E4, call.place)
 

@@ -306,15 +306,12 @@ class Values:
             return self.breaks(Rule.E3, call.place)
         return gives if call.callee.mark == "" else None
 
-    def declared_mark(self, call):
-        return call.callee.mark if isinstance(call.callee, BaseMethod) else call.callee.method.mark
-
     def judge_call(self, call):
         """What a call gives, None where that isn't known or where it gives nothing."""
         if call.callee is None:
             return None
         own_mark = self.method.mark if self.method else ""
-        if call.mark != self.declared_mark(call):
+        if call.mark != call.callee.mark:
             self.breaks(Rule.E3, call.place)
         if call.mark == "!" and own_mark == "":
             self.breaks(Rule.E1, call.place)
@@ -324,6 +321,7 @@ class Values:
         return self.given(call) if fits else None
 
     def argument_fits(self, call, name, expression):
+        """Whether a value fits its argument: none fits an argument whose declared type breaks a rule."""
         value, wanted = self.value(expression), self.wanted(call, name)
         if value is None:
             return False
@@ -331,7 +329,7 @@ class Values:
             self.breaks(Rule.T1, expression.place)
             return False
         if wanted is None:
-            return True
+            return False
         if value.kind == ("number", None) and wanted[0] == "number":
             if most(wanted[1]) < value.constant:
                 self.breaks(Rule.T5, expression.place)
@@ -345,7 +343,7 @@ class Values:
         """The kind of the argument with this name, None where its type breaks a rule."""
         if isinstance(call.callee, BaseMethod):
             return dict(call.callee.arguments)[name]
-        variable = next(it for it in call.callee.method.arguments if it.name == name)
+        variable = next(it for it in call.callee.arguments if it.name == name)
         of = self.variable_type(variable, "argument")
         return of and of.kind
 
@@ -353,14 +351,14 @@ class Values:
         """Whether it has no value: a coroutine of the package has none."""
         if isinstance(call.callee, BaseMethod):
             return call.callee.gives is None
-        return call.callee.method.mark == "?" or call.callee.method.result is None
+        return call.callee.mark == "?" or call.callee.result is None
 
     def given(self, call):
         if self.gives_nothing(call):
             return None
         if isinstance(call.callee, BaseMethod):
             return Value(call.callee.gives)
-        of = self.quietly(self.type, call.callee.method.result, "result")
+        of = self.quietly(self.type, call.callee.result, "result")
         return of and Value(of.kind)
 
 
