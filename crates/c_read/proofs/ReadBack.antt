@@ -3,8 +3,8 @@ use Rattle.std.proofs.Common.{◌≡◌, ℕ, List, Result, Ok, Err}
 use Rattle.c_text.specs.CGrammar.{IsTextOf, unit_tokens}
 use Rattle.c_text.specs.CNodes.{Nodes, unit_tree}
 use Rattle.c_text.specs.CTree.{ItemTree}
-use Rattle.c_grammar.specs.Outcomes.{whole, too_deep, not_c, IsShallow}
-use Rattle.c_grammar.proofs.OneOutcome.{one-outcome}
+use Rattle.c_read_grammar.specs.Outcomes.{whole, too_deep, not_c, IsShallow}
+use Rattle.c_read_grammar.proofs.OneOutcome.{one-outcome}
 use Rattle.c_read.specs.declared.faults.ReadFault.{ReadFault}
 use Rattle.c_read.specs.declared.faults.ReadFault.TheVariants as fault
 use Rattle.c_read.specs.Reading.{AnswersRead, GivesTree}

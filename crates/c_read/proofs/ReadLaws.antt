@@ -6,28 +6,28 @@ use Rattle.c_text.specs.CNodes.{Nodes, unit_tree}
 use Rattle.c_text.specs.CSpelling.{CToken, token_bytes, is_gap_byte, IsGap, includes}
 use Rattle.c_text.specs.CTree.{ItemTree}
 use Rattle.c_text.specs.declared.tokens.CMark.TheVariants as mark
-use Rattle.c_grammar.specs.Feeding.{feed, ends}
-use Rattle.c_grammar.specs.FirstToken.{Stands, begins}
-use Rattle.c_grammar.specs.Outcomes.{StandsAt, whole, not_c, HasOutcome}
-use Rattle.c_grammar.specs.Progress.{ReadSoFar}
-use Rattle.c_grammar.specs.Texts.{IsToken, is_opening, open_after}
-use Rattle.c_grammar.specs.Values.{a_unit}
-use Rattle.c_grammar.proofs.FirstBytes.{BeginsAs, begins-token, token_sort}
-use Rattle.c_grammar.proofs.Progress.{goes-on-here, ends-whole, ends-early, stops-at, stops-bare, stops-deep}
-use Rattle.c_tokens.specs.declared.kinds.Kind.{Kind}
-use Rattle.c_tokens.specs.declared.kinds.Kind.TheVariants as kinds
+use Rattle.c_read_grammar.specs.Feeding.{feed, ends}
+use Rattle.c_read_grammar.specs.FirstToken.{Stands, begins}
+use Rattle.c_read_grammar.specs.Outcomes.{StandsAt, whole, not_c, HasOutcome}
+use Rattle.c_read_grammar.specs.Progress.{ReadSoFar}
+use Rattle.c_read_grammar.specs.Texts.{IsToken, is_opening, open_after}
+use Rattle.c_read_grammar.specs.Values.{a_unit}
+use Rattle.c_read_grammar.proofs.FirstBytes.{BeginsAs, begins-token, token_sort}
+use Rattle.c_read_grammar.proofs.Progress.{goes-on-here, ends-whole, ends-early, stops-at, stops-bare, stops-deep}
+use Rattle.c_read_tokens.specs.declared.kinds.Kind.{Kind}
+use Rattle.c_read_tokens.specs.declared.kinds.Kind.TheVariants as kinds
 use Rattle.c_read.specs.declared.machine.Machine.{Machine}
-use Rattle.c_maker.specs.declared.values.Value.{Value}
-use Rattle.c_maker.specs.declared.values.Value.TheVariants as vals
+use Rattle.c_read_nodes.specs.declared.values.Value.{Value}
+use Rattle.c_read_nodes.specs.declared.values.Value.TheVariants as vals
 use Rattle.c_read.specs.declared.reading.Ending.{Ending}
 use Rattle.c_read.specs.declared.reading.Ending.TheVariants as ending
 use Rattle.c_read.specs.declared.reading.Step.TheVariants as step
-use Rattle.c_tokens.specs.Kinds.{token_of, bare}
-use Rattle.c_tokens.specs.Lexing.{NoToken}
+use Rattle.c_read_tokens.specs.Kinds.{token_of, bare}
+use Rattle.c_read_tokens.specs.Lexing.{NoToken}
 use Rattle.c_read.specs.Machines.{state_of, AnswersToken, AnswersEnd}
-use Rattle.c_maker.specs.Makers.{made}
+use Rattle.c_read_nodes.specs.Makers.{made}
 use Rattle.c_read.specs.Reading.{EndsThere, StepsThere, StepsOn}
-use Rattle.c_maker.specs.Seen.{seen_values}
+use Rattle.c_read_nodes.specs.Seen.{seen_values}
 
 unit_seen : (nodes : Nodes) (vs : List Value) (u : List ItemTree) → seen_values nodes vs ≡ a_unit u ∷ [] → u ≡ unit_tree nodes
 unit_seen nodes [] u h = absurd (cc h)

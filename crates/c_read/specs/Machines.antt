@@ -1,15 +1,15 @@
 -- The reader's machine, step by step against the machine of the grammar.
 use Rattle.std.specs.Prelude.{◌≡◌, Bool, true, false, None, Some, List, ◌++◌}
 use Rattle.c_text.specs.CSpelling.{CToken}
-use Rattle.c_grammar.specs.Feeding.{State, feed, ends}
-use Rattle.c_grammar.specs.Machine.{Take, Pass, Stop, move}
-use Rattle.c_grammar.specs.Values.{kept}
-use Rattle.c_grammar.specs.declared.actions.Want.{Want}
-use Rattle.c_grammar.specs.declared.symbols.Sym.{Sym}
+use Rattle.c_read_grammar.specs.Feeding.{State, feed, ends}
+use Rattle.c_read_grammar.specs.Machine.{Take, Pass, Stop, move}
+use Rattle.c_read_grammar.specs.Values.{kept}
+use Rattle.c_read_grammar.specs.declared.actions.Want.{Want}
+use Rattle.c_read_grammar.specs.declared.symbols.Sym.{Sym}
 use Rattle.c_read.specs.declared.machine.Machine.{Machine}
 use Rattle.c_read.specs.declared.machine.Meeting.{Meeting}
 use Rattle.c_read.specs.declared.machine.Meeting.TheVariants.{Read, Passed, Refused}
-use Rattle.c_maker.specs.Makers.{made}
+use Rattle.c_read_nodes.specs.Makers.{made}
 
 -- Where the machine stands.
 abbrev pub state_of : Machine → State

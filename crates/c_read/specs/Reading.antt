@@ -3,9 +3,9 @@ use Rattle.std.specs.Prelude.{◌≡◌, ◌<◌, ◌≤◌, ◌++◌, ℕ, ⊤,
 use Rattle.c_text.specs.CSpelling.{CToken, includes}
 use Rattle.c_text.specs.CTree.{ItemTree}
 use Rattle.c_text.specs.CNodes.{Nodes, unit_tree}
-use Rattle.c_grammar.specs.Outcomes.{HasOutcome, whole, too_deep, not_c, StandsAt}
-use Rattle.c_grammar.specs.FirstToken.{Stands}
-use Rattle.c_grammar.specs.Progress.{ReadSoFar}
+use Rattle.c_read_grammar.specs.Outcomes.{HasOutcome, whole, too_deep, not_c, StandsAt}
+use Rattle.c_read_grammar.specs.FirstToken.{Stands}
+use Rattle.c_read_grammar.specs.Progress.{ReadSoFar}
 use Rattle.c_read.specs.declared.faults.ReadFault.{ReadFault}
 use Rattle.c_read.specs.declared.faults.ReadFault.TheVariants as fault
 use Rattle.c_read.specs.declared.machine.Machine.{Machine}

@@ -5,7 +5,7 @@ ghost use Rattle.c_text.specs.CGrammar.{IsTextOf, unit_tokens};
 ghost use Rattle.c_text.specs.CLayout.{text_of};
 ghost use Rattle.c_text.specs.CNodes.{Nodes, unit_tree};
 ghost use Rattle.c_text.specs.CTree.{ItemTree};
-ghost use Rattle.c_grammar.specs.Outcomes.{IsShallow};
+ghost use Rattle.c_read_grammar.specs.Outcomes.{IsShallow};
 ghost use Rattle.c_read.specs.Reading.{AnswersRead, GivesTree};
 ghost use Rattle.c_read.specs.declared.faults.ReadFault.{ReadFault};
 

@@ -6,12 +6,6 @@ pub mod faults;
 pub mod laws;
 pub mod machine;
 pub mod reading;
-#[cfg(test)]
-mod tests;
-#[cfg(test)]
-mod tests_broken;
-#[cfg(test)]
-mod tests_whole;
 
 pub use faults::ReadFault;
 pub use laws::{every_text_is_read_back, what_is_printed_is_read_back};

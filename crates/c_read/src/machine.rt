@@ -1,18 +1,18 @@
 // The machine of the grammar at work on the tokens of a text.
 
 ghost use Rattle.std.specs.Prelude.{◌≡◌, ◌++◌, OnOk, IfOk};
-ghost use Rattle.c_grammar.specs.Feeding.{start};
-ghost use Rattle.c_grammar.specs.Texts.{IsToken};
-ghost use Rattle.c_grammar.specs.Values.{kept};
-ghost use Rattle.c_tokens.specs.Kinds.{token_of};
-ghost use Rattle.c_maker.specs.Makers.{made, IsFit};
+ghost use Rattle.c_read_grammar.specs.Feeding.{start};
+ghost use Rattle.c_read_grammar.specs.Texts.{IsToken};
+ghost use Rattle.c_read_grammar.specs.Values.{kept};
+ghost use Rattle.c_read_tokens.specs.Kinds.{token_of};
+ghost use Rattle.c_read_nodes.specs.Makers.{made, IsFit};
 ghost use Rattle.c_read.specs.Machines.{AnswersMeeting, AnswersToken, AnswersEnd, state_of};
 
-use c_grammar::{ItemSym, Sym, Want};
-use c_maker::{Maker, Stack, Value};
-use c_table::{Move, Wants, may_end, move_of};
+use c_read_grammar::{ItemSym, Sym, Want};
+use c_read_nodes::{Maker, Stack, Value};
+use c_read_table::{Move, Wants, may_end, move_of};
 use c_text::Unit;
-use c_tokens::Kind;
+use c_read_tokens::Kind;
 use std::alloc::Global;
 use wf_text::NoMemory;
 
@@ -24,7 +24,7 @@ pub struct Machine {
 }
 
 /// What a token does to the top of what is wanted.
-#[derive(Clone, Copy, Debug, PartialEq, Eq)]
+#[derive(Clone, Copy, PartialEq, Eq)]
 pub enum Meeting {
     /// It is read.
     Read,

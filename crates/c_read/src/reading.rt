@@ -3,17 +3,17 @@
 ghost use Rattle.std.specs.Prelude.{◌≡◌, ◌≤◌, ◌<◌, ◌++◌, ◌&&◌, [], true, false, nat_eq, length, IfOk, OnOk};
 ghost use Rattle.c_text.specs.CNodes.{unit_tree};
 ghost use Rattle.c_text.specs.CSpelling.{includes};
-ghost use Rattle.c_grammar.specs.Feeding.{start};
-ghost use Rattle.c_grammar.specs.Texts.{IsToken, is_opening, open_after};
-ghost use Rattle.c_tokens.specs.Kinds.{token_of, bare};
+ghost use Rattle.c_read_grammar.specs.Feeding.{start};
+ghost use Rattle.c_read_grammar.specs.Texts.{IsToken, is_opening, open_after};
+ghost use Rattle.c_read_tokens.specs.Kinds.{token_of, bare};
 ghost use Rattle.c_read.specs.Machines.{state_of};
-ghost use Rattle.c_maker.specs.Makers.{IsFit};
+ghost use Rattle.c_read_nodes.specs.Makers.{IsFit};
 ghost use Rattle.c_read.specs.Reading.{HasEnding, EndsThere, StepsThere, StepsOn, AnswersRead};
 
 use crate::faults::ReadFault;
 use crate::machine::Machine;
 use c_text::{CMark, Unit};
-use c_tokens::{Kind, behind_lines, first_piece, gap_len};
+use c_read_tokens::{Kind, behind_lines, first_piece, gap_len};
 use std::alloc::Global;
 use wf_text::NoMemory;
 
@@ -21,7 +21,7 @@ use wf_text::NoMemory;
 const MOST_BRACKETS: usize = 512;
 
 /// How a text ends.
-#[derive(Clone, Copy, Debug, PartialEq, Eq)]
+#[derive(Clone, Copy, PartialEq, Eq)]
 pub enum Ending {
     /// It is read to its end.
     Whole,

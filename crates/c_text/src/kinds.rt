@@ -1,7 +1,7 @@
 // The plain kinds of the C subset: unsigned types, literals, operators, linkage, and what an `else` holds.
 
 /// A type of exact width (ISO/IEC 9899:1999, 7.18.1.1).
-#[derive(Clone, Copy, Debug, PartialEq, Eq)]
+#[derive(Clone, Copy, PartialEq, Eq)]
 pub enum CUint {
     /// `uint8_t`
     U8,
@@ -14,7 +14,7 @@ pub enum CUint {
 }
 
 /// A decimal literal with its suffix, which tells its type (6.4.4.1).
-#[derive(Clone, Copy, Debug, PartialEq, Eq)]
+#[derive(Clone, Copy, PartialEq, Eq)]
 pub enum CNumber {
     /// Without a suffix: an `int`, at most 2147483647.
     Int(u32),
@@ -25,7 +25,7 @@ pub enum CNumber {
 }
 
 /// An operator with two operands (6.5.5 to 6.5.14).
-#[derive(Clone, Copy, Debug, PartialEq, Eq)]
+#[derive(Clone, Copy, PartialEq, Eq)]
 pub enum COp {
     /// `+`
     Add,
@@ -66,7 +66,7 @@ pub enum COp {
 }
 
 /// An operator in front of its operand (6.5.3.2, 6.5.3.3). `*` is a form of its own.
-#[derive(Clone, Copy, Debug, PartialEq, Eq)]
+#[derive(Clone, Copy, PartialEq, Eq)]
 pub enum CUnary {
     /// `!`
     Not,
@@ -77,7 +77,7 @@ pub enum CUnary {
 }
 
 /// Where a function can be called from (6.2.2, 6.7.4).
-#[derive(Clone, Copy, Debug, PartialEq, Eq)]
+#[derive(Clone, Copy, PartialEq, Eq)]
 pub enum Linkage {
     /// From any translation unit.
     External,
@@ -88,7 +88,7 @@ pub enum Linkage {
 }
 
 /// What stands behind the block of an `if` (6.8.4.1).
-#[derive(Clone, Copy, Debug, PartialEq, Eq)]
+#[derive(Clone, Copy, PartialEq, Eq)]
 pub enum Otherwise {
     /// No `else`.
     Nothing,

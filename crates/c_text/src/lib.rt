@@ -24,5 +24,3 @@ pub use printing::{print, print_len};
 pub use tokens::{CMark, CWord};
 pub use unit::Unit;
 
-#[cfg(test)]
-mod tests;

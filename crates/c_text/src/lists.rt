@@ -7,7 +7,7 @@ use std::marker::Model;
 use wf_text::NoMemory;
 
 /// Parts of one node, in the order in which they stand in the text.
-#[derive(Debug, Drop)]
+#[derive(Drop)]
 pub struct CList<T> {
     items: Vec<T>,
 }

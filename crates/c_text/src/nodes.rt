@@ -5,7 +5,7 @@ use crate::kinds::{CNumber, COp, CUint, CUnary, Linkage, Otherwise};
 use crate::lists::CList;
 
 /// A type of a value (ISO/IEC 9899:1999, 6.2.5).
-#[derive(Clone, Copy, Debug, PartialEq, Eq)]
+#[derive(Clone, Copy, PartialEq, Eq)]
 pub enum CType {
     /// `uint8_t` to `uint64_t`
     Uint(CUint),
@@ -22,7 +22,7 @@ pub enum CType {
 }
 
 /// A call: the function's name and the arguments (6.5.2.2).
-#[derive(Debug, Drop)]
+#[derive(Drop)]
 pub struct CCall {
     /// The function.
     pub function: CNameId,
@@ -31,7 +31,7 @@ pub struct CCall {
 }
 
 /// An argument of a call.
-#[derive(Clone, Copy, Debug, PartialEq, Eq)]
+#[derive(Clone, Copy, PartialEq, Eq)]
 pub enum CArg {
     /// An expression.
     Expr(CExprId),
@@ -40,7 +40,7 @@ pub enum CArg {
 }
 
 /// An expression. All but literals and the alternatives of an lvalue stand in parentheses of their own.
-#[derive(Debug, Drop)]
+#[derive(Drop)]
 pub enum CExpr {
     /// A literal.
     Number(CNumber),
@@ -102,7 +102,7 @@ pub enum CExpr {
 
 /// A statement, with the rest of its block: `rest` is the number of what follows it there. A label is a
 /// statement of its own, and what it labels is the first statement of its rest.
-#[derive(Debug, Drop)]
+#[derive(Drop)]
 pub enum CStmt {
     /// The end of the block.
     End,
@@ -203,7 +203,7 @@ pub enum CStmt {
 }
 
 /// What a field holds.
-#[derive(Clone, Copy, Debug, PartialEq, Eq)]
+#[derive(Clone, Copy, PartialEq, Eq)]
 pub enum CFieldType {
     /// A value, or values of this type where the field has a length.
     Plain(CType),
@@ -212,7 +212,7 @@ pub enum CFieldType {
 }
 
 /// A field of a struct (6.7.2.1).
-#[derive(Clone, Copy, Debug, PartialEq, Eq)]
+#[derive(Clone, Copy, PartialEq, Eq)]
 pub struct CField {
     /// The field's type.
     pub kind: CFieldType,
@@ -223,7 +223,7 @@ pub struct CField {
 }
 
 /// A parameter of a function.
-#[derive(Clone, Copy, Debug, PartialEq, Eq)]
+#[derive(Clone, Copy, PartialEq, Eq)]
 pub struct CParam {
     /// The parameter's type.
     pub kind: CType,
@@ -232,7 +232,7 @@ pub struct CParam {
 }
 
 /// A local of a function.
-#[derive(Clone, Copy, Debug, PartialEq, Eq)]
+#[derive(Clone, Copy, PartialEq, Eq)]
 pub struct CLocal {
     /// The local's type.
     pub kind: CType,
@@ -243,7 +243,7 @@ pub struct CLocal {
 }
 
 /// An item of a unit (6.9).
-#[derive(Debug, Drop)]
+#[derive(Drop)]
 pub enum CItem {
     /// `typedef struct { fields } name;`
     Struct {

@@ -2,7 +2,7 @@
 
 /// A keyword or type name that the subset uses. No name is spelt like one of these, nor like any other keyword
 /// of C (ISO/IEC 9899:1999, 6.4.1).
-#[derive(Clone, Copy, Debug, PartialEq, Eq)]
+#[derive(Clone, Copy, PartialEq, Eq)]
 pub enum CWord {
     /// `typedef`
     Typedef,
@@ -51,7 +51,7 @@ pub enum CWord {
 }
 
 /// A mark that is no operator with two operands (6.4.6).
-#[derive(Clone, Copy, Debug, PartialEq, Eq)]
+#[derive(Clone, Copy, PartialEq, Eq)]
 pub enum CMark {
     /// `(`
     OpenParen,

@@ -7,7 +7,7 @@ use wf_base::Mark;
 use wf_text::{Place, StructId};
 
 /// A field, an argument or a local, with the place of its name.
-#[derive(Clone, Copy, Debug, PartialEq, Eq)]
+#[derive(Clone, Copy, PartialEq, Eq)]
 pub struct Var {
     pub name: TextId,
     pub ty: Ty,

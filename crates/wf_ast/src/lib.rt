@@ -15,8 +15,6 @@ mod parts;
 pub mod resolved;
 mod sameness;
 pub mod sequences;
-#[cfg(test)]
-mod tests;
 pub mod texts;
 pub mod things;
 pub mod typed;

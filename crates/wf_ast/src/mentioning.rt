@@ -48,34 +48,3 @@ fn is_named(expr: &Expr, ty: Ty, x: Thing) -> bool
         _ => false,
     }
 }
-
-#[cfg(test)]
-mod tests {
-    use super::*;
-    use crate::variables::{FieldId, LocalId};
-    use wf_base::Width;
-
-    // Whether the local with number 1 is what is meant.
-    fn local(ty: Ty, x: Thing) -> bool {
-        let expr = Expr::Local(LocalId(1));
-        is_named(&expr, ty, x)
-    }
-
-    // Whether the field with number 2 is what is meant.
-    fn field(x: Thing) -> bool {
-        let expr = Expr::Field(FieldId(2));
-        is_named(&expr, Ty::Flag, x)
-    }
-
-    #[test]
-    fn nodes_name_things(rt: HostRuntime) {
-        assert!(rt; local(Ty::Flag, Thing::Local(LocalId(1))));
-        assert!(rt; !local(Ty::Flag, Thing::Local(LocalId(2))));
-        assert!(rt; !local(Ty::Flag, Thing::SliceLocals));
-        assert!(rt; local(Ty::Slice(Width::W8), Thing::SliceLocals));
-        assert!(rt; field(Thing::This));
-        assert!(rt; field(Thing::Field(FieldId(2))));
-        assert!(rt; !field(Thing::Field(FieldId(1))));
-        assert!(rt; !field(Thing::Args));
-    }
-}

@@ -2,7 +2,7 @@
 
 /// An operator. The first seven make chains: one operator may stand between any number of operands. Each
 /// other one stands between two.
-#[derive(Clone, Copy, Debug, PartialEq, Eq)]
+#[derive(Clone, Copy, PartialEq, Eq)]
 pub enum Op {
     /// `+`
     Add,

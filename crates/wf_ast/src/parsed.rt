@@ -9,14 +9,14 @@ use crate::sequences::Sequence;
 use wf_text::Place;
 
 /// A name or a quoted text, as it stands in a file.
-#[derive(Clone, Copy, Debug, PartialEq, Eq)]
+#[derive(Clone, Copy, PartialEq, Eq)]
 pub struct Name {
     pub text: TextId,
     pub at: Place,
 }
 
 /// What stands in front of a path's name.
-#[derive(Clone, Copy, Debug, PartialEq, Eq)]
+#[derive(Clone, Copy, PartialEq, Eq)]
 pub enum Root {
     /// Nothing: a local or a constant.
     Bare,
@@ -27,7 +27,7 @@ pub enum Root {
 }
 
 /// A name with what stands in front of it. `at` is the path's first token.
-#[derive(Clone, Copy, Debug, PartialEq, Eq)]
+#[derive(Clone, Copy, PartialEq, Eq)]
 pub struct Path {
     pub root: Root,
     pub name: Name,
@@ -35,7 +35,7 @@ pub struct Path {
 }
 
 /// The mark of a declaration or a call, as it is written.
-#[derive(Clone, Copy, Debug, PartialEq, Eq)]
+#[derive(Clone, Copy, PartialEq, Eq)]
 pub enum WrittenMark {
     /// No mark.
     Unmarked,
@@ -46,14 +46,14 @@ pub enum WrittenMark {
 }
 
 /// What a call is made on. `This` has the place of the word.
-#[derive(Clone, Copy, Debug, PartialEq, Eq)]
+#[derive(Clone, Copy, PartialEq, Eq)]
 pub enum Receiver {
     This(Place),
     Path(Path),
 }
 
 /// An argument of a call, or an expression given to an axiom.
-#[derive(Clone, Copy, Debug, PartialEq, Eq)]
+#[derive(Clone, Copy, PartialEq, Eq)]
 pub struct Given {
     pub name: Name,
     pub value: ExprId,
@@ -69,14 +69,14 @@ pub struct Call {
 }
 
 /// An operator sign of a chain with the operand behind it.
-#[derive(Clone, Copy, Debug, PartialEq, Eq)]
+#[derive(Clone, Copy, PartialEq, Eq)]
 pub struct Link {
     pub sign: Place,
     pub operand: ExprId,
 }
 
 /// What a type may begin with: `slice`, or `array` with its length in brackets.
-#[derive(Clone, Copy, Debug, PartialEq, Eq)]
+#[derive(Clone, Copy, PartialEq, Eq)]
 pub enum Prefix {
     Slice(Place),
     Array { length: ExprId, at: Place },
@@ -84,7 +84,7 @@ pub enum Prefix {
 
 /// What a type ends with: `base.` and a name or the word `status`, or the name of a struct. `at` is the place
 /// of `base`.
-#[derive(Clone, Copy, Debug, PartialEq, Eq)]
+#[derive(Clone, Copy, PartialEq, Eq)]
 pub enum Core {
     Base { name: Name, at: Place },
     BaseStatus { at: Place },
@@ -92,7 +92,7 @@ pub enum Core {
 }
 
 /// The bounds of a refined type. An absent `low` means 0.
-#[derive(Clone, Copy, Debug, PartialEq, Eq)]
+#[derive(Clone, Copy, PartialEq, Eq)]
 pub struct Bounds {
     pub low: Option<ExprId>,
     pub high: ExprId,
@@ -149,7 +149,7 @@ pub struct ExprNode {
 }
 
 /// What is written to. `at` of an element is the place of its `[`.
-#[derive(Clone, Copy, Debug, PartialEq, Eq)]
+#[derive(Clone, Copy, PartialEq, Eq)]
 pub enum Target {
     Path(Path),
     Element {
@@ -174,7 +174,7 @@ pub struct Arm {
 }
 
 /// The kinds of conditions that a loop may promise.
-#[derive(Clone, Copy, Debug, PartialEq, Eq)]
+#[derive(Clone, Copy, PartialEq, Eq)]
 pub enum Clause {
     Pre,
     Inv,
@@ -182,7 +182,7 @@ pub enum Clause {
 }
 
 /// A promise of a loop. `at` is the place of its word.
-#[derive(Clone, Copy, Debug, PartialEq, Eq)]
+#[derive(Clone, Copy, PartialEq, Eq)]
 pub struct LoopClause {
     pub kind: Clause,
     pub condition: ExprId,

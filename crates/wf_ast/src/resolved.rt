@@ -58,7 +58,7 @@ pub struct ExprNode {
 }
 
 /// What a statement calls.
-#[derive(Clone, Copy, Debug, PartialEq, Eq)]
+#[derive(Clone, Copy, PartialEq, Eq)]
 pub enum Callee {
     /// A method of the receiver.
     Own(MethodId),

@@ -3,7 +3,7 @@
 use crate::variables::{ArgId, FieldId, LocalId};
 
 /// A variable, or all of one kind.
-#[derive(Clone, Copy, Debug, PartialEq, Eq)]
+#[derive(Clone, Copy, PartialEq, Eq)]
 pub enum Thing {
     Local(LocalId),
     Field(FieldId),

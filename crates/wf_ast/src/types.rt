@@ -5,7 +5,7 @@ use wf_text::StructId;
 
 /// The type of an expression, a local, an argument, a field or a result. A number's type tells the least and the
 /// greatest number that it holds; an array's tells these of its elements, and how many elements it has.
-#[derive(Clone, Copy, Debug, PartialEq, Eq)]
+#[derive(Clone, Copy, PartialEq, Eq)]
 pub enum Ty {
     Num {
         width: Width,

@@ -8,7 +8,7 @@ use crate::marks::Mark;
 use crate::widths::Width;
 
 /// The kinds of values that have base methods. A slice's and an array's kind tell the width of an element.
-#[derive(Clone, Copy, Debug, PartialEq, Eq)]
+#[derive(Clone, Copy, PartialEq, Eq)]
 pub enum Kind {
     /// `base.io_reader`
     Reader,
@@ -21,7 +21,7 @@ pub enum Kind {
 }
 
 /// The type of an argument of a base method.
-#[derive(Clone, Copy, Debug, PartialEq, Eq)]
+#[derive(Clone, Copy, PartialEq, Eq)]
 pub enum ArgTy {
     U8,
     U32,
@@ -30,7 +30,7 @@ pub enum ArgTy {
 }
 
 /// What a base method gives. A coroutine gives it when it doesn't suspend.
-#[derive(Clone, Copy, Debug, PartialEq, Eq)]
+#[derive(Clone, Copy, PartialEq, Eq)]
 pub enum Gives {
     Nothing,
     Num(Width),
@@ -39,7 +39,7 @@ pub enum Gives {
 
 /// The numbers that can be read: their width, and for more than one byte whether the highest byte comes first
 /// (`Be`) or the lowest (`Le`).
-#[derive(Clone, Copy, Debug, PartialEq, Eq)]
+#[derive(Clone, Copy, PartialEq, Eq)]
 pub enum ReadForm {
     ReadU8,
     ReadU16Be,
@@ -51,7 +51,7 @@ pub enum ReadForm {
 }
 
 /// The numbers that can be looked at without being taken.
-#[derive(Clone, Copy, Debug, PartialEq, Eq)]
+#[derive(Clone, Copy, PartialEq, Eq)]
 pub enum PeekForm {
     PeekU8,
     PeekU16Le,
@@ -59,7 +59,7 @@ pub enum PeekForm {
 }
 
 /// A base method of one kind of value: one row of the table.
-#[derive(Clone, Copy, Debug, PartialEq, Eq)]
+#[derive(Clone, Copy, PartialEq, Eq)]
 pub enum BaseSig {
     /// How many bytes are unread.
     ReaderLength,
@@ -281,51 +281,4 @@ fn with_name(methods: &[BaseSig], name: &[u8]) -> Option<BaseSig>
         .iter()
         .copied()
         .find(|method| method.name().as_bytes() == name)
-}
-
-#[cfg(test)]
-mod tests {
-    use super::*;
-
-    fn is_coroutine(kind: Kind, name: &[u8]) -> bool {
-        match base_method(kind, name) {
-            Some(method) => method.mark() == Mark::Coroutine,
-            None => false,
-        }
-    }
-
-    fn gives_flag(kind: Kind, name: &[u8]) -> bool {
-        match base_method(kind, name) {
-            Some(method) => method.gives() == Gives::Flag && method.mark() == Mark::Pure,
-            None => false,
-        }
-    }
-
-    fn argument(kind: Kind, name: &[u8], i: u32) -> Option<ArgTy> {
-        match base_method(kind, name)?.arg(i) {
-            Some((_, ty)) => Some(ty),
-            None => None,
-        }
-    }
-
-    #[test]
-    fn rows_are_found(rt: HostRuntime) {
-        assert!(rt; is_coroutine(Kind::Reader, b"read_u64be"));
-        assert!(rt; is_coroutine(Kind::Writer, b"write_u8"));
-        assert!(rt; gives_flag(Kind::Reader, b"is_closed"));
-        assert!(rt; gives_flag(Kind::Status, b"is_suspension"));
-        assert!(rt; argument(Kind::Reader, b"skip_u32_fast", 1) == Some(ArgTy::U32));
-        assert!(rt;
-            argument(Kind::Slice(Width::W16), b"copy_from_slice", 0) == Some(ArgTy::SameSlice)
-        );
-    }
-
-    #[test]
-    fn other_rows_are_not(rt: HostRuntime) {
-        assert!(rt; base_method(Kind::Writer, b"is_closed").is_none());
-        assert!(rt; base_method(Kind::Array(Width::W8), b"copy_from_slice").is_none());
-        assert!(rt; base_method(Kind::Reader, b"read_u8be").is_none());
-        assert!(rt; base_method(Kind::Reader, b"").is_none());
-        assert!(rt; argument(Kind::Reader, b"skip_u32_fast", 2).is_none());
-    }
 }

@@ -3,7 +3,7 @@
 use wf_text::{MethodId, StructId};
 
 /// A receiver as a host declares it: of a public struct, and perhaps null.
-#[derive(Clone, Copy, Debug, PartialEq, Eq)]
+#[derive(Clone, Copy, PartialEq, Eq)]
 pub struct ReceiverDecl {
     pub of: StructId,
     pub null: bool,
@@ -11,7 +11,7 @@ pub struct ReceiverDecl {
 
 /// An argument of a public call. `Io` names a buffer and `Bytes` a byte array, by its number from 0; None is
 /// null for a buffer, and the empty slice for bytes.
-#[derive(Clone, Copy, Debug, PartialEq, Eq)]
+#[derive(Clone, Copy, PartialEq, Eq)]
 pub enum Arg {
     Num(u64),
     Flag(bool),
@@ -20,7 +20,7 @@ pub enum Arg {
 }
 
 /// A public call.
-#[derive(Clone, Copy, Debug)]
+#[derive(Clone, Copy)]
 pub struct Call<'a> {
     /// The number of the receiver, from 0.
     pub receiver: u16,

@@ -3,14 +3,10 @@
 #![tactic(auto)]
 
 pub mod actions;
-#[cfg(test)]
-mod buffer_tests;
 pub mod buffers;
 pub mod bufs;
 pub mod calls;
 pub mod engine;
-#[cfg(test)]
-mod engine_tests;
 pub mod outcomes;
 pub mod surfaces;
 pub mod zero_engine;

@@ -3,7 +3,7 @@
 use wf_text::StatusId;
 
 /// What a call answers.
-#[derive(Clone, Copy, Debug, PartialEq, Eq)]
+#[derive(Clone, Copy, PartialEq, Eq)]
 pub enum Outcome {
     /// A status, by its number in the package.
     Status(StatusId),
@@ -15,7 +15,7 @@ pub enum Outcome {
 }
 
 /// How an init or a call ends.
-#[derive(Clone, Copy, Debug, PartialEq, Eq)]
+#[derive(Clone, Copy, PartialEq, Eq)]
 pub enum Reply {
     Done(Outcome),
     /// It needs more turns than it was given.

@@ -10,7 +10,7 @@ use wf_base::Width;
 use wf_text::{MethodId, StructId};
 
 /// The kind of an argument of a public method, its refinement left out.
-#[derive(Clone, Copy, Debug, PartialEq, Eq)]
+#[derive(Clone, Copy, PartialEq, Eq)]
 pub enum ArgKind {
     Number(Width),
     Flag,
@@ -20,7 +20,7 @@ pub enum ArgKind {
 }
 
 /// What a public method answers.
-#[derive(Clone, Copy, Debug, PartialEq, Eq)]
+#[derive(Clone, Copy, PartialEq, Eq)]
 pub enum AnswerKind {
     Status,
     Number(Width),

@@ -8,8 +8,6 @@ pub mod examples;
 pub mod named;
 pub mod nodes;
 pub mod reading;
-#[cfg(test)]
-mod tests;
 
 pub use building::NamedNodes;
 pub use declarations::{NamedConst, NamedMethod, NamedStruct, NamedVar};

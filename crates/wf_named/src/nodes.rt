@@ -8,7 +8,7 @@ use wf_base::{BaseSig, Mark, Width};
 use wf_text::{MethodId, Place, StatusId, StructId};
 
 /// What a path names.
-#[derive(Clone, Copy, Debug, PartialEq, Eq)]
+#[derive(Clone, Copy, PartialEq, Eq)]
 pub enum Variable {
     Const(ConstId),
     Local(LocalId),
@@ -18,14 +18,14 @@ pub enum Variable {
 }
 
 /// A path that stands for what it names. `at` is its first token.
-#[derive(Clone, Copy, Debug, PartialEq, Eq)]
+#[derive(Clone, Copy, PartialEq, Eq)]
 pub struct NamedPath {
     pub of: Variable,
     pub at: Place,
 }
 
 /// A type of the language that has a name behind `base.`.
-#[derive(Clone, Copy, Debug, PartialEq, Eq)]
+#[derive(Clone, Copy, PartialEq, Eq)]
 pub enum BaseType {
     Number(Width),
     /// `base.bool`
@@ -39,7 +39,7 @@ pub enum BaseType {
 }
 
 /// What a type ends with. `at` is the place of `base`, or of the struct's name.
-#[derive(Clone, Copy, Debug, PartialEq, Eq)]
+#[derive(Clone, Copy, PartialEq, Eq)]
 pub enum NamedCore {
     /// `of` is None where the language has no type of this name.
     Base { of: Option<BaseType>, at: Place },
@@ -55,7 +55,7 @@ pub struct NamedType {
 }
 
 /// What is called.
-#[derive(Clone, Copy, Debug, PartialEq, Eq)]
+#[derive(Clone, Copy, PartialEq, Eq)]
 pub enum NamedCallee {
     /// A method of the receiver's own struct.
     Own(MethodId),
@@ -116,7 +116,7 @@ pub struct NamedExprNode {
 }
 
 /// What is written to. `at` of an element is the place of its `[`.
-#[derive(Clone, Copy, Debug, PartialEq, Eq)]
+#[derive(Clone, Copy, PartialEq, Eq)]
 pub enum NamedTarget {
     Path(NamedPath),
     Element {

@@ -1,6 +1,1 @@
-pub mod ArgumentLemmas
-pub mod ListLaws
-pub mod NumberLemmas
-pub mod StmtLemmas
-pub mod TypeLemmas
-pub mod WalkLemmas
+pub mod NamingLemmas

@@ -1,15 +1,4 @@
-// The rules of names: from the parsed tree of a package to the refusal that decides. What each rule asks stands as
-// definitions over the mathematical tree; each pass of this crate is exact against its part of them.
+// The phase of names: a parsed package is refused by the rules of names, or its names are resolved.
 #![tactic(auto)]
 
-pub mod arguments;
-pub mod callees;
-pub mod laws;
-pub mod lists;
-pub mod reserved;
-pub mod seen;
-pub mod sorts;
-pub mod tables;
-pub mod types;
-pub mod walk_exprs;
-pub mod walk_stmts;
+pub mod resolving;

@@ -11,7 +11,7 @@ ghost use Rattle.std.specs.Int.{int_div_euclid};
 ghost use Rattle.wf_num.specs.CArithmetic.{Carries, HasNoQuotient, Overflows, c_difference, c_product, c_quotient, c_remainder, c_result, c_shifted_left, c_shifted_right, c_sum, c_value, c_width};
 
 /// The types in which C computes, once operands are promoted and converted (6.3.1.1, 6.3.1.8).
-#[derive(Clone, Copy, PartialEq, Eq, Debug)]
+#[derive(Clone, Copy, PartialEq, Eq)]
 pub enum CTy {
     /// `int`: 32 bits in two's complement.
     Int,

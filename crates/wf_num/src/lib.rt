@@ -3,10 +3,6 @@
 #![tactic(auto)]
 
 mod c_arithmetic;
-#[cfg(test)]
-mod c_tests;
-#[cfg(test)]
-mod range_tests;
 mod ranges;
 mod spans;
 pub mod trials;

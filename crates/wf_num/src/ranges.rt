@@ -8,7 +8,7 @@ ghost use Rattle.wf_num.specs.Ranges.{Holds, HoldsInt, IsLeastOnes, IsNoWider, I
 use crate::spans::{Span, greatest_and, greatest_or, least_and, least_or};
 
 /// The whole numbers from `lo` to `hi`, both included; none where `lo` is above `hi`.
-#[derive(Clone, Copy, PartialEq, Eq, Debug)]
+#[derive(Clone, Copy, PartialEq, Eq)]
 pub struct Range {
     /// The lower end. It may be negative, as that of a difference.
     pub lo: i128,

@@ -10,7 +10,7 @@ use crate::ranges::Range;
 use crate::spans::Span;
 
 /// The operations on bits whose range is the tight one.
-#[derive(Clone, Copy, PartialEq, Eq, Debug)]
+#[derive(Clone, Copy, PartialEq, Eq)]
 pub enum Bitwise {
     /// `x & y`.
     And,

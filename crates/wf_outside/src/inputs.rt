@@ -4,7 +4,7 @@ ghost use Rattle.std.specs.Prelude.{◌≡◌, ℕ, ◌-◌, ◌^◌, ◌<◌, �
 ghost use Rattle.wf_outside.specs.Inputs.{CountsTake, NamesFailed, Takes, TakesLength};
 
 /// Why an input wasn't taken whole.
-#[derive(Clone, Copy, Debug, PartialEq, Eq)]
+#[derive(Clone, Copy, PartialEq, Eq)]
 pub enum TakeFault {
     /// The input isn't there or couldn't be read. It was counted.
     Failed,

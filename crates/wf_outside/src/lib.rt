@@ -12,8 +12,6 @@ pub mod pure_inputs;
 pub mod pure_sink;
 pub mod sinks;
 pub mod std_sink;
-#[cfg(test)]
-mod tests;
 
 pub use file_inputs::FileInputs;
 pub use inputs::{Inputs, TakeFault};

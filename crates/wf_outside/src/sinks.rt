@@ -4,7 +4,7 @@ ghost use Rattle.std.specs.Prelude.{◌≡◌, ℕ, ◌-◌, ◌^◌, ◌<◌, L
 ghost use Rattle.wf_outside.specs.Sinks.{CountsPut, FitsRoom, longest_with, Puts};
 
 /// A piece wasn't written whole: its first `gone` bytes were, and the fault was counted.
-#[derive(Clone, Copy, Debug, PartialEq, Eq)]
+#[derive(Clone, Copy, PartialEq, Eq)]
 pub struct SinkFault {
     pub gone: usize,
 }

@@ -1,10 +1,10 @@
 -- Open brackets, counted along the stack.
 use Rattle.std.proofs.Common.{◌≡◌, ◌+◌, ℕ, zero, suc, Bool, true, false, Some, List, [], ◌∷◌, drop, sym, ◌∙◌, arith}
 use Rattle.std.specs.List.{slice_get}
-use Rattle.wf_grammar.specs.declared.symbols.Want.{Want}
-use Rattle.wf_grammar.specs.declared.symbols.Want.TheVariants.{Read, Make}
-use Rattle.wf_grammar.specs.Building.{open_wants}
-use Rattle.wf_grammar.specs.Machine.{one_more_if}
+use Rattle.wf_parse_grammar.specs.declared.symbols.Want.{Want}
+use Rattle.wf_parse_grammar.specs.declared.symbols.Want.TheVariants.{Read, Make}
+use Rattle.wf_parse_grammar.specs.Building.{open_wants}
+use Rattle.wf_parse_grammar.specs.Machine.{one_more_if}
 use Rattle.wf_parse.specs.Machines.{want_owes}
 
 pub open_next : (wants : List Want) (i : ℕ) (w : Want) → slice_get wants i ≡ Some w → open_wants (drop i wants) ≡ one_more_if (want_owes w) (open_wants (drop (suc i) wants))

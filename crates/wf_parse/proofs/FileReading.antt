@@ -2,28 +2,28 @@
 use Rattle.std.proofs.Common.{◌≡◌, ◌≤◌, ◌+◌, ◌-◌, ℕ, suc, Option, Result, Ok, Err, List, [], ◌∷◌, drop, length, sym, ◌∙◌, ap, subst, arith, length-drop}
 use Rattle.std.proofs.Math.Seq.{drop-length}
 use Rattle.wf_ast.specs.ParsedParts.{Parsed}
-use Rattle.wf_grammar.specs.declared.tokens.Token.{Token}
-use Rattle.wf_grammar.specs.Building.{Ending, Built}
+use Rattle.wf_parse_grammar.specs.declared.tokens.Token.{Token}
+use Rattle.wf_parse_grammar.specs.Building.{Ending, Built}
 use Rattle.wf_parse.specs.declared.machine.Machine.{Machine}
-use Rattle.wf_maker.specs.declared.maker.Maker.{Maker}
+use Rattle.wf_parse_nodes.specs.declared.maker.Maker.{Maker}
 use Rattle.wf_parse.specs.declared.parsing.FileFault.{FileFault}
 use Rattle.wf_parse.specs.declared.parsing.FileFault.TheVariants as file
-use Rattle.wf_maker.specs.declared.values.Value.{Value}
+use Rattle.wf_parse_nodes.specs.declared.values.Value.{Value}
 use Rattle.wf_parse.specs.Lexing.{ChangesTexts}
 use Rattle.wf_parse.specs.Texts.{with_text}
 use Rattle.wf_parse.proofs.TextNumbers.{with_text-length}
-use Rattle.wf_maker.specs.Makers.{IsSound, nodes}
+use Rattle.wf_parse_nodes.specs.Makers.{IsSound, nodes}
 use Rattle.wf_parse.specs.Machines.{State, file_start, state_of, size}
 use Rattle.wf_parse.specs.Reading.{reading, AnswersOne, AnswersFile}
-use Rattle.wf_maker.specs.Seen.{AreOf, IsOrdered}
-use Rattle.wf_grammar.specs.Values.{Made}
+use Rattle.wf_parse_nodes.specs.Seen.{AreOf, IsOrdered}
+use Rattle.wf_parse_grammar.specs.Values.{Made}
 
 -- A fault of one token is a fault of the file.
 pub file_fault : (first most left : ℕ) (tokens rest ts : List Token) (t : Token) (old now new : State) (fault : FileFault)
     → reading most now.room rest now.wants now.made ≡ reading first old.room tokens old.wants old.made → rest ≡ t ∷ ts → left ≡ suc (length ts)
     → AnswersOne most left t now new (Err fault) → AnswersFile first tokens old new (Err fault)
 file_fault first most left tokens rest ts t old now new (file.Refused rule at) on is count answers =
-    sym on ∙ rw is (answers.1 ts count) ∙ ap (λ n. Rattle.wf_grammar.specs.Building.Refused rule n) (sym answers.0)
+    sym on ∙ rw is (answers.1 ts count) ∙ ap (λ n. Rattle.wf_parse_grammar.specs.Building.Refused rule n) (sym answers.0)
 file_fault first most left tokens rest ts t old now new file.Memory on is count answers = tt
 
 -- All tokens are read.

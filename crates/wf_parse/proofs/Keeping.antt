@@ -1,8 +1,8 @@
 -- What one token leaves as it was, and how little it adds.
 use Rattle.std.proofs.Common.{◌≡◌, ◌≤◌, ◌+◌, Bool, true, false, if◌then◌else◌, Result, Ok, Err, IfOk, OnOk, List, ◌++◌, length, sym, ap, subst, arith, length-append}
-use Rattle.wf_grammar.specs.declared.symbols.Want.{Want}
-use Rattle.wf_maker.specs.declared.maker.Maker.{Maker}
-use Rattle.wf_maker.specs.Makers.{IsSound, nodes}
+use Rattle.wf_parse_grammar.specs.declared.symbols.Want.{Want}
+use Rattle.wf_parse_nodes.specs.declared.maker.Maker.{Maker}
+use Rattle.wf_parse_nodes.specs.Makers.{IsSound, nodes}
 use Rattle.wf_parse.specs.declared.machine.Machine.{Machine}
 use Rattle.wf_parse.specs.declared.machine.StepFault.{StepFault}
 use Rattle.wf_parse.specs.Machines.{size}

@@ -4,9 +4,9 @@ use Rattle.std.specs.List.{slice_get}
 use Rattle.std.proofs.lemmas.Option.{slice_get_within}
 use Rattle.wf_text.specs.declared.rules.Refusal.{Refusal}
 use Rattle.wf_ast.proofs.TreeLemmas.{slice_get-front}
-use Rattle.wf_grammar.specs.declared.tokens.Kind.{Kind}
-use Rattle.wf_grammar.specs.declared.tokens.Kind.TheVariants as kinds
-use Rattle.wf_grammar.specs.declared.tokens.Token.{Token}
+use Rattle.wf_parse_grammar.specs.declared.tokens.Kind.{Kind}
+use Rattle.wf_parse_grammar.specs.declared.tokens.Kind.TheVariants as kinds
+use Rattle.wf_parse_grammar.specs.declared.tokens.Token.{Token}
 use Rattle.wf_tokens.specs.declared.kinds.TokenKind.{TokenKind}
 use Rattle.wf_tokens.specs.declared.kinds.TokenKind.TheVariants as spelt
 use Rattle.wf_tokens.specs.Pieces.{IsText}

@@ -8,14 +8,14 @@ use Rattle.wf_text.specs.declared.rules.Rule.TheVariants.{S5, S6, L3, L4, L5}
 use Rattle.wf_ast.specs.declared.numbers.TextId.{TextId}
 use Rattle.wf_ast.specs.ParsedParts.{AreDistinct}
 use Rattle.wf_ast.specs.ParsedTree.{DeclTree}
-use Rattle.wf_grammar.specs.declared.tokens.Kind.{Kind}
-use Rattle.wf_grammar.specs.declared.tokens.Kind.TheVariants as kinds
-use Rattle.wf_grammar.specs.declared.tokens.Token.{Token}
-use Rattle.wf_grammar.specs.Brackets.{opened, closed}
-use Rattle.wf_grammar.specs.Files.{IsFile, IsLive, IsFirstWrong}
-use Rattle.wf_grammar.specs.Refusals.{IsAccepted, IsRefused, IsTooDeep, IsTooLong}
-use Rattle.wf_grammar.specs.Statements.{is_break, begins_statement, counted, break_from, count_from, ends_in_break, begun}
-use Rattle.wf_grammar.proofs.Verdicts.{accepted-once, accepted-refused, refused-once}
+use Rattle.wf_parse_grammar.specs.declared.tokens.Kind.{Kind}
+use Rattle.wf_parse_grammar.specs.declared.tokens.Kind.TheVariants as kinds
+use Rattle.wf_parse_grammar.specs.declared.tokens.Token.{Token}
+use Rattle.wf_parse_grammar.specs.Brackets.{opened, closed}
+use Rattle.wf_parse_grammar.specs.Files.{IsFile, IsLive, IsFirstWrong}
+use Rattle.wf_parse_grammar.specs.Refusals.{IsAccepted, IsRefused, IsTooDeep, IsTooLong}
+use Rattle.wf_parse_grammar.specs.Statements.{is_break, begins_statement, counted, break_from, count_from, ends_in_break, begun}
+use Rattle.wf_parse_grammar.proofs.Verdicts.{accepted-once, accepted-refused, refused-once}
 use Rattle.wf_tokens.specs.declared.kinds.TokenKind.{TokenKind}
 use Rattle.wf_tokens.specs.declared.kinds.TokenKind.TheVariants as spelt
 use Rattle.wf_tokens.specs.Places.{behind_bytes, first_place}

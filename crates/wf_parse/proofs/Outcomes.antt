@@ -3,18 +3,18 @@ use Rattle.std.proofs.Common.{◌≡◌, ◌≤◌, ◌⊎◌, inl, inr, ℕ, ze
 use Rattle.wf_text.specs.declared.place.Place.{Place}
 use Rattle.wf_text.specs.declared.rules.Rule.{Rule}
 use Rattle.wf_text.specs.declared.rules.Rule.TheVariants.{S5, L3, L4, L5}
-use Rattle.wf_grammar.specs.declared.builds.Build.{Build}
-use Rattle.wf_grammar.specs.declared.builds.Build.TheVariants.{Take, Begin, Enter, Pass, Stop}
-use Rattle.wf_grammar.specs.declared.symbols.Sym.{Sym}
-use Rattle.wf_grammar.specs.declared.symbols.Sym.TheVariants as syms
-use Rattle.wf_grammar.specs.declared.symbols.Want.{Want}
-use Rattle.wf_grammar.specs.declared.symbols.Want.TheVariants.{Read, Make}
-use Rattle.wf_grammar.specs.declared.tokens.Kind.{Kind}
-use Rattle.wf_grammar.specs.declared.tokens.Kind.TheVariants as kinds
-use Rattle.wf_grammar.specs.declared.tokens.Token.{Token}
-use Rattle.wf_grammar.specs.Building.{Ending, Built, Refused, unless, after, step, run, build, skipped, open_wants}
-use Rattle.wf_grammar.specs.Machine.{opens}
-use Rattle.wf_grammar.specs.Values.{Made, perform}
+use Rattle.wf_parse_grammar.specs.declared.builds.Build.{Build}
+use Rattle.wf_parse_grammar.specs.declared.builds.Build.TheVariants.{Take, Begin, Enter, Pass, Stop}
+use Rattle.wf_parse_grammar.specs.declared.symbols.Sym.{Sym}
+use Rattle.wf_parse_grammar.specs.declared.symbols.Sym.TheVariants as syms
+use Rattle.wf_parse_grammar.specs.declared.symbols.Want.{Want}
+use Rattle.wf_parse_grammar.specs.declared.symbols.Want.TheVariants.{Read, Make}
+use Rattle.wf_parse_grammar.specs.declared.tokens.Kind.{Kind}
+use Rattle.wf_parse_grammar.specs.declared.tokens.Kind.TheVariants as kinds
+use Rattle.wf_parse_grammar.specs.declared.tokens.Token.{Token}
+use Rattle.wf_parse_grammar.specs.Building.{Ending, Built, Refused, unless, after, step, run, build, skipped, open_wants}
+use Rattle.wf_parse_grammar.specs.Machine.{opens}
+use Rattle.wf_parse_grammar.specs.Values.{Made, perform}
 use Rattle.wf_parse.specs.Reading.{reading}
 
 abbrev pub Next : Type 0

@@ -12,17 +12,17 @@ use Rattle.wf_text.specs.declared.rules.Rule.{Rule}
 use Rattle.wf_ast.specs.ParsedParts.{Parsed}
 use Rattle.wf_ast.specs.ParsedTree.{DeclTree}
 use Rattle.wf_ast.specs.ParsedTrees.{decl_trees}
-use Rattle.wf_grammar.specs.declared.tokens.Token.{Token}
-use Rattle.wf_grammar.specs.declared.symbols.Sym.TheVariants.{File}
-use Rattle.wf_grammar.specs.declared.symbols.Want.TheVariants.{Read}
-use Rattle.wf_grammar.specs.Building.{Built, Refused}
-use Rattle.wf_grammar.specs.Values.{Made}
+use Rattle.wf_parse_grammar.specs.declared.tokens.Token.{Token}
+use Rattle.wf_parse_grammar.specs.declared.symbols.Sym.TheVariants.{File}
+use Rattle.wf_parse_grammar.specs.declared.symbols.Want.TheVariants.{Read}
+use Rattle.wf_parse_grammar.specs.Building.{Built, Refused}
+use Rattle.wf_parse_grammar.specs.Values.{Made}
 use Rattle.wf_tokens.specs.Places.{behind_bytes, first_place}
 use Rattle.wf_parse.specs.Lexing.{AreTokensOf, IsWholeFile, ChangesTexts}
-use Rattle.wf_maker.specs.declared.maker.Maker.{Maker}
-use Rattle.wf_maker.specs.declared.values.Value.{Value}
-use Rattle.wf_maker.specs.Makers.{KeepsTexts, IsSound, nodes}
-use Rattle.wf_maker.specs.Seen.{AreOf, IsOrdered}
+use Rattle.wf_parse_nodes.specs.declared.maker.Maker.{Maker}
+use Rattle.wf_parse_nodes.specs.declared.values.Value.{Value}
+use Rattle.wf_parse_nodes.specs.Makers.{KeepsTexts, IsSound, nodes}
+use Rattle.wf_parse_nodes.specs.Seen.{AreOf, IsOrdered}
 use Rattle.wf_parse.specs.Parsing.{RefusesFile, ReadsFiles, RefusesFiles, IsRefusedBy, AnswersParse, refusal_of, decls_of}
 use Rattle.wf_parse.specs.Reading.{ReadsOne, AnswersBytes, read_file}
 use Rattle.wf_parse.proofs.Outcomes.{bad_never_built}
@@ -33,7 +33,7 @@ whole_built : (number most : ℕ) (bytes : List ℕ) (known texts : List (List �
     → AreTokensOf number bytes known texts tokens bytes_refused → read_file most tokens before ≡ Built made → IsWholeFile number bytes known texts tokens
 whole_built number most bytes known texts tokens None before made are built = are
 whole_built number most bytes known texts tokens (Some refusal) before made are built =
-    let bad : read_file most (are.front ++ record { kind = Rattle.wf_grammar.specs.declared.tokens.Kind.TheVariants.Bad; at = refusal.at } ∷ []) before ≡ Built made = ap (λ ts. read_file most ts before) (sym are.whole) ∙ built in
+    let bad : read_file most (are.front ++ record { kind = Rattle.wf_parse_grammar.specs.declared.tokens.Kind.TheVariants.Bad; at = refusal.at } ∷ []) before ≡ Built made = ap (λ ts. read_file most ts before) (sym are.whole) ∙ built in
     absurd (bad_never_built most 0 are.front (Read File ∷ []) (record { vals = []; decls = before }) made refusal.at bad)
 
 same_decls : (p q : Parsed) (texts : List (List ℕ)) → q ≡ record p { texts = texts } → decls_of q ≡ decls_of p

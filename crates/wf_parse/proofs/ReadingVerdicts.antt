@@ -6,21 +6,21 @@ use Rattle.wf_text.specs.declared.rules.Rule.TheVariants.{S5, S6, L3, L4, L5}
 use Rattle.wf_ast.specs.declared.operators.Op.TheVariants as ops
 use Rattle.wf_ast.specs.Operators.{same_op}
 use Rattle.wf_ast.specs.ParsedTree.{DeclTree}
-use Rattle.wf_grammar.specs.declared.builds.Build.{Build}
-use Rattle.wf_grammar.specs.declared.builds.Build.TheVariants.{Take, Begin, Enter, Pass, Stop}
-use Rattle.wf_grammar.specs.declared.symbols.Sym.{Sym}
-use Rattle.wf_grammar.specs.declared.symbols.Sym.TheVariants as syms
-use Rattle.wf_grammar.specs.declared.symbols.Want.{Want}
-use Rattle.wf_grammar.specs.declared.symbols.Want.TheVariants.{Read, Make}
-use Rattle.wf_grammar.specs.declared.tokens.Kind.{Kind}
-use Rattle.wf_grammar.specs.declared.tokens.Kind.TheVariants as kinds
-use Rattle.wf_grammar.specs.declared.tokens.Token.{Token}
-use Rattle.wf_grammar.specs.Building.{Ending, Built, Refused, unless, after, step, run, build, skipped, open_wants}
-use Rattle.wf_grammar.specs.Files.{IsLive}
-use Rattle.wf_grammar.specs.Machine.{opens}
-use Rattle.wf_grammar.specs.Refusals.{IsWithin, IsAccepted, IsTooDeep, IsTooLong, IsRefused}
-use Rattle.wf_grammar.specs.Values.{Made, perform}
-use Rattle.wf_grammar.proofs.Verdicts.{built-accepted, built-refused}
+use Rattle.wf_parse_grammar.specs.declared.builds.Build.{Build}
+use Rattle.wf_parse_grammar.specs.declared.builds.Build.TheVariants.{Take, Begin, Enter, Pass, Stop}
+use Rattle.wf_parse_grammar.specs.declared.symbols.Sym.{Sym}
+use Rattle.wf_parse_grammar.specs.declared.symbols.Sym.TheVariants as syms
+use Rattle.wf_parse_grammar.specs.declared.symbols.Want.{Want}
+use Rattle.wf_parse_grammar.specs.declared.symbols.Want.TheVariants.{Read, Make}
+use Rattle.wf_parse_grammar.specs.declared.tokens.Kind.{Kind}
+use Rattle.wf_parse_grammar.specs.declared.tokens.Kind.TheVariants as kinds
+use Rattle.wf_parse_grammar.specs.declared.tokens.Token.{Token}
+use Rattle.wf_parse_grammar.specs.Building.{Ending, Built, Refused, unless, after, step, run, build, skipped, open_wants}
+use Rattle.wf_parse_grammar.specs.Files.{IsLive}
+use Rattle.wf_parse_grammar.specs.Machine.{opens}
+use Rattle.wf_parse_grammar.specs.Refusals.{IsWithin, IsAccepted, IsTooDeep, IsTooLong, IsRefused}
+use Rattle.wf_parse_grammar.specs.Values.{Made, perform}
+use Rattle.wf_parse_grammar.proofs.Verdicts.{built-accepted, built-refused}
 use Rattle.wf_parse.specs.Parsing.{IsPastTokens, IsWrong}
 use Rattle.wf_parse.specs.Reading.{reading, read_file}
 use Rattle.wf_parse.proofs.Outcomes.{Next, Outcome, outcome, reading_built, bad_step}

@@ -5,8 +5,8 @@ use Rattle.std.specs.Option.{option_map_or}
 use Rattle.wf_text.specs.declared.place.Place.{Place}
 use Rattle.wf_text.specs.declared.rules.Refusal.{Refusal}
 use Rattle.wf_text.specs.declared.rules.Rule.{Rule}
-use Rattle.wf_grammar.specs.declared.tokens.Kind.TheVariants as kinds
-use Rattle.wf_grammar.specs.declared.tokens.Token.{Token}
+use Rattle.wf_parse_grammar.specs.declared.tokens.Kind.TheVariants as kinds
+use Rattle.wf_parse_grammar.specs.declared.tokens.Token.{Token}
 use Rattle.wf_tokens.specs.Places.{behind_byte, behind_bytes, first_place}
 use Rattle.wf_tokens.specs.Spelling.{State, Item, Reads, ReadsPiece, MakesSemicolon, ReadsAll, start}
 use Rattle.wf_parse.specs.Lexing.{TokensAre, IsWholeFile, IsFileUpTo, AreTokensOf}

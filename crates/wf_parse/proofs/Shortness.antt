@@ -4,13 +4,13 @@ use Rattle.std.proofs.lemmas.Bool.{leb-true}
 use Rattle.wf_text.specs.declared.place.Place.{Place}
 use Rattle.wf_ast.specs.declared.operators.Op.TheVariants as ops
 use Rattle.wf_ast.specs.Operators.{same_op}
-use Rattle.wf_grammar.specs.declared.builds.Build.{Build}
-use Rattle.wf_grammar.specs.declared.symbols.Action.{Action}
-use Rattle.wf_grammar.specs.declared.symbols.Sym.{Sym}
-use Rattle.wf_grammar.specs.declared.symbols.Sym.TheVariants as syms
-use Rattle.wf_grammar.specs.declared.tokens.Kind.{Kind}
-use Rattle.wf_grammar.specs.declared.tokens.Kind.TheVariants as kinds
-use Rattle.wf_grammar.specs.Building.{build, skips}
+use Rattle.wf_parse_grammar.specs.declared.builds.Build.{Build}
+use Rattle.wf_parse_grammar.specs.declared.symbols.Action.{Action}
+use Rattle.wf_parse_grammar.specs.declared.symbols.Sym.{Sym}
+use Rattle.wf_parse_grammar.specs.declared.symbols.Sym.TheVariants as syms
+use Rattle.wf_parse_grammar.specs.declared.tokens.Kind.{Kind}
+use Rattle.wf_parse_grammar.specs.declared.tokens.Kind.TheVariants as kinds
+use Rattle.wf_parse_grammar.specs.Building.{build, skips}
 use Rattle.wf_parse.specs.Machines.{wanted}
 
 if_short : (b : Bool) (x y : Build) → nat_le (length (wanted x)) 12 ≡ true → nat_le (length (wanted y)) 12 ≡ true → nat_le (length (wanted (if b then x else y))) 12 ≡ true

@@ -3,8 +3,8 @@ use Rattle.std.specs.Prelude.{◌≡◌, ◌-◌, ◌≤◌, ℕ, Some, List, le
 use Rattle.wf_ast.specs.declared.numbers.TextId.{TextId}
 use Rattle.wf_ast.specs.declared.operators.Op.{Op}
 use Rattle.wf_ast.specs.declared.operators.Op.TheVariants as ops
-use Rattle.wf_grammar.specs.declared.tokens.Kind.{Kind}
-use Rattle.wf_grammar.specs.declared.tokens.Kind.TheVariants as kinds
+use Rattle.wf_parse_grammar.specs.declared.tokens.Kind.{Kind}
+use Rattle.wf_parse_grammar.specs.declared.tokens.Kind.TheVariants as kinds
 use Rattle.wf_tokens.specs.declared.kinds.TokenKind.{TokenKind}
 use Rattle.wf_tokens.specs.declared.kinds.TokenKind.TheVariants as spelt
 use Rattle.wf_tokens.specs.declared.symbols.Comparison.{Comparison}

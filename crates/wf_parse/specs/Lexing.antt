@@ -2,8 +2,8 @@
 use Rattle.std.specs.Prelude.{◌≡◌, ℕ, ⊤, Option, None, Some, List, [], ◌∷◌, ◌++◌}
 use Rattle.wf_text.specs.declared.rules.Refusal.{Refusal}
 use Rattle.wf_ast.specs.ParsedParts.{Parsed}
-use Rattle.wf_grammar.specs.declared.tokens.Kind.TheVariants as kinds
-use Rattle.wf_grammar.specs.declared.tokens.Token.{Token}
+use Rattle.wf_parse_grammar.specs.declared.tokens.Kind.TheVariants as kinds
+use Rattle.wf_parse_grammar.specs.declared.tokens.Token.{Token}
 use Rattle.wf_tokens.specs.Spelling.{Item, IsTokensOf, StopsAt}
 use Rattle.wf_parse.specs.Kinds.{KindIs}
 use Rattle.wf_parse.specs.Texts.{texts_behind}

@@ -1,20 +1,20 @@
 -- The parser's machine, step by step against the machine of the grammar.
 use Rattle.std.specs.Prelude.{◌≡◌, ◌+◌, ◌*◌, ℕ, Bool, true, false, ⊤, Result, Ok, Err, List, [], ◌∷◌, length}
-use Rattle.wf_grammar.specs.declared.builds.Build.{Build}
-use Rattle.wf_grammar.specs.declared.builds.Build.TheVariants.{Take, Begin, Enter, Pass, Stop}
-use Rattle.wf_grammar.specs.declared.symbols.Sym.{Sym}
-use Rattle.wf_grammar.specs.declared.symbols.Sym.TheVariants as syms
-use Rattle.wf_grammar.specs.declared.symbols.Want.{Want}
-use Rattle.wf_grammar.specs.declared.symbols.Want.TheVariants.{Read, Make}
-use Rattle.wf_grammar.specs.declared.tokens.Token.{Token}
-use Rattle.wf_grammar.specs.Building as building
-use Rattle.wf_grammar.specs.Building.{Ending, Built, step, after, ends, skipped}
-use Rattle.wf_grammar.specs.Machine.{owes}
-use Rattle.wf_grammar.specs.Values.{Made}
+use Rattle.wf_parse_grammar.specs.declared.builds.Build.{Build}
+use Rattle.wf_parse_grammar.specs.declared.builds.Build.TheVariants.{Take, Begin, Enter, Pass, Stop}
+use Rattle.wf_parse_grammar.specs.declared.symbols.Sym.{Sym}
+use Rattle.wf_parse_grammar.specs.declared.symbols.Sym.TheVariants as syms
+use Rattle.wf_parse_grammar.specs.declared.symbols.Want.{Want}
+use Rattle.wf_parse_grammar.specs.declared.symbols.Want.TheVariants.{Read, Make}
+use Rattle.wf_parse_grammar.specs.declared.tokens.Token.{Token}
+use Rattle.wf_parse_grammar.specs.Building as building
+use Rattle.wf_parse_grammar.specs.Building.{Ending, Built, step, after, ends, skipped}
+use Rattle.wf_parse_grammar.specs.Machine.{owes}
+use Rattle.wf_parse_grammar.specs.Values.{Made}
 use Rattle.wf_parse.specs.declared.machine.Machine.{Machine}
 use Rattle.wf_parse.specs.declared.machine.StepFault.{StepFault}
 use Rattle.wf_parse.specs.declared.machine.StepFault.TheVariants.{Refused, Memory}
-use Rattle.wf_maker.specs.Makers.{made, nodes}
+use Rattle.wf_parse_nodes.specs.Makers.{made, nodes}
 
 -- Where the machine stands: the number of statements that the method in hand may still begin, what is wanted, and what
 -- is made.

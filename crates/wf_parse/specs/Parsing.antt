@@ -10,9 +10,9 @@ use Rattle.wf_text.specs.declared.rules.Rule.TheVariants.{S5, S6, L3, L4, L5}
 use Rattle.wf_ast.specs.ParsedParts.{Parsed}
 use Rattle.wf_ast.specs.ParsedTree.{DeclTree}
 use Rattle.wf_ast.specs.ParsedTrees.{decl_trees}
-use Rattle.wf_grammar.specs.declared.tokens.Token.{Token}
-use Rattle.wf_grammar.specs.Files.{IsLive}
-use Rattle.wf_grammar.specs.Refusals.{IsWithin, IsAccepted, IsRefused}
+use Rattle.wf_parse_grammar.specs.declared.tokens.Token.{Token}
+use Rattle.wf_parse_grammar.specs.Files.{IsLive}
+use Rattle.wf_parse_grammar.specs.Refusals.{IsWithin, IsAccepted, IsRefused}
 use Rattle.wf_tokens.specs.Places.{behind_bytes, first_place}
 use Rattle.wf_parse.specs.Lexing.{IsWholeFile, AreTokensOf}
 

@@ -5,12 +5,12 @@ use Rattle.wf_text.specs.declared.faults.PhaseFault.TheVariants as phase
 use Rattle.wf_text.specs.declared.rules.Rule.TheVariants.{L3}
 use Rattle.wf_ast.specs.ParsedParts.{Parsed}
 use Rattle.wf_ast.specs.ParsedTree.{DeclTree}
-use Rattle.wf_grammar.specs.declared.symbols.Sym.TheVariants.{File}
-use Rattle.wf_grammar.specs.declared.symbols.Want.{Want}
-use Rattle.wf_grammar.specs.declared.symbols.Want.TheVariants.{Read}
-use Rattle.wf_grammar.specs.declared.tokens.Token.{Token}
-use Rattle.wf_grammar.specs.Building.{Ending, Built, Refused, step, ends}
-use Rattle.wf_grammar.specs.Values.{Made}
+use Rattle.wf_parse_grammar.specs.declared.symbols.Sym.TheVariants.{File}
+use Rattle.wf_parse_grammar.specs.declared.symbols.Want.{Want}
+use Rattle.wf_parse_grammar.specs.declared.symbols.Want.TheVariants.{Read}
+use Rattle.wf_parse_grammar.specs.declared.tokens.Token.{Token}
+use Rattle.wf_parse_grammar.specs.Building.{Ending, Built, Refused, step, ends}
+use Rattle.wf_parse_grammar.specs.Values.{Made}
 use Rattle.wf_parse.specs.declared.parsing.FileFault.{FileFault}
 use Rattle.wf_parse.specs.declared.parsing.FileFault.TheVariants as file
 use Rattle.wf_parse.specs.Machines.{State}

@@ -7,7 +7,7 @@ ghost use Rattle.wf_parse.specs.Lexing.{AreTokensOf, ChangesTexts};
 use crate::token_kinds::kind_of;
 use std::alloc::{AllocError, Global};
 use wf_ast::Package;
-use wf_grammar::{Kind, Token};
+use wf_parse_grammar::{Kind, Token};
 use wf_text::{Place, Refusal};
 use wf_tokens::Lexer;
 

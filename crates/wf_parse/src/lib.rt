@@ -6,8 +6,6 @@ pub mod laws;
 pub mod lexing;
 pub mod machine;
 pub mod parsing;
-#[cfg(test)]
-mod tests;
 pub mod token_kinds;
 
 pub use parsing::parse;

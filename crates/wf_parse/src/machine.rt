@@ -4,21 +4,21 @@
 ghost use Rattle.std.specs.Prelude.{◌≡◌, ◌+◌, ◌<◌, ◌≤◌, ◌^◌, ◌⊎◌, if◌then◌else◌, ℕ, List, [], ◌∷◌, ◌++◌, drop, length, true, false, nat_le, IfOk, IfErr, OnOk};
 ghost use Rattle.wf_text.specs.declared.rules.Rule.TheVariants.{S5};
 ghost use Rattle.wf_parse.specs.declared.machine.StepFault.TheVariants.{Refused, Memory};
-ghost use Rattle.wf_grammar.specs.declared.symbols.Want.TheVariants.{Read};
-ghost use Rattle.wf_grammar.specs.declared.builds.Build.TheVariants as builds;
-ghost use Rattle.wf_grammar.specs.Building.{open_wants, build, skipped};
-ghost use Rattle.wf_grammar.specs.Machine.{may_end};
-ghost use Rattle.wf_grammar.specs.Values.{perform};
-ghost use Rattle.wf_maker.specs.Makers.{nodes, IsSound, KeepsTexts, made};
+ghost use Rattle.wf_parse_grammar.specs.declared.symbols.Want.TheVariants.{Read};
+ghost use Rattle.wf_parse_grammar.specs.declared.builds.Build.TheVariants as builds;
+ghost use Rattle.wf_parse_grammar.specs.Building.{open_wants, build, skipped};
+ghost use Rattle.wf_parse_grammar.specs.Machine.{may_end};
+ghost use Rattle.wf_parse_grammar.specs.Values.{perform};
+ghost use Rattle.wf_parse_nodes.specs.Makers.{nodes, IsSound, KeepsTexts, made};
 ghost use Rattle.wf_parse.specs.Machines.{size, state_of, AnswersBuild, AnswersToken, AnswersEnd, want_owes};
 
-use wf_grammar::table::{build, may_end, opens, owes, skips};
-use wf_grammar::{Action, Build, Sym, Token, Want, Wants};
-use wf_maker::{Maker, Stack};
+use wf_parse_grammar::table::{build, may_end, opens, owes, skips};
+use wf_parse_grammar::{Action, Build, Sym, Token, Want, Wants};
+use wf_parse_nodes::{Maker, Stack};
 use wf_text::Rule;
 
 /// Why the machine stops.
-#[derive(Clone, Copy, Debug, PartialEq, Eq)]
+#[derive(Clone, Copy, PartialEq, Eq)]
 pub enum StepFault {
     /// The token breaks a rule.
     Refused(Rule),

@@ -1,7 +1,7 @@
 // Reading a package.
 
 ghost use Rattle.std.specs.Prelude.{◌≡◌, ◌+◌, ◌*◌, ◌<◌, ◌≤◌, ◌^◌, ℕ, List, [], ◌∷◌, drop, length, map, sum_by, IfOk, IfErr, OnOk};
-ghost use Rattle.wf_maker.specs.Makers.{nodes, IsSound, KeepsTexts};
+ghost use Rattle.wf_parse_nodes.specs.Makers.{nodes, IsSound, KeepsTexts};
 ghost use Rattle.wf_parse.specs.Machines.{size, state_of, file_start};
 ghost use Rattle.wf_parse.specs.Parsing.{AnswersParse, refusal_of, place_left, decls_of};
 ghost use Rattle.wf_parse.specs.Reading.{AnswersOne, AnswersFile, AnswersBytes};
@@ -10,15 +10,15 @@ use crate::lexing::{FileTokens, file_tokens};
 use crate::machine::{Machine, StepFault};
 use std::alloc::{AllocError, Global};
 use wf_ast::Package;
-use wf_grammar::{Sym, Token, Want};
-use wf_maker::{Maker, Stack};
+use wf_parse_grammar::{Sym, Token, Want};
+use wf_parse_nodes::{Maker, Stack};
 use wf_text::{PhaseFault, Place, Refusal, Rule};
 
 /// How many tokens the files of a package may have together.
 const MOST_TOKENS: usize = 262144;
 
 /// Why a file isn't read.
-#[derive(Clone, Copy, Debug, PartialEq, Eq)]
+#[derive(Clone, Copy, PartialEq, Eq)]
 pub enum FileFault {
     /// A token breaks a rule. `left` counts the tokens from it on, and is 0 at the file's end.
     Refused { rule: Rule, left: usize },

@@ -8,7 +8,7 @@ ghost use Rattle.wf_parse.specs.Texts.{text_of, with_text};
 
 use std::alloc::AllocError;
 use wf_ast::{Op, Package, TextId};
-use wf_grammar::Kind;
+use wf_parse_grammar::Kind;
 use wf_tokens::{Comparison, Operator, Symbol, Token, TokenKind, Word};
 
 fn word_kind(word: Word) -> Kind

@@ -1,7 +1,7 @@
 // The kinds of statuses.
 
 /// What kind of answer a status is.
-#[derive(Clone, Copy, Debug, PartialEq, Eq)]
+#[derive(Clone, Copy, PartialEq, Eq)]
 pub enum Category {
     /// The status ok, which has no text.
     Fine,

@@ -11,8 +11,6 @@ pub mod place;
 pub mod precedence;
 pub mod rules;
 pub mod status_text;
-#[cfg(test)]
-mod tests;
 
 pub use categories::Category;
 pub use digits::{hex_text, number_text};

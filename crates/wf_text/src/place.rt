@@ -1,7 +1,7 @@
 // A place in the files of a package.
 
 /// Where a token begins, or a refusal stands.
-#[derive(Clone, Copy, Debug, PartialEq, Eq)]
+#[derive(Clone, Copy, PartialEq, Eq)]
 pub struct Place {
     /// The file's number in the order in which the files were named, from 0.
     pub file: u16,

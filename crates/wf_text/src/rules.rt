@@ -7,7 +7,7 @@ use crate::place::Place;
 
 /// A rule or a limit of the language. The letter tells the phase that finds it: S reading, N names, T types,
 /// E effects, B bounds and facts, L limits.
-#[derive(Clone, Copy, Debug, PartialEq, Eq)]
+#[derive(Clone, Copy, PartialEq, Eq)]
 pub enum Rule {
     /// A byte that begins no token.
     S1,
@@ -104,7 +104,7 @@ pub enum Rule {
 }
 
 /// That a package breaks a rule, and where.
-#[derive(Clone, Copy, Debug, PartialEq, Eq)]
+#[derive(Clone, Copy, PartialEq, Eq)]
 pub struct Refusal {
     pub rule: Rule,
     pub at: Place,

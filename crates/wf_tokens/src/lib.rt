@@ -21,5 +21,3 @@ pub use symbols::{Comparison, Operator, Symbol};
 pub use token::Token;
 pub use words::Word;
 
-#[cfg(test)]
-mod tests;

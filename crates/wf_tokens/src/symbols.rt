@@ -6,7 +6,7 @@ ghost use Rattle.wf_tokens.specs.Symbols.{operator_text, assign_text, comparison
 
 /// An operator that takes two numbers and gives a number. Each can stand directly in front of `=`, which
 /// makes an assignment of it.
-#[derive(Clone, Copy, Debug, PartialEq, Eq)]
+#[derive(Clone, Copy, PartialEq, Eq)]
 pub enum Operator {
     /// `+`
     Add,
@@ -43,7 +43,7 @@ pub enum Operator {
 }
 
 /// A comparison of two numbers; the first two also compare statuses.
-#[derive(Clone, Copy, Debug, PartialEq, Eq)]
+#[derive(Clone, Copy, PartialEq, Eq)]
 pub enum Comparison {
     /// `==`
     Equal,
@@ -60,7 +60,7 @@ pub enum Comparison {
 }
 
 /// A symbol of the language.
-#[derive(Clone, Copy, Debug, PartialEq, Eq)]
+#[derive(Clone, Copy, PartialEq, Eq)]
 pub enum Symbol {
     /// `(`
     OpenParen,

@@ -5,7 +5,7 @@ use wf_text::Place;
 
 /// A token with its bytes, borrowed from the file, and the place of the first of them. A semicolon that a line
 /// end adds has no bytes, and its place is the one directly behind the token in front of it.
-#[derive(Clone, Copy, Debug)]
+#[derive(Clone, Copy)]
 pub struct Token<'a> {
     pub kind: TokenKind,
     pub bytes: &'a [u8],

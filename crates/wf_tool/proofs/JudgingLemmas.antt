@@ -14,13 +14,13 @@ use Rattle.wf_named.specs.declared.declarations.NamedMethod.{NamedMethod}
 use Rattle.wf_named.specs.NamedParts.{NamedParts, exprs_of, stmts_of, named_package}
 use Rattle.wf_named.specs.NamedTrees.{method_made}
 use Rattle.wf_named.specs.NamedTree.{NamedPackageTree}
-use Rattle.wf_names.specs.Declarations.{Declared, declared, methods_of}
-use Rattle.wf_naming.specs.Naming.{IsMisnamed, IsResolved}
-use Rattle.wf_resolve.specs.Package.{resolved_methods, resolved_package}
-use Rattle.wf_types.specs.TypeRules.{Breaks}
-use Rattle.wf_elaborated.specs.ElaboratedPackage.{typed_package}
-use Rattle.wf_elaborated.specs.Grammar.{package_by_grammar}
-use Rattle.wf_typing.specs.Typing.{IsMistyped}
+use Rattle.wf_names_rules.specs.Declarations.{Declared, declared, methods_of}
+use Rattle.wf_names.specs.Naming.{IsMisnamed, IsResolved}
+use Rattle.wf_names_resolve.specs.Package.{resolved_methods, resolved_package}
+use Rattle.wf_types_rules.specs.TypeRules.{Breaks}
+use Rattle.wf_typed_tree.specs.ElaboratedPackage.{typed_package}
+use Rattle.wf_typed_tree.specs.Grammar.{package_by_grammar}
+use Rattle.wf_types.specs.Typing.{IsMistyped}
 use Rattle.wf_tool.specs.Built.{first_unbuilt}
 use Rattle.wf_tool.specs.Sizes.{too_large}
 use Rattle.wf_tool.specs.Taken.{Judges, JudgesNamed, JudgesRead}

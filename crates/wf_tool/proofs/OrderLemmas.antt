@@ -4,11 +4,11 @@ use Rattle.wf_text.specs.declared.place.Place.{Place}
 use Rattle.wf_text.specs.declared.rules.Refusal.{Refusal}
 use Rattle.wf_ast.specs.ParsedTree.{DeclTree}
 use Rattle.wf_named.specs.NamedTree.{NamedPackageTree}
-use Rattle.wf_resolve.specs.Package.{resolved_package}
-use Rattle.wf_types.specs.declared.settings.Setting.{Setting}
-use Rattle.wf_types.specs.Parts.{Part, Site, sites}
-use Rattle.wf_types.specs.TypeRules as rules
-use Rattle.wf_types.specs.TypeRules.{IsWrong, Breaks}
+use Rattle.wf_names_resolve.specs.Package.{resolved_package}
+use Rattle.wf_types_rules.specs.declared.settings.Setting.{Setting}
+use Rattle.wf_types_rules.specs.Parts.{Part, Site, sites}
+use Rattle.wf_types_rules.specs.TypeRules as rules
+use Rattle.wf_types_rules.specs.TypeRules.{IsWrong, Breaks}
 
 -- Packages with the same parts break the same rules.
 module _ (p q : NamedPackageTree) (same : sites p ≡ sites q) where

@@ -10,10 +10,10 @@ use Rattle.wf_ast.specs.ParsedTree.{DeclTree, status, constant, structure, metho
 use Rattle.wf_parse.specs.Parsing.{decls_of}
 use Rattle.wf_parse.proofs.DeclPlaces.{decls_have_files}
 use Rattle.wf_parse.proofs.RefusalPlaces.{refusals_have_files}
-use Rattle.wf_places.specs.Places.{DeclIsIn}
-use Rattle.wf_places.proofs.FilePlaces as naming
-use Rattle.wf_places.proofs.FilePlaces.{Below, decls-below}
-use Rattle.wf_type_places.proofs.ReadPlaces as typing
+use Rattle.wf_read_laws.specs.Places.{DeclIsIn}
+use Rattle.wf_read_laws.proofs.FilePlaces as naming
+use Rattle.wf_read_laws.proofs.FilePlaces.{Below, decls-below}
+use Rattle.wf_read_laws.proofs.ReadPlaces as typing
 use Rattle.wf_tokens.specs.Places.{first_place}
 use Rattle.wf_tool.specs.Answer.{AreHeld}
 use Rattle.wf_tool.specs.Built.{has_statement, if_stated, unbuilt, first_unbuilt}

@@ -7,10 +7,10 @@ use Rattle.wf_ast.specs.ParsedParts.{Parsed}
 use Rattle.wf_ast.specs.ParsedTree.{DeclTree}
 use Rattle.wf_parse.specs.Parsing.{IsParsed, decls_of}
 use Rattle.wf_parse.proofs.OneReadings.{trees_unique, one_refusal, read_or_misread}
-use Rattle.wf_names.specs.Declarations.{declared}
-use Rattle.wf_names.specs.NameRules as names
-use Rattle.wf_resolve.specs.Package.{resolved_package}
-use Rattle.wf_types.specs.TypeRules as types
+use Rattle.wf_names_rules.specs.Declarations.{declared}
+use Rattle.wf_names_rules.specs.NameRules as names
+use Rattle.wf_names_resolve.specs.Package.{resolved_package}
+use Rattle.wf_types_rules.specs.TypeRules as types
 use Rattle.wf_tool.specs.Built.{first_unbuilt, method_count}
 use Rattle.wf_tool.specs.Verdict as verdicts
 use Rattle.wf_tool.specs.Verdict.{BreaksNames, BreaksTypes, IsAccepted, IsMisread, IsMisnamed, IsMistyped, IsUnbuilt, IsRefused, VerdictsExclude, large, misread, misnamed, mistyped}

@@ -5,7 +5,7 @@ use Rattle.wf_text.specs.declared.place.Place.{Place}
 use Rattle.wf_text.specs.declared.rules.Refusal.{Refusal}
 use Rattle.wf_text.specs.declared.rules.Rule.TheVariants.{N9}
 use Rattle.wf_ast.specs.ParsedTree.{StmtTree, var, BlockTree, close, more_stmts, DeclTree, method}
-use Rattle.wf_names.specs.Declarations.{methods_of}
+use Rattle.wf_names_rules.specs.Declarations.{methods_of}
 
 -- A `var` declares a local, and isn't counted as a statement here.
 abbrev pub declares_local : StmtTree → Bool

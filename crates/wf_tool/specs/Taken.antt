@@ -9,7 +9,7 @@ use Rattle.wf_ast.specs.ParsedParts.{Parsed}
 use Rattle.wf_parse.specs.Parsing.{decls_of}
 use Rattle.wf_tokens.specs.Places.{first_place}
 use Rattle.wf_named.specs.NamedTree.{NamedPackageTree}
-use Rattle.wf_types.specs.TypeRules.{Breaks}
+use Rattle.wf_types_rules.specs.TypeRules.{Breaks}
 use Rattle.wf_tool.specs.declared.taking.TakingFault.{TakingFault}
 use Rattle.wf_tool.specs.declared.taking.TakingFault.TheVariants.{Refused, Failed, Memory}
 use Rattle.wf_tool.specs.Answer.{AreHeld, FailsAt, file_name}

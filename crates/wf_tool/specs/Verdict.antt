@@ -4,11 +4,11 @@ use Rattle.wf_text.specs.declared.rules.Refusal.{Refusal}
 use Rattle.wf_text.specs.Precedence.{IsFirst}
 use Rattle.wf_ast.specs.ParsedParts.{Parsed}
 use Rattle.wf_parse.specs.Parsing.{IsParsed, IsRefusedBy, decls_of}
-use Rattle.wf_names.specs.Declarations.{declared}
-use Rattle.wf_names.specs.NameRules as names
+use Rattle.wf_names_rules.specs.Declarations.{declared}
+use Rattle.wf_names_rules.specs.NameRules as names
 use Rattle.wf_named.specs.NamedTree.{NamedPackageTree}
-use Rattle.wf_resolve.specs.Package.{resolved_package}
-use Rattle.wf_types.specs.TypeRules as types
+use Rattle.wf_names_resolve.specs.Package.{resolved_package}
+use Rattle.wf_types_rules.specs.TypeRules as types
 use Rattle.wf_tool.specs.Built.{first_unbuilt, method_count}
 use Rattle.wf_tool.specs.Sizes.{too_large}
 

@@ -4,12 +4,12 @@ ghost use Rattle.std.specs.Prelude.{◌≡◌, ◌-◌, ◌^◌, ◌<◌, ◌≤
 ghost use Rattle.wf_ast.specs.StatementOrder.{stand_in_order};
 ghost use Rattle.wf_parse.specs.Parsing.{decls_of};
 ghost use Rattle.wf_named.specs.NamedParts.{named_package};
-ghost use Rattle.wf_resolve.specs.Package.{resolved_package};
-ghost use Rattle.wf_elaborated.specs.ElaboratedPackage.{typed_package};
-ghost use Rattle.wf_elaborated.specs.Grammar.{package_by_grammar};
+ghost use Rattle.wf_names_resolve.specs.Package.{resolved_package};
+ghost use Rattle.wf_typed_tree.specs.ElaboratedPackage.{typed_package};
+ghost use Rattle.wf_typed_tree.specs.Grammar.{package_by_grammar};
 ghost use Rattle.wf_text.specs.Precedence.{Decides};
-ghost use Rattle.wf_types.specs.TypeRules.{Breaks};
-ghost use Rattle.wf_typing.specs.Typing.{IsMistyped};
+ghost use Rattle.wf_types_rules.specs.TypeRules.{Breaks};
+ghost use Rattle.wf_types.specs.Typing.{IsMistyped};
 ghost use Rattle.wf_tool.specs.Built.{first_unbuilt};
 ghost use Rattle.wf_tool.specs.Sizes.{too_large, too_many};
 ghost use Rattle.wf_tool.specs.Taken.{CountsTaking, Judges, JudgesNamed, JudgesPackage, JudgesRead, NamesFailed};
@@ -19,11 +19,11 @@ use crate::taking::{TakingFault, first_place, take_files};
 use std::alloc::Global;
 use wf_ast::Package;
 use wf_named::Named;
-use wf_naming::resolving::resolve;
+use wf_names::resolving::resolve;
 use wf_outside::Inputs;
 use wf_parse::parse;
 use wf_text::{PhaseFault, Refusal, Rule};
-use wf_typing::typing::type_check;
+use wf_types::typing::type_check;
 
 /// How many files a package may have.
 const MOST_FILES: usize = 16;

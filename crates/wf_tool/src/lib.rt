@@ -4,30 +4,12 @@
 #![tactic(auto)]
 
 mod building;
-#[cfg(test)]
-mod call_tests;
-#[cfg(test)]
-mod constant_tests;
-#[cfg(test)]
-mod declared_type_tests;
 pub mod ending;
 mod judging;
 mod laws;
 mod lines;
-#[cfg(test)]
-mod operand_tests;
-#[cfg(test)]
-mod result_tests;
-#[cfg(test)]
-mod statement_tests;
 mod taking;
-#[cfg(test)]
-mod tests;
 pub mod tool;
-#[cfg(test)]
-mod type_tests;
-#[cfg(test)]
-mod typed_tests;
 mod words;
 
 pub use ending::Ending;

@@ -11,7 +11,7 @@ use wf_outside::{Inputs, TakeFault};
 use wf_text::{Place, Refusal, Rule};
 
 /// Why files aren't taken, or a package isn't accepted.
-#[derive(Clone, Copy, Debug)]
+#[derive(Clone, Copy)]
 pub enum TakingFault {
     /// They break a rule.
     Refused(Refusal),

@@ -7,7 +7,7 @@ ghost use Rattle.wf_tool.specs.Answer.{file_name};
 ghost use Rattle.wf_tool.specs.Words.{is_between, is_package_byte, is_package_name, to_check};
 
 /// A package that is to be checked: its name, and the names of its files in order.
-#[derive(Clone, Copy, Debug)]
+#[derive(Clone, Copy)]
 pub struct ToCheck<'a> {
     pub package: &'a str,
     pub files: &'a [String],

@@ -1,1 +1,6 @@
-pub mod FirstBreakLaws
+pub mod BodyLemmas
+pub mod DeclaredLemmas
+pub mod LocalLemmas
+pub mod NodePlaces
+pub mod PackageLaws
+pub mod TypedLaws

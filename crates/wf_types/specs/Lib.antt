@@ -1,9 +1,4 @@
-pub mod DeclaredTypes
-pub mod Examples
-pub mod ExprTypes
-pub mod FirstBreak
-pub mod Judgements
-pub mod Meanings
-pub mod Operands
-pub mod Parts
-pub mod TypeRules
+pub mod Bodies
+pub mod DeclaredNodes
+pub mod Locals
+pub mod Typing

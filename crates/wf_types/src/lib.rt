@@ -1,11 +1,9 @@
-// The rules of types and effects over resolved packages, as definitions: what a package breaks and where, and which
-// refusal decides. The notions that code shares with them are types of this crate.
+// The phase of types: a resolved package is refused by the rules of types and effects, or becomes its typed tree.
 #![tactic(auto)]
 
-pub mod examples;
-pub mod laws;
-pub mod meanings;
-pub mod settings;
-
-pub use meanings::{Constant, Meaning, MethodType, Operand};
-pub use settings::{Role, Setting};
+pub mod bodies;
+pub mod declared;
+pub mod declaring;
+pub mod locals;
+pub mod texts;
+pub mod typing;

@@ -1,5 +1,5 @@
 use Rattle.std.proofs.Common.{[], ◌∷◌, ◌<◌, length, refl, arith, ap, length-append}
-use Rattle.wf_grammar.specs.declared.tokens.Token.{Token}
+use Rattle.wf_parse_grammar.specs.declared.tokens.Token.{Token}
 use Rattle.wf_tokens.specs.Spelling.{item_of, Reads, left}
 use Rattle.wf_parse.proofs.Lexed.{lexed_more}
 use Rattle.wf_parse.proofs.FileReading.{changes_more, joins_one}

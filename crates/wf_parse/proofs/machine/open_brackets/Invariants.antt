@@ -1,5 +1,5 @@
 use Rattle.std.proofs.Common.{◌≡◌, ◌≤◌, ◌+◌, ◌-◌, drop}
-use Rattle.wf_grammar.specs.Building.{open_wants}
+use Rattle.wf_parse_grammar.specs.Building.{open_wants}
 use Rattle.wf_parse.proofs.machine.open_brackets.Given as goal
 
 abbrev pub invariant-loop-depth : goal.invariant-loop-depth

@@ -1,5 +1,5 @@
 use Rattle.std.proofs.Common.{◌≡◌, ◌≤◌, ◌+◌, ◌-◌, ◌*◌, length, drop, map}
-use Rattle.wf_maker.specs.Makers.{nodes, IsSound}
+use Rattle.wf_parse_nodes.specs.Makers.{nodes, IsSound}
 use Rattle.wf_parse.proofs.PackageReading.{Leads, bytes_from}
 use Rattle.wf_parse.proofs.parsing.parse.Given as goal
 

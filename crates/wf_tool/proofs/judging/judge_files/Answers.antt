@@ -1,7 +1,7 @@
 use Rattle.std.proofs.Common.{map, arith}
-use Rattle.wf_places.proofs.DeclCounts.{decls_are_few}
-use Rattle.wf_ascending.proofs.TypedOrder.{read_packages_stand_in_order}
-use Rattle.wf_well_formed.proofs.ReadPackages.{packages_resolve_by_grammar}
+use Rattle.wf_read_laws.proofs.DeclCounts.{decls_are_few}
+use Rattle.wf_read_laws.proofs.TypedOrder.{read_packages_stand_in_order}
+use Rattle.wf_read_laws.proofs.ReadPackages.{packages_resolve_by_grammar}
 use Rattle.wf_tool.proofs.JudgingLemmas.{read-judged}
 use Rattle.wf_tool.proofs.TakingLemmas.{sized-bytes}
 use Rattle.wf_tool.proofs.judging.judge_files.Goals as goal

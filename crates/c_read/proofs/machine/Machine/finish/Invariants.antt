@@ -1,6 +1,6 @@
 use Rattle.std.proofs.Common.{◌≡◌, length}
-use Rattle.c_grammar.specs.Feeding.{ends}
-use Rattle.c_maker.specs.Makers.{made, IsFit}
+use Rattle.c_read_grammar.specs.Feeding.{ends}
+use Rattle.c_read_nodes.specs.Makers.{made, IsFit}
 use Rattle.c_read.proofs.machine.Machine.finish.Given as goal
 
 abbrev pub invariant-loop-want : goal.invariant-loop-want

@@ -1,6 +1,6 @@
 use Rattle.std.proofs.Common.{refl, length, ◌-◌}
 use Rattle.std.proofs.lemmas.Result.{IfOk-weaker}
-use Rattle.c_tokens.specs.Kinds.{token_of}
+use Rattle.c_read_tokens.specs.Kinds.{token_of}
 use Rattle.c_read.specs.Reading.{StepsThere, StepsOn}
 use Rattle.c_read.proofs.ReadLaws.{next_ends, next_steps, next_bare, behind_within}
 use Rattle.c_read.proofs.machine.Machine.next.Goals as goal

@@ -1,7 +1,7 @@
 use Rattle.std.proofs.Common.{◌≤◌, length}
-use Rattle.c_grammar.specs.Progress.{ReadSoFar}
+use Rattle.c_read_grammar.specs.Progress.{ReadSoFar}
 use Rattle.c_read.specs.Machines.{state_of}
-use Rattle.c_maker.specs.Makers.{IsFit}
+use Rattle.c_read_nodes.specs.Makers.{IsFit}
 use Rattle.c_read.proofs.machine.Machine.read_body.Given as goal
 
 abbrev pub invariant-loop-ending : goal.invariant-loop-ending

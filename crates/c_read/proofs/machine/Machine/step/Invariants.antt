@@ -1,7 +1,7 @@
 use Rattle.std.proofs.Common.{◌≡◌, length}
-use Rattle.c_grammar.specs.Feeding.{feed}
-use Rattle.c_tokens.specs.Kinds.{token_of}
-use Rattle.c_maker.specs.Makers.{made, IsFit}
+use Rattle.c_read_grammar.specs.Feeding.{feed}
+use Rattle.c_read_tokens.specs.Kinds.{token_of}
+use Rattle.c_read_nodes.specs.Makers.{made, IsFit}
 use Rattle.c_read.proofs.machine.Machine.step.Given as goal
 
 abbrev pub invariant-loop-want : goal.invariant-loop-want

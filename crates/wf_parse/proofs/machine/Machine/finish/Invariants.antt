@@ -1,6 +1,6 @@
 use Rattle.std.proofs.Common.{◌≡◌, ◌≤◌, length}
-use Rattle.wf_grammar.specs.Building.{ends}
-use Rattle.wf_maker.specs.Makers.{made, IsSound, KeepsTexts}
+use Rattle.wf_parse_grammar.specs.Building.{ends}
+use Rattle.wf_parse_nodes.specs.Makers.{made, IsSound, KeepsTexts}
 use Rattle.wf_parse.specs.Machines.{size}
 use Rattle.wf_parse.proofs.machine.Machine.finish.Given as goal
 

@@ -1,5 +1,5 @@
 use Rattle.std.proofs.Common.{◌≤◌, length, subst}
-use Rattle.wf_grammar.specs.declared.builds.Build.{Build}
+use Rattle.wf_parse_grammar.specs.declared.builds.Build.{Build}
 use Rattle.wf_parse.specs.Machines.{wanted}
 use Rattle.wf_parse.proofs.Shortness.{few_wanted}
 use Rattle.wf_parse.proofs.Keeping.{sound_kept, taken_size}

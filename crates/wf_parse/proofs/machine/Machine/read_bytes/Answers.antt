@@ -1,5 +1,5 @@
 use Rattle.std.proofs.Common.{◌≡◌, ◌-◌, length, refl, rules}
-use Rattle.wf_maker.specs.Makers.{made}
+use Rattle.wf_parse_nodes.specs.Makers.{made}
 use Rattle.wf_parse.specs.Parsing.{refusal_of}
 use Rattle.wf_parse.proofs.FileReading.{texts_sound}
 use Rattle.wf_parse.proofs.PackageReading.{read_one, refuse_one}

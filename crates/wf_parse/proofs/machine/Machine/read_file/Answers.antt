@@ -1,5 +1,5 @@
 use Rattle.std.proofs.Common.{arith, ◌+◌, ◌≡◌}
-use Rattle.wf_maker.specs.Makers.{nodes}
+use Rattle.wf_parse_nodes.specs.Makers.{nodes}
 use Rattle.wf_parse.specs.Machines.{size}
 use Rattle.wf_parse.proofs.FileReading.{start_sound, start_size}
 use Rattle.wf_parse.proofs.machine.Machine.read_file.Goals as goal

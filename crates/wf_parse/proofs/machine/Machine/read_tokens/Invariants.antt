@@ -1,5 +1,5 @@
 use Rattle.std.proofs.Common.{◌≡◌, ◌≤◌, ◌+◌, ◌-◌, ◌*◌, length, drop}
-use Rattle.wf_maker.specs.Makers.{made, IsSound, KeepsTexts}
+use Rattle.wf_parse_nodes.specs.Makers.{made, IsSound, KeepsTexts}
 use Rattle.wf_parse.specs.Machines.{size}
 use Rattle.wf_parse.specs.Reading.{reading}
 use Rattle.wf_parse.proofs.machine.Machine.read_tokens.Given as goal

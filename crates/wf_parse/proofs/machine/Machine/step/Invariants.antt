@@ -1,5 +1,5 @@
 use Rattle.std.proofs.Common.{◌≤◌, length}
-use Rattle.wf_maker.specs.Makers.{IsSound, KeepsTexts}
+use Rattle.wf_parse_nodes.specs.Makers.{IsSound, KeepsTexts}
 use Rattle.wf_parse.specs.Machines.{size, state_of, GoesOn}
 use Rattle.wf_parse.proofs.machine.Machine.step.Given as goal
 

@@ -1,5 +1,0 @@
-use Rattle.c_grammar.proofs.OneOutcome.{one-outcome}
-use Rattle.c_grammar.proofs.laws.bytes_have_one_outcome.Goals as goal
-
-pub returns : goal.returns
-returns c bytes a b x y = one-outcome bytes a b x y

@@ -1,5 +1,0 @@
-use Rattle.c_grammar.proofs.ReadsItems.{reads-unit}
-use Rattle.c_grammar.proofs.laws.every_text_is_read.Goals as goal
-
-pub returns : goal.returns
-returns c unit l = reads-unit unit l

@@ -1,0 +1,209 @@
+// The shapes of values, and which values the actions take from the top of the stack.
+
+ghost use Rattle.std.specs.Prelude.{◌≡◌, slice_get};
+ghost use Rattle.c_read_nodes.specs.Shapes.{is_shape, is_shape_at, fits, takes_expr, takes_type, takes_stmt, takes_item, takes, is_plain};
+
+use crate::stack::Stack;
+use crate::values::Value;
+use c_read_grammar::{Action, ExprAction, ItemAction, StmtAction, TypeAction};
+use c_text::CType;
+
+/// The shape of a value: its variant, with what an action asks of it.
+#[derive(Clone, Copy, PartialEq, Eq)]
+pub enum Shape {
+    Name,
+    Number,
+    Text,
+    Expr,
+    Operation,
+    Args,
+    Type,
+    UintType,
+    Block,
+    Code,
+    Statement,
+    Arm,
+    Field,
+    Fields,
+    SomeFields,
+    Outcome,
+    Params,
+    Locals,
+    Unit,
+}
+
+/// Whether a value has this shape.
+fn is_shape(shape: Shape, value: &Value) -> bool
+    ensures { result ≡ is_shape shape value.now }
+{
+    match (shape, value) {
+        (Shape::Name, Value::Name(_)) => true,
+        (Shape::Number, Value::Number(_)) => true,
+        (Shape::Text, Value::Text(_)) => true,
+        (Shape::Expr, Value::Expr(_)) => true,
+        (Shape::Operation, Value::Operation(_)) => true,
+        (Shape::Args, Value::Args(_)) => true,
+        (Shape::Type, Value::Type(_)) => true,
+        (Shape::UintType, Value::Type(CType::Uint(_))) => true,
+        (Shape::Block, Value::Block) => true,
+        (Shape::Code, Value::Code(_)) => true,
+        (Shape::Statement, Value::Statement(_)) => true,
+        (Shape::Arm, Value::Arm(_)) => true,
+        (Shape::Field, Value::Field(_)) => true,
+        (Shape::Fields, Value::Fields(_)) => true,
+        (Shape::SomeFields, Value::Fields(fields)) => !fields.as_slice().is_empty(),
+        (Shape::Outcome, Value::Outcome(_)) => true,
+        (Shape::Params, Value::Params(_)) => true,
+        (Shape::Locals, Value::Locals(_)) => true,
+        (Shape::Unit, Value::Unit) => true,
+        _ => false,
+    }
+}
+
+/// Whether the value so far below the top has this shape.
+fn has_shape(values: &Stack<Value>, depth: usize, shape: Shape) -> bool
+    ensures { result ≡ is_shape_at shape (slice_get values.now depth) }
+{
+    match values.get(depth) {
+        Some(value) => is_shape(shape, value),
+        None => false,
+    }
+}
+
+/// The shape at this place, if there is one.
+fn shape_at(shapes: &[Shape], place: usize) -> Option<Shape>
+    ensures { result ≡ slice_get shapes.now place }
+{
+    shapes.get(place).copied()
+}
+
+/// Whether the topmost values have these shapes, the topmost first.
+pub fn fits(shapes: &[Shape], values: &Stack<Value>) -> bool
+    ensures { result ≡ fits shapes.now values.now }
+{
+    let mut depth: usize = 0;
+    while let Some(shape) = shape_at(shapes, depth) {
+        if !has_shape(values, depth, shape) {
+            return false;
+        }
+        depth += 1;
+    }
+    true
+}
+
+/// The shapes of the values that an action takes, the topmost first.
+fn takes_expr(action: ExprAction) -> &'static [Shape]
+    ensures { result.now ≡ takes_expr action }
+{
+    match action {
+        ExprAction::MakeVariable => &[Shape::Name],
+        ExprAction::MakeNumber => &[Shape::Number],
+        ExprAction::MakeMember => &[Shape::Name, Shape::Expr],
+        ExprAction::MakeElement => &[Shape::Expr, Shape::Expr],
+        ExprAction::MakePointed => &[Shape::Expr],
+        ExprAction::StartOperation => &[Shape::Expr, Shape::Expr],
+        ExprAction::AddOperand => &[Shape::Expr, Shape::Operation],
+        ExprAction::MakeOperation(_) => &[Shape::Operation],
+        ExprAction::MakeUnary(_) => &[Shape::Expr],
+        ExprAction::MakeCast => &[Shape::Expr, Shape::Type],
+        ExprAction::MakeChoice => &[Shape::Expr, Shape::Expr, Shape::Expr],
+        ExprAction::MakeCalled => &[Shape::Args, Shape::Name],
+        ExprAction::StartArgs => &[],
+        ExprAction::AddArg => &[Shape::Expr, Shape::Args],
+        ExprAction::AddSizeof => &[Shape::Name, Shape::Args],
+        ExprAction::MakeVariableBelow => &[],
+    }
+}
+
+/// The shapes of the values that an action takes, the topmost first.
+fn takes_type(action: TypeAction) -> &'static [Shape]
+    ensures { result.now ≡ takes_type action }
+{
+    match action {
+        TypeAction::MakeUint(_) => &[],
+        TypeAction::MakeUintPointer => &[Shape::UintType],
+        TypeAction::MakeSize => &[],
+        TypeAction::MakeBool => &[],
+        TypeAction::MakeStructPointer => &[Shape::Name],
+        TypeAction::MakeText => &[],
+    }
+}
+
+/// The shapes of the values that an action takes, the topmost first.
+fn takes_stmt(action: StmtAction) -> &'static [Shape]
+    ensures { result.now ≡ takes_stmt action }
+{
+    match action {
+        StmtAction::StartBlock => &[],
+        StmtAction::MakeNested => &[Shape::Code],
+        StmtAction::MakeEmpty => &[],
+        StmtAction::MakeAssign => &[Shape::Expr, Shape::Expr],
+        StmtAction::MakeCall => &[Shape::Args, Shape::Name],
+        StmtAction::MakeCallInto => &[Shape::Args, Shape::Name, Shape::Expr],
+        StmtAction::MakeGoto => &[Shape::Name],
+        StmtAction::AddArm => &[Shape::Code, Shape::Expr],
+        StmtAction::MakeWhile => &[Shape::Code, Shape::Expr],
+        StmtAction::MakeSwitch => &[Shape::Code, Shape::Expr],
+        StmtAction::MakeReturn => &[],
+        StmtAction::MakeReturnValue => &[Shape::Expr],
+        StmtAction::MakeCase => &[Shape::Number],
+        StmtAction::MakeDefault => &[],
+        StmtAction::MakeLabel => &[Shape::Name],
+        StmtAction::EndBlock => &[],
+        StmtAction::MakeIf => &[],
+    }
+}
+
+/// The shapes of the values that an action takes, the topmost first.
+fn takes_item(action: ItemAction) -> &'static [Shape]
+    ensures { result.now ≡ takes_item action }
+{
+    match action {
+        ItemAction::StartFields => &[],
+        ItemAction::MakeField => &[Shape::Name, Shape::Type],
+        ItemAction::MakeStructField => &[Shape::Name, Shape::Name],
+        ItemAction::SetCount => &[Shape::Number, Shape::Field],
+        ItemAction::AddField => &[Shape::Field, Shape::Fields],
+        ItemAction::MakeStruct => &[Shape::Name, Shape::SomeFields, Shape::Unit],
+        ItemAction::MakeTextItem => &[Shape::Text, Shape::Name, Shape::Unit],
+        ItemAction::MakeResult(_) => &[Shape::Type],
+        ItemAction::MakeVoid(_) => &[],
+        ItemAction::StartParams => &[],
+        ItemAction::AddParam => &[Shape::Name, Shape::Type, Shape::Params],
+        ItemAction::StartLocals => &[],
+        ItemAction::AddLocal => &[Shape::Name, Shape::Type, Shape::Locals],
+        ItemAction::AddInitialLocal => &[Shape::Expr, Shape::Name, Shape::Type, Shape::Locals],
+        ItemAction::MakeFunction => &[
+            Shape::Code,
+            Shape::Locals,
+            Shape::Params,
+            Shape::Name,
+            Shape::Outcome,
+            Shape::Unit,
+        ],
+    }
+}
+
+/// The shapes of the values that an action takes, the topmost first.
+pub fn takes(action: Action) -> &'static [Shape]
+    ensures { result.now ≡ takes action }
+{
+    match action {
+        Action::Expr(action) => takes_expr(action),
+        Action::Type(action) => takes_type(action),
+        Action::Stmt(action) => takes_stmt(action),
+        Action::Item(action) => takes_item(action),
+    }
+}
+
+/// Whether an action takes a fixed number of values from the top.
+pub fn is_plain(action: Action) -> bool
+    ensures { result ≡ is_plain action }
+{
+    !matches!(
+        action,
+        Action::Expr(ExprAction::MakeVariableBelow)
+            | Action::Stmt(StmtAction::EndBlock)
+            | Action::Stmt(StmtAction::MakeIf)
+    )
+}

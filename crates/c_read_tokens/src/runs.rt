@@ -1,0 +1,80 @@
+// Classes of bytes, and how many bytes of a class stand in front.
+
+ghost use Rattle.std.specs.Prelude.{◌≡◌, ◌≤◌, length, take, drop, true, false};
+ghost use Rattle.std.specs.List.{list_all};
+ghost use Rattle.c_text.specs.CSpelling.{begins_name, is_word_byte, is_string_byte, is_gap_byte, is_between};
+ghost use Rattle.c_read_grammar.specs.FirstToken.{begins};
+
+/// A letter or `_`.
+pub fn begins_name(byte: u8) -> bool
+    ensures { result ≡ begins_name byte }
+{
+    matches!(byte, b'a'..=b'z' | b'A'..=b'Z' | b'_')
+}
+
+/// A decimal digit.
+pub fn is_digit(byte: u8) -> bool
+    ensures { result ≡ is_between 48 57 byte }
+{
+    matches!(byte, b'0'..=b'9')
+}
+
+/// A byte of names, words and literals.
+pub fn is_word_byte(byte: u8) -> bool
+    ensures { result ≡ is_word_byte byte }
+{
+    begins_name(byte) || is_digit(byte)
+}
+
+/// A byte that may stand in a string.
+fn is_string_byte(byte: u8) -> bool
+    ensures { result ≡ is_string_byte byte }
+{
+    matches!(byte, b' '..=b'~') && (byte != b'"' && byte != b'\\')
+}
+
+/// A byte between tokens.
+fn is_gap_byte(byte: u8) -> bool
+    ensures { result ≡ is_gap_byte byte }
+{
+    byte == b' ' || byte == b'\n'
+}
+
+/// How many bytes of a word stand in front.
+pub fn word_len(bytes: &[u8]) -> usize
+    ensures within { result ≤ length bytes.now }
+    ensures run { list_all is_word_byte (take result bytes.now) ≡ true }
+    ensures whole { begins is_word_byte (drop result bytes.now) ≡ false }
+{
+    let mut len = 0;
+    while len < bytes.len() && is_word_byte(bytes[len]) {
+        len += 1;
+    }
+    len
+}
+
+/// How many bytes that may stand in a string stand in front.
+pub fn string_len(bytes: &[u8]) -> usize
+    ensures within { result ≤ length bytes.now }
+    ensures run { list_all is_string_byte (take result bytes.now) ≡ true }
+    ensures whole { begins is_string_byte (drop result bytes.now) ≡ false }
+{
+    let mut len = 0;
+    while len < bytes.len() && is_string_byte(bytes[len]) {
+        len += 1;
+    }
+    len
+}
+
+/// How many bytes of a gap stand in front.
+pub fn gap_len(bytes: &[u8]) -> usize
+    ensures within { result ≤ length bytes.now }
+    ensures run { list_all is_gap_byte (take result bytes.now) ≡ true }
+    ensures whole { begins is_gap_byte (drop result bytes.now) ≡ false }
+{
+    let mut len = 0;
+    while len < bytes.len() && is_gap_byte(bytes[len]) {
+        len += 1;
+    }
+    len
+}

@@ -1,0 +1,10 @@
+// Graphs over numbers, each walked once: an order in which each number stands behind those that it goes to, and the
+// numbers that have a way back to themselves.
+#![tactic(auto)]
+
+pub mod circles;
+mod labels;
+pub mod laws;
+pub mod order;
+mod turned;
+mod walk;

@@ -1,5 +1,0 @@
-use Rattle.wf_ascending.proofs.TypedOrder.{read_packages_stand_in_order}
-use Rattle.wf_ascending.proofs.laws.statements_of_a_read_package_stand_in_order.Goals as goal
-
-pub returns : goal.returns
-returns c = read_packages_stand_in_order

@@ -1,3 +1,0 @@
-pub mod ReadOrder
-pub mod StatementPlaces
-pub mod TypedOrder

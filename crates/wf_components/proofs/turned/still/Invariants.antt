@@ -1,6 +1,0 @@
-use Rattle.std.proofs.Common.{◌≡◌, ℕ, false, length}
-use Rattle.wf_names.specs.Graphs.{goes}
-use Rattle.wf_components.proofs.turned.still.Given as goal
-
-abbrev pub invariant-loop-number : goal.invariant-loop-number
-invariant-loop-number l = (length l.rows.items ≡ l._number) × ((a b : ℕ) → goes l.rows.items a b ≡ false)

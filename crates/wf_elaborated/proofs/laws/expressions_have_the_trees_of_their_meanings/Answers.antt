@@ -1,5 +1,0 @@
-use Rattle.wf_elaborated.proofs.ExprLaws.{expr-means}
-use Rattle.wf_elaborated.proofs.laws.expressions_have_the_trees_of_their_meanings.Goals as goal
-
-pub returns : goal.returns
-returns c names s context agree e m g n h = expr-means names s context agree e m g n h

@@ -1,5 +1,0 @@
-use Rattle.wf_elaborated.proofs.BlockLaws.{package-keeps}
-use Rattle.wf_elaborated.proofs.laws.typed_packages_keep_the_rules.Goals as goal
-
-pub returns : goal.returns
-returns c p none named g = package-keeps p none named g

@@ -1,4 +1,0 @@
-use Rattle.wf_known.proofs.uses.constant_decl.Goals as goal
-
-pub returns-in-Const-clause-constants : goal.returns-in-Const-clause-constants
-returns-in-Const-clause-constants c = rw c.in-Const.is c.constant_next.ensures.constants

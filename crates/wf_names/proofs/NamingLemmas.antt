@@ -1,0 +1,47 @@
+-- A package that breaks no rule of names has an order of its methods, and is well named.
+use Rattle.std.proofs.Common.{◌≡◌, ℕ, ◌+◌, ◌≤◌, ◌<◌, true, List, [], ◌∷◌, None, length, nat_eq, refl, sym, ap, ◌∙◌, subst}
+use Rattle.wf_text.specs.declared.rules.Refusal.{Refusal}
+use Rattle.wf_text.specs.Precedence.{Decides}
+use Rattle.wf_ast.specs.ParsedParts.{Parsed}
+use Rattle.wf_ast.specs.ParsedTree.{DeclTree}
+use Rattle.wf_ast.specs.ParsedTrees.{decl_trees}
+use Rattle.wf_named.specs.NamedParts.{NamedParts, named_package}
+use Rattle.wf_named.specs.NamedTree.{NamedPackageTree}
+use Rattle.wf_named.specs.WellNamed.{well_named}
+use Rattle.wf_names_rules.specs.Declarations.{Declared, declared, methods_of}
+use Rattle.wf_names_rules.specs.NameRules.{Breaks, DeclarationBreaks, UseBreaks, CircleBreaks, by_declaration, by_use, by_circle}
+use Rattle.wf_names_scopes.specs.Agreeing.{package_of}
+use Rattle.wf_names_cycles.specs.Called.{AreRows}
+use Rattle.wf_names_resolve.specs.Package.{resolved_package}
+use Rattle.graphs.specs.Orders.{IsOrder, HasCircle}
+use Rattle.wf_names_laws.proofs.FrontLemmas.{calls-open, circle-breaks, order-front, order-long, rows-few}
+use Rattle.wf_names_laws.specs.Ordered.{HasOrder}
+use Rattle.wf_names_laws.proofs.PackageLaws.{package-named}
+use Rattle.wf_names.specs.Naming.{IsResolved}
+
+-- The graph of its calls is small and has no circle.
+pub calls-few : (d : Declared) (rows : List (List ℕ)) → Decides (Breaks d) None → AreRows d rows (length d.methods) → length rows ≤ 1024
+calls-few d rows kept made = rows-few d rows made (λ s broken. kept s (by_declaration s broken))
+
+pub no-circle : (d : Declared) (rows : List (List ℕ)) → Decides (Breaks d) None → AreRows d rows (length d.methods) → HasCircle rows → ⊥
+no-circle d rows kept made circle = let broken = circle-breaks d rows made circle in kept broken.0 (by_circle broken.0 broken.1)
+
+-- And an order of that graph is one of the resolved package.
+pub order-kept : (name : List ℕ) (texts : List (List ℕ)) (decls : List DeclTree) (order : List ℕ) (rows : List (List ℕ)) → Decides (Breaks (declared texts decls)) None
+    → AreRows (declared texts decls) rows (length (declared texts decls).methods) → IsOrder rows order → HasOrder (resolved_package name texts decls order)
+order-kept name texts decls order rows kept made ordered = record {
+  long = order-long texts decls name order rows made ordered;
+  in_front = order-front texts decls name order rows made ordered (calls-open (declared texts decls) (λ s broken. kept s (by_use s broken)));
+}
+
+-- The resolved tree of such a package, with such an order, is what its names stand for, and is well named.
+pub tree-resolved : (p : Parsed) (nodes : NamedParts) (order : List ℕ) → Decides (Breaks (package_of p)) None
+    → HasOrder (resolved_package p.name p.texts (decl_trees p.exprs p.stmts p.decls) order)
+    → named_package nodes ≡ resolved_package p.name p.texts (decl_trees p.exprs p.stmts p.decls) order → IsResolved p nodes
+tree-resolved p nodes order kept ordered made = record { kept = kept; order = order; tree = made; ordered = subst HasOrder (sym made) ordered }
+
+pub resolved-named : (p : Parsed) (nodes : NamedParts) → IsResolved p nodes → well_named (named_package nodes) ≡ true
+resolved-named p nodes resolved =
+    let ds = decl_trees p.exprs p.stmts p.decls in
+    let P : NamedPackageTree → Type 0 = λ t. well_named t ≡ true in
+    subst P (sym resolved.tree) (package-named p.name p.texts ds resolved.order resolved.kept (subst HasOrder resolved.tree resolved.ordered))

@@ -1,7 +1,0 @@
-use Rattle.std.proofs.Common.{◌≡◌, drop, nat_eq, not}
-use Rattle.std.specs.List.{list_any}
-use Rattle.wf_names.proofs.arguments.any_outside.Given as goal
-
-abbrev pub invariant-loop-text : goal.invariant-loop-text
-invariant-loop-text l =
-    list_any (λ text. not (list_any (nat_eq text) l.given.keys)) (drop l.text-index l.wanted) ≡ list_any (λ text. not (list_any (nat_eq text) l.given.keys)) l.wanted

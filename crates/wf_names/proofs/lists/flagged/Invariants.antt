@@ -1,8 +1,0 @@
-use Rattle.std.proofs.Common.{◌≡◌, drop}
-use Rattle.wf_text.specs.Precedence.{soonest}
-use Rattle.wf_names.specs.Passes.{flagged_from}
-use Rattle.wf_names.proofs.lists.flagged.Given as goal
-
-abbrev pub invariant-loop-name : goal.invariant-loop-name
-invariant-loop-name l =
-    (l.a ≡ l.name-index) × (soonest l.found (flagged_from l.a l.flags (drop l.name-index l.names)) ≡ soonest l.fn.found (flagged_from 0 l.flags l.names))

@@ -1,6 +1,0 @@
-use Rattle.std.proofs.Common.{◌≡◌, drop, false}
-use Rattle.wf_names.specs.Reserved.{ends_behind}
-use Rattle.wf_names.proofs.reserved.ends.Given as goal
-
-abbrev pub invariant-loop-byte : goal.invariant-loop-byte
-invariant-loop-byte l = ends_behind l.last (drop l.byte-index l.name) ≡ ends_behind false l.name

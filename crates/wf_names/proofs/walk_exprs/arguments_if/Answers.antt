@@ -1,9 +1,0 @@
-use Rattle.wf_ast.specs.ParsedTrees.{expr_trees}
-use Rattle.wf_names.proofs.WalkLemmas.{given_names_same}
-use Rattle.wf_names.proofs.walk_exprs.arguments_if.Goals as goal
-
-pub returns-then-known : goal.returns-then-known
-returns-then-known c =
-    let h = rw c.as_slice.ensures at c.arguments.ensures in
-    let names = given_names_same (expr_trees c.args.parsed.now.exprs) c.args.call.now.args in
-    rw c.if-known.true (rw names at h)

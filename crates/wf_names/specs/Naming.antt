@@ -1,0 +1,26 @@
+-- What the phase of names answers of a parsed package.
+use Rattle.std.specs.Prelude.{◌≡◌, ℕ, ⊤, List}
+use Rattle.wf_text.specs.declared.faults.PhaseFault.{PhaseFault}
+use Rattle.wf_text.specs.declared.faults.PhaseFault.TheVariants as phase
+use Rattle.wf_text.specs.declared.rules.Refusal.{Refusal}
+use Rattle.wf_text.specs.Precedence.{IsFirst}
+use Rattle.wf_ast.specs.ParsedParts.{Parsed}
+use Rattle.wf_ast.specs.ParsedTrees.{decl_trees}
+use Rattle.wf_named.specs.NamedParts.{NamedParts, named_package}
+use Rattle.wf_names_rules.specs.NameRules.{Breaks}
+use Rattle.wf_names_scopes.specs.Agreeing.{package_of}
+use Rattle.wf_names_resolve.specs.Package.{resolved_package}
+use Rattle.wf_names_laws.specs.Ordered.{HasOrder}
+
+-- A package is refused by what decides of all that it breaks of the rules of names. Want of memory says nothing of it.
+abbrev pub IsMisnamed : Parsed → PhaseFault → Type 0
+IsMisnamed parsed (phase.Refused refusal) = IsFirst (Breaks (package_of parsed)) refusal
+IsMisnamed parsed phase.Memory = ⊤
+
+-- A package breaks no rule of names, and this is its resolved tree: every name stands for what it names. The order has
+-- the numbers of all methods, and each method calls only those in front of it.
+pub record IsResolved (parsed : Parsed) (named : NamedParts) : Type 0 where
+  pub kept : (refusal : Refusal) → Breaks (package_of parsed) refusal → ⊥
+  pub order : List ℕ
+  pub tree : named_package named ≡ resolved_package parsed.name parsed.texts (decl_trees parsed.exprs parsed.stmts parsed.decls) order
+  pub ordered : HasOrder (named_package named)

@@ -1,0 +1,11 @@
+use Rattle.std.proofs.Common.{◌≡◌, drop}
+use Rattle.wf_ast.specs.ParsedTrees.{expr_trees, clauses_at}
+use Rattle.wf_names_rules.specs.Uses.{clause_uses}
+use Rattle.wf_names_rules.specs.Tables.{known_by}
+use Rattle.wf_names_cycles.specs.Called.{with_calls}
+use Rattle.wf_names_cycles.proofs.collect_stmts.collect_clauses.Given as goal
+
+abbrev pub invariant-loop-clause : goal.invariant-loop-clause
+invariant-loop-clause l =
+    with_calls (known_by l.parsed.texts l.tables l.scope) l.row (clause_uses (clauses_at (expr_trees l.parsed.exprs) (drop l.clause-index l.clauses)))
+    ≡ with_calls (known_by l.parsed.texts l.tables l.scope) l.fn.row (clause_uses (clauses_at (expr_trees l.parsed.exprs) l.clauses))

@@ -1,0 +1,12 @@
+use Rattle.std.proofs.Common.{◌≡◌, drop}
+use Rattle.wf_ast.specs.ParsedTrees.{expr_trees, fields_at}
+use Rattle.wf_names_rules.specs.Declarations.{variables}
+use Rattle.wf_names_rules.specs.Uses.{variable_uses}
+use Rattle.wf_names_rules.specs.Tables.{known_by}
+use Rattle.wf_names_cycles.specs.Called.{with_calls}
+use Rattle.wf_names_cycles.proofs.methods.collect_fields.Given as goal
+
+abbrev pub invariant-loop-field : goal.invariant-loop-field
+invariant-loop-field l =
+    with_calls (known_by l.parsed.texts l.tables l.scope) l.row (variable_uses (variables (fields_at (expr_trees l.parsed.exprs) (drop l.field-index l.fields))))
+    ≡ with_calls (known_by l.parsed.texts l.tables l.scope) l.fn.row (variable_uses (variables (fields_at (expr_trees l.parsed.exprs) l.fields)))

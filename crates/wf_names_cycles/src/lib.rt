@@ -1,0 +1,10 @@
+// Which structs hold themselves and which methods can reach themselves by calls: the rule N4 of names, over the
+// graphs of the structs and of the methods of a parsed package.
+#![tactic(auto)]
+
+pub mod circling;
+pub mod collect_exprs;
+pub mod collect_stmts;
+pub mod laws;
+pub mod methods;
+pub mod structs;

@@ -1,0 +1,155 @@
+// The graph of the methods of a package, which call each other, and what its circles break.
+
+ghost use Rattle.std.specs.Prelude.{◌≡◌, ◌<◌, ◌-◌, ◌^◌, ◌++◌, [], ◌∷◌, length, IfOk, OnOk};
+ghost use Rattle.wf_ast.specs.ParsedTrees.{expr_trees, stmt_trees, fields_at, result_at, decl_made, decls_made, decl_trees};
+ghost use Rattle.wf_ast.specs.ParsedParts.{FieldsBelow, ResultBelow, BlockBelow};
+ghost use Rattle.wf_names_rules.specs.Declarations.{declared, variables, methods_of};
+ghost use Rattle.wf_names_rules.specs.Uses.{variable_uses, result_uses};
+ghost use Rattle.wf_names_rules.specs.Tables.{known_by};
+ghost use Rattle.wf_names_rules.specs.NameRules.{CircleBreaks};
+ghost use Rattle.wf_names_cycles.specs.Called.{with_calls, called_in, node_uses, AreRows, method_names as names_of_methods};
+ghost use Rattle.wf_names_cycles.specs.Circling.{DecidesWith, CallsItself};
+
+use crate::circling::circling;
+use crate::collect_exprs::collect_type;
+use crate::collect_stmts::collect_block;
+use crate::structs::struct_circles;
+use std::alloc::Global;
+use wf_ast::parsed::{Block, Decl, DeclNode, Field, Name, TypeExpr};
+use wf_ast::{Package, Sequence};
+use wf_names_rules::tables::{Scope, Tables};
+use wf_text::faults::NoMemory;
+use wf_text::rules::Refusal;
+
+fn collect_fields(
+    row: &mut Sequence<usize>,
+    parsed: &Package,
+    tables: &Tables,
+    scope: &Scope,
+    fields: &[Field],
+) -> Result<(), NoMemory>
+    requires { FieldsBelow (length parsed.now.exprs) fields.now }
+    ensures { OnOk result (row.new ≡ with_calls (known_by parsed.now.texts tables.now scope.now) row.old (variable_uses (variables (fields_at (expr_trees parsed.now.exprs) fields.now)))) }
+{
+    for field in fields {
+        match collect_type(row, parsed, tables, scope, &field.of) {
+            Ok(()) => {}
+            Err(fault) => return Err(fault),
+        }
+    }
+    Ok(())
+}
+
+fn collect_result(
+    row: &mut Sequence<usize>,
+    parsed: &Package,
+    tables: &Tables,
+    scope: &Scope,
+    gives: &Option<TypeExpr>,
+) -> Result<(), NoMemory>
+    requires { ResultBelow (length parsed.now.exprs) gives.now }
+    ensures { OnOk result (row.new ≡ with_calls (known_by parsed.now.texts tables.now scope.now) row.old (result_uses (result_at (expr_trees parsed.now.exprs) gives.now))) }
+{
+    match gives {
+        Some(of) => collect_type(row, parsed, tables, scope, of),
+        None => Ok(()),
+    }
+}
+
+/// The methods that a method calls, by their numbers, in the order of its calls and each as often as it is called:
+/// in the types of its arguments and of its result, and in its body. `scope` is what is known in the method. `Err`
+/// where memory was refused. The time is that of one walk over the method.
+pub fn method_row(
+    alloc: Global,
+    parsed: &Package,
+    tables: &Tables,
+    scope: &Scope,
+    args: &[Field],
+    gives: &Option<TypeExpr>,
+    body: &Block,
+) -> Result<Sequence<usize>, NoMemory>
+    requires args { FieldsBelow (length parsed.now.exprs) args.now }
+    requires gives { ResultBelow (length parsed.now.exprs) gives.now }
+    requires body { BlockBelow (length parsed.now.stmts) body.now }
+    ensures { IfOk result (λ row. row ≡ called_in (known_by parsed.now.texts tables.now scope.now) (node_uses (expr_trees parsed.now.exprs) (stmt_trees parsed.now.exprs parsed.now.stmts) args.now gives.now body.now)) }
+{
+    let mut row = Sequence::new(alloc);
+    match collect_fields(&mut row, parsed, tables, scope, args) {
+        Ok(()) => {}
+        Err(fault) => return Err(fault),
+    }
+    match collect_result(&mut row, parsed, tables, scope, gives) {
+        Ok(()) => {}
+        Err(fault) => return Err(fault),
+    }
+    match collect_block(&mut row, parsed, tables, scope, body) {
+        Ok(()) => Ok(row),
+        Err(fault) => Err(fault),
+    }
+}
+
+fn add_name(names: &mut Vec<Name>, decl: &Decl) -> Result<(), NoMemory>
+    ensures { OnOk result ((es : _) (ts : _) (public : _) (at : _) → names.new.items ≡ names.old.items ++ names_of_methods (methods_of (decl_made es ts public decl.now at ∷ []))) }
+{
+    match decl {
+        Decl::Method { name, .. } => match names.push(*name) {
+            Ok(()) => Ok(()),
+            Err(_) => Err(NoMemory),
+        },
+        Decl::Status(_) => Ok(()),
+        Decl::Const { .. } => Ok(()),
+        Decl::Struct { .. } => Ok(()),
+    }
+}
+
+/// The names of the methods that are declared, in order. `Err` where memory was refused.
+pub fn method_names(alloc: Global, decls: &[DeclNode]) -> Result<Vec<Name>, NoMemory>
+    ensures { IfOk result (λ names. (es : _) (ts : _) → names.items ≡ names_of_methods (methods_of (decls_made es ts decls.now))) }
+{
+    let mut names = Vec::new(alloc);
+    for node in decls {
+        match add_name(&mut names, &node.decl) {
+            Ok(()) => {}
+            Err(fault) => return Err(fault),
+        }
+    }
+    Ok(names)
+}
+
+/// What decides of what was found before and of N4 at each method that can reach itself by calls. `rows` has for
+/// each method, in order, those that it calls, as `method_row` makes them. `Err` where memory was refused. The time
+/// is in proportion to the methods and all their calls.
+pub fn method_circles(
+    alloc: Global,
+    found: Option<Refusal>,
+    parsed: &Package,
+    rows: &[Sequence<usize>],
+) -> Result<Option<Refusal>, NoMemory>
+    requires few { length parsed.now.decls < 2 ^ 32 - 1 }
+    requires rows { AreRows (declared parsed.now.texts (decl_trees parsed.now.exprs parsed.now.stmts parsed.now.decls)) rows.now (length (methods_of (decl_trees parsed.now.exprs parsed.now.stmts parsed.now.decls))) }
+    ensures { IfOk result (λ all. DecidesWith (CallsItself (declared parsed.now.texts (decl_trees parsed.now.exprs parsed.now.stmts parsed.now.decls))) found all) }
+{
+    match method_names(alloc, parsed.decls()) {
+        Ok(names) => circling(alloc, found, rows, names.as_slice()),
+        Err(fault) => Err(fault),
+    }
+}
+
+/// What decides of what was found before and of N4 at structs that hold themselves and methods that can reach
+/// themselves by calls. `rows` has for each method, in order, those that it calls, as `method_row` makes them. `Err`
+/// where memory was refused.
+pub fn name_circles(
+    alloc: Global,
+    found: Option<Refusal>,
+    parsed: &Package,
+    rows: &[Sequence<usize>],
+) -> Result<Option<Refusal>, NoMemory>
+    requires few { length parsed.now.decls < 2 ^ 32 - 1 }
+    requires rows { AreRows (declared parsed.now.texts (decl_trees parsed.now.exprs parsed.now.stmts parsed.now.decls)) rows.now (length (methods_of (decl_trees parsed.now.exprs parsed.now.stmts parsed.now.decls))) }
+    ensures { IfOk result (λ all. DecidesWith (CircleBreaks (declared parsed.now.texts (decl_trees parsed.now.exprs parsed.now.stmts parsed.now.decls))) found all) }
+{
+    match struct_circles(alloc, found, parsed) {
+        Ok(found) => method_circles(alloc, found, parsed, rows),
+        Err(fault) => Err(fault),
+    }
+}

@@ -1,0 +1,173 @@
+// The graph of the structs of a package: which holds which, by the types of their fields.
+
+ghost use Rattle.std.specs.Prelude.{◌≡◌, ◌<◌, ◌-◌, ◌^◌, ◌++◌, [], ◌∷◌, ℕ, length, nat_eq, IfOk, OnOk};
+ghost use Rattle.indexmap.specs.IndexMap.{get};
+ghost use Rattle.wf_ast.specs.ParsedTrees.{type_at, core_at, fields_at, decl_made, decls_made, decl_trees};
+ghost use Rattle.wf_names_rules.specs.Declarations.{declared, variables, structs_of};
+ghost use Rattle.wf_names_cycles.specs.Circling.{DecidesWith, HoldsItself};
+ghost use Rattle.wf_names_cycles.specs.Held.{number_of, names_of, one_number, held_by, held_in, held_rows};
+
+use crate::circling::circling;
+use indexmap::IndexMap;
+use std::alloc::Global;
+use wf_ast::parsed::{Core, Decl, DeclNode, Field, Name, TypeExpr};
+use wf_ast::{Package, Sequence};
+use wf_text::faults::NoMemory;
+use wf_text::rules::Refusal;
+
+fn add_name(names: &mut Vec<Name>, decl: &Decl) -> Result<(), NoMemory>
+    ensures { OnOk result ((es : _) (ts : _) (public : _) (at : _) → names.new.items ≡ names.old.items ++ names_of (structs_of (decl_made es ts public decl.now at ∷ []))) }
+{
+    match decl {
+        Decl::Struct { name, .. } => match names.push(*name) {
+            Ok(()) => Ok(()),
+            Err(_) => Err(NoMemory),
+        },
+        Decl::Status(_) => Ok(()),
+        Decl::Const { .. } => Ok(()),
+        Decl::Method { .. } => Ok(()),
+    }
+}
+
+/// The names of the structs that are declared, in order. `Err` where memory was refused.
+pub fn struct_names(alloc: Global, decls: &[DeclNode]) -> Result<Vec<Name>, NoMemory>
+    ensures { IfOk result (λ names. (es : _) (ts : _) → names.items ≡ names_of (structs_of (decls_made es ts decls.now))) }
+{
+    let mut names = Vec::new(alloc);
+    for node in decls {
+        match add_name(&mut names, &node.decl) {
+            Ok(()) => {}
+            Err(fault) => return Err(fault),
+        }
+    }
+    Ok(names)
+}
+
+/// The number of each name, from 0, by its text; of names that are spelt alike that of the first. `Err` where
+/// memory was refused.
+pub fn numbered(alloc: Global, names: &[Name]) -> Result<IndexMap<u32, usize>, NoMemory>
+    ensures { IfOk result (λ table. (text : ℕ) → get nat_eq table text ≡ number_of names.now text) }
+{
+    let mut table = IndexMap::new(alloc);
+    let mut number = 0;
+    for name in names {
+        if !table.contains_key(&name.text.0) {
+            match table.insert(name.text.0, number) {
+                Ok(_) => {}
+                Err(_) => return Err(NoMemory),
+            }
+        }
+        number += 1;
+    }
+    Ok(table)
+}
+
+// The struct that a type is.
+fn held(numbers: &IndexMap<u32, usize>, of: &TypeExpr) -> Option<usize>
+    ensures { (es : _) → one_number result ≡ held_by (get nat_eq numbers.now) (type_at es of.now) }
+{
+    match of.prefixes.as_slice() {
+        [] => match of.core {
+            Core::Struct(name) => numbers.get(&name.text.0).copied(),
+            Core::Base { .. } => None,
+            Core::BaseStatus { .. } => None,
+        },
+        _ => None,
+    }
+}
+
+// Joins a number at the end of a row, if there is one.
+fn add_number(row: &mut Sequence<usize>, number: Option<usize>) -> Result<(), NoMemory>
+    ensures { OnOk result (row.new ≡ row.old ++ one_number number) }
+{
+    match number {
+        Some(number) => match row.push(number) {
+            Ok(()) => Ok(()),
+            Err(_) => Err(NoMemory),
+        },
+        None => Ok(()),
+    }
+}
+
+// The structs that fields hold.
+fn struct_row(
+    alloc: Global,
+    numbers: &IndexMap<u32, usize>,
+    fields: &[Field],
+) -> Result<Sequence<usize>, NoMemory>
+    ensures { IfOk result (λ row. (es : _) → row ≡ held_in (get nat_eq numbers.now) (variables (fields_at es fields.now))) }
+{
+    let mut row = Sequence::new(alloc);
+    for field in fields {
+        match add_number(&mut row, held(numbers, &field.of)) {
+            Ok(()) => {}
+            Err(fault) => return Err(fault),
+        }
+    }
+    Ok(row)
+}
+
+fn add_row(
+    alloc: Global,
+    rows: &mut Vec<Sequence<usize>>,
+    numbers: &IndexMap<u32, usize>,
+    decl: &Decl,
+) -> Result<(), NoMemory>
+    ensures { OnOk result ((es : _) (ts : _) (public : _) (at : _) → rows.new.items ≡ rows.old.items ++ held_rows (get nat_eq numbers.now) (structs_of (decl_made es ts public decl.now at ∷ []))) }
+{
+    match decl {
+        Decl::Struct { fields, .. } => match struct_row(alloc, numbers, fields.as_slice()) {
+            Ok(row) => match rows.push(row) {
+                Ok(()) => Ok(()),
+                Err(_) => Err(NoMemory),
+            },
+            Err(fault) => Err(fault),
+        },
+        Decl::Status(_) => Ok(()),
+        Decl::Const { .. } => Ok(()),
+        Decl::Method { .. } => Ok(()),
+    }
+}
+
+/// For each struct that is declared, in order, the structs that its fields hold, by their numbers; `numbers` has
+/// those of their names. `Err` where memory was refused.
+pub fn struct_rows(
+    alloc: Global,
+    numbers: &IndexMap<u32, usize>,
+    decls: &[DeclNode],
+) -> Result<Vec<Sequence<usize>>, NoMemory>
+    ensures { IfOk result (λ rows. (es : _) (ts : _) → rows.items ≡ held_rows (get nat_eq numbers.now) (structs_of (decls_made es ts decls.now))) }
+{
+    let mut rows = Vec::new(alloc);
+    for node in decls {
+        match add_row(alloc, &mut rows, numbers, &node.decl) {
+            Ok(()) => {}
+            Err(fault) => return Err(fault),
+        }
+    }
+    Ok(rows)
+}
+
+/// What decides of what was found before and of N4 at each struct that holds itself through fields whose whole
+/// types are structs. `Err` where memory was refused. The time is in proportion to the structs and all their fields.
+pub fn struct_circles(
+    alloc: Global,
+    found: Option<Refusal>,
+    parsed: &Package,
+) -> Result<Option<Refusal>, NoMemory>
+    requires { length parsed.now.decls < 2 ^ 32 - 1 }
+    ensures { IfOk result (λ all. DecidesWith (HoldsItself (declared parsed.now.texts (decl_trees parsed.now.exprs parsed.now.stmts parsed.now.decls))) found all) }
+{
+    let names = match struct_names(alloc, parsed.decls()) {
+        Ok(names) => names,
+        Err(fault) => return Err(fault),
+    };
+    let numbers = match numbered(alloc, names.as_slice()) {
+        Ok(numbers) => numbers,
+        Err(fault) => return Err(fault),
+    };
+    match struct_rows(alloc, &numbers, parsed.decls()) {
+        Ok(rows) => circling(alloc, found, rows.as_slice(), names.as_slice()),
+        Err(fault) => Err(fault),
+    }
+}

@@ -1,0 +1,10 @@
+use Rattle.std.proofs.Common.{◌≡◌, ◌++◌, drop}
+use Rattle.wf_ast.specs.ParsedTrees.{stmt_trees, items_at}
+use Rattle.wf_names_rules.specs.Declarations.{locals_of}
+use Rattle.wf_names_rules.specs.NameRules.{variable_names}
+use Rattle.wf_names_decls.proofs.gathering.local_names.Given as goal
+
+abbrev pub invariant-loop-s : goal.invariant-loop-s
+invariant-loop-s l =
+    l.names.items ++ variable_names (locals_of (items_at (stmt_trees l.parsed.exprs l.parsed.stmts) (drop l.s-index l.body.items) l.body.close))
+    ≡ variable_names (locals_of (items_at (stmt_trees l.parsed.exprs l.parsed.stmts) l.body.items l.body.close))

@@ -1,0 +1,272 @@
+// What the declarations of a package break by their names and their number.
+
+ghost use Rattle.std.specs.Prelude.{◌≡◌, ℕ, [], ◌∷◌, fold, length, nat_eq, IfOk};
+ghost use Rattle.indexmap.specs.IndexMap.{get};
+ghost use Rattle.wf_ast.specs.ParsedTrees.{expr_trees, stmt_trees, decl_trees, decl_made, block_at};
+ghost use Rattle.wf_ast.specs.ParsedParts.{BlockBelow, DeclParts};
+ghost use Rattle.wf_names_rules.specs.Declarations.{declared, structs_of, methods_of, locals_of};
+ghost use Rattle.wf_names_rules.specs.NameRules.{variable_names};
+ghost use Rattle.wf_names_decls.specs.Gathering.{constant_names as constants_in, field_names as names_of_fields};
+ghost use Rattle.wf_names_decls.specs.DeclarationPass.{first_spelt, statuses_found, constants_found, structs_found, methods_found, names_judged, args_judged, locals_judged, struct_judged, method_judged, names_found, fields_found, variables_found, declarations_found};
+
+use crate::gathering::{
+    constant_names, field_names, local_names, owned_methods, status_names, struct_names,
+};
+use crate::judging::{by_text, judge_args, judge_locals, judge_methods, judge_names};
+use indexmap::IndexMap;
+use std::alloc::Global;
+use wf_ast::Package;
+use wf_ast::parsed::{Block, Decl, Field, Name};
+use wf_names_rules::lists::doubles;
+use wf_text::faults::NoMemory;
+use wf_text::rules::Refusal;
+
+fn judge_statuses(
+    alloc: Global,
+    found: Option<Refusal>,
+    parsed: &Package,
+) -> Result<Option<Refusal>, NoMemory>
+    ensures { IfOk result (λ all. all ≡ statuses_found (declared parsed.now.texts (decl_trees parsed.now.exprs parsed.now.stmts parsed.now.decls)) found) }
+{
+    match status_names(alloc, parsed) {
+        Ok(names) => doubles(alloc, found, names.as_slice()),
+        Err(fault) => Err(fault),
+    }
+}
+
+fn judge_constants(
+    alloc: Global,
+    found: Option<Refusal>,
+    parsed: &Package,
+) -> Result<Option<Refusal>, NoMemory>
+    ensures { IfOk result (λ all. all ≡ constants_found (declared parsed.now.texts (decl_trees parsed.now.exprs parsed.now.stmts parsed.now.decls)) found) }
+{
+    match constant_names(alloc, parsed) {
+        Ok(names) => judge_names(alloc, found, parsed, names.as_slice()),
+        Err(fault) => Err(fault),
+    }
+}
+
+fn judge_structs(
+    alloc: Global,
+    found: Option<Refusal>,
+    parsed: &Package,
+) -> Result<Option<Refusal>, NoMemory>
+    ensures { IfOk result (λ all. all ≡ structs_found (declared parsed.now.texts (decl_trees parsed.now.exprs parsed.now.stmts parsed.now.decls)) found) }
+{
+    match struct_names(alloc, parsed) {
+        Ok(names) => judge_names(alloc, found, parsed, names.as_slice()),
+        Err(fault) => Err(fault),
+    }
+}
+
+fn judge_all_methods(
+    alloc: Global,
+    found: Option<Refusal>,
+    parsed: &Package,
+) -> Result<Option<Refusal>, NoMemory>
+    ensures { IfOk result (λ all. all ≡ methods_found (declared parsed.now.texts (decl_trees parsed.now.exprs parsed.now.stmts parsed.now.decls)) found) }
+{
+    match owned_methods(alloc, parsed) {
+        Ok(methods) => judge_methods(alloc, found, parsed, methods.as_slice()),
+        Err(fault) => Err(fault),
+    }
+}
+
+// The names of statuses, constants, structs and methods.
+fn judge_package(
+    alloc: Global,
+    found: Option<Refusal>,
+    parsed: &Package,
+) -> Result<Option<Refusal>, NoMemory>
+    ensures { IfOk result (λ all. all ≡ names_found (declared parsed.now.texts (decl_trees parsed.now.exprs parsed.now.stmts parsed.now.decls)) found) }
+{
+    let found = match judge_statuses(alloc, found, parsed) {
+        Ok(found) => found,
+        Err(fault) => return Err(fault),
+    };
+    let found = match judge_constants(alloc, found, parsed) {
+        Ok(found) => found,
+        Err(fault) => return Err(fault),
+    };
+    match judge_structs(alloc, found, parsed) {
+        Ok(found) => judge_all_methods(alloc, found, parsed),
+        Err(fault) => Err(fault),
+    }
+}
+
+fn judge_fields(
+    alloc: Global,
+    found: Option<Refusal>,
+    parsed: &Package,
+    fields: &[Field],
+) -> Result<Option<Refusal>, NoMemory>
+    ensures { IfOk result (λ all. all ≡ names_judged parsed.now.texts found (names_of_fields fields.now)) }
+{
+    match field_names(alloc, fields) {
+        Ok(names) => judge_names(alloc, found, parsed, names.as_slice()),
+        Err(fault) => Err(fault),
+    }
+}
+
+// The fields of a struct; other declarations have none.
+fn judge_struct(
+    alloc: Global,
+    found: Option<Refusal>,
+    parsed: &Package,
+    decl: &Decl,
+) -> Result<Option<Refusal>, NoMemory>
+    ensures { (public : _) (at : _) → IfOk result (λ all. all ≡ fold (struct_judged parsed.now.texts) found (structs_of (decl_made (expr_trees parsed.now.exprs) (stmt_trees parsed.now.exprs parsed.now.stmts) public decl.now at ∷ []))) }
+{
+    match decl {
+        Decl::Struct { fields, .. } => judge_fields(alloc, found, parsed, fields.as_slice()),
+        Decl::Status(_) => Ok(found),
+        Decl::Const { .. } => Ok(found),
+        Decl::Method { .. } => Ok(found),
+    }
+}
+
+fn judge_all_fields(
+    alloc: Global,
+    found: Option<Refusal>,
+    parsed: &Package,
+) -> Result<Option<Refusal>, NoMemory>
+    ensures { IfOk result (λ all. all ≡ fields_found (declared parsed.now.texts (decl_trees parsed.now.exprs parsed.now.stmts parsed.now.decls)) found) }
+{
+    let mut found = found;
+    for number in 0..parsed.decls().len() {
+        match judge_struct(alloc, found, parsed, &parsed.decl(number).decl) {
+            Ok(next) => found = next,
+            Err(fault) => return Err(fault),
+        }
+    }
+    Ok(found)
+}
+
+fn judge_arg_list(
+    alloc: Global,
+    found: Option<Refusal>,
+    parsed: &Package,
+    args: &[Field],
+) -> Result<Option<Refusal>, NoMemory>
+    ensures { IfOk result (λ all. all ≡ args_judged parsed.now.texts found (names_of_fields args.now)) }
+{
+    match field_names(alloc, args) {
+        Ok(names) => judge_args(alloc, found, parsed, names.as_slice()),
+        Err(fault) => Err(fault),
+    }
+}
+
+fn judge_body(
+    alloc: Global,
+    found: Option<Refusal>,
+    parsed: &Package,
+    constants: &IndexMap<u32, Name>,
+    body: &Block,
+) -> Result<Option<Refusal>, NoMemory>
+    requires { BlockBelow (length parsed.now.stmts) body.now }
+    ensures { IfOk result (λ all. all ≡ locals_judged (get nat_eq constants.now) parsed.now.texts found (variable_names (locals_of (block_at (stmt_trees parsed.now.exprs parsed.now.stmts) body.now)))) }
+{
+    match local_names(alloc, parsed, body) {
+        Ok(names) => judge_locals(alloc, found, parsed, constants, names.as_slice()),
+        Err(fault) => Err(fault),
+    }
+}
+
+fn judge_variables(
+    alloc: Global,
+    found: Option<Refusal>,
+    parsed: &Package,
+    constants: &IndexMap<u32, Name>,
+    args: &[Field],
+    body: &Block,
+) -> Result<Option<Refusal>, NoMemory>
+    requires { BlockBelow (length parsed.now.stmts) body.now }
+    ensures { IfOk result (λ all. all ≡ locals_judged (get nat_eq constants.now) parsed.now.texts (args_judged parsed.now.texts found (names_of_fields args.now)) (variable_names (locals_of (block_at (stmt_trees parsed.now.exprs parsed.now.stmts) body.now)))) }
+{
+    match judge_arg_list(alloc, found, parsed, args) {
+        Ok(found) => judge_body(alloc, found, parsed, constants, body),
+        Err(fault) => Err(fault),
+    }
+}
+
+// The arguments and locals of a method; other declarations have none.
+fn judge_method(
+    alloc: Global,
+    found: Option<Refusal>,
+    parsed: &Package,
+    constants: &IndexMap<u32, Name>,
+    decl: &Decl,
+) -> Result<Option<Refusal>, NoMemory>
+    requires { DeclParts (length parsed.now.exprs) (length parsed.now.stmts) decl.now }
+    ensures { (public : _) (at : _) → IfOk result (λ all. all ≡ fold (method_judged (get nat_eq constants.now) parsed.now.texts) found (methods_of (decl_made (expr_trees parsed.now.exprs) (stmt_trees parsed.now.exprs parsed.now.stmts) public decl.now at ∷ []))) }
+{
+    match decl {
+        Decl::Method { args, body, .. } => {
+            judge_variables(alloc, found, parsed, constants, args.as_slice(), body)
+        }
+        Decl::Status(_) => Ok(found),
+        Decl::Const { .. } => Ok(found),
+        Decl::Struct { .. } => Ok(found),
+    }
+}
+
+fn judge_all_variables(
+    alloc: Global,
+    found: Option<Refusal>,
+    parsed: &Package,
+    constants: &IndexMap<u32, Name>,
+) -> Result<Option<Refusal>, NoMemory>
+    ensures { IfOk result (λ all. all ≡ fold (method_judged (get nat_eq constants.now) parsed.now.texts) found (methods_of (decl_trees parsed.now.exprs parsed.now.stmts parsed.now.decls))) }
+{
+    let mut found = found;
+    for number in 0..parsed.decls().len() {
+        match judge_method(alloc, found, parsed, constants, &parsed.decl(number).decl) {
+            Ok(next) => found = next,
+            Err(fault) => return Err(fault),
+        }
+    }
+    Ok(found)
+}
+
+fn constants_by_text(alloc: Global, parsed: &Package) -> Result<IndexMap<u32, Name>, NoMemory>
+    ensures { IfOk result (λ table. (text : ℕ) → get nat_eq table text ≡ first_spelt (constants_in (declared parsed.now.texts (decl_trees parsed.now.exprs parsed.now.stmts parsed.now.decls))) text) }
+{
+    match constant_names(alloc, parsed) {
+        Ok(names) => by_text(alloc, names.as_slice()),
+        Err(fault) => Err(fault),
+    }
+}
+
+fn judge_methods_within(
+    alloc: Global,
+    found: Option<Refusal>,
+    parsed: &Package,
+) -> Result<Option<Refusal>, NoMemory>
+    ensures { IfOk result (λ all. all ≡ variables_found (declared parsed.now.texts (decl_trees parsed.now.exprs parsed.now.stmts parsed.now.decls)) found) }
+{
+    match constants_by_text(alloc, parsed) {
+        Ok(constants) => judge_all_variables(alloc, found, parsed, &constants),
+        Err(fault) => Err(fault),
+    }
+}
+
+/// What decides of what was found before and what the declarations of a package break: a name that is declared twice,
+/// a local of the name of a constant, a reserved name, and more methods than 1,024, or locals than 256 or arguments
+/// than 64 of a method. `Err` only where memory was refused.
+pub fn declarations(
+    alloc: Global,
+    found: Option<Refusal>,
+    parsed: &Package,
+) -> Result<Option<Refusal>, NoMemory>
+    ensures { IfOk result (λ all. all ≡ declarations_found (declared parsed.now.texts (decl_trees parsed.now.exprs parsed.now.stmts parsed.now.decls)) found) }
+{
+    let found = match judge_package(alloc, found, parsed) {
+        Ok(found) => found,
+        Err(fault) => return Err(fault),
+    };
+    match judge_all_fields(alloc, found, parsed) {
+        Ok(found) => judge_methods_within(alloc, found, parsed),
+        Err(fault) => Err(fault),
+    }
+}

@@ -1,0 +1,182 @@
+// What lists of declared names break.
+
+ghost use Rattle.std.specs.Prelude.{◌≡◌, ℕ, Option, not, [], nat_eq, IfOk, OnOk};
+ghost use Rattle.indexmap.specs.IndexMap.{get};
+ghost use Rattle.wf_ast.specs.declared.parsed.Name.{Name};
+ghost use Rattle.wf_text.specs.Precedence.{soonest};
+ghost use Rattle.wf_names_rules.specs.NameRules.{later_of as later_named};
+ghost use Rattle.wf_names_rules.specs.Passes.{refused_if as refuses_if};
+ghost use Rattle.wf_names_decls.specs.DeclarationPass.{names_judged, owned_doubles as doubles_of_owned, methods_judged, first_spelt, hidden_item, hidden_of, args_judged, locals_judged};
+
+use crate::gathering::{Owned, owned_names};
+use indexmap::{IndexMap, IndexSet};
+use std::alloc::Global;
+use wf_ast::Package;
+use wf_ast::parsed::Name;
+use wf_names_rules::lists::{beyond, doubles, initializes, reserved};
+use wf_text::faults::NoMemory;
+use wf_text::precedence::{is_before, sooner};
+use wf_text::rules::{Refusal, Rule};
+
+/// Of a list of names those that are declared twice, and the reserved ones.
+pub fn judge_names(
+    alloc: Global,
+    found: Option<Refusal>,
+    parsed: &Package,
+    names: &[Name],
+) -> Result<Option<Refusal>, NoMemory>
+    ensures { IfOk result (λ all. all ≡ names_judged parsed.now.texts found names.now) }
+{
+    match doubles(alloc, found, names) {
+        Ok(found) => Ok(reserved(found, parsed, names)),
+        Err(fault) => Err(fault),
+    }
+}
+
+fn double_method(fresh: bool, name: Name) -> Option<Refusal>
+    ensures { (seen : _) → fresh ≡ not seen → result ≡ refuses_if seen Rule.N2 name.at }
+{
+    if fresh {
+        None
+    } else {
+        Some(Refusal {
+            rule: Rule::N2,
+            at: name.at,
+        })
+    }
+}
+
+fn owned_doubles(
+    alloc: Global,
+    found: Option<Refusal>,
+    methods: &[Owned],
+) -> Result<Option<Refusal>, NoMemory>
+    ensures { IfOk result (λ all. all ≡ soonest found (doubles_of_owned [] methods.now)) }
+{
+    let mut found = found;
+    let mut seen: IndexSet<(u32, u32)> = IndexSet::new(alloc);
+    for method in methods {
+        match seen.insert((method.owner.text.0, method.name.text.0)) {
+            Ok(fresh) => found = sooner(found, double_method(fresh, method.name)),
+            Err(_) => return Err(NoMemory),
+        }
+    }
+    Ok(found)
+}
+
+/// The methods of a package: those of a struct that are declared twice, reserved names, `initialize`, and the one
+/// behind the 1,024 that a package may have.
+pub fn judge_methods(
+    alloc: Global,
+    found: Option<Refusal>,
+    parsed: &Package,
+    methods: &[Owned],
+) -> Result<Option<Refusal>, NoMemory>
+    ensures { IfOk result (λ all. all ≡ methods_judged parsed.now.texts found methods.now) }
+{
+    let found = match owned_doubles(alloc, found, methods) {
+        Ok(found) => found,
+        Err(fault) => return Err(fault),
+    };
+    match owned_names(alloc, methods) {
+        Ok(names) => {
+            let found = reserved(found, parsed, names.as_slice());
+            let found = initializes(found, parsed, names.as_slice());
+            Ok(sooner(found, beyond(names.as_slice(), Rule::L6, 1024)))
+        }
+        Err(fault) => Err(fault),
+    }
+}
+
+/// Each name by its text; of names that are spelt alike the first.
+pub fn by_text(alloc: Global, names: &[Name]) -> Result<IndexMap<u32, Name>, NoMemory>
+    ensures { IfOk result (λ table. (text : ℕ) → get nat_eq table text ≡ first_spelt names.now text) }
+{
+    let mut table = IndexMap::new(alloc);
+    for name in names {
+        if !table.contains_key(&name.text.0) {
+            match table.insert(name.text.0, *name) {
+                Ok(_) => {}
+                Err(_) => return Err(NoMemory),
+            }
+        }
+    }
+    Ok(table)
+}
+
+// Of two names that mean different things and are spelt alike the one behind the other.
+fn later_of(first: Name, second: Name) -> Refusal
+    ensures { result ≡ later_named first second }
+{
+    let at_first = Refusal {
+        rule: Rule::N2,
+        at: first.at,
+    };
+    let at_second = Refusal {
+        rule: Rule::N2,
+        at: second.at,
+    };
+    if is_before(at_first, at_second) {
+        at_second
+    } else {
+        at_first
+    }
+}
+
+fn hidden_local(constants: &IndexMap<u32, Name>, local: Name) -> Option<Refusal>
+    ensures { result ≡ hidden_item (get nat_eq constants.now local.text.0) local }
+{
+    match constants.get(&local.text.0) {
+        Some(constant) => Some(later_of(local, *constant)),
+        None => None,
+    }
+}
+
+fn hidden_locals(
+    found: Option<Refusal>,
+    constants: &IndexMap<u32, Name>,
+    locals: &[Name],
+) -> Option<Refusal>
+    ensures { result ≡ soonest found (hidden_of (get nat_eq constants.now) locals.now) }
+{
+    let mut found = found;
+    for local in locals {
+        found = sooner(found, hidden_local(constants, *local));
+    }
+    found
+}
+
+/// The arguments of a method: declared twice, reserved, and the one behind the 64 that a method may have.
+pub fn judge_args(
+    alloc: Global,
+    found: Option<Refusal>,
+    parsed: &Package,
+    args: &[Name],
+) -> Result<Option<Refusal>, NoMemory>
+    ensures { IfOk result (λ all. all ≡ args_judged parsed.now.texts found args.now) }
+{
+    match judge_names(alloc, found, parsed, args) {
+        Ok(found) => Ok(sooner(found, beyond(args, Rule::L7, 64))),
+        Err(fault) => Err(fault),
+    }
+}
+
+/// The locals of a method: declared twice, reserved, named as a constant, and the one behind the 256 that a method
+/// may have.
+pub fn judge_locals(
+    alloc: Global,
+    found: Option<Refusal>,
+    parsed: &Package,
+    constants: &IndexMap<u32, Name>,
+    locals: &[Name],
+) -> Result<Option<Refusal>, NoMemory>
+    ensures { IfOk result (λ all. all ≡ locals_judged (get nat_eq constants.now) parsed.now.texts found locals.now) }
+{
+    match judge_names(alloc, found, parsed, locals) {
+        Ok(found) => {
+            let found = hidden_locals(found, constants, locals);
+            Ok(sooner(found, beyond(locals, Rule::L7, 256)))
+        }
+        Err(fault) => Err(fault),
+    }
+}

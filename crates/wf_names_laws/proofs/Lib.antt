@@ -1,0 +1,17 @@
+pub mod ApartLemmas
+pub mod ArgumentLemmas
+pub mod CalleeLemmas
+pub mod CallingLemmas
+pub mod DeclLaws
+pub mod ExprLaws
+pub mod FrontLemmas
+pub mod KeptLaws
+pub mod KindLemmas
+pub mod ListLemmas
+pub mod LoopLemmas
+pub mod PackageLaws
+pub mod PackageLemmas
+pub mod ScopeLemmas
+pub mod StmtLaws
+pub mod VariableLemmas
+pub mod WholeLaws

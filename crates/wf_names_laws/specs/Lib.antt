@@ -1,0 +1,5 @@
+pub mod Calling
+pub mod Kept
+pub mod Ordered
+pub mod ResolvedScopes
+pub mod Unbroken

@@ -1,0 +1,39 @@
+// An order of the graph of calls is an order of the resolved package. Each law is the contract of a function that does
+// nothing.
+
+ghost use Rattle.std.specs.Prelude.{◌≡◌, ◌≤◌, ℕ, true, [], None, List, length, nat_eq};
+ghost use Rattle.wf_text.specs.declared.rules.Refusal.{Refusal};
+ghost use Rattle.wf_text.specs.Precedence.{Decides};
+ghost use Rattle.wf_ast.specs.ParsedTree.{DeclTree};
+ghost use Rattle.wf_named.specs.WellNamed.{calls_in_front};
+ghost use Rattle.wf_names_rules.specs.Declarations.{Declared, declared, methods_of};
+ghost use Rattle.wf_names_rules.specs.Graphs.{AreWithin};
+ghost use Rattle.wf_names_rules.specs.NameRules.{DeclarationBreaks, UseBreaks, CircleBreaks};
+ghost use Rattle.wf_names_cycles.specs.Called.{AreRows};
+ghost use Rattle.wf_names_resolve.specs.Package.{resolved_package};
+ghost use Rattle.wf_names_laws.specs.Calling.{AreOpen};
+ghost use Rattle.graphs.specs.Orders.{IsOrder, HasCircle};
+
+/// The rows of the calls of a package are a graph over their own numbers (clause `within`), which is small where no rule
+/// of declarations is broken (clause `few`), and a circle in it breaks a rule (clause `circle`).
+pub fn rows_of_calls_are_a_graph()
+    ensures within { (d : Declared) (rows : List (List ℕ)) → AreRows d rows (length d.methods) → AreWithin rows (length rows) }
+    ensures few { (d : Declared) (rows : List (List ℕ)) → AreRows d rows (length d.methods) → Decides (DeclarationBreaks d) None → length rows ≤ 1024 }
+    ensures circle { (d : Declared) (rows : List (List ℕ)) → AreRows d rows (length d.methods) → HasCircle rows → (s : Refusal) × CircleBreaks d s }
+{}
+
+/// Where the uses of names break no rule every call is of a method that may be called there.
+pub fn where_no_rule_is_broken_calls_are_open()
+    ensures { (d : Declared) → Decides (UseBreaks d) None → AreOpen d }
+{}
+
+/// With an order of the graph of calls a resolved package has all its methods in its order (clause `whole`), and each
+/// calls only those in front of it, if each call is of a method that may be called there (clause `front`).
+pub fn an_order_of_calls_is_one_of_the_package()
+    ensures whole { (name : List ℕ) (texts : List (List ℕ)) (decls : List DeclTree) (order : List ℕ) (rows : List (List ℕ))
+        → AreRows (declared texts decls) rows (length (methods_of decls)) → IsOrder rows order
+        → nat_eq (length order) (length (resolved_package name texts decls order).methods) ≡ true }
+    ensures front { (name : List ℕ) (texts : List (List ℕ)) (decls : List DeclTree) (order : List ℕ) (rows : List (List ℕ))
+        → AreRows (declared texts decls) rows (length (methods_of decls)) → IsOrder rows order → AreOpen (declared texts decls)
+        → calls_in_front (resolved_package name texts decls order) [] order ≡ true }
+{}

@@ -1,0 +1,14 @@
+use Rattle.std.proofs.Common.{ap}
+use Rattle.wf_ast.specs.ParsedTrees.{decl_trees}
+use Rattle.wf_names_scopes.specs.Agreeing.{package_of}
+use Rattle.wf_names_nodes.specs.Declaring.{with_others}
+use Rattle.wf_names_nodes.proofs.PackageLemmas.{ok_equal_more}
+use Rattle.wf_names_nodes.proofs.packages.all_decls.Goals as goal
+
+pub all_consts-requires-clause-outside : goal.all_consts-requires-clause-outside
+all_consts-requires-clause-outside c = c.outside-around.ensures (package_of c.args.parsed.now)
+
+pub returns-in-Ok : goal.returns-in-Ok
+returns-in-Ok c =
+    let decls = decl_trees c.args.parsed.now.exprs c.args.parsed.now.stmts c.args.parsed.now.decls in
+    ok_equal_more c.all_others.result _ _ _ (ap (λ t. with_others (package_of c.args.parsed.now) t decls) c.in-Ok.ensures.added) c.all_others.ensures

@@ -1,0 +1,27 @@
+use Rattle.std.proofs.Common.{◌≤◌, ◌∙◌, length, refl, sym, ap, arith}
+use Rattle.wf_ast.specs.ParsedTrees.{expr_trees, stmt_trees}
+use Rattle.wf_named.specs.NamedParts.{named_package}
+use Rattle.wf_names_scopes.specs.Agreeing.{package_of}
+use Rattle.wf_names_scopes.proofs.PackageLemmas.{trees_made}
+use Rattle.wf_names_nodes.specs.Declaring.{with_others}
+use Rattle.wf_names_nodes.proofs.PackageLemmas.{other_next, others_done}
+use Rattle.wf_names_nodes.proofs.packages.all_others.Goals as goal
+
+pub loop-number-init : goal.loop-number-init
+loop-number-init c = (c.requires.constants, refl)
+
+pub loop-number-preserved : goal.loop-number-preserved
+loop-number-preserved c =
+    let es = expr_trees c.args.parsed.now.exprs in
+    let ts = stmt_trees c.args.parsed.now.exprs c.args.parsed.now.stmts in
+    let step = other_next es ts c.args.parsed.now.decls c.loop-number.number c.decl.result.now c.decl.ensures.node (package_of c.args.parsed.now) (named_package c.loop-number.nodes) (named_package c.other_decl.new.nodes) c.in-Ok.ensures.added in
+    (c.in-Ok.ensures.known, step ∙ c.loop-number.invariant.1)
+
+pub returns : goal.returns
+returns c =
+    let d = package_of c.args.parsed.now in
+    let es = expr_trees c.args.parsed.now.exprs in
+    let ts = stmt_trees c.args.parsed.now.exprs c.args.parsed.now.stmts in
+    let over : length c.args.parsed.now.decls ≤ c.loop-number.number = omega (arith, c.loop-number-test.false, ap length c.decls.ensures) in
+    others_done d (named_package c.loop-number.nodes) es ts c.args.parsed.now.decls c.loop-number.number over ∙ c.loop-number.invariant.1
+    ∙ ap (λ ds. with_others d (named_package c.args.nodes.now) ds) (sym (trees_made c.args.parsed.now))

@@ -1,0 +1,41 @@
+use Rattle.std.proofs.Common.{refl, arith}
+use Rattle.wf_named.specs.NamedParts.{named_package}
+use Rattle.wf_names_scopes.specs.Agreeing.{package_of}
+use Rattle.wf_names_nodes.proofs.PackageLemmas.{no_consts, no_const_known}
+use Rattle.wf_names_nodes.proofs.packages.const_decl.Goals as goal
+
+pub returns-in-Ok-clause-added : goal.returns-in-Ok-clause-added
+returns-in-Ok-clause-added c = rw c.in-Const.is c.in-Ok.ensures.added
+
+pub returns-in-Ok-clause-known : goal.returns-in-Ok-clause-known
+returns-in-Ok-clause-known c = rw c.in-Const.is c.in-Ok.ensures.known
+
+pub returns-in-Ok-clause-count : goal.returns-in-Ok-clause-count
+returns-in-Ok-clause-count c = rw c.in-Const.is refl
+
+pub returns-in-Status-clause-added : goal.returns-in-Status-clause-added
+returns-in-Status-clause-added c = rw c.in-Status.is (λ known h. no_consts (named_package c.args.nodes.now))
+
+pub returns-in-Status-clause-known : goal.returns-in-Status-clause-known
+returns-in-Status-clause-known c = rw c.in-Status.is (no_const_known (package_of c.args.parsed.now) c.args.place c.args.around.now)
+
+pub returns-in-Status-clause-count : goal.returns-in-Status-clause-count
+returns-in-Status-clause-count c = rw c.in-Status.is (omega arith)
+
+pub returns-in-Struct-clause-added : goal.returns-in-Struct-clause-added
+returns-in-Struct-clause-added c = rw c.in-Struct.is (λ known h. no_consts (named_package c.args.nodes.now))
+
+pub returns-in-Struct-clause-known : goal.returns-in-Struct-clause-known
+returns-in-Struct-clause-known c = rw c.in-Struct.is (no_const_known (package_of c.args.parsed.now) c.args.place c.args.around.now)
+
+pub returns-in-Struct-clause-count : goal.returns-in-Struct-clause-count
+returns-in-Struct-clause-count c = rw c.in-Struct.is (omega arith)
+
+pub returns-in-Method-clause-added : goal.returns-in-Method-clause-added
+returns-in-Method-clause-added c = rw c.in-Method.is (λ known h. no_consts (named_package c.args.nodes.now))
+
+pub returns-in-Method-clause-known : goal.returns-in-Method-clause-known
+returns-in-Method-clause-known c = rw c.in-Method.is (no_const_known (package_of c.args.parsed.now) c.args.place c.args.around.now)
+
+pub returns-in-Method-clause-count : goal.returns-in-Method-clause-count
+returns-in-Method-clause-count c = rw c.in-Method.is (omega arith)

@@ -1,0 +1,17 @@
+use Rattle.std.proofs.Common.{[], ◌∷◌, ◌∙◌, ap}
+use Rattle.wf_ast.specs.ParsedTrees.{expr_trees, expr_at, type_at}
+use Rattle.wf_named.specs.NamedParts.{named_package}
+use Rattle.wf_names_rules.specs.Uses.{constant_scope}
+use Rattle.wf_names_scopes.specs.Agreeing.{package_of}
+use Rattle.wf_names_numbers.proofs.StandingLemmas.{standing_same}
+use Rattle.wf_names_resolve.specs.Package.{resolved_const}
+use Rattle.wf_names_resolve.proofs.Growth.{ok_still}
+use Rattle.wf_names_nodes.specs.Declaring.{with_consts}
+use Rattle.wf_names_nodes.proofs.packages.next_const.Goals as goal
+
+pub returns-in-Ok-clause-added : goal.returns-in-Ok-clause-added
+returns-in-Ok-clause-added c =
+    let es = expr_trees c.args.parsed.now.exprs in
+    ok_still c.add_constant.result _
+    (λ known h. c.in-Ok.ensures ∙ ap (λ k. with_consts (named_package c.args.nodes.now) (resolved_const k c.args.name (type_at es c.args.of.now) (expr_at es c.args.value) ∷ []))
+    (standing_same (package_of c.args.parsed.now) (constant_scope known) c.args.numbers.now c.args.around.now c.requires.numbers h))

@@ -1,0 +1,120 @@
+// Declarations added to the resolved package: each behind those of its kind.
+
+ghost use Rattle.std.specs.Prelude.{◌≡◌, ◌<◌, [], ◌∷◌, length, OnOk};
+ghost use Rattle.wf_ast.specs.ParsedTrees.{expr_trees, stmt_trees, expr_at as parsed_expr_at, type_at as parsed_type_at, fields_at as parsed_fields_at};
+ghost use Rattle.wf_ast.specs.ParsedParts.{TypeBelow, FieldsBelow, ResultBelow, BlockBelow};
+ghost use Rattle.wf_named.specs.NamedParts.{named_package};
+ghost use Rattle.wf_names_rules.specs.Declarations.{bytes_of, variables};
+ghost use Rattle.wf_names_resolve.specs.Standing.{standing_by};
+ghost use Rattle.wf_names_resolve.specs.Resolved.{word_of};
+ghost use Rattle.wf_names_resolve.specs.Package.{resolved_const, resolved_struct, resolved_method};
+ghost use Rattle.wf_names_nodes.specs.Declaring.{method_parsed, with_consts, with_statuses, with_structs, with_methods};
+
+use crate::declarations::{resolve_const, resolve_method, resolve_struct};
+use std::alloc::Global;
+use wf_ast::parsed::{Block, Field, Name, TypeExpr, WrittenMark};
+use wf_ast::{ExprId, Package};
+use wf_named::NamedNodes;
+use wf_names_resolve::numbers::{PackageNumbers, ScopeNumbers};
+use wf_names_resolve::words::named_word;
+use wf_text::faults::NoMemory;
+
+/// Adds a constant; `around` knows those in front of it.
+pub fn put_const(
+    alloc: Global,
+    nodes: &mut NamedNodes,
+    parsed: &Package,
+    numbers: &PackageNumbers,
+    around: &ScopeNumbers,
+    name: Name,
+    of: &TypeExpr,
+    value: ExprId,
+) -> Result<(), NoMemory>
+    requires of { TypeBelow (length parsed.now.exprs) of.now }
+    requires value { value.0 < length parsed.now.exprs }
+    ensures { OnOk result (named_package nodes.new ≡ with_consts (named_package nodes.old) (resolved_const (standing_by parsed.now.texts numbers.now around.now) name (parsed_type_at (expr_trees parsed.now.exprs) of.now) (parsed_expr_at (expr_trees parsed.now.exprs) value) ∷ [])) }
+{
+    match resolve_const(alloc, nodes, parsed, numbers, around, name, of, value) {
+        Ok(constant) => {
+            match nodes.push_const(constant) {
+                Ok(()) => Ok(()),
+                Err(_) => Err(NoMemory),
+            }
+        }
+        Err(fault) => Err(fault),
+    }
+}
+
+/// Adds a status of the package.
+pub fn put_status(nodes: &mut NamedNodes, parsed: &Package, text: Name) -> Result<(), NoMemory>
+    ensures { OnOk result (named_package nodes.new ≡ with_statuses (named_package nodes.old) (word_of (bytes_of parsed.now.texts) text ∷ [])) }
+{
+    match named_word(nodes, parsed, text) {
+        Ok(text) => {
+            match nodes.push_status(text) {
+                Ok(()) => Ok(()),
+                Err(_) => Err(NoMemory),
+            }
+        }
+        Err(fault) => Err(fault),
+    }
+}
+
+/// Adds a struct.
+pub fn put_struct(
+    alloc: Global,
+    nodes: &mut NamedNodes,
+    parsed: &Package,
+    numbers: &PackageNumbers,
+    around: &ScopeNumbers,
+    public: bool,
+    name: Name,
+    fields: &[Field],
+) -> Result<(), NoMemory>
+    requires { FieldsBelow (length parsed.now.exprs) fields.now }
+    ensures { OnOk result (named_package nodes.new ≡ with_structs (named_package nodes.old) (resolved_struct (standing_by parsed.now.texts numbers.now around.now) public name (variables (parsed_fields_at (expr_trees parsed.now.exprs) fields.now)) ∷ [])) }
+{
+    match resolve_struct(alloc, nodes, parsed, numbers, around, public, name, fields) {
+        Ok(structure) => {
+            match nodes.push_struct(structure) {
+                Ok(()) => Ok(()),
+                Err(_) => Err(NoMemory),
+            }
+        }
+        Err(fault) => Err(fault),
+    }
+}
+
+/// Adds a method; `around` knows its arguments and its locals.
+pub fn put_method(
+    alloc: Global,
+    nodes: &mut NamedNodes,
+    parsed: &Package,
+    numbers: &PackageNumbers,
+    around: &ScopeNumbers,
+    public: bool,
+    owner: Name,
+    name: Name,
+    written: WrittenMark,
+    args: &[Field],
+    gives: &Option<TypeExpr>,
+    body: &Block,
+) -> Result<(), NoMemory>
+    requires args { FieldsBelow (length parsed.now.exprs) args.now }
+    requires gives { ResultBelow (length parsed.now.exprs) gives.now }
+    requires body { BlockBelow (length parsed.now.stmts) body.now }
+    ensures { OnOk result (named_package nodes.new ≡ with_methods (named_package nodes.old) (resolved_method (standing_by parsed.now.texts numbers.now around.now) written
+        (method_parsed (expr_trees parsed.now.exprs) (stmt_trees parsed.now.exprs parsed.now.stmts) public owner name args.now gives.now body.now) ∷ [])) }
+{
+    match resolve_method(
+        alloc, nodes, parsed, numbers, around, public, owner, name, written, args, gives, body,
+    ) {
+        Ok(method) => {
+            match nodes.push_method(method) {
+                Ok(()) => Ok(()),
+                Err(_) => Err(NoMemory),
+            }
+        }
+        Err(fault) => Err(fault),
+    }
+}

@@ -1,0 +1,284 @@
+// The declarations of a package: constants in order, each where those in front of it are known, then all others, where
+// all constants are.
+
+ghost use Rattle.std.specs.Prelude.{◌≡◌, ◌<◌, ◌+◌, ◌-◌, ◌^◌, ◌++◌, [], ◌∷◌, List, map, length, IfOk, OnOk};
+ghost use Rattle.wf_ast.specs.ParsedTrees.{expr_trees, stmt_trees, decl_trees, expr_at, type_at, fields_at, decl_made};
+ghost use Rattle.wf_ast.specs.ParsedParts.{TypeBelow, FieldsBelow, ResultBelow, BlockBelow, DeclParts};
+ghost use Rattle.wf_named.specs.NamedParts.{named_package};
+ghost use Rattle.wf_names_rules.specs.Declarations.{Variable, variables, as_variable, constants_of};
+ghost use Rattle.wf_names_rules.specs.Uses.{constant_scope};
+ghost use Rattle.wf_names_scopes.specs.Agreeing.{package_of};
+ghost use Rattle.wf_names_numbers.specs.Numbered.{TellsNumbers, TellsPlaces, TellsAllConstants};
+ghost use Rattle.wf_names_resolve.specs.Package.{resolved_consts, struct_in, method_in, resolved_by};
+ghost use Rattle.wf_names_nodes.specs.Declaring.{method_parsed, with_consts, with_structs, with_methods, with_others};
+
+use crate::adding::{put_const, put_method, put_status, put_struct};
+use std::alloc::Global;
+use wf_ast::parsed::{Block, Decl, DeclNode, Field, Name, TypeExpr, WrittenMark};
+use wf_ast::{ExprId, Package};
+use wf_named::NamedNodes;
+use wf_names_numbers::scopes::{add_constant, enter_method, enter_struct, outside};
+use wf_names_resolve::numbers::{PackageNumbers, ScopeNumbers};
+use wf_text::faults::NoMemory;
+
+// A constant, which is known behind its declaration; `place` is how many are known in front of it.
+fn next_const(
+    alloc: Global,
+    nodes: &mut NamedNodes,
+    parsed: &Package,
+    numbers: &PackageNumbers,
+    around: &mut ScopeNumbers,
+    name: Name,
+    of: &TypeExpr,
+    value: ExprId,
+    place: usize,
+) -> Result<(), NoMemory>
+    requires of { TypeBelow (length parsed.now.exprs) of.now }
+    requires value { value.0 < length parsed.now.exprs }
+    requires numbers { TellsNumbers (package_of parsed.now) numbers.now }
+    ensures added { OnOk result ((known : List Variable) → TellsPlaces (package_of parsed.now) (constant_scope known) around.old
+        → named_package nodes.new ≡ with_consts (named_package nodes.old) (resolved_consts (package_of parsed.now) known (record { name = name; of = type_at (expr_trees parsed.now.exprs) of.now; value = expr_at (expr_trees parsed.now.exprs) value } ∷ []))) }
+    ensures known { OnOk result ((known : List Variable) → place ≡ length known → TellsPlaces (package_of parsed.now) (constant_scope known) around.old
+        → TellsPlaces (package_of parsed.now) (constant_scope (known ++ record { name = name; of = type_at (expr_trees parsed.now.exprs) of.now } ∷ [])) around.new) }
+{
+    match put_const(alloc, nodes, parsed, numbers, around, name, of, value) {
+        Ok(()) => add_constant(around, parsed, name, of, place),
+        Err(fault) => Err(fault),
+    }
+}
+
+// A declaration, which may be of a constant; how many constants are known behind it.
+fn const_decl(
+    alloc: Global,
+    nodes: &mut NamedNodes,
+    parsed: &Package,
+    numbers: &PackageNumbers,
+    around: &mut ScopeNumbers,
+    node: &DeclNode,
+    place: usize,
+) -> Result<usize, NoMemory>
+    requires parts { DeclParts (length parsed.now.exprs) (length parsed.now.stmts) node.now.decl }
+    requires numbers { TellsNumbers (package_of parsed.now) numbers.now }
+    requires room { place < 2 ^ 64 - 1 }
+    ensures added { OnOk result ((known : List Variable) → TellsPlaces (package_of parsed.now) (constant_scope known) around.old
+        → named_package nodes.new ≡ with_consts (named_package nodes.old) (resolved_consts (package_of parsed.now) known (constants_of (decl_made (expr_trees parsed.now.exprs) (stmt_trees parsed.now.exprs parsed.now.stmts) node.now.public node.now.decl node.now.at ∷ [])))) }
+    ensures known { OnOk result ((known : List Variable) → place ≡ length known → TellsPlaces (package_of parsed.now) (constant_scope known) around.old
+        → TellsPlaces (package_of parsed.now) (constant_scope (known ++ map as_variable (constants_of (decl_made (expr_trees parsed.now.exprs) (stmt_trees parsed.now.exprs parsed.now.stmts) node.now.public node.now.decl node.now.at ∷ [])))) around.new) }
+    ensures count { IfOk result (λ next. next ≡ place + length (constants_of (decl_made (expr_trees parsed.now.exprs) (stmt_trees parsed.now.exprs parsed.now.stmts) node.now.public node.now.decl node.now.at ∷ []))) }
+{
+    match &node.decl {
+        Decl::Const { name, of, value } => {
+            match next_const(
+                alloc, nodes, parsed, numbers, around, *name, of, *value, place,
+            ) {
+                Ok(()) => Ok(place + 1),
+                Err(fault) => Err(fault),
+            }
+        }
+        Decl::Status(_) => Ok(place),
+        Decl::Struct { .. } => Ok(place),
+        Decl::Method { .. } => Ok(place),
+    }
+}
+
+// The constants of a package. Behind them `around`, which knew nothing, knows all of them.
+fn all_consts(
+    alloc: Global,
+    nodes: &mut NamedNodes,
+    parsed: &Package,
+    numbers: &PackageNumbers,
+    around: &mut ScopeNumbers,
+) -> Result<(), NoMemory>
+    requires numbers { TellsNumbers (package_of parsed.now) numbers.now }
+    requires outside { TellsPlaces (package_of parsed.now) (constant_scope []) around.old }
+    ensures added { OnOk result (named_package nodes.new ≡ with_consts (named_package nodes.old) (resolved_consts (package_of parsed.now) [] (package_of parsed.now).constants)) }
+    ensures known { OnOk result (TellsAllConstants (package_of parsed.now) around.new) }
+{
+    let mut place = 0;
+    let mut number = 0;
+    while number < parsed.decls().len() {
+        match const_decl(
+            alloc,
+            nodes,
+            parsed,
+            numbers,
+            around,
+            parsed.decl(number),
+            place,
+        ) {
+            Ok(next) => place = next,
+            Err(fault) => return Err(fault),
+        }
+        number += 1;
+    }
+    Ok(())
+}
+
+// A struct, in its own scope.
+fn next_struct(
+    alloc: Global,
+    nodes: &mut NamedNodes,
+    parsed: &Package,
+    numbers: &PackageNumbers,
+    around: &mut ScopeNumbers,
+    public: bool,
+    name: Name,
+    fields: &[Field],
+) -> Result<(), NoMemory>
+    requires fields { FieldsBelow (length parsed.now.exprs) fields.now }
+    requires numbers { TellsNumbers (package_of parsed.now) numbers.now }
+    requires constants { TellsAllConstants (package_of parsed.now) around.old }
+    ensures added { OnOk result (named_package nodes.new ≡ with_structs (named_package nodes.old) (struct_in (package_of parsed.now) public (record { name = name; fields = variables (fields_at (expr_trees parsed.now.exprs) fields.now) }) ∷ [])) }
+    ensures known { OnOk result (TellsAllConstants (package_of parsed.now) around.new) }
+{
+    enter_struct(alloc, around, name);
+    put_struct(alloc, nodes, parsed, numbers, around, public, name, fields)
+}
+
+// A method, in its own scope.
+fn next_method(
+    alloc: Global,
+    nodes: &mut NamedNodes,
+    parsed: &Package,
+    numbers: &PackageNumbers,
+    around: &mut ScopeNumbers,
+    public: bool,
+    owner: Name,
+    name: Name,
+    written: WrittenMark,
+    args: &[Field],
+    gives: &Option<TypeExpr>,
+    body: &Block,
+) -> Result<(), NoMemory>
+    requires args { FieldsBelow (length parsed.now.exprs) args.now }
+    requires gives { ResultBelow (length parsed.now.exprs) gives.now }
+    requires body { BlockBelow (length parsed.now.stmts) body.now }
+    requires numbers { TellsNumbers (package_of parsed.now) numbers.now }
+    requires constants { TellsAllConstants (package_of parsed.now) around.old }
+    ensures added { OnOk result (named_package nodes.new ≡ with_methods (named_package nodes.old) (method_in (package_of parsed.now) written
+        (method_parsed (expr_trees parsed.now.exprs) (stmt_trees parsed.now.exprs parsed.now.stmts) public owner name args.now gives.now body.now) ∷ [])) }
+    ensures known { OnOk result (TellsAllConstants (package_of parsed.now) around.new) }
+{
+    match enter_method(alloc, around, parsed, owner, args, body) {
+        Ok(()) => put_method(
+            alloc, nodes, parsed, numbers, around, public, owner, name, written, args, gives, body,
+        ),
+        Err(fault) => Err(fault),
+    }
+}
+
+// A declaration, where all constants are known; those of constants are passed.
+fn other_decl(
+    alloc: Global,
+    nodes: &mut NamedNodes,
+    parsed: &Package,
+    numbers: &PackageNumbers,
+    around: &mut ScopeNumbers,
+    node: &DeclNode,
+) -> Result<(), NoMemory>
+    requires parts { DeclParts (length parsed.now.exprs) (length parsed.now.stmts) node.now.decl }
+    requires numbers { TellsNumbers (package_of parsed.now) numbers.now }
+    requires constants { TellsAllConstants (package_of parsed.now) around.old }
+    ensures added { OnOk result (named_package nodes.new ≡ with_others (package_of parsed.now) (named_package nodes.old) (decl_made (expr_trees parsed.now.exprs) (stmt_trees parsed.now.exprs parsed.now.stmts) node.now.public node.now.decl node.now.at ∷ [])) }
+    ensures known { OnOk result (TellsAllConstants (package_of parsed.now) around.new) }
+{
+    match &node.decl {
+        Decl::Status(text) => put_status(nodes, parsed, *text),
+        Decl::Const { .. } => Ok(()),
+        Decl::Struct { name, fields, .. } => next_struct(
+            alloc,
+            nodes,
+            parsed,
+            numbers,
+            around,
+            node.public,
+            *name,
+            fields.as_slice(),
+        ),
+        Decl::Method {
+            of,
+            name,
+            mark,
+            args,
+            gives,
+            body,
+        } => next_method(
+            alloc,
+            nodes,
+            parsed,
+            numbers,
+            around,
+            node.public,
+            *of,
+            *name,
+            *mark,
+            args.as_slice(),
+            gives,
+            body,
+        ),
+    }
+}
+
+// The statuses, structs and methods of a package.
+fn all_others(
+    alloc: Global,
+    nodes: &mut NamedNodes,
+    parsed: &Package,
+    numbers: &PackageNumbers,
+    around: &mut ScopeNumbers,
+) -> Result<(), NoMemory>
+    requires numbers { TellsNumbers (package_of parsed.now) numbers.now }
+    requires constants { TellsAllConstants (package_of parsed.now) around.old }
+    ensures { OnOk result (named_package nodes.new ≡ with_others (package_of parsed.now) (named_package nodes.old) (decl_trees parsed.now.exprs parsed.now.stmts parsed.now.decls)) }
+{
+    let mut number = 0;
+    while number < parsed.decls().len() {
+        match other_decl(alloc, nodes, parsed, numbers, around, parsed.decl(number)) {
+            Ok(()) => {}
+            Err(fault) => return Err(fault),
+        }
+        number += 1;
+    }
+    Ok(())
+}
+
+// All declarations, added to a package that has none.
+fn all_decls(
+    alloc: Global,
+    nodes: &mut NamedNodes,
+    parsed: &Package,
+    numbers: &PackageNumbers,
+) -> Result<(), NoMemory>
+    requires { TellsNumbers (package_of parsed.now) numbers.now }
+    ensures { OnOk result (named_package nodes.new ≡ with_others (package_of parsed.now) (with_consts (named_package nodes.old) (resolved_consts (package_of parsed.now) [] (package_of parsed.now).constants)) (decl_trees parsed.now.exprs parsed.now.stmts parsed.now.decls)) }
+{
+    let mut around = outside(alloc);
+    match all_consts(alloc, nodes, parsed, numbers, &mut around) {
+        Ok(()) => all_others(alloc, nodes, parsed, numbers, &mut around),
+        Err(fault) => Err(fault),
+    }
+}
+
+/// The nodes of the resolved package. `numbers` are those of what the package declares; `order` has the numbers of all
+/// methods, each behind those that it calls. `Err` where memory was refused or no number is left.
+pub fn resolve_package(
+    alloc: Global,
+    parsed: &Package,
+    numbers: &PackageNumbers,
+    order: Vec<u32>,
+) -> Result<NamedNodes, NoMemory>
+    requires { TellsNumbers (package_of parsed.now) numbers.now }
+    ensures { IfOk result (λ nodes. named_package nodes ≡ resolved_by (package_of parsed.now) parsed.now.name (decl_trees parsed.now.exprs parsed.now.stmts parsed.now.decls) order.items) }
+{
+    let mut nodes = match NamedNodes::new(alloc, parsed.name()) {
+        Ok(nodes) => nodes,
+        Err(_) => return Err(NoMemory),
+    };
+    match all_decls(alloc, &mut nodes, parsed, numbers) {
+        Ok(()) => {
+            nodes.set_order(order);
+            Ok(nodes)
+        }
+        Err(fault) => Err(fault),
+    }
+}

@@ -1,0 +1,172 @@
+// Names with their types: constants, fields, arguments and locals, and what a method gives.
+
+ghost use Rattle.std.specs.Prelude.{◌≡◌, ◌<◌, ◌++◌, length, map, option_map, IfOk, OnOk};
+ghost use Rattle.std.specs.List.{AllByRecursion};
+ghost use Rattle.wf_ast.specs.ParsedTrees.{expr_trees, stmt_trees, stmt_at as parsed_stmt_at, block_at as parsed_block_at, type_at as parsed_type_at, fields_at as parsed_fields_at, result_at as parsed_result_at};
+ghost use Rattle.wf_ast.specs.ParsedParts.{TypeBelow, FieldsBelow, ResultBelow, BlockBelow};
+ghost use Rattle.wf_named.specs.NamedParts.{exprs_of, NamedVarBelow, NamedResultBelow};
+ghost use Rattle.wf_named.specs.NamedTrees.{type_at, var_made};
+ghost use Rattle.wf_names_rules.specs.Declarations.{variables, local_of, locals_of};
+ghost use Rattle.wf_names_resolve.specs.Standing.{standing_by};
+ghost use Rattle.wf_names_resolve.specs.Package.{resolved_variable, resolved_result};
+ghost use Rattle.wf_names_resolve.specs.Growth.{Grows};
+ghost use Rattle.wf_names_resolve.specs.Statements.{listed};
+
+use std::alloc::Global;
+use wf_ast::parsed::{Block, Field, Name, Stmt, TypeExpr};
+use wf_ast::{Package, Sequence, StmtId};
+use wf_named::nodes::NamedType;
+use wf_named::{NamedNodes, NamedVar};
+use wf_names_resolve::numbers::{PackageNumbers, ScopeNumbers};
+use wf_names_resolve::resolve_exprs::resolve_type;
+use wf_names_resolve::words::named_word;
+use wf_text::faults::NoMemory;
+
+/// Adds the nodes of a variable's type, and answers the variable.
+pub fn resolve_variable(
+    alloc: Global,
+    nodes: &mut NamedNodes,
+    parsed: &Package,
+    numbers: &PackageNumbers,
+    around: &ScopeNumbers,
+    name: Name,
+    of: &TypeExpr,
+) -> Result<NamedVar, NoMemory>
+    requires { TypeBelow (length parsed.now.exprs) of.now }
+    ensures grows { OnOk result (Grows nodes.old nodes.new) }
+    ensures below { IfOk result (NamedVarBelow (length nodes.new.texts) (length nodes.new.exprs)) }
+    ensures made { IfOk result (λ r. var_made nodes.new.texts (exprs_of nodes.new) r ≡ resolved_variable (standing_by parsed.now.texts numbers.now around.now) (record { name = name; of = parsed_type_at (expr_trees parsed.now.exprs) of.now })) }
+{
+    match named_word(nodes, parsed, name) {
+        Ok(name) => {
+            match resolve_type(alloc, nodes, parsed, numbers, around, of) {
+                Ok(of) => Ok(NamedVar { name, of }),
+                Err(fault) => Err(fault),
+            }
+        }
+        Err(fault) => Err(fault),
+    }
+}
+
+/// Adds the nodes of the types of fields or arguments, and answers these in their order.
+pub fn resolve_fields(
+    alloc: Global,
+    nodes: &mut NamedNodes,
+    parsed: &Package,
+    numbers: &PackageNumbers,
+    around: &ScopeNumbers,
+    fields: &[Field],
+) -> Result<Sequence<NamedVar>, NoMemory>
+    requires { FieldsBelow (length parsed.now.exprs) fields.now }
+    ensures grows { OnOk result (Grows nodes.old nodes.new) }
+    ensures below { IfOk result (λ r. AllByRecursion (NamedVarBelow (length nodes.new.texts) (length nodes.new.exprs)) r) }
+    ensures made { IfOk result (λ r. map (var_made nodes.new.texts (exprs_of nodes.new)) r ≡ map (resolved_variable (standing_by parsed.now.texts numbers.now around.now)) (variables (parsed_fields_at (expr_trees parsed.now.exprs) fields.now))) }
+{
+    let mut made = Sequence::new(alloc);
+    for field in fields {
+        match resolve_variable(alloc, nodes, parsed, numbers, around, field.name, &field.of) {
+            Ok(one) => {
+                match made.push(one) {
+                    Ok(()) => {}
+                    Err(_) => return Err(NoMemory),
+                }
+            }
+            Err(fault) => return Err(fault),
+        }
+    }
+    Ok(made)
+}
+
+// The local that a statement declares, if it does.
+fn resolve_local(
+    alloc: Global,
+    nodes: &mut NamedNodes,
+    parsed: &Package,
+    numbers: &PackageNumbers,
+    around: &ScopeNumbers,
+    s: StmtId,
+) -> Result<Option<NamedVar>, NoMemory>
+    requires { s.0 < length parsed.now.stmts }
+    ensures grows { OnOk result (Grows nodes.old nodes.new) }
+    ensures below { IfOk result (λ r. AllByRecursion (NamedVarBelow (length nodes.new.texts) (length nodes.new.exprs)) (listed r)) }
+    ensures made { IfOk result (λ r. map (var_made nodes.new.texts (exprs_of nodes.new)) (listed r) ≡ map (resolved_variable (standing_by parsed.now.texts numbers.now around.now)) (local_of (parsed_stmt_at (stmt_trees parsed.now.exprs parsed.now.stmts) s))) }
+{
+    match &parsed.stmt(s).stmt {
+        Stmt::Var { name, of } => {
+            match resolve_variable(alloc, nodes, parsed, numbers, around, *name, of) {
+                Ok(one) => Ok(Some(one)),
+                Err(fault) => Err(fault),
+            }
+        }
+        _ => Ok(None),
+    }
+}
+
+fn add_variable(made: &mut Sequence<NamedVar>, one: Option<NamedVar>) -> Result<(), NoMemory>
+    ensures { OnOk result (made.new ≡ made.old ++ listed one) }
+{
+    match one {
+        Some(one) => {
+            match made.push(one) {
+                Ok(()) => Ok(()),
+                Err(_) => Err(NoMemory),
+            }
+        }
+        None => Ok(()),
+    }
+}
+
+/// Adds the nodes of the types of a method's locals, and answers these in their order: what the statements of its body
+/// declare, and not those of the blocks in it.
+pub fn resolve_locals(
+    alloc: Global,
+    nodes: &mut NamedNodes,
+    parsed: &Package,
+    numbers: &PackageNumbers,
+    around: &ScopeNumbers,
+    body: &Block,
+) -> Result<Sequence<NamedVar>, NoMemory>
+    requires { BlockBelow (length parsed.now.stmts) body.now }
+    ensures grows { OnOk result (Grows nodes.old nodes.new) }
+    ensures below { IfOk result (λ r. AllByRecursion (NamedVarBelow (length nodes.new.texts) (length nodes.new.exprs)) r) }
+    ensures made { IfOk result (λ r. map (var_made nodes.new.texts (exprs_of nodes.new)) r ≡ map (resolved_variable (standing_by parsed.now.texts numbers.now around.now)) (locals_of (parsed_block_at (stmt_trees parsed.now.exprs parsed.now.stmts) body.now))) }
+{
+    let mut made = Sequence::new(alloc);
+    for s in body.items.as_slice() {
+        match resolve_local(alloc, nodes, parsed, numbers, around, *s) {
+            Ok(one) => {
+                match add_variable(&mut made, one) {
+                    Ok(()) => {}
+                    Err(fault) => return Err(fault),
+                }
+            }
+            Err(fault) => return Err(fault),
+        }
+    }
+    Ok(made)
+}
+
+/// Adds the nodes of what a method gives, if it gives something, and answers the type.
+pub fn resolve_result(
+    alloc: Global,
+    nodes: &mut NamedNodes,
+    parsed: &Package,
+    numbers: &PackageNumbers,
+    around: &ScopeNumbers,
+    gives: &Option<TypeExpr>,
+) -> Result<Option<NamedType>, NoMemory>
+    requires { ResultBelow (length parsed.now.exprs) gives.now }
+    ensures grows { OnOk result (Grows nodes.old nodes.new) }
+    ensures below { IfOk result (NamedResultBelow (length nodes.new.exprs)) }
+    ensures made { IfOk result (λ r. option_map (type_at (exprs_of nodes.new)) r ≡ resolved_result (standing_by parsed.now.texts numbers.now around.now) (parsed_result_at (expr_trees parsed.now.exprs) gives.now)) }
+{
+    match gives {
+        Some(of) => {
+            match resolve_type(alloc, nodes, parsed, numbers, around, of) {
+                Ok(of) => Ok(Some(of)),
+                Err(fault) => Err(fault),
+            }
+        }
+        None => Ok(None),
+    }
+}

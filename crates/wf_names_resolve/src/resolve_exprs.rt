@@ -1,0 +1,520 @@
+// The walk over expressions, types and calls: it makes the resolved nodes of each, parts in front of their whole.
+
+ghost use Rattle.std.specs.Prelude.{◌≡◌, ◌<◌, length, IfOk, OnOk};
+ghost use Rattle.std.specs.List.{AllByRecursion};
+ghost use Rattle.wf_ast.specs.ParsedTrees.{expr_trees, expr_at as parsed_expr_at, part_at as parsed_part_at, links_at as parsed_links_at, given_at as parsed_given_at, call_at as parsed_call_at, type_at as parsed_type_at, bounds_at as parsed_bounds_at};
+ghost use Rattle.wf_ast.specs.ParsedParts.{GivenBelow, LinksBelow, IsBelow, TypeBelow, BoundsBelow, PrefixBelow};
+ghost use Rattle.wf_named.specs.NamedParts.{exprs_of, ArgsBelow, NamedTypeBelow, NamedExprParts};
+ghost use Rattle.wf_named.specs.NamedTrees.{expr_at, part_at, links_at, args_at, call_at, bounds_at, type_at, expr_made};
+ghost use Rattle.wf_names_resolve.specs.Standing.{standing_by};
+ghost use Rattle.wf_names_resolve.specs.Resolved.{resolved_expr, resolved_part, resolved_links, resolved_given, resolved_call, resolved_type, resolved_bounds};
+ghost use Rattle.wf_names_resolve.specs.Ordered.{given_trees};
+ghost use Rattle.wf_names_resolve.specs.Growth.{Grows};
+ghost use Rattle.wf_names_resolve.specs.Prefixes.{ResolvesPrefix, ResolvesPrefixes};
+
+use crate::arguments::values;
+use crate::numbers::{PackageNumbers, ScopeNumbers};
+use crate::parts::{base_status, callee, core, mark, named_callee, own_status, path};
+use std::alloc::Global;
+use wf_ast::parsed::{Bounds, Call, Expr, Given, Link, Prefix, TypeExpr};
+use wf_ast::{ExprId, Package, Sequence, StatusId};
+use wf_named::{NamedCall, NamedExpr, NamedExprNode, NamedNodes, NamedType};
+use wf_names_rules::tables::text_bytes;
+use wf_text::faults::NoMemory;
+
+// Adds an expression whose parts are there.
+fn put(nodes: &mut NamedNodes, node: NamedExprNode) -> Result<ExprId, NoMemory>
+    requires { NamedExprParts (length nodes.old.exprs) node.expr }
+    ensures grows { OnOk result (Grows nodes.old nodes.new) }
+    ensures below { IfOk result (λ e. e.0 < length nodes.new.exprs) }
+    ensures made { IfOk result (λ e. expr_at (exprs_of nodes.new) e ≡ expr_made (exprs_of nodes.old) node.expr node.at) }
+{
+    match nodes.push_expr(node) {
+        Ok(e) => Ok(e),
+        Err(_) => Err(NoMemory),
+    }
+}
+
+/// Adds the nodes of an expression of the parsed package; what was there keeps its numbers and its trees. `Err` also comes
+/// where no number is left.
+#[cycle(resolve_exprs)]
+pub fn resolve_expr(
+    alloc: Global,
+    nodes: &mut NamedNodes,
+    parsed: &Package,
+    numbers: &PackageNumbers,
+    around: &ScopeNumbers,
+    e: ExprId,
+) -> Result<ExprId, NoMemory>
+    requires { e.0 < length parsed.now.exprs }
+    ensures grows { OnOk result (Grows nodes.old nodes.new) }
+    ensures below { IfOk result (λ r. r.0 < length nodes.new.exprs) }
+    ensures made { IfOk result (λ r. expr_at (exprs_of nodes.new) r ≡ resolved_expr (standing_by parsed.now.texts numbers.now around.now) (parsed_expr_at (expr_trees parsed.now.exprs) e)) }
+{
+    match resolve_node(alloc, nodes, parsed, numbers, around, e) {
+        Ok(node) => put(nodes, node),
+        Err(fault) => Err(fault),
+    }
+}
+
+// The node of an expression, whose parts are added.
+#[cycle(resolve_exprs)]
+fn resolve_node(
+    alloc: Global,
+    nodes: &mut NamedNodes,
+    parsed: &Package,
+    numbers: &PackageNumbers,
+    around: &ScopeNumbers,
+    e: ExprId,
+) -> Result<NamedExprNode, NoMemory>
+    requires { e.0 < length parsed.now.exprs }
+    ensures grows { OnOk result (Grows nodes.old nodes.new) }
+    ensures below { IfOk result (λ n. NamedExprParts (length nodes.new.exprs) n.expr) }
+    ensures made { IfOk result (λ n. expr_made (exprs_of nodes.new) n.expr n.at ≡ resolved_expr (standing_by parsed.now.texts numbers.now around.now) (parsed_expr_at (expr_trees parsed.now.exprs) e)) }
+{
+    let node = parsed.expr(e);
+    match &node.expr {
+        Expr::Number(value) => Ok(NamedExprNode {
+            expr: NamedExpr::Number(*value),
+            at: node.at,
+        }),
+        Expr::OwnStatus(text) => Ok(NamedExprNode {
+            expr: NamedExpr::Status(own_status(numbers, text.text)),
+            at: text.at,
+        }),
+        Expr::BaseStatus(text) => Ok(NamedExprNode {
+            expr: NamedExpr::Status(base_status(text_bytes(parsed, text.text))),
+            at: node.at,
+        }),
+        Expr::Fine => Ok(NamedExprNode {
+            expr: NamedExpr::Status(StatusId(0)),
+            at: node.at,
+        }),
+        Expr::Truth(value) => Ok(NamedExprNode {
+            expr: NamedExpr::Truth(*value),
+            at: node.at,
+        }),
+        Expr::Path(of) => Ok(NamedExprNode {
+            expr: NamedExpr::Path(path(numbers, around, *of)),
+            at: node.at,
+        }),
+        Expr::Index { base, index } => {
+            let array = path(numbers, around, *base);
+            match resolve_expr(alloc, nodes, parsed, numbers, around, *index) {
+                Ok(index) => Ok(NamedExprNode {
+                    expr: NamedExpr::Index { base: array, index },
+                    at: node.at,
+                }),
+                Err(fault) => Err(fault),
+            }
+        }
+        Expr::Slice { base, from, to } => {
+            let whole = path(numbers, around, *base);
+            match resolve_parts(alloc, nodes, parsed, numbers, around, *from, *to) {
+                Ok((from, to)) => Ok(NamedExprNode {
+                    expr: NamedExpr::Slice {
+                        base: whole,
+                        from,
+                        to,
+                    },
+                    at: node.at,
+                }),
+                Err(fault) => Err(fault),
+            }
+        }
+        Expr::Call(call) => {
+            match resolve_call(alloc, nodes, parsed, numbers, around, call) {
+                Ok(call) => Ok(NamedExprNode {
+                    expr: NamedExpr::Call(call),
+                    at: node.at,
+                }),
+                Err(fault) => Err(fault),
+            }
+        }
+        Expr::Chain { op, first, links } => {
+            match resolve_chain(
+                alloc,
+                nodes,
+                parsed,
+                numbers,
+                around,
+                *first,
+                links.as_slice(),
+            ) {
+                Ok((first, links)) => Ok(NamedExprNode {
+                    expr: NamedExpr::Chain {
+                        op: *op,
+                        first,
+                        links,
+                    },
+                    at: node.at,
+                }),
+                Err(fault) => Err(fault),
+            }
+        }
+        Expr::Convert { of, to } => {
+            match resolve_convert(alloc, nodes, parsed, numbers, around, *of, to) {
+                Ok((of, to)) => Ok(NamedExprNode {
+                    expr: NamedExpr::Convert { of, to },
+                    at: node.at,
+                }),
+                Err(fault) => Err(fault),
+            }
+        }
+        Expr::Not(of) => {
+            match resolve_expr(alloc, nodes, parsed, numbers, around, *of) {
+                Ok(of) => Ok(NamedExprNode {
+                    expr: NamedExpr::Not(of),
+                    at: node.at,
+                }),
+                Err(fault) => Err(fault),
+            }
+        }
+    }
+}
+
+/// Adds the nodes of an expression that may be absent.
+#[cycle(resolve_exprs)]
+pub fn resolve_part(
+    alloc: Global,
+    nodes: &mut NamedNodes,
+    parsed: &Package,
+    numbers: &PackageNumbers,
+    around: &ScopeNumbers,
+    part: Option<ExprId>,
+) -> Result<Option<ExprId>, NoMemory>
+    requires { IsBelow (length parsed.now.exprs) part }
+    ensures grows { OnOk result (Grows nodes.old nodes.new) }
+    ensures below { IfOk result (λ r. IsBelow (length nodes.new.exprs) r) }
+    ensures made { IfOk result (λ r. part_at (exprs_of nodes.new) r ≡ resolved_part (standing_by parsed.now.texts numbers.now around.now) (parsed_part_at (expr_trees parsed.now.exprs) part)) }
+{
+    match part {
+        Some(e) => {
+            match resolve_expr(alloc, nodes, parsed, numbers, around, e) {
+                Ok(e) => Ok(Some(e)),
+                Err(fault) => Err(fault),
+            }
+        }
+        None => Ok(None),
+    }
+}
+
+#[cycle(resolve_exprs)]
+fn resolve_parts(
+    alloc: Global,
+    nodes: &mut NamedNodes,
+    parsed: &Package,
+    numbers: &PackageNumbers,
+    around: &ScopeNumbers,
+    from: Option<ExprId>,
+    to: Option<ExprId>,
+) -> Result<(Option<ExprId>, Option<ExprId>), NoMemory>
+    requires from { IsBelow (length parsed.now.exprs) from }
+    requires to { IsBelow (length parsed.now.exprs) to }
+    ensures grows { OnOk result (Grows nodes.old nodes.new) }
+    ensures below { IfOk result (λ r. IsBelow (length nodes.new.exprs) r.0 × IsBelow (length nodes.new.exprs) r.1) }
+    ensures from { IfOk result (λ r. part_at (exprs_of nodes.new) r.0 ≡ resolved_part (standing_by parsed.now.texts numbers.now around.now) (parsed_part_at (expr_trees parsed.now.exprs) from)) }
+    ensures to { IfOk result (λ r. part_at (exprs_of nodes.new) r.1 ≡ resolved_part (standing_by parsed.now.texts numbers.now around.now) (parsed_part_at (expr_trees parsed.now.exprs) to)) }
+{
+    match resolve_part(alloc, nodes, parsed, numbers, around, from) {
+        Ok(from) => {
+            match resolve_part(alloc, nodes, parsed, numbers, around, to) {
+                Ok(to) => Ok((from, to)),
+                Err(fault) => Err(fault),
+            }
+        }
+        Err(fault) => Err(fault),
+    }
+}
+
+#[cycle(resolve_exprs)]
+fn resolve_chain(
+    alloc: Global,
+    nodes: &mut NamedNodes,
+    parsed: &Package,
+    numbers: &PackageNumbers,
+    around: &ScopeNumbers,
+    first: ExprId,
+    links: &[Link],
+) -> Result<(ExprId, Sequence<Link>), NoMemory>
+    requires first { first.0 < length parsed.now.exprs }
+    requires links { LinksBelow (length parsed.now.exprs) links.now }
+    ensures grows { OnOk result (Grows nodes.old nodes.new) }
+    ensures below { IfOk result (λ r. (r.0.0 < length nodes.new.exprs) × LinksBelow (length nodes.new.exprs) r.1) }
+    ensures first { IfOk result (λ r. expr_at (exprs_of nodes.new) r.0 ≡ resolved_expr (standing_by parsed.now.texts numbers.now around.now) (parsed_expr_at (expr_trees parsed.now.exprs) first)) }
+    ensures links { IfOk result (λ r. links_at (exprs_of nodes.new) r.1 ≡ resolved_links (standing_by parsed.now.texts numbers.now around.now) (parsed_links_at (expr_trees parsed.now.exprs) links.now)) }
+{
+    match resolve_expr(alloc, nodes, parsed, numbers, around, first) {
+        Ok(first) => {
+            match resolve_links(alloc, nodes, parsed, numbers, around, links) {
+                Ok(links) => Ok((first, links)),
+                Err(fault) => Err(fault),
+            }
+        }
+        Err(fault) => Err(fault),
+    }
+}
+
+#[cycle(resolve_exprs)]
+fn resolve_convert(
+    alloc: Global,
+    nodes: &mut NamedNodes,
+    parsed: &Package,
+    numbers: &PackageNumbers,
+    around: &ScopeNumbers,
+    of: ExprId,
+    to: &TypeExpr,
+) -> Result<(ExprId, NamedType), NoMemory>
+    requires of { of.0 < length parsed.now.exprs }
+    requires to { TypeBelow (length parsed.now.exprs) to.now }
+    ensures grows { OnOk result (Grows nodes.old nodes.new) }
+    ensures below { IfOk result (λ r. (r.0.0 < length nodes.new.exprs) × NamedTypeBelow (length nodes.new.exprs) r.1) }
+    ensures of { IfOk result (λ r. expr_at (exprs_of nodes.new) r.0 ≡ resolved_expr (standing_by parsed.now.texts numbers.now around.now) (parsed_expr_at (expr_trees parsed.now.exprs) of)) }
+    ensures to { IfOk result (λ r. type_at (exprs_of nodes.new) r.1 ≡ resolved_type (standing_by parsed.now.texts numbers.now around.now) (parsed_type_at (expr_trees parsed.now.exprs) to.now)) }
+{
+    match resolve_expr(alloc, nodes, parsed, numbers, around, of) {
+        Ok(of) => {
+            match resolve_type(alloc, nodes, parsed, numbers, around, to) {
+                Ok(to) => Ok((of, to)),
+                Err(fault) => Err(fault),
+            }
+        }
+        Err(fault) => Err(fault),
+    }
+}
+
+#[cycle(resolve_exprs)]
+fn resolve_links(
+    alloc: Global,
+    nodes: &mut NamedNodes,
+    parsed: &Package,
+    numbers: &PackageNumbers,
+    around: &ScopeNumbers,
+    links: &[Link],
+) -> Result<Sequence<Link>, NoMemory>
+    requires { LinksBelow (length parsed.now.exprs) links.now }
+    ensures grows { OnOk result (Grows nodes.old nodes.new) }
+    ensures below { IfOk result (λ r. LinksBelow (length nodes.new.exprs) r) }
+    ensures made { IfOk result (λ r. links_at (exprs_of nodes.new) r ≡ resolved_links (standing_by parsed.now.texts numbers.now around.now) (parsed_links_at (expr_trees parsed.now.exprs) links.now)) }
+{
+    let mut made = Sequence::new(alloc);
+    for link in links {
+        match resolve_expr(alloc, nodes, parsed, numbers, around, link.operand) {
+            Ok(operand) => {
+                match made.push(Link {
+                    sign: link.sign,
+                    operand,
+                }) {
+                    Ok(()) => {}
+                    Err(_) => return Err(NoMemory),
+                }
+            }
+            Err(fault) => return Err(fault),
+        }
+    }
+    Ok(made)
+}
+
+/// Adds the nodes of what is given to a call or to an axiom, and answers it in its order.
+#[cycle(resolve_exprs)]
+pub fn resolve_given(
+    alloc: Global,
+    nodes: &mut NamedNodes,
+    parsed: &Package,
+    numbers: &PackageNumbers,
+    around: &ScopeNumbers,
+    given: &[Given],
+) -> Result<Sequence<Given>, NoMemory>
+    requires { GivenBelow (length parsed.now.exprs) given.now }
+    ensures grows { OnOk result (Grows nodes.old nodes.new) }
+    ensures below { IfOk result (λ r. GivenBelow (length nodes.new.exprs) r) }
+    ensures made { IfOk result (λ r. given_trees (exprs_of nodes.new) r ≡ resolved_given (standing_by parsed.now.texts numbers.now around.now) (parsed_given_at (expr_trees parsed.now.exprs) given.now)) }
+{
+    let mut made = Sequence::new(alloc);
+    for one in given {
+        match resolve_expr(alloc, nodes, parsed, numbers, around, one.value) {
+            Ok(value) => {
+                match made.push(Given {
+                    name: one.name,
+                    value,
+                }) {
+                    Ok(()) => {}
+                    Err(_) => return Err(NoMemory),
+                }
+            }
+            Err(fault) => return Err(fault),
+        }
+    }
+    Ok(made)
+}
+
+// A call, by what is given to it.
+fn finish_call(
+    alloc: Global,
+    parsed: &Package,
+    numbers: &PackageNumbers,
+    around: &ScopeNumbers,
+    call: &Call,
+    given: &Sequence<Given>,
+) -> Result<NamedCall, NoMemory>
+    ensures below { (n : _) → GivenBelow n given.now → IfOk result (λ r. ArgsBelow n r.args) }
+    ensures made { (ts : _) (es : _) → given_trees ts given.now ≡ resolved_given (standing_by parsed.now.texts numbers.now around.now) (parsed_given_at es call.now.args) → IfOk result (λ r. call_at ts r ≡ resolved_call (standing_by parsed.now.texts numbers.now around.now) (parsed_call_at es call.now)) }
+{
+    let on = callee(parsed, numbers, around, call.on, call.method.text);
+    match values(alloc, parsed, &numbers.tables, on, given.as_slice()) {
+        Ok(args) => {
+            match named_callee(numbers, around, call.on, on) {
+                Ok(callee) => Ok(NamedCall {
+                    callee,
+                    at: call.method.at,
+                    mark: mark(call.mark),
+                    args,
+                }),
+                Err(fault) => Err(fault),
+            }
+        }
+        Err(fault) => Err(fault),
+    }
+}
+
+/// Adds the nodes of a call's arguments, and answers the call.
+#[cycle(resolve_exprs)]
+pub fn resolve_call(
+    alloc: Global,
+    nodes: &mut NamedNodes,
+    parsed: &Package,
+    numbers: &PackageNumbers,
+    around: &ScopeNumbers,
+    call: &Call,
+) -> Result<NamedCall, NoMemory>
+    requires { GivenBelow (length parsed.now.exprs) call.now.args }
+    ensures grows { OnOk result (Grows nodes.old nodes.new) }
+    ensures below { IfOk result (λ r. ArgsBelow (length nodes.new.exprs) r.args) }
+    ensures made { IfOk result (λ r. call_at (exprs_of nodes.new) r ≡ resolved_call (standing_by parsed.now.texts numbers.now around.now) (parsed_call_at (expr_trees parsed.now.exprs) call.now)) }
+{
+    match resolve_given(alloc, nodes, parsed, numbers, around, call.args.as_slice()) {
+        Ok(given) => finish_call(alloc, parsed, numbers, around, call, &given),
+        Err(fault) => Err(fault),
+    }
+}
+
+#[cycle(resolve_exprs)]
+fn resolve_prefix(
+    alloc: Global,
+    nodes: &mut NamedNodes,
+    parsed: &Package,
+    numbers: &PackageNumbers,
+    around: &ScopeNumbers,
+    prefix: Prefix,
+) -> Result<Prefix, NoMemory>
+    requires { PrefixBelow (length parsed.now.exprs) prefix }
+    ensures grows { OnOk result (Grows nodes.old nodes.new) }
+    ensures below { IfOk result (λ r. PrefixBelow (length nodes.new.exprs) r) }
+    ensures made { IfOk result (λ r. ResolvesPrefix (standing_by parsed.now.texts numbers.now around.now) (expr_trees parsed.now.exprs) prefix (exprs_of nodes.new) r) }
+{
+    match prefix {
+        Prefix::Slice(at) => Ok(Prefix::Slice(at)),
+        Prefix::Array { length, at } => {
+            match resolve_expr(alloc, nodes, parsed, numbers, around, length) {
+                Ok(length) => Ok(Prefix::Array { length, at }),
+                Err(fault) => Err(fault),
+            }
+        }
+    }
+}
+
+#[cycle(resolve_exprs)]
+fn resolve_prefixes(
+    alloc: Global,
+    nodes: &mut NamedNodes,
+    parsed: &Package,
+    numbers: &PackageNumbers,
+    around: &ScopeNumbers,
+    prefixes: &[Prefix],
+) -> Result<Sequence<Prefix>, NoMemory>
+    requires { AllByRecursion (PrefixBelow (length parsed.now.exprs)) prefixes.now }
+    ensures grows { OnOk result (Grows nodes.old nodes.new) }
+    ensures below { IfOk result (λ r. AllByRecursion (PrefixBelow (length nodes.new.exprs)) r) }
+    ensures made { IfOk result (λ r. ResolvesPrefixes (standing_by parsed.now.texts numbers.now around.now) (expr_trees parsed.now.exprs) prefixes.now (exprs_of nodes.new) r) }
+{
+    let mut made = Sequence::new(alloc);
+    for prefix in prefixes {
+        match resolve_prefix(alloc, nodes, parsed, numbers, around, *prefix) {
+            Ok(next) => {
+                match made.push(next) {
+                    Ok(()) => {}
+                    Err(_) => return Err(NoMemory),
+                }
+            }
+            Err(fault) => return Err(fault),
+        }
+    }
+    Ok(made)
+}
+
+#[cycle(resolve_exprs)]
+fn resolve_bounds(
+    alloc: Global,
+    nodes: &mut NamedNodes,
+    parsed: &Package,
+    numbers: &PackageNumbers,
+    around: &ScopeNumbers,
+    bounds: Option<Bounds>,
+) -> Result<Option<Bounds>, NoMemory>
+    requires { BoundsBelow (length parsed.now.exprs) bounds }
+    ensures grows { OnOk result (Grows nodes.old nodes.new) }
+    ensures below { IfOk result (λ r. BoundsBelow (length nodes.new.exprs) r) }
+    ensures made { IfOk result (λ r. bounds_at (exprs_of nodes.new) r ≡ resolved_bounds (standing_by parsed.now.texts numbers.now around.now) (parsed_bounds_at (expr_trees parsed.now.exprs) bounds)) }
+{
+    match bounds {
+        Some(bounds) => {
+            match resolve_part(alloc, nodes, parsed, numbers, around, bounds.low) {
+                Ok(low) => {
+                    match resolve_expr(alloc, nodes, parsed, numbers, around, bounds.high) {
+                        Ok(high) => Ok(Some(Bounds { low, high })),
+                        Err(fault) => Err(fault),
+                    }
+                }
+                Err(fault) => Err(fault),
+            }
+        }
+        None => Ok(None),
+    }
+}
+
+/// Adds the nodes of a type's parts, and answers the type.
+#[cycle(resolve_exprs)]
+pub fn resolve_type(
+    alloc: Global,
+    nodes: &mut NamedNodes,
+    parsed: &Package,
+    numbers: &PackageNumbers,
+    around: &ScopeNumbers,
+    of: &TypeExpr,
+) -> Result<NamedType, NoMemory>
+    requires { TypeBelow (length parsed.now.exprs) of.now }
+    ensures grows { OnOk result (Grows nodes.old nodes.new) }
+    ensures below { IfOk result (λ r. NamedTypeBelow (length nodes.new.exprs) r) }
+    ensures made { IfOk result (λ r. type_at (exprs_of nodes.new) r ≡ resolved_type (standing_by parsed.now.texts numbers.now around.now) (parsed_type_at (expr_trees parsed.now.exprs) of.now)) }
+{
+    match resolve_prefixes(
+        alloc,
+        nodes,
+        parsed,
+        numbers,
+        around,
+        of.prefixes.as_slice(),
+    ) {
+        Ok(prefixes) => {
+            match resolve_bounds(alloc, nodes, parsed, numbers, around, of.bounds) {
+                Ok(bounds) => Ok(NamedType {
+                    prefixes,
+                    core: core(parsed, numbers, of.core),
+                    bounds,
+                }),
+                Err(fault) => Err(fault),
+            }
+        }
+        Err(fault) => Err(fault),
+    }
+}

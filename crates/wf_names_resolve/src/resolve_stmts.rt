@@ -1,0 +1,411 @@
+// The walk over statements and their blocks: it makes the resolved nodes of each, parts in front of their whole.
+
+ghost use Rattle.std.specs.Prelude.{◌≡◌, ◌<◌, ◌++◌, ◌∷◌, [], length, IfOk, OnOk};
+ghost use Rattle.std.specs.List.{AllByRecursion};
+ghost use Rattle.wf_ast.specs.ParsedTree as parsed_tree;
+ghost use Rattle.wf_ast.specs.ParsedTrees.{expr_trees, expr_at as parsed_expr_at, stmt_trees, stmt_at as parsed_stmt_at, block_at as parsed_block_at, else_at as parsed_else_at, arms_at as parsed_arms_at, clauses_at as parsed_clauses_at, stmt_made as parsed_stmt_made};
+ghost use Rattle.wf_ast.specs.ParsedParts.{BlockBelow, ElseBelow, StmtParts};
+ghost use Rattle.wf_named.specs.NamedParts.{exprs_of, stmts_of, NamedStmtParts};
+ghost use Rattle.wf_named.specs.NamedTree as named_tree;
+ghost use Rattle.wf_named.specs.NamedTrees.{expr_at, stmt_at, block_at, else_at, arms_at, clauses_at, stmt_made};
+ghost use Rattle.wf_names_resolve.specs.Standing.{standing_by};
+ghost use Rattle.wf_names_resolve.specs.Resolved.{resolved_expr, resolved_clauses, resolved_stmt, resolved_block, resolved_arms};
+ghost use Rattle.wf_names_resolve.specs.Growth.{Grows};
+ghost use Rattle.wf_names_resolve.specs.Statements.{listed, stmt_in, made_in, PartsBelow, IsStmtBelow, ArmsBelow};
+
+use crate::numbers::{PackageNumbers, ScopeNumbers};
+use crate::resolve_exprs::resolve_expr;
+use crate::simple_stmts::resolve_simple;
+use crate::stmt_parts::resolve_head;
+use std::alloc::Global;
+use wf_ast::parsed::{Arm, Block, LoopClause, Name, Stmt};
+use wf_ast::{ExprId, Package, Sequence, StmtId};
+use wf_named::{NamedNodes, NamedStmt, NamedStmtNode};
+use wf_text::Place;
+use wf_text::faults::NoMemory;
+
+// Adds a statement whose parts are there.
+fn put(nodes: &mut NamedNodes, stmt: NamedStmt, at: Place) -> Result<StmtId, NoMemory>
+    requires { NamedStmtParts (length nodes.old.texts) (length nodes.old.exprs) (length nodes.old.stmts) stmt }
+    ensures grows { OnOk result (Grows nodes.old nodes.new) }
+    ensures below { IfOk result (λ s. s.0 < length nodes.new.stmts) }
+    ensures made { IfOk result (λ s. stmt_at (stmts_of nodes.new) s ≡ stmt_made nodes.old.texts (exprs_of nodes.old) (stmts_of nodes.old) stmt at) }
+{
+    match nodes.push_stmt(NamedStmtNode { stmt, at }) {
+        Ok(s) => Ok(s),
+        Err(_) => Err(NoMemory),
+    }
+}
+
+// Adds a statement, if there is one.
+fn put_made(
+    nodes: &mut NamedNodes,
+    stmt: Option<NamedStmt>,
+    at: Place,
+) -> Result<Option<StmtId>, NoMemory>
+    requires { PartsBelow (length nodes.old.texts) (length nodes.old.exprs) (length nodes.old.stmts) stmt }
+    ensures grows { OnOk result (Grows nodes.old nodes.new) }
+    ensures below { IfOk result (λ r. IsStmtBelow (length nodes.new.stmts) r) }
+    ensures made { IfOk result (λ r. stmt_in (stmts_of nodes.new) r ≡ made_in nodes.old.texts (exprs_of nodes.old) (stmts_of nodes.old) stmt at) }
+{
+    match stmt {
+        Some(stmt) => {
+            match put(nodes, stmt, at) {
+                Ok(s) => Ok(Some(s)),
+                Err(fault) => Err(fault),
+            }
+        }
+        None => Ok(None),
+    }
+}
+
+fn add_stmt(made: &mut Sequence<StmtId>, one: Option<StmtId>) -> Result<(), NoMemory>
+    ensures { OnOk result (made.new ≡ made.old ++ listed one) }
+{
+    match one {
+        Some(s) => {
+            match made.push(s) {
+                Ok(()) => Ok(()),
+                Err(_) => Err(NoMemory),
+            }
+        }
+        None => Ok(()),
+    }
+}
+
+// Adds the nodes of a statement, none where it declares a local. `labels` are those of the loops round it, the
+// outermost first; they are as they were behind it.
+#[cycle(resolve_stmts)]
+fn resolve_stmt(
+    alloc: Global,
+    nodes: &mut NamedNodes,
+    parsed: &Package,
+    numbers: &PackageNumbers,
+    around: &ScopeNumbers,
+    labels: &mut Vec<Option<Name>>,
+    s: StmtId,
+) -> Result<Option<StmtId>, NoMemory>
+    requires { s.0 < length parsed.now.stmts }
+    ensures grows { OnOk result (Grows nodes.old nodes.new) }
+    ensures labels { OnOk result (labels.new.items ≡ labels.old.items) }
+    ensures below { IfOk result (λ r. IsStmtBelow (length nodes.new.stmts) r) }
+    ensures made { IfOk result (λ r. stmt_in (stmts_of nodes.new) r ≡ resolved_stmt (standing_by parsed.now.texts numbers.now around.now) labels.old.items (parsed_stmt_at (stmt_trees parsed.now.exprs parsed.now.stmts) s)) }
+{
+    let node = parsed.stmt(s);
+    match resolve_parts(alloc, nodes, parsed, numbers, around, labels, &node.stmt) {
+        Ok(stmt) => put_made(nodes, stmt, node.at),
+        Err(fault) => Err(fault),
+    }
+}
+
+// Adds the nodes of a statement's parts, and answers what it makes.
+#[cycle(resolve_stmts)]
+fn resolve_parts(
+    alloc: Global,
+    nodes: &mut NamedNodes,
+    parsed: &Package,
+    numbers: &PackageNumbers,
+    around: &ScopeNumbers,
+    labels: &mut Vec<Option<Name>>,
+    stmt: &Stmt,
+) -> Result<Option<NamedStmt>, NoMemory>
+    requires { StmtParts (length parsed.now.exprs) (length parsed.now.stmts) stmt.now }
+    ensures grows { OnOk result (Grows nodes.old nodes.new) }
+    ensures labels { OnOk result (labels.new.items ≡ labels.old.items) }
+    ensures below { IfOk result (λ r. PartsBelow (length nodes.new.texts) (length nodes.new.exprs) (length nodes.new.stmts) r) }
+    ensures made { IfOk result (λ r. (at : _) → made_in nodes.new.texts (exprs_of nodes.new) (stmts_of nodes.new) r at ≡ resolved_stmt (standing_by parsed.now.texts numbers.now around.now) labels.old.items (parsed_stmt_made (expr_trees parsed.now.exprs) (stmt_trees parsed.now.exprs parsed.now.stmts) stmt.now at)) }
+{
+    match stmt {
+        Stmt::If { arms, otherwise } => {
+            match resolve_if(
+                alloc,
+                nodes,
+                parsed,
+                numbers,
+                around,
+                labels,
+                arms.as_slice(),
+                otherwise,
+            ) {
+                Ok(stmt) => Ok(Some(stmt)),
+                Err(fault) => Err(fault),
+            }
+        }
+        Stmt::While {
+            label,
+            condition,
+            clauses,
+            body,
+        } => {
+            match resolve_loop(
+                alloc,
+                nodes,
+                parsed,
+                numbers,
+                around,
+                labels,
+                *label,
+                *condition,
+                clauses.as_slice(),
+                body,
+            ) {
+                Ok(stmt) => Ok(Some(stmt)),
+                Err(fault) => Err(fault),
+            }
+        }
+        _ => resolve_simple(
+            alloc,
+            nodes,
+            parsed,
+            numbers,
+            around,
+            labels.as_slice(),
+            stmt,
+        ),
+    }
+}
+
+#[cycle(resolve_stmts)]
+fn resolve_block(
+    alloc: Global,
+    nodes: &mut NamedNodes,
+    parsed: &Package,
+    numbers: &PackageNumbers,
+    around: &ScopeNumbers,
+    labels: &mut Vec<Option<Name>>,
+    block: &Block,
+) -> Result<Block, NoMemory>
+    requires { BlockBelow (length parsed.now.stmts) block.now }
+    ensures grows { OnOk result (Grows nodes.old nodes.new) }
+    ensures labels { OnOk result (labels.new.items ≡ labels.old.items) }
+    ensures below { IfOk result (λ r. BlockBelow (length nodes.new.stmts) r) }
+    ensures made { IfOk result (λ r. block_at (stmts_of nodes.new) r ≡ resolved_block (standing_by parsed.now.texts numbers.now around.now) labels.old.items (parsed_block_at (stmt_trees parsed.now.exprs parsed.now.stmts) block.now)) }
+{
+    let mut made = Sequence::new(alloc);
+    for s in block.items.as_slice() {
+        match resolve_stmt(alloc, nodes, parsed, numbers, around, labels, *s) {
+            Ok(one) => {
+                match add_stmt(&mut made, one) {
+                    Ok(()) => {}
+                    Err(fault) => return Err(fault),
+                }
+            }
+            Err(fault) => return Err(fault),
+        }
+    }
+    Ok(Block {
+        items: made,
+        close: block.close,
+    })
+}
+
+#[cycle(resolve_stmts)]
+fn resolve_arm(
+    alloc: Global,
+    nodes: &mut NamedNodes,
+    parsed: &Package,
+    numbers: &PackageNumbers,
+    around: &ScopeNumbers,
+    labels: &mut Vec<Option<Name>>,
+    arm: &Arm,
+) -> Result<Arm, NoMemory>
+    requires condition { arm.now.condition.0 < length parsed.now.exprs }
+    requires body { BlockBelow (length parsed.now.stmts) arm.now.body }
+    ensures grows { OnOk result (Grows nodes.old nodes.new) }
+    ensures labels { OnOk result (labels.new.items ≡ labels.old.items) }
+    ensures below { IfOk result (λ r. (r.condition.0 < length nodes.new.exprs) × BlockBelow (length nodes.new.stmts) r.body) }
+    ensures condition { IfOk result (λ r. expr_at (exprs_of nodes.new) r.condition ≡ resolved_expr (standing_by parsed.now.texts numbers.now around.now) (parsed_expr_at (expr_trees parsed.now.exprs) arm.now.condition)) }
+    ensures body { IfOk result (λ r. block_at (stmts_of nodes.new) r.body ≡ resolved_block (standing_by parsed.now.texts numbers.now around.now) labels.old.items (parsed_block_at (stmt_trees parsed.now.exprs parsed.now.stmts) arm.now.body)) }
+{
+    match resolve_expr(alloc, nodes, parsed, numbers, around, arm.condition) {
+        Ok(condition) => {
+            match resolve_block(alloc, nodes, parsed, numbers, around, labels, &arm.body) {
+                Ok(body) => Ok(Arm { condition, body }),
+                Err(fault) => Err(fault),
+            }
+        }
+        Err(fault) => Err(fault),
+    }
+}
+
+// The arms of an `if`, which make the same in front of whatever stands behind them.
+#[cycle(resolve_stmts)]
+fn resolve_arms(
+    alloc: Global,
+    nodes: &mut NamedNodes,
+    parsed: &Package,
+    numbers: &PackageNumbers,
+    around: &ScopeNumbers,
+    labels: &mut Vec<Option<Name>>,
+    arms: &[Arm],
+) -> Result<Sequence<Arm>, NoMemory>
+    requires { ArmsBelow (length parsed.now.exprs) (length parsed.now.stmts) arms.now }
+    ensures grows { OnOk result (Grows nodes.old nodes.new) }
+    ensures labels { OnOk result (labels.new.items ≡ labels.old.items) }
+    ensures below { IfOk result (λ r. ArmsBelow (length nodes.new.exprs) (length nodes.new.stmts) r) }
+    ensures made { IfOk result (λ r. (last : _) → arms_at (exprs_of nodes.new) (stmts_of nodes.new) r (resolved_arms (standing_by parsed.now.texts numbers.now around.now) labels.old.items last) ≡ resolved_arms (standing_by parsed.now.texts numbers.now around.now) labels.old.items (parsed_arms_at (expr_trees parsed.now.exprs) (stmt_trees parsed.now.exprs parsed.now.stmts) arms.now last)) }
+{
+    let mut made = Sequence::new(alloc);
+    for arm in arms {
+        match resolve_arm(alloc, nodes, parsed, numbers, around, labels, arm) {
+            Ok(one) => {
+                match made.push(one) {
+                    Ok(()) => {}
+                    Err(_) => return Err(NoMemory),
+                }
+            }
+            Err(fault) => return Err(fault),
+        }
+    }
+    Ok(made)
+}
+
+#[cycle(resolve_stmts)]
+fn resolve_else(
+    alloc: Global,
+    nodes: &mut NamedNodes,
+    parsed: &Package,
+    numbers: &PackageNumbers,
+    around: &ScopeNumbers,
+    labels: &mut Vec<Option<Name>>,
+    otherwise: &Option<Block>,
+) -> Result<Option<Block>, NoMemory>
+    requires { ElseBelow (length parsed.now.stmts) otherwise.now }
+    ensures grows { OnOk result (Grows nodes.old nodes.new) }
+    ensures labels { OnOk result (labels.new.items ≡ labels.old.items) }
+    ensures below { IfOk result (λ r. ElseBelow (length nodes.new.stmts) r) }
+    ensures made { IfOk result (λ r. else_at (stmts_of nodes.new) r ≡ resolved_arms (standing_by parsed.now.texts numbers.now around.now) labels.old.items (parsed_else_at (stmt_trees parsed.now.exprs parsed.now.stmts) otherwise.now)) }
+{
+    match otherwise {
+        Some(block) => {
+            match resolve_block(alloc, nodes, parsed, numbers, around, labels, block) {
+                Ok(block) => Ok(Some(block)),
+                Err(fault) => Err(fault),
+            }
+        }
+        None => Ok(None),
+    }
+}
+
+// An `if`: its arms, then its last `else`.
+#[cycle(resolve_stmts)]
+fn resolve_if(
+    alloc: Global,
+    nodes: &mut NamedNodes,
+    parsed: &Package,
+    numbers: &PackageNumbers,
+    around: &ScopeNumbers,
+    labels: &mut Vec<Option<Name>>,
+    arms: &[Arm],
+    otherwise: &Option<Block>,
+) -> Result<NamedStmt, NoMemory>
+    requires arms { ArmsBelow (length parsed.now.exprs) (length parsed.now.stmts) arms.now }
+    requires otherwise { ElseBelow (length parsed.now.stmts) otherwise.now }
+    ensures grows { OnOk result (Grows nodes.old nodes.new) }
+    ensures labels { OnOk result (labels.new.items ≡ labels.old.items) }
+    ensures below { IfOk result (λ r. NamedStmtParts (length nodes.new.texts) (length nodes.new.exprs) (length nodes.new.stmts) r) }
+    ensures made { IfOk result (λ r. (at : _) → stmt_made nodes.new.texts (exprs_of nodes.new) (stmts_of nodes.new) r at ≡ named_tree.branch (resolved_arms (standing_by parsed.now.texts numbers.now around.now) labels.old.items (parsed_arms_at (expr_trees parsed.now.exprs) (stmt_trees parsed.now.exprs parsed.now.stmts) arms.now (parsed_else_at (stmt_trees parsed.now.exprs parsed.now.stmts) otherwise.now))) at) }
+{
+    match resolve_arms(alloc, nodes, parsed, numbers, around, labels, arms) {
+        Ok(arms) => {
+            match resolve_else(alloc, nodes, parsed, numbers, around, labels, otherwise) {
+                Ok(otherwise) => Ok(NamedStmt::If { arms, otherwise }),
+                Err(fault) => Err(fault),
+            }
+        }
+        Err(fault) => Err(fault),
+    }
+}
+
+// The body of a loop, whose label is among those round it.
+#[cycle(resolve_stmts)]
+fn resolve_inside(
+    alloc: Global,
+    nodes: &mut NamedNodes,
+    parsed: &Package,
+    numbers: &PackageNumbers,
+    around: &ScopeNumbers,
+    labels: &mut Vec<Option<Name>>,
+    label: Option<Name>,
+    body: &Block,
+) -> Result<Block, NoMemory>
+    requires { BlockBelow (length parsed.now.stmts) body.now }
+    ensures grows { OnOk result (Grows nodes.old nodes.new) }
+    ensures labels { OnOk result (labels.new.items ≡ labels.old.items) }
+    ensures below { IfOk result (λ r. BlockBelow (length nodes.new.stmts) r) }
+    ensures made { IfOk result (λ r. block_at (stmts_of nodes.new) r ≡ resolved_block (standing_by parsed.now.texts numbers.now around.now) (labels.old.items ++ label ∷ []) (parsed_block_at (stmt_trees parsed.now.exprs parsed.now.stmts) body.now)) }
+{
+    match labels.push(label) {
+        Ok(()) => {}
+        Err(_) => return Err(NoMemory),
+    }
+    match resolve_block(alloc, nodes, parsed, numbers, around, labels, body) {
+        Ok(block) => {
+            labels.pop();
+            Ok(block)
+        }
+        Err(fault) => Err(fault),
+    }
+}
+
+// A loop: its condition and its promises, then its body.
+#[cycle(resolve_stmts)]
+fn resolve_loop(
+    alloc: Global,
+    nodes: &mut NamedNodes,
+    parsed: &Package,
+    numbers: &PackageNumbers,
+    around: &ScopeNumbers,
+    labels: &mut Vec<Option<Name>>,
+    label: Option<Name>,
+    condition: ExprId,
+    clauses: &[LoopClause],
+    body: &Block,
+) -> Result<NamedStmt, NoMemory>
+    requires condition { condition.0 < length parsed.now.exprs }
+    requires clauses { AllByRecursion (λ c. c.condition.0 < length parsed.now.exprs) clauses.now }
+    requires body { BlockBelow (length parsed.now.stmts) body.now }
+    ensures grows { OnOk result (Grows nodes.old nodes.new) }
+    ensures labels { OnOk result (labels.new.items ≡ labels.old.items) }
+    ensures below { IfOk result (λ r. NamedStmtParts (length nodes.new.texts) (length nodes.new.exprs) (length nodes.new.stmts) r) }
+    ensures made { IfOk result (λ r. (at : _) → stmt_made nodes.new.texts (exprs_of nodes.new) (stmts_of nodes.new) r at ≡ named_tree.loop (resolved_expr (standing_by parsed.now.texts numbers.now around.now) (parsed_expr_at (expr_trees parsed.now.exprs) condition)) (resolved_clauses (standing_by parsed.now.texts numbers.now around.now) (parsed_clauses_at (expr_trees parsed.now.exprs) clauses.now)) (resolved_block (standing_by parsed.now.texts numbers.now around.now) (labels.old.items ++ label ∷ []) (parsed_block_at (stmt_trees parsed.now.exprs parsed.now.stmts) body.now)) at) }
+{
+    match resolve_head(alloc, nodes, parsed, numbers, around, condition, clauses) {
+        Ok((condition, clauses)) => {
+            match resolve_inside(alloc, nodes, parsed, numbers, around, labels, label, body) {
+                Ok(body) => Ok(NamedStmt::While {
+                    condition,
+                    clauses,
+                    body,
+                }),
+                Err(fault) => Err(fault),
+            }
+        }
+        Err(fault) => Err(fault),
+    }
+}
+
+/// Adds the nodes of a method's body, and answers the block. `Err` also comes where no number is left.
+pub fn resolve_body(
+    alloc: Global,
+    nodes: &mut NamedNodes,
+    parsed: &Package,
+    numbers: &PackageNumbers,
+    around: &ScopeNumbers,
+    body: &Block,
+) -> Result<Block, NoMemory>
+    requires { BlockBelow (length parsed.now.stmts) body.now }
+    ensures grows { OnOk result (Grows nodes.old nodes.new) }
+    ensures below { IfOk result (λ r. BlockBelow (length nodes.new.stmts) r) }
+    ensures made { IfOk result (λ r. block_at (stmts_of nodes.new) r ≡ resolved_block (standing_by parsed.now.texts numbers.now around.now) [] (parsed_block_at (stmt_trees parsed.now.exprs parsed.now.stmts) body.now)) }
+{
+    resolve_block(
+        alloc,
+        nodes,
+        parsed,
+        numbers,
+        around,
+        &mut Vec::new(alloc),
+        body,
+    )
+}

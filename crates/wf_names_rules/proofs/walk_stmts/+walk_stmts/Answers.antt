@@ -1,0 +1,94 @@
+use Rattle.std.proofs.Common.{◌≡◌, ◌<◌, ◌≤◌, ◌∙◌, List, length, sym, ap, subst, arith}
+use Rattle.std.specs.List.{AllByRecursion}
+use Rattle.wf_ast.specs.declared.numbers.StmtId.{StmtId}
+use Rattle.wf_ast.specs.declared.parsed.Arm.{Arm}
+use Rattle.wf_ast.specs.ParsedTrees.{expr_trees, expr_at, stmt_trees, block_at, else_at, target_at, call_at, via_at, clauses_at}
+use Rattle.wf_ast.specs.ParsedParts.{BlockBelow}
+use Rattle.wf_ast.proofs.TreeLemmas.{BlockBelow-more}
+use Rattle.wf_names_rules.specs.Above.{above_stmts}
+use Rattle.wf_names_rules.specs.Uses.{uses_of, call_uses, target_uses, clause_uses, block_uses, via_uses}
+use Rattle.wf_names_rules.specs.Tables.{known_by}
+use Rattle.wf_names_rules.proofs.StmtLemmas.{ok_append, ok_append_more, stmts_above, else_above, arms_above, else_more, arms_more, stmt_at_place, arm_at_place, stmt_step, arm_step}
+use Rattle.wf_names_rules.proofs.walk_stmts.+walk_stmts.Goals as goal
+
+pub walk_arm-returns-in-Ok : goal.walk_arm-returns-in-Ok
+walk_arm-returns-in-Ok t c =
+    let k = known_by c.args.parsed.now.texts c.args.tables.now c.args.scope.now in
+    let condition = uses_of (expr_at (expr_trees c.args.parsed.now.exprs) c.args.arm.now.condition) in
+    let body = block_uses (block_at (stmt_trees c.args.parsed.now.exprs c.args.parsed.now.stmts) c.args.arm.now.body) in
+    ok_append k c.args.seen c.in-Ok.seen condition body c.walk_block.result c.in-Ok.ensures c.walk_block.ensures
+
+pub walk_arms-walk_arm-requires : goal.walk_arms-walk_arm-requires
+walk_arms-walk_arm-requires t c =
+    let place = arm_at_place (length c.args.parsed.now.exprs) (length c.args.parsed.now.stmts) c.args.arms.now c.loop-arm.arm-index c.arm-item.result c.arm-item.is c.loop-arm-test.true c.requires.arms in
+    (omega (arith, place.0, c.decreases), place.1)
+
+pub walk_arms-loop-arm-preserved : goal.walk_arms-loop-arm-preserved
+walk_arms-loop-arm-preserved t c =
+    let k = known_by c.args.parsed.now.texts c.args.tables.now c.args.scope.now in
+    let es = expr_trees c.args.parsed.now.exprs in
+    let ts = stmt_trees c.args.parsed.now.exprs c.args.parsed.now.stmts in
+    arm_step k c.loop-arm.seen c.in-Ok.next es ts c.args.arms.now (else_at ts c.args.otherwise.now) c.loop-arm.arm-index c.arm-item.result c.arm-item.is c.loop-arm-test.true c.in-Ok.ensures ∙ c.loop-arm.invariant
+
+pub walk_block-walk_stmt-requires : goal.walk_block-walk_stmt-requires
+walk_block-walk_stmt-requires t c =
+    let below : AllByRecursion (λ (s : StmtId). s.0 < length c.args.parsed.now.stmts) c.as_slice-s-items.result.now =
+    let P : List StmtId → Type 0 = λ ss. AllByRecursion (λ s. s.0 < length c.args.parsed.now.stmts) ss in subst P (sym c.as_slice-s-items.ensures) c.requires in
+    let place = stmt_at_place (length c.args.parsed.now.stmts) c.as_slice-s-items.result.now c.loop-s.s-index (record { 0 = 0 }) c.loop-s-test.true below in
+    let same : above_stmts c.as_slice-s-items.result.now ≡ above_stmts c.args.block.now.items = ap above_stmts c.as_slice-s-items.ensures in
+    (omega (arith, place.0, same, c.decreases), place.1)
+
+pub walk_block-loop-s-preserved : goal.walk_block-loop-s-preserved
+walk_block-loop-s-preserved t c =
+    let k = known_by c.args.parsed.now.texts c.args.tables.now c.args.scope.now in
+    let ts = stmt_trees c.args.parsed.now.exprs c.args.parsed.now.stmts in
+    let inside : c.loop-s.s-index < length c.args.block.now.items = rw (← c.as_slice-s-items.ensures) c.loop-s-test.true in
+    let one = rw c.as_slice-s-items.ensures at c.in-Ok.ensures in
+    stmt_step k c.loop-s.seen c.in-Ok.next ts c.args.block.now.items c.args.block.now.close c.loop-s.s-index (record { 0 = 0 }) inside one ∙ c.loop-s.invariant
+
+pub walk_stmt-walk_arms-requires : goal.walk_stmt-walk_arms-requires
+walk_stmt-walk_arms-requires t c =
+    let parts = rw c.in-If.is at c.stmt-node.ensures.parts in
+    let arms : AllByRecursion (λ (a : Arm). (a.condition.0 < length c.args.parsed.now.exprs) × BlockBelow c.args.s.0 a.body) c.as_slice.result.now = rw c.as_slice.ensures parts.0 in
+    let more : c.args.s.0 ≤ length c.args.parsed.now.stmts = omega (arith, c.requires) in
+    let first = arms_above (length c.args.parsed.now.exprs) c.args.s.0 c.as_slice.result.now arms in
+    let second = else_above c.args.s.0 c.in-If.otherwise parts.1 in (
+      omega (arith, first, second, c.decreases),
+      (arms_more (length c.args.parsed.now.exprs) c.args.s.0 (length c.args.parsed.now.stmts) more c.as_slice.result.now arms, else_more c.args.s.0 (length c.args.parsed.now.stmts) more c.in-If.otherwise parts.1),
+    )
+
+pub walk_stmt-walk_block-requires : goal.walk_stmt-walk_block-requires
+walk_stmt-walk_block-requires t c =
+    let parts = rw c.in-While.is at c.stmt-node.ensures.parts in
+    let more : c.args.s.0 ≤ length c.args.parsed.now.stmts = omega (arith, c.requires) in
+    (omega (arith, stmts_above c.args.s.0 c.in-While.body.items parts.2, c.decreases), BlockBelow-more c.args.s.0 (length c.args.parsed.now.stmts) more c.in-While.body parts.2)
+
+pub walk_stmt-returns-in-Ok : goal.walk_stmt-returns-in-Ok
+walk_stmt-returns-in-Ok t c =
+    let k = known_by c.args.parsed.now.texts c.args.tables.now c.args.scope.now in
+    let es = expr_trees c.args.parsed.now.exprs in
+    rw (c.stmt-node.ensures.made, c.in-Assign.is)
+    (ok_append k c.args.seen c.in-Ok.seen (target_uses (target_at es c.in-Assign.target)) (uses_of (expr_at es c.in-Assign.value)) c.walk_expr.result c.in-Ok.ensures c.walk_expr.ensures)
+
+pub walk_stmt-returns-in-Ok-walk_target : goal.walk_stmt-returns-in-Ok-walk_target
+walk_stmt-returns-in-Ok-walk_target t c =
+    let k = known_by c.args.parsed.now.texts c.args.tables.now c.args.scope.now in
+    let es = expr_trees c.args.parsed.now.exprs in
+    rw (c.stmt-node.ensures.made, c.in-Keep.is)
+    (ok_append k c.args.seen c.in-Ok-walk_target.seen (target_uses (target_at es c.in-Keep.target)) (call_uses (call_at es c.in-Keep.call)) c.walk_call.result c.in-Ok-walk_target.ensures c.walk_call.ensures)
+
+pub walk_stmt-returns-in-Ok-walk_head : goal.walk_stmt-returns-in-Ok-walk_head
+walk_stmt-returns-in-Ok-walk_head t c =
+    let k = known_by c.args.parsed.now.texts c.args.tables.now c.args.scope.now in
+    let es = expr_trees c.args.parsed.now.exprs in
+    let ts = stmt_trees c.args.parsed.now.exprs c.args.parsed.now.stmts in
+    let head = rw c.as_slice-in-While.ensures at c.in-Ok-walk_head.ensures in
+    rw (c.stmt-node.ensures.made, c.in-While.is)
+    (ok_append_more k c.args.seen c.in-Ok-walk_head.seen (uses_of (expr_at es c.in-While.condition)) (clause_uses (clauses_at es c.in-While.clauses)) (block_uses (block_at ts c.in-While.body)) c.walk_block.result head c.walk_block.ensures)
+
+pub walk_stmt-returns-in-Ok-walk_expr : goal.walk_stmt-returns-in-Ok-walk_expr
+walk_stmt-returns-in-Ok-walk_expr t c =
+    let k = known_by c.args.parsed.now.texts c.args.tables.now c.args.scope.now in
+    let es = expr_trees c.args.parsed.now.exprs in
+    rw (c.stmt-node.ensures.made, c.in-Assert.is)
+    (ok_append k c.args.seen c.in-Ok-walk_expr.seen (uses_of (expr_at es c.in-Assert.goal)) (via_uses (via_at es c.in-Assert.via)) c.walk_via.result c.in-Ok-walk_expr.ensures c.walk_via.ensures)

@@ -1,0 +1,98 @@
+-- What the uses of names break, one after the other: what decides of what was found before and what a use breaks.
+use Rattle.std.specs.Prelude.{ℕ, Bool, true, false, not, ◌&&◌, if◌then◌else◌, List, [], ◌∷◌, map, Option, Some, None, nat_eq}
+use Rattle.std.specs.List.{list_any, list_all}
+use Rattle.indexmap.specs.IndexSet.{insert_key}
+use Rattle.wf_text.specs.declared.place.Place.{Place}
+use Rattle.wf_text.specs.declared.rules.Refusal.{Refusal}
+use Rattle.wf_text.specs.declared.rules.Rule.{Rule}
+use Rattle.wf_text.specs.declared.rules.Rule.TheVariants.{N1, N2, N6, N7, N8}
+use Rattle.wf_text.specs.Precedence.{sooner, soonest}
+use Rattle.wf_ast.specs.declared.parsed.Name.{Name}
+use Rattle.wf_ast.specs.declared.parsed.Path.{Path}
+use Rattle.wf_ast.specs.declared.parsed.Root.{Root}
+use Rattle.wf_ast.specs.declared.parsed.Root.TheVariants as roots
+use Rattle.wf_ast.specs.ParsedTree as tree
+use Rattle.wf_ast.specs.ParsedTree.{ExprTree, GivenTrees, CallTree}
+use Rattle.wf_names_rules.specs.declared.callees.Callee.{Callee}
+use Rattle.wf_names_rules.specs.declared.callees.Callee.TheVariants as callees
+use Rattle.wf_names_rules.specs.declared.seen.Seen.{Seen}
+use Rattle.wf_names_rules.specs.declared.sorts.Sort.{Sort}
+use Rattle.wf_names_rules.specs.Passes.{refused_if, doubles_of}
+use Rattle.wf_names_rules.specs.Uses.{Use, own_status, base_status, variable, structure, method, given_uses}
+use Rattle.wf_names_rules.specs.Meanings.{Known, GivenValue, Parameters, given_values, call_name, call_args, callee_of, is_known, has_meaning, call_has_meaning, parameters_of, is_parameter, lacks_one, is_io_arg}
+
+-- What a call's method name breaks.
+abbrev pub callee_refusal : Callee → Name → Option Refusal
+callee_refusal callees.Missing name = Some (record { rule = N1; at = name.at })
+callee_refusal callees.Foreign name = Some (record { rule = N8; at = name.at })
+callee_refusal (callees.Hidden m) name = Some (record { rule = N8; at = name.at })
+callee_refusal _ name = None
+
+-- An argument of the calling method as a value.
+abbrev pub arg_path_at : Root → Path → Option Path
+arg_path_at roots.Args path = Some path
+arg_path_at _ path = None
+
+abbrev pub arg_path : ExprTree → Option Path
+arg_path (tree.path path) = arg_path_at path.root path
+arg_path _ = None
+
+-- Readers and writers passed twice; `seen` are the arguments in front, each once.
+abbrev pub passed_item : (arg : ℕ → Option Sort) → (seen : List ℕ) → Option Path → Option Refusal
+passed_item arg seen None = None
+passed_item arg seen (Some path) = refused_if (is_io_arg arg path.name.text.0 && list_any (nat_eq path.name.text.0) seen) N2 path.at
+
+abbrev pub passed_seen : (seen : List ℕ) → Option Path → List ℕ
+passed_seen seen None = seen
+passed_seen seen (Some path) = insert_key nat_eq seen path.name.text.0
+
+abbrev pub passed_of : (arg : ℕ → Option Sort) → (seen : List ℕ) → List GivenValue → List (Option Refusal)
+passed_of arg seen [] = []
+passed_of arg seen (g ∷ gs) = passed_item arg seen (arg_path g.value) ∷ passed_of arg (passed_seen seen (arg_path g.value)) gs
+
+-- Arguments that the method doesn't have.
+abbrev pub unknown_item : (bytes : ℕ → List ℕ) → Parameters → Name → Option Refusal
+unknown_item bytes parameters name = refused_if (not (is_parameter bytes parameters name.text.0)) N6 name.at
+
+abbrev pub unknown_of : (bytes : ℕ → List ℕ) → Parameters → List Name → List (Option Refusal)
+unknown_of bytes parameters names = map (unknown_item bytes parameters) names
+
+-- What the arguments of a call break, where everything in it has a meaning.
+abbrev pub args_judged : Known → Option Refusal → Parameters → Name → List Name → List GivenValue → Option Refusal
+args_judged k found parameters name names values =
+    sooner (soonest (soonest (soonest found (doubles_of [] names)) (passed_of k.arg [] values)) (unknown_of k.bytes parameters names))
+    (refused_if (lacks_one k.bytes parameters (map (λ n. n.text.0) names)) N7 name.at)
+
+abbrev pub args_judged_if : Bool → Known → Option Refusal → Parameters → Name → List GivenValue → Option Refusal
+args_judged_if true k found parameters name values = args_judged k found parameters name (map (λ g. g.name) values) values
+args_judged_if false k found parameters name values = found
+
+abbrev pub call_judged : Known → Option Refusal → CallTree → Option Refusal
+call_judged k found c =
+    args_judged_if (call_has_meaning k c) k (sooner found (callee_refusal (callee_of k c) (call_name c))) (parameters_of k.args (callee_of k c)) (call_name c) (call_args c)
+
+abbrev pub judged : Known → Option Refusal → Use → Option Refusal
+judged k found (own_status text) = sooner found (refused_if (not (has_meaning k (own_status text))) N1 text.at)
+judged k found (base_status text) = sooner found (refused_if (not (has_meaning k (base_status text))) N1 text.at)
+judged k found (variable path) = sooner found (refused_if (not (has_meaning k (variable path))) N1 path.name.at)
+judged k found (structure name) = sooner found (refused_if (not (has_meaning k (structure name))) N1 name.at)
+judged k found (method c) = call_judged k found c
+
+-- A use that has a meaning or not.
+abbrev pub used_so : Seen → (known : Bool) → Place → Seen
+used_so seen known at = record { found = sooner seen.found (refused_if (not known) N1 at); known = seen.known && known }
+
+-- A call behind what it is made on and its values, of which `given` tells.
+abbrev pub call_finished : Known → (given : Seen) → CallTree → Seen
+call_finished k given c = record {
+  found = args_judged_if (is_known (callee_of k c) && given.known) k (sooner given.found (callee_refusal (callee_of k c) (call_name c))) (parameters_of k.args (callee_of k c)) (call_name c) (call_args c);
+  known = is_known (callee_of k c) && given.known;
+}
+
+-- A walk past one use, and past many.
+abbrev pub walked_one : Known → Seen → Use → Seen
+walked_one k seen usage = record { found = judged k seen.found usage; known = seen.known && has_meaning k usage }
+
+abbrev pub walked : Known → Seen → List Use → Seen
+walked k seen [] = seen
+walked k seen (usage ∷ usages) = walked k (walked_one k seen usage) usages

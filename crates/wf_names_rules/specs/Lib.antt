@@ -1,0 +1,15 @@
+pub mod Above
+pub mod ConstantValues
+pub mod Declarations
+pub mod Found
+pub mod Graphs
+pub mod Jumps
+pub mod Judged
+pub mod Meanings
+pub mod NameRules
+pub mod NodeUses
+pub mod Passes
+pub mod Reserved
+pub mod Tables
+pub mod Sizes
+pub mod Uses

@@ -1,0 +1,317 @@
+// What the arguments of a call break, where everything in it has a meaning.
+
+ghost use Rattle.std.specs.Prelude.{◌≡◌, ◌<◌, not, ℕ, List, [], length, map, slice_get, nat_eq, bytes_eq, IfOk, OnOk};
+ghost use Rattle.std.specs.List.{list_any};
+ghost use Rattle.indexmap.specs.IndexMap.{get};
+ghost use Rattle.indexmap.specs.IndexSet.{insert_all};
+ghost use Rattle.wf_text.specs.Precedence.{soonest};
+ghost use Rattle.wf_base.specs.BaseTable.{row_of};
+ghost use Rattle.wf_ast.specs.ParsedTrees.{expr_trees, expr_at, given_at};
+ghost use Rattle.wf_ast.specs.ParsedParts.{GivenBelow};
+ghost use Rattle.wf_names_rules.specs.Declarations.{bytes_in, bytes_of};
+ghost use Rattle.wf_names_rules.specs.Tables.{known_by, args_at};
+ghost use Rattle.wf_names_rules.specs.Meanings.{given_values, of_base, of_method, parameters_of, is_parameter as has_parameter, lacks_one as lacks, is_io as reads_or_writes};
+ghost use Rattle.wf_names_rules.specs.Passes.{refused_if as refuses_if};
+ghost use Rattle.wf_names_rules.specs.Judged.{arg_path, arg_path_at, passed_item, passed_seen, passed_of, unknown_item, unknown_of, args_judged};
+
+use crate::callees::Callee;
+use crate::lists::{doubles, refused_if};
+use crate::sorts::Sort;
+use crate::tables::{Scope, Tables, text_bytes};
+use indexmap::IndexSet;
+use std::alloc::Global;
+use wf_ast::parsed::{Expr, Given, Name, Path, Root};
+use wf_ast::{ExprId, Package, TextId};
+use wf_base::base_methods::{BaseSig, Kind};
+use wf_text::faults::NoMemory;
+use wf_text::precedence::sooner;
+use wf_text::rules::{Refusal, Rule};
+
+fn given_names(alloc: Global, args: &[Given]) -> Result<Vec<Name>, NoMemory>
+    ensures { IfOk result (λ names. names.items ≡ map (λ g. g.name) args.now) }
+{
+    let mut names = Vec::new(alloc);
+    for given in args {
+        match names.push(given.name) {
+            Ok(()) => {}
+            Err(_) => return Err(NoMemory),
+        }
+    }
+    Ok(names)
+}
+
+fn is_io(sort: Option<Sort>) -> bool
+    ensures { result ≡ reads_or_writes sort }
+{
+    match sort {
+        Some(Sort::Methods(Kind::Reader)) => true,
+        Some(Sort::Methods(Kind::Writer)) => true,
+        _ => false,
+    }
+}
+
+fn is_io_arg(scope: &Scope, text: TextId) -> bool
+    ensures { result ≡ reads_or_writes (get nat_eq scope.now.args text.0) }
+{
+    is_io(scope.args.get(&text.0).copied())
+}
+
+// The argument of the calling method that a value is, where it is nothing else.
+fn passed(parsed: &Package, value: ExprId) -> Option<Path>
+    requires { value.0 < length parsed.now.exprs }
+    ensures { result ≡ arg_path (expr_at (expr_trees parsed.now.exprs) value) }
+{
+    match &parsed.expr(value).expr {
+        Expr::Path(path) => as_arg(*path),
+        _ => None,
+    }
+}
+
+fn as_arg(path: Path) -> Option<Path>
+    ensures { result ≡ arg_path_at path.root path }
+{
+    match path.root {
+        Root::Args => Some(path),
+        Root::Bare => None,
+        Root::This => None,
+    }
+}
+
+// One value behind those that passed the arguments in `seen`, which its own joins.
+fn passed_again(
+    scope: &Scope,
+    seen: &mut IndexSet<u32>,
+    path: Option<Path>,
+) -> Result<Option<Refusal>, NoMemory>
+    ensures item { IfOk result (λ now. now ≡ passed_item (get nat_eq scope.now.args) seen.old.keys path) }
+    ensures seen { OnOk result (seen.new.keys ≡ passed_seen seen.old.keys path) }
+{
+    match path {
+        Some(path) => {
+            match seen.insert(path.name.text.0) {
+                Ok(fresh) => {
+                    Ok(refused_if(
+                        is_io_arg(scope, path.name.text) && !fresh,
+                        Rule::N2,
+                        path.at,
+                    ))
+                }
+                Err(_) => Err(NoMemory),
+            }
+        }
+        None => Ok(None),
+    }
+}
+
+fn passed_twice(
+    alloc: Global,
+    found: Option<Refusal>,
+    parsed: &Package,
+    scope: &Scope,
+    args: &[Given],
+) -> Result<Option<Refusal>, NoMemory>
+    requires { GivenBelow (length parsed.now.exprs) args.now }
+    ensures { IfOk result (λ all. all ≡ soonest found (passed_of (get nat_eq scope.now.args) [] (given_values (given_at (expr_trees parsed.now.exprs) args.now)))) }
+{
+    let mut found = found;
+    let mut seen = IndexSet::new(alloc);
+    for given in args {
+        match passed_again(scope, &mut seen, passed(parsed, given.value)) {
+            Ok(now) => found = sooner(found, now),
+            Err(fault) => return Err(fault),
+        }
+    }
+    Ok(found)
+}
+
+fn is_spelt(parsed: &Package, name: &[u8], text: TextId) -> bool
+    ensures { result ≡ bytes_eq name.now (bytes_of parsed.now.texts text.0) }
+{
+    name == text_bytes(parsed, text)
+}
+
+// Whether a base method has an argument of this name.
+fn base_has(parsed: &Package, sig: BaseSig, text: TextId) -> bool
+    ensures { result ≡ has_parameter (bytes_of parsed.now.texts) (of_base (map (λ arg. arg.0) (row_of sig).args)) text.0 }
+{
+    let mut i = 0;
+    while let Some((arg, _)) = sig.arg(i) {
+        if is_spelt(parsed, arg.as_bytes(), text) {
+            return true;
+        }
+        i += 1;
+    }
+    false
+}
+
+// Whether what is given lacks an argument of a base method.
+fn base_lacks(parsed: &Package, sig: BaseSig, names: &[Name]) -> bool
+    ensures { result ≡ lacks (bytes_of parsed.now.texts) (of_base (map (λ arg. arg.0) (row_of sig).args)) (map (λ n. n.text.0) names.now) }
+{
+    let mut i = 0;
+    while let Some((arg, _)) = sig.arg(i) {
+        if !gives_bytes(parsed, names, arg.as_bytes()) {
+            return true;
+        }
+        i += 1;
+    }
+    false
+}
+
+// Whether a name of these bytes is given.
+fn gives_bytes(parsed: &Package, names: &[Name], wanted: &[u8]) -> bool
+    ensures { result ≡ list_any (λ text. bytes_eq wanted.now (bytes_in (slice_get parsed.now.texts text))) (map (λ n. n.text.0) names.now) }
+{
+    for name in names {
+        if wanted == text_bytes(parsed, name.text) {
+            return true;
+        }
+    }
+    false
+}
+
+fn has_arg(tables: &Tables, m: usize, text: TextId) -> bool
+    ensures { result ≡ list_any (nat_eq text.0) (args_at tables.now m) }
+{
+    match tables.args.get(m) {
+        Some(args) => args.contains(&text.0),
+        None => false,
+    }
+}
+
+// Whether a method has an argument of this name.
+fn is_parameter(parsed: &Package, tables: &Tables, callee: Callee, text: TextId) -> bool
+    ensures { result ≡ has_parameter (bytes_of parsed.now.texts) (parameters_of (args_at tables.now) callee) text.0 }
+{
+    match callee {
+        Callee::Own(m) => has_arg(tables, m, text),
+        Callee::Hidden(m) => has_arg(tables, m, text),
+        Callee::Base(sig) => base_has(parsed, sig, text),
+        Callee::Foreign => false,
+        Callee::Missing => false,
+        Callee::Baseless => false,
+    }
+}
+
+fn unknown_arg(parsed: &Package, tables: &Tables, callee: Callee, name: Name) -> Option<Refusal>
+    ensures { result ≡ unknown_item (bytes_of parsed.now.texts) (parameters_of (args_at tables.now) callee) name }
+{
+    refused_if(
+        !is_parameter(parsed, tables, callee, name.text),
+        Rule::N6,
+        name.at,
+    )
+}
+
+fn unknown_args(
+    found: Option<Refusal>,
+    parsed: &Package,
+    tables: &Tables,
+    callee: Callee,
+    names: &[Name],
+) -> Option<Refusal>
+    ensures { result ≡ soonest found (unknown_of (bytes_of parsed.now.texts) (parameters_of (args_at tables.now) callee) names.now) }
+{
+    let mut found = found;
+    for name in names {
+        found = sooner(found, unknown_arg(parsed, tables, callee, *name));
+    }
+    found
+}
+
+// The texts of names, each once.
+fn texts(alloc: Global, names: &[Name]) -> Result<IndexSet<u32>, NoMemory>
+    ensures { IfOk result (λ set. set.keys ≡ insert_all nat_eq [] (map (λ n. n.text.0) names.now)) }
+{
+    let mut set = IndexSet::new(alloc);
+    for name in names {
+        match set.insert(name.text.0) {
+            Ok(_) => {}
+            Err(_) => return Err(NoMemory),
+        }
+    }
+    Ok(set)
+}
+
+// Whether one of these isn't in the set.
+fn any_outside(wanted: &[u32], given: &IndexSet<u32>) -> bool
+    ensures { result ≡ list_any (λ text. not (list_any (nat_eq text) given.now.keys)) wanted.now }
+{
+    for text in wanted {
+        if !given.contains(text) {
+            return true;
+        }
+    }
+    false
+}
+
+fn wanted_args(tables: &Tables, m: usize) -> &[u32]
+    ensures { result.now ≡ args_at tables.now m }
+{
+    match tables.args.get(m) {
+        Some(args) => args.as_slice(),
+        None => &[],
+    }
+}
+
+fn lacks_arg(alloc: Global, tables: &Tables, m: usize, names: &[Name]) -> Result<bool, NoMemory>
+    ensures { IfOk result (λ lacking. lacking ≡ list_any (λ text. not (list_any (nat_eq text) (map (λ n. n.text.0) names.now))) (args_at tables.now m)) }
+{
+    match texts(alloc, names) {
+        Ok(given) => Ok(any_outside(wanted_args(tables, m), &given)),
+        Err(fault) => Err(fault),
+    }
+}
+
+// Whether an argument of the method isn't among the given names.
+fn lacks_one(
+    alloc: Global,
+    parsed: &Package,
+    tables: &Tables,
+    callee: Callee,
+    names: &[Name],
+) -> Result<bool, NoMemory>
+    ensures { IfOk result (λ lacking. lacking ≡ lacks (bytes_of parsed.now.texts) (parameters_of (args_at tables.now) callee) (map (λ n. n.text.0) names.now)) }
+{
+    match callee {
+        Callee::Own(m) => lacks_arg(alloc, tables, m, names),
+        Callee::Hidden(m) => lacks_arg(alloc, tables, m, names),
+        Callee::Base(sig) => Ok(base_lacks(parsed, sig, names)),
+        Callee::Foreign => Ok(false),
+        Callee::Missing => Ok(false),
+        Callee::Baseless => Ok(false),
+    }
+}
+
+/// What the arguments of a call break, and what decides of that and of what was found before.
+pub fn arguments(
+    alloc: Global,
+    found: Option<Refusal>,
+    parsed: &Package,
+    tables: &Tables,
+    scope: &Scope,
+    callee: Callee,
+    name: Name,
+    args: &[Given],
+) -> Result<Option<Refusal>, NoMemory>
+    requires { GivenBelow (length parsed.now.exprs) args.now }
+    ensures { IfOk result (λ all. all ≡ args_judged (known_by parsed.now.texts tables.now scope.now) found (parameters_of (args_at tables.now) callee) name (map (λ g. g.name) args.now) (given_values (given_at (expr_trees parsed.now.exprs) args.now))) }
+{
+    let names = match given_names(alloc, args) {
+        Ok(names) => names,
+        Err(fault) => return Err(fault),
+    };
+    let doubled = match doubles(alloc, found, names.as_slice()) {
+        Ok(found) => found,
+        Err(fault) => return Err(fault),
+    };
+    let passed = match passed_twice(alloc, doubled, parsed, scope, args) {
+        Ok(found) => found,
+        Err(fault) => return Err(fault),
+    };
+    let unknown = unknown_args(passed, parsed, tables, callee, names.as_slice());
+    match lacks_one(alloc, parsed, tables, callee, names.as_slice()) {
+        Ok(lacking) => Ok(sooner(unknown, refused_if(lacking, Rule::N7, name.at))),
+        Err(fault) => Err(fault),
+    }
+}

@@ -1,0 +1,15 @@
+// The rules of names: from the parsed tree of a package to the refusal that decides. What each rule asks stands as
+// definitions over the mathematical tree; each pass of this crate is exact against its part of them.
+#![tactic(auto)]
+
+pub mod arguments;
+pub mod callees;
+pub mod laws;
+pub mod lists;
+pub mod reserved;
+pub mod seen;
+pub mod sorts;
+pub mod tables;
+pub mod types;
+pub mod walk_exprs;
+pub mod walk_stmts;

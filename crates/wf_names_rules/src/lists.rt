@@ -1,0 +1,135 @@
+// The passes over lists of names: each finds what it can refuse, and what decides of that and of what was found
+// before.
+
+ghost use Rattle.std.specs.Prelude.{◌≡◌, ◌<◌, not, [], length, slice_get, IfOk};
+ghost use Rattle.wf_text.specs.Precedence.{sooner as sooner_of, soonest};
+ghost use Rattle.wf_names_rules.specs.Passes.{refused_if as refuses_if, doubles_of, reserved_item, reserved_of, initialize_item, initializes_of, is_flagged as flags_at, flagged_from, beyond as beyond_of};
+
+use crate::reserved::{is_initialize, is_reserved};
+use crate::tables::text_bytes;
+use indexmap::IndexSet;
+use std::alloc::Global;
+use wf_ast::Package;
+use wf_ast::parsed::Name;
+use wf_text::Place;
+use wf_text::faults::NoMemory;
+use wf_text::precedence::sooner;
+use wf_text::rules::{Refusal, Rule};
+
+/// That a rule is broken at a place, if it is.
+pub fn refused_if(broken: bool, rule: Rule, at: Place) -> Option<Refusal>
+    ensures { result ≡ refuses_if broken rule at }
+{
+    if broken {
+        Some(Refusal { rule, at })
+    } else {
+        None
+    }
+}
+
+fn double_name(fresh: bool, name: Name) -> Option<Refusal>
+    ensures { (seen : _) → fresh ≡ not seen → result ≡ refuses_if seen Rule.N2 name.at }
+{
+    if fresh {
+        None
+    } else {
+        Some(Refusal {
+            rule: Rule::N2,
+            at: name.at,
+        })
+    }
+}
+
+/// Names that an earlier one of the list has too, each refused at the later.
+pub fn doubles(
+    alloc: Global,
+    found: Option<Refusal>,
+    names: &[Name],
+) -> Result<Option<Refusal>, NoMemory>
+    ensures { IfOk result (λ all. all ≡ soonest found (doubles_of [] names.now)) }
+{
+    let mut found = found;
+    let mut seen = IndexSet::new(alloc);
+    for name in names {
+        match seen.insert(name.text.0) {
+            Ok(fresh) => found = sooner(found, double_name(fresh, *name)),
+            Err(_) => return Err(NoMemory),
+        }
+    }
+    Ok(found)
+}
+
+/// A name that nothing may be declared under.
+pub fn reserved_name(parsed: &Package, name: Name) -> Option<Refusal>
+    ensures { result ≡ reserved_item parsed.now.texts name }
+{
+    refused_if(
+        is_reserved(text_bytes(parsed, name.text)),
+        Rule::N3,
+        name.at,
+    )
+}
+
+/// Names that nothing may be declared under.
+pub fn reserved(found: Option<Refusal>, parsed: &Package, names: &[Name]) -> Option<Refusal>
+    ensures { result ≡ soonest found (reserved_of parsed.now.texts names.now) }
+{
+    let mut found = found;
+    for name in names {
+        found = sooner(found, reserved_name(parsed, *name));
+    }
+    found
+}
+
+fn initialize_name(parsed: &Package, name: Name) -> Option<Refusal>
+    ensures { result ≡ initialize_item parsed.now.texts name }
+{
+    refused_if(
+        is_initialize(text_bytes(parsed, name.text)),
+        Rule::N3,
+        name.at,
+    )
+}
+
+/// Methods of the name `initialize`.
+pub fn initializes(found: Option<Refusal>, parsed: &Package, names: &[Name]) -> Option<Refusal>
+    ensures { result ≡ soonest found (initializes_of parsed.now.texts names.now) }
+{
+    let mut found = found;
+    for name in names {
+        found = sooner(found, initialize_name(parsed, *name));
+    }
+    found
+}
+
+fn is_flagged(flags: &[bool], a: usize) -> bool
+    ensures { result ≡ flags_at (slice_get flags.now a) }
+{
+    match flags.get(a) {
+        Some(flag) => *flag,
+        None => false,
+    }
+}
+
+/// Names whose number is flagged: methods or structs that can reach themselves.
+pub fn flagged(found: Option<Refusal>, flags: &[bool], names: &[Name]) -> Option<Refusal>
+    ensures { result ≡ soonest found (flagged_from 0 flags.now names.now) }
+{
+    let mut found = found;
+    let mut a = 0;
+    for name in names {
+        found = sooner(found, refused_if(is_flagged(flags, a), Rule::N4, name.at));
+        a += 1;
+    }
+    found
+}
+
+/// The name behind the first `limit` ones, if there are so many.
+pub fn beyond(names: &[Name], rule: Rule, limit: usize) -> Option<Refusal>
+    ensures { result ≡ beyond_of rule limit names.now }
+{
+    match names.get(limit) {
+        Some(name) => Some(Refusal { rule, at: name.at }),
+        None => None,
+    }
+}

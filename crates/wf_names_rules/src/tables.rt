@@ -1,0 +1,191 @@
+// What is known of a package and at a place in it, in tables: each name is looked up once.
+
+ghost use Rattle.std.specs.Prelude.{◌≡◌, slice_get, nat_eq};
+ghost use Rattle.indexmap.specs.IndexMap.{get};
+ghost use Rattle.indexmap.specs.IndexSet.{contains};
+ghost use Rattle.wf_base.specs.BaseTable.{method_named};
+ghost use Rattle.wf_names_rules.specs.Declarations.{bytes_in};
+ghost use Rattle.wf_names_rules.specs.Meanings.{or_sort, path_sort as sort_of_path, this_callee as callee_here, public_callee as callee_if_public, struct_callee as callee_in_struct, found_base, part_callee as callee_in_part, sorted_callee as callee_by_sort, callee_on as callee_of_name};
+ghost use Rattle.wf_names_rules.specs.Tables.{known_by, public_at, field_at, own_method_at};
+
+use crate::callees::Callee;
+use crate::sorts::Sort;
+use indexmap::{IndexMap, IndexSet};
+use wf_ast::parsed::{Path, Receiver, Root};
+use wf_ast::{Package, TextId};
+use wf_base::base_methods::{Kind, base_method};
+
+/// What the whole package knows. Names stand by their texts, methods by their numbers in order.
+#[derive(Drop)]
+pub struct Tables {
+    pub statuses: IndexSet<u32>,
+    pub structs: IndexSet<u32>,
+    /// What may be called on a field, by its struct's name and its own.
+    pub fields: IndexMap<(u32, u32), Sort>,
+    /// The number of a method, by its struct's name and its own.
+    pub methods: IndexMap<(u32, u32), usize>,
+    pub method_names: IndexSet<u32>,
+    /// Of each method whether it is public.
+    pub publics: Vec<bool>,
+    /// Of each method the names of its arguments.
+    pub args: Vec<IndexSet<u32>>,
+}
+
+/// What is known at a place besides: constants, the struct of `this` by its name, arguments and locals.
+#[derive(Drop)]
+pub struct Scope {
+    pub constants: IndexMap<u32, Sort>,
+    pub this: Option<u32>,
+    pub args: IndexMap<u32, Sort>,
+    pub locals: IndexMap<u32, Sort>,
+}
+
+/// The bytes of a text, none where the package doesn't have it.
+pub fn text_bytes(parsed: &Package, text: TextId) -> &[u8]
+    ensures { result.now ≡ bytes_in (slice_get parsed.now.texts text.0) }
+{
+    if (text.0 as usize) < parsed.texts() {
+        parsed.text(text)
+    } else {
+        &[]
+    }
+}
+
+fn is_public(tables: &Tables, m: usize) -> bool
+    ensures { result ≡ public_at tables.now m }
+{
+    match tables.publics.get(m) {
+        Some(public) => *public,
+        None => false,
+    }
+}
+
+fn field(tables: &Tables, scope: &Scope, text: TextId) -> Option<Sort>
+    ensures { result ≡ field_at tables.now scope.now.this text.0 }
+{
+    match scope.this {
+        Some(owner) => tables.fields.get(&(owner, text.0)).copied(),
+        None => None,
+    }
+}
+
+fn bare(scope: &Scope, text: TextId) -> Option<Sort>
+    ensures { result ≡ or_sort (get nat_eq scope.now.locals text.0) (get nat_eq scope.now.constants text.0) }
+{
+    match scope.locals.get(&text.0) {
+        Some(sort) => Some(*sort),
+        None => scope.constants.get(&text.0).copied(),
+    }
+}
+
+/// What may be called on what a path stands for, None where it stands for nothing.
+pub fn path_sort(parsed: &Package, tables: &Tables, scope: &Scope, path: Path) -> Option<Sort>
+    ensures { result ≡ sort_of_path (known_by parsed.now.texts tables.now scope.now) path }
+{
+    match path.root {
+        Root::Bare => bare(scope, path.name.text),
+        Root::This => field(tables, scope, path.name.text),
+        Root::Args => scope.args.get(&path.name.text.0).copied(),
+    }
+}
+
+fn own_method(tables: &Tables, scope: &Scope, text: TextId) -> Option<usize>
+    ensures { result ≡ own_method_at tables.now scope.now.this text.0 }
+{
+    match scope.this {
+        Some(owner) => tables.methods.get(&(owner, text.0)).copied(),
+        None => None,
+    }
+}
+
+fn this_callee(tables: &Tables, scope: &Scope, text: TextId) -> Callee
+    ensures { result ≡ callee_here (own_method_at tables.now scope.now.this text.0) (contains nat_eq tables.now.method_names text.0) }
+{
+    match own_method(tables, scope, text) {
+        Some(m) => Callee::Own(m),
+        None => {
+            if tables.method_names.contains(&text.0) {
+                Callee::Foreign
+            } else {
+                Callee::Missing
+            }
+        }
+    }
+}
+
+fn struct_callee(
+    parsed: &Package,
+    tables: &Tables,
+    scope: &Scope,
+    owner: TextId,
+    text: TextId,
+) -> Callee
+    ensures { result ≡ callee_in_struct (known_by parsed.now.texts tables.now scope.now) owner.0 text.0 }
+{
+    if !tables.structs.contains(&owner.0) {
+        return Callee::Baseless;
+    }
+    match tables.methods.get(&(owner.0, text.0)) {
+        Some(m) => {
+            if is_public(tables, *m) {
+                Callee::Own(*m)
+            } else {
+                Callee::Hidden(*m)
+            }
+        }
+        None => Callee::Missing,
+    }
+}
+
+fn base_callee(parsed: &Package, kind: Kind, text: TextId) -> Callee
+    ensures { result ≡ found_base (method_named kind (bytes_in (slice_get parsed.now.texts text.0))) }
+{
+    match base_method(kind, text_bytes(parsed, text)) {
+        Some(sig) => Callee::Base(sig),
+        None => Callee::Missing,
+    }
+}
+
+fn part_callee(
+    parsed: &Package,
+    tables: &Tables,
+    scope: &Scope,
+    root: Root,
+    owner: TextId,
+    text: TextId,
+) -> Callee
+    ensures { result ≡ callee_in_part (known_by parsed.now.texts tables.now scope.now) root owner.0 text.0 }
+{
+    match root {
+        Root::This => struct_callee(parsed, tables, scope, owner, text),
+        Root::Bare => Callee::Missing,
+        Root::Args => Callee::Missing,
+    }
+}
+
+fn path_callee(parsed: &Package, tables: &Tables, scope: &Scope, path: Path, text: TextId) -> Callee
+    ensures { result ≡ callee_by_sort (known_by parsed.now.texts tables.now scope.now) path.root (sort_of_path (known_by parsed.now.texts tables.now scope.now) path) text.0 }
+{
+    match path_sort(parsed, tables, scope, path) {
+        Some(Sort::Struct(owner)) => part_callee(parsed, tables, scope, path.root, owner, text),
+        Some(Sort::Methods(kind)) => base_callee(parsed, kind, text),
+        Some(Sort::Plain) => Callee::Missing,
+        None => Callee::Baseless,
+    }
+}
+
+/// What the method name of a call on this stands for.
+pub fn callee_on(
+    parsed: &Package,
+    tables: &Tables,
+    scope: &Scope,
+    on: Receiver,
+    text: TextId,
+) -> Callee
+    ensures { result ≡ callee_of_name (known_by parsed.now.texts tables.now scope.now) on text.0 }
+{
+    match on {
+        Receiver::This(_) => this_callee(tables, scope, text),
+        Receiver::Path(path) => path_callee(parsed, tables, scope, path, text),
+    }
+}

@@ -1,0 +1,480 @@
+// The walk over expressions, types and calls: what their uses of names break.
+
+ghost use Rattle.std.specs.Prelude.{◌≡◌, ◌<◌, ◌++◌, ◌&&◌, true, length, bytes_eq, IfOk};
+ghost use Rattle.std.specs.List.{list_any, flat_map, AllByRecursion};
+ghost use Rattle.wf_ast.specs.ParsedTrees.{expr_trees, expr_at, part_at, links_at, given_at, call_at, type_at, core_at, bounds_at};
+ghost use Rattle.wf_ast.specs.ParsedParts.{GivenBelow, LinksBelow, IsBelow, TypeBelow, BoundsBelow, PrefixBelow};
+ghost use Rattle.wf_names_rules.specs.Uses.{Use, own_status, base_status, variable, structure, receiver_uses, uses_of, part_uses, link_uses, given_uses, call_uses, type_uses, bounds_uses};
+ghost use Rattle.wf_names_rules.specs.NodeUses.{prefix_uses};
+ghost use Rattle.wf_names_rules.specs.Tables.{known_by, args_at};
+ghost use Rattle.wf_names_rules.specs.Meanings.{given_values, parameters_of, is_base_status as is_of_language, is_known as knows};
+ghost use Rattle.wf_names_rules.specs.Judged.{callee_refusal as refuses_callee, used_so, walked, walked_one, args_judged_if, call_finished};
+
+use crate::arguments::arguments;
+use crate::callees::Callee;
+use crate::lists::refused_if;
+use crate::seen::Seen;
+use crate::tables::{Scope, Tables, callee_on, path_sort, text_bytes};
+use std::alloc::Global;
+use wf_ast::parsed::{
+    Bounds, Call, Core, Expr, Given, Link, Name, Path, Prefix, Receiver, TypeExpr,
+};
+use wf_ast::{ExprId, Package};
+use wf_text::Place;
+use wf_text::faults::NoMemory;
+use wf_text::precedence::sooner;
+use wf_text::rules::{Refusal, Rule};
+
+const BASE_STATUSES: [&str; 9] = [
+    "$short read",
+    "$short write",
+    "@end of data",
+    "#bad receiver",
+    "#bad argument",
+    "#initialize not called",
+    "#interleaved coroutine calls",
+    "#disabled by previous error",
+    "#cannot return a suspension",
+];
+
+fn is_among(words: &[&str], name: &[u8]) -> bool
+    ensures { result ≡ list_any (λ word. bytes_eq word.now name.now) words.now }
+{
+    words.iter().any(|word| word.as_bytes() == name)
+}
+
+/// Whether a status of the language is written so behind `base.`.
+pub fn is_base_status(text: &[u8]) -> bool
+    ensures { result ≡ is_of_language text.now }
+{
+    is_among(&BASE_STATUSES, text)
+}
+
+// A use that has a meaning or not, by N1 at its place.
+fn used(seen: Seen, has_meaning: bool, at: Place) -> Seen
+    ensures { result ≡ used_so seen has_meaning at }
+{
+    Seen {
+        found: sooner(seen.found, refused_if(!has_meaning, Rule::N1, at)),
+        known: seen.known && has_meaning,
+    }
+}
+
+fn walk_own_status(seen: Seen, tables: &Tables, text: Name) -> Seen
+    ensures { (texts : _) (scope : _) → result ≡ walked_one (known_by texts tables.now scope) seen (own_status text) }
+{
+    used(seen, tables.statuses.contains(&text.text.0), text.at)
+}
+
+fn walk_base_status(seen: Seen, parsed: &Package, text: Name) -> Seen
+    ensures { (tables : _) (scope : _) → result ≡ walked_one (known_by parsed.now.texts tables scope) seen (base_status text) }
+{
+    used(seen, is_base_status(text_bytes(parsed, text.text)), text.at)
+}
+
+/// A use of a path.
+pub fn walk_path(seen: Seen, parsed: &Package, tables: &Tables, scope: &Scope, path: Path) -> Seen
+    ensures { result ≡ walked_one (known_by parsed.now.texts tables.now scope.now) seen (variable path) }
+{
+    used(
+        seen,
+        path_sort(parsed, tables, scope, path).is_some(),
+        path.name.at,
+    )
+}
+
+/// A use of a struct's name.
+pub fn walk_struct(seen: Seen, tables: &Tables, name: Name) -> Seen
+    ensures { (texts : _) (scope : _) → result ≡ walked_one (known_by texts tables.now scope) seen (structure name) }
+{
+    used(seen, tables.structs.contains(&name.text.0), name.at)
+}
+
+fn walk_receiver(seen: Seen, parsed: &Package, tables: &Tables, scope: &Scope, on: Receiver) -> Seen
+    ensures { result ≡ walked (known_by parsed.now.texts tables.now scope.now) seen (receiver_uses on) }
+{
+    match on {
+        Receiver::This(_) => seen,
+        Receiver::Path(path) => walk_path(seen, parsed, tables, scope, path),
+    }
+}
+
+fn callee_refusal(callee: Callee, name: Name) -> Option<Refusal>
+    ensures { result ≡ refuses_callee callee name }
+{
+    match callee {
+        Callee::Missing => Some(Refusal {
+            rule: Rule::N1,
+            at: name.at,
+        }),
+        Callee::Foreign => Some(Refusal {
+            rule: Rule::N8,
+            at: name.at,
+        }),
+        Callee::Hidden(_) => Some(Refusal {
+            rule: Rule::N8,
+            at: name.at,
+        }),
+        Callee::Own(_) => None,
+        Callee::Base(_) => None,
+        Callee::Baseless => None,
+    }
+}
+
+fn is_known(callee: Callee) -> bool
+    ensures { result ≡ knows callee }
+{
+    match callee {
+        Callee::Own(_) => true,
+        Callee::Hidden(_) => true,
+        Callee::Base(_) => true,
+        Callee::Foreign => false,
+        Callee::Missing => false,
+        Callee::Baseless => false,
+    }
+}
+
+fn both(a: bool, b: bool) -> bool
+    ensures { result ≡ (a && b) }
+{
+    a && b
+}
+
+// What the arguments of a call break, where it has a meaning.
+fn arguments_if(
+    alloc: Global,
+    known: bool,
+    found: Option<Refusal>,
+    parsed: &Package,
+    tables: &Tables,
+    scope: &Scope,
+    callee: Callee,
+    call: &Call,
+) -> Result<Option<Refusal>, NoMemory>
+    requires { GivenBelow (length parsed.now.exprs) call.now.args }
+    ensures { IfOk result (λ all. all ≡ args_judged_if known (known_by parsed.now.texts tables.now scope.now) found (parameters_of (args_at tables.now) callee) call.now.method (given_values (given_at (expr_trees parsed.now.exprs) call.now.args))) }
+{
+    if known {
+        arguments(
+            alloc,
+            found,
+            parsed,
+            tables,
+            scope,
+            callee,
+            call.method,
+            call.args.as_slice(),
+        )
+    } else {
+        Ok(found)
+    }
+}
+
+// A call behind what it is made on and its arguments' values; `given` tells what these broke, and whether all in them
+// has a meaning.
+fn finish_call(
+    alloc: Global,
+    given: Seen,
+    parsed: &Package,
+    tables: &Tables,
+    scope: &Scope,
+    call: &Call,
+) -> Result<Seen, NoMemory>
+    requires { GivenBelow (length parsed.now.exprs) call.now.args }
+    ensures { IfOk result (λ seen. seen ≡ call_finished (known_by parsed.now.texts tables.now scope.now) given (call_at (expr_trees parsed.now.exprs) call.now)) }
+{
+    let callee = callee_on(parsed, tables, scope, call.on, call.method.text);
+    let found = sooner(given.found, callee_refusal(callee, call.method));
+    let known = both(is_known(callee), given.known);
+    match arguments_if(alloc, known, found, parsed, tables, scope, callee, call) {
+        Ok(found) => Ok(Seen { found, known }),
+        Err(fault) => Err(fault),
+    }
+}
+
+/// A walk past an expression.
+#[cycle(walk_exprs)]
+pub fn walk_expr(
+    alloc: Global,
+    seen: Seen,
+    parsed: &Package,
+    tables: &Tables,
+    scope: &Scope,
+    e: ExprId,
+) -> Result<Seen, NoMemory>
+    requires { e.0 < length parsed.now.exprs }
+    ensures { IfOk result (λ all. all ≡ walked (known_by parsed.now.texts tables.now scope.now) seen (uses_of (expr_at (expr_trees parsed.now.exprs) e))) }
+{
+    let node = parsed.expr(e);
+    match &node.expr {
+        Expr::Number(_) => Ok(seen),
+        Expr::OwnStatus(text) => Ok(walk_own_status(seen, tables, *text)),
+        Expr::BaseStatus(text) => Ok(walk_base_status(seen, parsed, *text)),
+        Expr::Fine => Ok(seen),
+        Expr::Truth(_) => Ok(seen),
+        Expr::Path(path) => Ok(walk_path(seen, parsed, tables, scope, *path)),
+        Expr::Index { base, index } => {
+            let seen = walk_path(seen, parsed, tables, scope, *base);
+            walk_expr(alloc, seen, parsed, tables, scope, *index)
+        }
+        Expr::Slice { base, from, to } => {
+            let seen = walk_path(seen, parsed, tables, scope, *base);
+            walk_parts(alloc, seen, parsed, tables, scope, *from, *to)
+        }
+        Expr::Call(call) => walk_call(alloc, seen, parsed, tables, scope, call),
+        Expr::Chain { first, links, .. } => {
+            match walk_expr(alloc, seen, parsed, tables, scope, *first) {
+                Ok(seen) => walk_links(alloc, seen, parsed, tables, scope, links.as_slice()),
+                Err(fault) => Err(fault),
+            }
+        }
+        Expr::Convert { of, to } => {
+            match walk_expr(alloc, seen, parsed, tables, scope, *of) {
+                Ok(seen) => walk_type(alloc, seen, parsed, tables, scope, to),
+                Err(fault) => Err(fault),
+            }
+        }
+        Expr::Not(of) => walk_expr(alloc, seen, parsed, tables, scope, *of),
+    }
+}
+
+/// A walk past an expression that may be absent.
+#[cycle(walk_exprs)]
+pub fn walk_part(
+    alloc: Global,
+    seen: Seen,
+    parsed: &Package,
+    tables: &Tables,
+    scope: &Scope,
+    part: Option<ExprId>,
+) -> Result<Seen, NoMemory>
+    requires { IsBelow (length parsed.now.exprs) part }
+    ensures { IfOk result (λ all. all ≡ walked (known_by parsed.now.texts tables.now scope.now) seen (part_uses (part_at (expr_trees parsed.now.exprs) part))) }
+{
+    match part {
+        Some(e) => walk_expr(alloc, seen, parsed, tables, scope, e),
+        None => Ok(seen),
+    }
+}
+
+#[cycle(walk_exprs)]
+fn walk_parts(
+    alloc: Global,
+    seen: Seen,
+    parsed: &Package,
+    tables: &Tables,
+    scope: &Scope,
+    from: Option<ExprId>,
+    to: Option<ExprId>,
+) -> Result<Seen, NoMemory>
+    requires from { IsBelow (length parsed.now.exprs) from }
+    requires to { IsBelow (length parsed.now.exprs) to }
+    ensures { IfOk result (λ all. all ≡ walked (known_by parsed.now.texts tables.now scope.now) seen (part_uses (part_at (expr_trees parsed.now.exprs) from) ++ part_uses (part_at (expr_trees parsed.now.exprs) to))) }
+{
+    match walk_part(alloc, seen, parsed, tables, scope, from) {
+        Ok(seen) => walk_part(alloc, seen, parsed, tables, scope, to),
+        Err(fault) => Err(fault),
+    }
+}
+
+#[cycle(walk_exprs)]
+fn walk_links(
+    alloc: Global,
+    seen: Seen,
+    parsed: &Package,
+    tables: &Tables,
+    scope: &Scope,
+    links: &[Link],
+) -> Result<Seen, NoMemory>
+    requires { LinksBelow (length parsed.now.exprs) links.now }
+    ensures { IfOk result (λ all. all ≡ walked (known_by parsed.now.texts tables.now scope.now) seen (link_uses (links_at (expr_trees parsed.now.exprs) links.now))) }
+{
+    let mut seen = seen;
+    for link in links {
+        match walk_expr(alloc, seen, parsed, tables, scope, link.operand) {
+            Ok(next) => seen = next,
+            Err(fault) => return Err(fault),
+        }
+    }
+    Ok(seen)
+}
+
+/// A walk past the values of arguments, or past what is given to an axiom.
+#[cycle(walk_exprs)]
+pub fn walk_given(
+    alloc: Global,
+    seen: Seen,
+    parsed: &Package,
+    tables: &Tables,
+    scope: &Scope,
+    args: &[Given],
+) -> Result<Seen, NoMemory>
+    requires { GivenBelow (length parsed.now.exprs) args.now }
+    ensures { IfOk result (λ all. all ≡ walked (known_by parsed.now.texts tables.now scope.now) seen (given_uses (given_at (expr_trees parsed.now.exprs) args.now))) }
+{
+    let mut seen = seen;
+    for given in args {
+        match walk_expr(alloc, seen, parsed, tables, scope, given.value) {
+            Ok(next) => seen = next,
+            Err(fault) => return Err(fault),
+        }
+    }
+    Ok(seen)
+}
+
+/// A walk past a call.
+#[cycle(walk_exprs)]
+pub fn walk_call(
+    alloc: Global,
+    seen: Seen,
+    parsed: &Package,
+    tables: &Tables,
+    scope: &Scope,
+    call: &Call,
+) -> Result<Seen, NoMemory>
+    requires { GivenBelow (length parsed.now.exprs) call.now.args }
+    ensures { IfOk result (λ all. all ≡ walked (known_by parsed.now.texts tables.now scope.now) seen (call_uses (call_at (expr_trees parsed.now.exprs) call.now))) }
+{
+    let on = walk_receiver(seen, parsed, tables, scope, call.on);
+    match walk_given(
+        alloc,
+        afresh(on),
+        parsed,
+        tables,
+        scope,
+        call.args.as_slice(),
+    ) {
+        Ok(given) => {
+            match finish_call(alloc, given, parsed, tables, scope, call) {
+                Ok(all) => Ok(joined(on, all)),
+                Err(fault) => Err(fault),
+            }
+        }
+        Err(fault) => Err(fault),
+    }
+}
+
+// What was found, where nothing without a meaning has been seen yet.
+fn afresh(seen: Seen) -> Seen
+    ensures { result ≡ record { found = seen.found; known = true } }
+{
+    Seen {
+        found: seen.found,
+        known: true,
+    }
+}
+
+// What was found at last, with whether all had a meaning before and since.
+fn joined(before: Seen, since: Seen) -> Seen
+    ensures { result ≡ record { found = since.found; known = before.known && since.known } }
+{
+    Seen {
+        found: since.found,
+        known: both(before.known, since.known),
+    }
+}
+
+#[cycle(walk_exprs)]
+fn walk_prefix(
+    alloc: Global,
+    seen: Seen,
+    parsed: &Package,
+    tables: &Tables,
+    scope: &Scope,
+    prefix: Prefix,
+) -> Result<Seen, NoMemory>
+    requires { PrefixBelow (length parsed.now.exprs) prefix }
+    ensures { IfOk result (λ all. all ≡ walked (known_by parsed.now.texts tables.now scope.now) seen (prefix_uses (expr_trees parsed.now.exprs) prefix)) }
+{
+    match prefix {
+        Prefix::Slice(_) => Ok(seen),
+        Prefix::Array { length, .. } => walk_expr(alloc, seen, parsed, tables, scope, length),
+    }
+}
+
+#[cycle(walk_exprs)]
+fn walk_prefixes(
+    alloc: Global,
+    seen: Seen,
+    parsed: &Package,
+    tables: &Tables,
+    scope: &Scope,
+    prefixes: &[Prefix],
+) -> Result<Seen, NoMemory>
+    requires { AllByRecursion (PrefixBelow (length parsed.now.exprs)) prefixes.now }
+    ensures { IfOk result (λ all. all ≡ walked (known_by parsed.now.texts tables.now scope.now) seen (flat_map (prefix_uses (expr_trees parsed.now.exprs)) prefixes.now)) }
+{
+    let mut seen = seen;
+    for prefix in prefixes {
+        match walk_prefix(alloc, seen, parsed, tables, scope, *prefix) {
+            Ok(next) => seen = next,
+            Err(fault) => return Err(fault),
+        }
+    }
+    Ok(seen)
+}
+
+#[cycle(walk_exprs)]
+fn walk_bounds(
+    alloc: Global,
+    seen: Seen,
+    parsed: &Package,
+    tables: &Tables,
+    scope: &Scope,
+    bounds: Option<Bounds>,
+) -> Result<Seen, NoMemory>
+    requires { BoundsBelow (length parsed.now.exprs) bounds }
+    ensures { IfOk result (λ all. all ≡ walked (known_by parsed.now.texts tables.now scope.now) seen (bounds_uses (bounds_at (expr_trees parsed.now.exprs) bounds))) }
+{
+    match bounds {
+        Some(bounds) => walk_parts(
+            alloc,
+            seen,
+            parsed,
+            tables,
+            scope,
+            bounds.low,
+            Some(bounds.high),
+        ),
+        None => Ok(seen),
+    }
+}
+
+#[cycle(walk_exprs)]
+fn walk_core(
+    alloc: Global,
+    seen: Seen,
+    parsed: &Package,
+    tables: &Tables,
+    scope: &Scope,
+    core: Core,
+    bounds: Option<Bounds>,
+) -> Result<Seen, NoMemory>
+    requires { BoundsBelow (length parsed.now.exprs) bounds }
+    ensures { IfOk result (λ all. all ≡ walked (known_by parsed.now.texts tables.now scope.now) seen (type_uses (core_at (expr_trees parsed.now.exprs) core bounds))) }
+{
+    match core {
+        Core::Base { .. } => walk_bounds(alloc, seen, parsed, tables, scope, bounds),
+        Core::BaseStatus { .. } => walk_bounds(alloc, seen, parsed, tables, scope, bounds),
+        Core::Struct(name) => Ok(walk_struct(seen, tables, name)),
+    }
+}
+
+/// A walk past a type.
+#[cycle(walk_exprs)]
+pub fn walk_type(
+    alloc: Global,
+    seen: Seen,
+    parsed: &Package,
+    tables: &Tables,
+    scope: &Scope,
+    of: &TypeExpr,
+) -> Result<Seen, NoMemory>
+    requires { TypeBelow (length parsed.now.exprs) of.now }
+    ensures { IfOk result (λ all. all ≡ walked (known_by parsed.now.texts tables.now scope.now) seen (type_uses (type_at (expr_trees parsed.now.exprs) of.now))) }
+{
+    match walk_prefixes(alloc, seen, parsed, tables, scope, of.prefixes.as_slice()) {
+        Ok(seen) => walk_core(alloc, seen, parsed, tables, scope, of.core, of.bounds),
+        Err(fault) => Err(fault),
+    }
+}

@@ -1,0 +1,248 @@
+// The walk over statements and their blocks: what their uses of names break.
+
+ghost use Rattle.std.specs.Prelude.{◌≡◌, ◌<◌, ◌++◌, length, IfOk};
+ghost use Rattle.std.specs.List.{AllByRecursion};
+ghost use Rattle.wf_ast.specs.ParsedTrees.{expr_trees, expr_at, stmt_trees, stmt_at, block_at, else_at, arms_at, clauses_at, target_at, via_at};
+ghost use Rattle.wf_ast.specs.ParsedParts.{BlockBelow, ElseBelow, TargetBelow, ViaBelow};
+ghost use Rattle.wf_names_rules.specs.Uses.{uses_of, stmt_uses, block_uses, arm_uses, clause_uses, target_uses, via_uses};
+ghost use Rattle.wf_names_rules.specs.Tables.{known_by};
+ghost use Rattle.wf_names_rules.specs.Judged.{walked};
+
+use crate::seen::Seen;
+use crate::tables::{Scope, Tables};
+use crate::walk_exprs::{walk_call, walk_expr, walk_given, walk_part, walk_path, walk_type};
+use std::alloc::Global;
+use wf_ast::parsed::{Arm, Block, LoopClause, Stmt, Target, Via};
+use wf_ast::{ExprId, Package, StmtId};
+use wf_text::faults::NoMemory;
+
+fn walk_target(
+    alloc: Global,
+    seen: Seen,
+    parsed: &Package,
+    tables: &Tables,
+    scope: &Scope,
+    target: Target,
+) -> Result<Seen, NoMemory>
+    requires { TargetBelow (length parsed.now.exprs) target }
+    ensures { IfOk result (λ all. all ≡ walked (known_by parsed.now.texts tables.now scope.now) seen (target_uses (target_at (expr_trees parsed.now.exprs) target))) }
+{
+    match target {
+        Target::Path(path) => Ok(walk_path(seen, parsed, tables, scope, path)),
+        Target::Element { base, index, .. } => {
+            let seen = walk_path(seen, parsed, tables, scope, base);
+            walk_expr(alloc, seen, parsed, tables, scope, index)
+        }
+    }
+}
+
+fn walk_clauses(
+    alloc: Global,
+    seen: Seen,
+    parsed: &Package,
+    tables: &Tables,
+    scope: &Scope,
+    clauses: &[LoopClause],
+) -> Result<Seen, NoMemory>
+    requires { AllByRecursion (λ c. c.condition.0 < length parsed.now.exprs) clauses.now }
+    ensures { IfOk result (λ all. all ≡ walked (known_by parsed.now.texts tables.now scope.now) seen (clause_uses (clauses_at (expr_trees parsed.now.exprs) clauses.now))) }
+{
+    let mut seen = seen;
+    for clause in clauses {
+        match walk_expr(alloc, seen, parsed, tables, scope, clause.condition) {
+            Ok(next) => seen = next,
+            Err(fault) => return Err(fault),
+        }
+    }
+    Ok(seen)
+}
+
+fn walk_via(
+    alloc: Global,
+    seen: Seen,
+    parsed: &Package,
+    tables: &Tables,
+    scope: &Scope,
+    via: &Option<Via>,
+) -> Result<Seen, NoMemory>
+    requires { ViaBelow (length parsed.now.exprs) via.now }
+    ensures { IfOk result (λ all. all ≡ walked (known_by parsed.now.texts tables.now scope.now) seen (via_uses (via_at (expr_trees parsed.now.exprs) via.now))) }
+{
+    match via {
+        Some(via) => walk_given(alloc, seen, parsed, tables, scope, via.given.as_slice()),
+        None => Ok(seen),
+    }
+}
+
+// The condition of a loop and its promises.
+fn walk_head(
+    alloc: Global,
+    seen: Seen,
+    parsed: &Package,
+    tables: &Tables,
+    scope: &Scope,
+    condition: ExprId,
+    clauses: &[LoopClause],
+) -> Result<Seen, NoMemory>
+    requires condition { condition.0 < length parsed.now.exprs }
+    requires clauses { AllByRecursion (λ c. c.condition.0 < length parsed.now.exprs) clauses.now }
+    ensures { IfOk result (λ all. all ≡ walked (known_by parsed.now.texts tables.now scope.now) seen (uses_of (expr_at (expr_trees parsed.now.exprs) condition) ++ clause_uses (clauses_at (expr_trees parsed.now.exprs) clauses.now))) }
+{
+    match walk_expr(alloc, seen, parsed, tables, scope, condition) {
+        Ok(seen) => walk_clauses(alloc, seen, parsed, tables, scope, clauses),
+        Err(fault) => Err(fault),
+    }
+}
+
+#[cycle(walk_stmts)]
+fn walk_stmt(
+    alloc: Global,
+    seen: Seen,
+    parsed: &Package,
+    tables: &Tables,
+    scope: &Scope,
+    s: StmtId,
+) -> Result<Seen, NoMemory>
+    requires { s.0 < length parsed.now.stmts }
+    ensures { IfOk result (λ all. all ≡ walked (known_by parsed.now.texts tables.now scope.now) seen (stmt_uses (stmt_at (stmt_trees parsed.now.exprs parsed.now.stmts) s))) }
+{
+    let node = parsed.stmt(s);
+    match &node.stmt {
+        Stmt::Var { of, .. } => walk_type(alloc, seen, parsed, tables, scope, of),
+        Stmt::Assign { target, value, .. } => {
+            match walk_target(alloc, seen, parsed, tables, scope, *target) {
+                Ok(seen) => walk_expr(alloc, seen, parsed, tables, scope, *value),
+                Err(fault) => Err(fault),
+            }
+        }
+        Stmt::Keep { target, call } => {
+            match walk_target(alloc, seen, parsed, tables, scope, *target) {
+                Ok(seen) => walk_call(alloc, seen, parsed, tables, scope, call),
+                Err(fault) => Err(fault),
+            }
+        }
+        Stmt::Call(call) => walk_call(alloc, seen, parsed, tables, scope, call),
+        Stmt::If { arms, otherwise } => walk_arms(
+            alloc,
+            seen,
+            parsed,
+            tables,
+            scope,
+            arms.as_slice(),
+            otherwise,
+        ),
+        Stmt::While {
+            condition,
+            clauses,
+            body,
+            ..
+        } => {
+            match walk_head(
+                alloc,
+                seen,
+                parsed,
+                tables,
+                scope,
+                *condition,
+                clauses.as_slice(),
+            ) {
+                Ok(seen) => walk_block(alloc, seen, parsed, tables, scope, body),
+                Err(fault) => Err(fault),
+            }
+        }
+        Stmt::Break(_) => Ok(seen),
+        Stmt::Continue(_) => Ok(seen),
+        Stmt::Return(value) => walk_part(alloc, seen, parsed, tables, scope, *value),
+        Stmt::Yield(value) => walk_expr(alloc, seen, parsed, tables, scope, *value),
+        Stmt::Assert { goal, via } => {
+            match walk_expr(alloc, seen, parsed, tables, scope, *goal) {
+                Ok(seen) => walk_via(alloc, seen, parsed, tables, scope, via),
+                Err(fault) => Err(fault),
+            }
+        }
+    }
+}
+
+/// A walk past a block.
+#[cycle(walk_stmts)]
+pub fn walk_block(
+    alloc: Global,
+    seen: Seen,
+    parsed: &Package,
+    tables: &Tables,
+    scope: &Scope,
+    block: &Block,
+) -> Result<Seen, NoMemory>
+    requires { BlockBelow (length parsed.now.stmts) block.now }
+    ensures { IfOk result (λ all. all ≡ walked (known_by parsed.now.texts tables.now scope.now) seen (block_uses (block_at (stmt_trees parsed.now.exprs parsed.now.stmts) block.now))) }
+{
+    let mut seen = seen;
+    for s in block.items.as_slice() {
+        match walk_stmt(alloc, seen, parsed, tables, scope, *s) {
+            Ok(next) => seen = next,
+            Err(fault) => return Err(fault),
+        }
+    }
+    Ok(seen)
+}
+
+#[cycle(walk_stmts)]
+fn walk_arm(
+    alloc: Global,
+    seen: Seen,
+    parsed: &Package,
+    tables: &Tables,
+    scope: &Scope,
+    arm: &Arm,
+) -> Result<Seen, NoMemory>
+    requires condition { arm.now.condition.0 < length parsed.now.exprs }
+    requires body { BlockBelow (length parsed.now.stmts) arm.now.body }
+    ensures { IfOk result (λ all. all ≡ walked (known_by parsed.now.texts tables.now scope.now) seen (uses_of (expr_at (expr_trees parsed.now.exprs) arm.now.condition) ++ block_uses (block_at (stmt_trees parsed.now.exprs parsed.now.stmts) arm.now.body))) }
+{
+    match walk_expr(alloc, seen, parsed, tables, scope, arm.condition) {
+        Ok(seen) => walk_block(alloc, seen, parsed, tables, scope, &arm.body),
+        Err(fault) => Err(fault),
+    }
+}
+
+#[cycle(walk_stmts)]
+fn walk_else(
+    alloc: Global,
+    seen: Seen,
+    parsed: &Package,
+    tables: &Tables,
+    scope: &Scope,
+    otherwise: &Option<Block>,
+) -> Result<Seen, NoMemory>
+    requires { ElseBelow (length parsed.now.stmts) otherwise.now }
+    ensures { IfOk result (λ all. all ≡ walked (known_by parsed.now.texts tables.now scope.now) seen (arm_uses (else_at (stmt_trees parsed.now.exprs parsed.now.stmts) otherwise.now))) }
+{
+    match otherwise {
+        Some(block) => walk_block(alloc, seen, parsed, tables, scope, block),
+        None => Ok(seen),
+    }
+}
+
+#[cycle(walk_stmts)]
+fn walk_arms(
+    alloc: Global,
+    seen: Seen,
+    parsed: &Package,
+    tables: &Tables,
+    scope: &Scope,
+    arms: &[Arm],
+    otherwise: &Option<Block>,
+) -> Result<Seen, NoMemory>
+    requires arms { AllByRecursion (λ a. (a.condition.0 < length parsed.now.exprs) × BlockBelow (length parsed.now.stmts) a.body) arms.now }
+    requires otherwise { ElseBelow (length parsed.now.stmts) otherwise.now }
+    ensures { IfOk result (λ all. all ≡ walked (known_by parsed.now.texts tables.now scope.now) seen (arm_uses (arms_at (expr_trees parsed.now.exprs) (stmt_trees parsed.now.exprs parsed.now.stmts) arms.now (else_at (stmt_trees parsed.now.exprs parsed.now.stmts) otherwise.now)))) }
+{
+    let mut seen = seen;
+    for arm in arms {
+        match walk_arm(alloc, seen, parsed, tables, scope, arm) {
+            Ok(next) => seen = next,
+            Err(fault) => return Err(fault),
+        }
+    }
+    walk_else(alloc, seen, parsed, tables, scope, otherwise)
+}

@@ -1,0 +1,72 @@
+-- Knowledges that agree are the same.
+use Rattle.std.proofs.Common.{◌≡◌, ℕ, zero, suc, List, [], ◌∷◌, map, slice_get, Option, None, Some, refl, ap, ◌∙◌}
+use Rattle.indexmap.specs.IndexSet.{IndexSet}
+use Rattle.wf_names_rules.specs.declared.tables.Tables.{Tables}
+use Rattle.wf_names_rules.specs.declared.tables.Scope.{Scope as ScopeTables}
+use Rattle.wf_names_rules.specs.Declarations.{Method, Declared}
+use Rattle.wf_names_rules.specs.Uses.{Scope}
+use Rattle.wf_names_rules.specs.Meanings.{Known, known_at, sort_in, fields_known, method_known, public_in, args_in}
+use Rattle.wf_names_rules.specs.Tables.{known_by, field_at, own_method_at, flag_in, names_in}
+use Rattle.wf_names_scopes.specs.Agreeing.{Agree, TellsPackage, TellsScope}
+
+-- What each method has, by its number.
+public_at_place : (ms : List Method) (m : ℕ) → flag_in (slice_get (map (λ m. m.public) ms) m) ≡ public_in (slice_get ms m)
+public_at_place [] m = refl
+public_at_place (x ∷ xs) zero = refl
+public_at_place (x ∷ xs) (suc m) = public_at_place xs m
+
+abbrev list_in : Option (List ℕ) → List ℕ
+list_in None = []
+list_in (Some list) = list
+
+names_at_place : {S : Type 0} (sets : List (IndexSet ℕ S)) (m : ℕ) → names_in (slice_get sets m) ≡ list_in (slice_get (map (λ s. s.keys) sets) m)
+names_at_place [] m = refl
+names_at_place (x ∷ xs) zero = refl
+names_at_place (x ∷ xs) (suc m) = names_at_place xs m
+
+args_at_place : (ms : List Method) (m : ℕ) → list_in (slice_get (map (λ m. args_in (Some m)) ms) m) ≡ args_in (slice_get ms m)
+args_at_place [] m = refl
+args_at_place (x ∷ xs) zero = refl
+args_at_place (x ∷ xs) (suc m) = args_at_place xs m
+
+-- What tables tell that tell the package and the scope.
+pub agree_by : (d : Declared) (scope : Scope) (t : Tables) (s : ScopeTables) → TellsPackage d t → TellsScope d scope s → Agree (known_by d.texts t s) (known_at d scope)
+agree_by d scope t s p q = record {
+  bytes = λ text. refl;
+  is_status = p.statuses;
+  is_struct = p.structs;
+  local = q.locals;
+  constant = q.constants;
+  field = λ text. ap (λ this. field_at t this text) q.this ∙ field scope.this text;
+  arg = q.args;
+  own_method = λ text. ap (λ this. own_method_at t this text) q.this ∙ own scope.this text;
+  struct_method = p.methods;
+  is_method = p.method_names;
+  is_public = λ m. ap (λ flags. flag_in (slice_get flags m)) p.publics ∙ public_at_place d.methods m;
+  args = λ m. names_at_place t.args.items m ∙ ap (λ lists. list_in (slice_get lists m)) p.args ∙ args_at_place d.methods m;
+}
+  where
+    field : (this : Option ℕ) (text : ℕ) → field_at t this text ≡ sort_in d (fields_known d this) text
+    field None text = refl
+    field (Some owner) text = p.fields owner text
+
+    own : (this : Option ℕ) (text : ℕ) → own_method_at t this text ≡ method_known d this text
+    own None text = refl
+    own (Some owner) text = p.methods owner text
+
+-- Knowledges that agree are the same, so all that is said of them is.
+pub agree_same : (a b : Known) → Agree a b → a ≡ b
+agree_same a b h = λ i. record {
+  bytes = λ text. h.bytes text i;
+  is_status = λ text. h.is_status text i;
+  is_struct = λ text. h.is_struct text i;
+  local = λ text. h.local text i;
+  constant = λ text. h.constant text i;
+  field = λ text. h.field text i;
+  arg = λ text. h.arg text i;
+  own_method = λ text. h.own_method text i;
+  struct_method = λ owner text. h.struct_method owner text i;
+  is_method = λ text. h.is_method text i;
+  is_public = λ m. h.is_public m i;
+  args = λ m. h.args m i;
+}

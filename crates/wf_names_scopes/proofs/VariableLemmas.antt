@@ -1,0 +1,60 @@
+-- Tables of variables that grow by one at a time.
+use Rattle.std.proofs.Common.{◌≡◌, ℕ, ◌+◌, ◌<◌, Bool, true, false, cond, List, [], ◌∷◌, ◌++◌, length, drop, slice_index_or, Some, None, nat_eq, option_map, refl, sym, ap, ◌∙◌, subst, append_assoc}
+use Rattle.std.specs.Option.{option_or}
+use Rattle.std.specs.List.{find}
+use Rattle.indexmap.specs.IndexMap.{IndexMap, get}
+use Rattle.wf_text.specs.declared.place.Place.{Place}
+use Rattle.wf_ast.specs.declared.numbers.StmtId.{StmtId}
+use Rattle.wf_ast.specs.declared.parsed.Field.{Field}
+use Rattle.wf_ast.specs.ParsedTree.{ExprTree, StmtTree}
+use Rattle.wf_ast.specs.ParsedTrees.{type_at, fields_at, stmt_at, items_at}
+use Rattle.wf_names_rules.specs.declared.sorts.Sort.{Sort}
+use Rattle.wf_names_rules.specs.Declarations.{Variable, variables, local_of, locals_of, bytes_of, is_spelt}
+use Rattle.wf_names_rules.specs.Meanings.{sort_of}
+use Rattle.wf_names_rules.proofs.WalkLemmas.{drop-one}
+use Rattle.wf_names_scopes.specs.Agreeing.{TellsVariables, sort_among}
+use Rattle.wf_names_scopes.specs.Growing.{with_first, TellsUpTo}
+
+-- What is meant behind one more variable.
+pub sort_pushed : (texts : List (List ℕ)) (front : List Variable) (v : Variable) (text : ℕ)
+    → sort_among texts (front ++ v ∷ []) text ≡ option_or (sort_among texts front text) (cond (nat_eq v.name.text.0 text) (Some (sort_of (bytes_of texts) v.of)) None)
+sort_pushed texts [] v text = by (nat_eq v.name.text.0 text)
+  where
+    by : (b : Bool) → option_map (λ (u : Variable). sort_of (bytes_of texts) u.of) (cond b (Some v) None) ≡ cond b (Some (sort_of (bytes_of texts) v.of)) None
+    by true = refl
+    by false = refl
+sort_pushed texts (u ∷ us) v text = by (nat_eq u.name.text.0 text) (sort_pushed texts us v text)
+  where
+    by : (b : Bool) → sort_among texts (us ++ v ∷ []) text ≡ option_or (sort_among texts us text) (cond (nat_eq v.name.text.0 text) (Some (sort_of (bytes_of texts) v.of)) None)
+        → option_map (λ (w : Variable). sort_of (bytes_of texts) w.of) (cond b (Some u) (find (λ w. is_spelt text w.name) (us ++ v ∷ [])))
+        ≡ option_or (option_map (λ (w : Variable). sort_of (bytes_of texts) w.of) (cond b (Some u) (find (λ w. is_spelt text w.name) us))) (cond (nat_eq v.name.text.0 text) (Some (sort_of (bytes_of texts) v.of)) None)
+    by true r = refl
+    by false r = r
+
+pub variable_added : {S : Type 0} (texts : List (List ℕ)) (old new : IndexMap ℕ Sort S) (v : Variable) (s : Sort) → s ≡ sort_of (bytes_of texts) v.of
+    → ((text : ℕ) → get nat_eq new text ≡ with_first nat_eq (get nat_eq old) v.name.text.0 s text)
+    → (front : List Variable) → TellsVariables texts front old → TellsVariables texts (front ++ v ∷ []) new
+variable_added texts old new v s e h front t text =
+    h text ∙ ap (λ o. option_or o (cond (nat_eq v.name.text.0 text) (Some s) None)) (t text)
+    ∙ ap (λ r. option_or (sort_among texts front text) (cond (nat_eq v.name.text.0 text) (Some r) None)) e ∙ sym (sort_pushed texts front v text)
+
+up_to_more : {S : Type 0} (texts : List (List ℕ)) (vs rest whole : List Variable) (old new : IndexMap ℕ Sort S) → TellsUpTo texts (vs ++ rest) whole old
+    → ((front : List Variable) → TellsVariables texts front old → TellsVariables texts (front ++ vs) new) → TellsUpTo texts rest whole new
+up_to_more texts vs rest whole old new u step = record { front = u.front ++ vs; split = append_assoc u.front vs rest ∙ u.split; tells = step u.front u.tells }
+
+pub arg_next : {S : Type 0} (texts : List (List ℕ)) (es : List ExprTree) (fields : List Field) (i : ℕ) (x : Field) (whole : List Variable) (old new : IndexMap ℕ Sort S)
+    → x ≡ slice_index_or fields i x → i < length fields → TellsUpTo texts (variables (fields_at es (drop i fields))) whole old
+    → ((front : List Variable) → TellsVariables texts front old → TellsVariables texts (front ++ record { name = x.name; of = type_at es x.of } ∷ []) new)
+    → TellsUpTo texts (variables (fields_at es (drop (i + 1) fields))) whole new
+arg_next texts es fields i x whole old new is h u step =
+    let split : drop i fields ≡ x ∷ drop (i + 1) fields = drop-one fields i x h ∙ ap (λ y. y ∷ drop (i + 1) fields) (sym is) in
+    let P : List Field → Type 0 = λ fs. TellsUpTo texts (variables (fields_at es fs)) whole old in
+    up_to_more texts (record { name = x.name; of = type_at es x.of } ∷ []) (variables (fields_at es (drop (i + 1) fields))) whole old new (subst P split u) step
+
+pub local_next : {S : Type 0} (texts : List (List ℕ)) (ts : List StmtTree) (ss : List StmtId) (close : Place) (i : ℕ) (d : StmtId) (whole : List Variable) (old new : IndexMap ℕ Sort S)
+    → i < length ss → TellsUpTo texts (locals_of (items_at ts (drop i ss) close)) whole old
+    → ((front : List Variable) → TellsVariables texts front old → TellsVariables texts (front ++ local_of (stmt_at ts (slice_index_or ss i d))) new)
+    → TellsUpTo texts (locals_of (items_at ts (drop (i + 1) ss) close)) whole new
+local_next texts ts ss close i d whole old new h u step =
+    let P : List StmtId → Type 0 = λ xs. TellsUpTo texts (locals_of (items_at ts xs close)) whole old in
+    up_to_more texts (local_of (stmt_at ts (slice_index_or ss i d))) (locals_of (items_at ts (drop (i + 1) ss) close)) whole old new (subst P (drop-one ss i d h) u) step

@@ -1,0 +1,12 @@
+use Rattle.wf_ast.specs.ParsedTrees.{expr_trees, stmt_trees}
+use Rattle.wf_names_scopes.specs.Agreeing.{package_of}
+use Rattle.wf_names_scopes.proofs.UseLemmas.{constants_begun, constants_next}
+use Rattle.wf_names_scopes.proofs.uses.constants.Goals as goal
+
+pub loop-number-init : goal.loop-number-init
+loop-number-init c = constants_begun c.args.parsed.now c.args.found c.args.scope.now c.requires.outside
+
+pub loop-number-preserved : goal.loop-number-preserved
+loop-number-preserved c =
+    constants_next (expr_trees c.args.parsed.now.exprs) (stmt_trees c.args.parsed.now.exprs c.args.parsed.now.stmts) c.args.parsed.now.decls c.loop-number.number c.decl.result.now c.decl.ensures.node
+    (package_of c.args.parsed.now) c.args.found c.loop-number.found c.in-Ok.next c.loop-number.scope c.constant_decl.new.scope c.loop-number.invariant c.in-Ok.ensures.found c.in-Ok.ensures.constants

@@ -1,0 +1,13 @@
+use Rattle.std.proofs.Common.{◌-◌, drop, length}
+use Rattle.wf_ast.specs.ParsedTrees.{expr_trees, stmt_trees, decls_made}
+use Rattle.wf_names_rules.specs.Declarations.{constants_of}
+use Rattle.wf_names_scopes.specs.Agreeing.{package_of}
+use Rattle.wf_names_scopes.specs.Growing.{AreConstantsPassed}
+use Rattle.wf_names_scopes.proofs.uses.constants.Given as goal
+
+abbrev pub invariant-loop-number : goal.invariant-loop-number
+invariant-loop-number l =
+    AreConstantsPassed (package_of l.parsed) l.fn.found l.found (constants_of (decls_made (expr_trees l.parsed.exprs) (stmt_trees l.parsed.exprs l.parsed.stmts) (drop l.number l.parsed.decls))) l.scope
+
+abbrev pub decreases-loop-number : goal.decreases-loop-number
+decreases-loop-number l = length l.parsed.decls - l.number

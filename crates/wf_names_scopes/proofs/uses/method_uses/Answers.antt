@@ -1,0 +1,18 @@
+use Rattle.std.proofs.Common.{◌∷◌, ◌++◌}
+use Rattle.wf_ast.specs.ParsedTrees.{expr_trees, stmt_trees, fields_at, result_at, block_at}
+use Rattle.wf_names_rules.specs.Declarations.{variables, locals_of}
+use Rattle.wf_names_rules.specs.Uses.{structure, variable_uses, result_uses, block_uses}
+use Rattle.wf_names_scopes.specs.Agreeing.{package_of}
+use Rattle.wf_names_scopes.specs.Growing.{scope_in}
+use Rattle.wf_names_scopes.proofs.UseLemmas.{walk_judged}
+use Rattle.wf_names_scopes.proofs.uses.method_uses.Goals as goal
+
+pub returns-in-Ok-walk_method-clause-found : goal.returns-in-Ok-walk_method-clause-found
+returns-in-Ok-walk_method-clause-found c =
+    let d = package_of c.args.parsed.now in
+    let es = expr_trees c.args.parsed.now.exprs in
+    let ts = stmt_trees c.args.parsed.now.exprs c.args.parsed.now.stmts in
+    let args = variables (fields_at es c.args.args.now) in
+    let uses = structure c.args.owner ∷ (variable_uses args ++ (result_uses (result_at es c.args.gives.now) ++ block_uses (block_at ts c.args.body.now))) in
+    walk_judged c.args.parsed.now c.args.tables.now c.enter_method.new.scope (scope_in d c.args.owner args (locals_of (block_at ts c.args.body.now))) c.args.found c.begin.result c.in-Ok-walk_method.seen
+    uses c.requires.tables (c.in-Ok.ensures c.requires.constants) c.begin.ensures c.in-Ok-walk_method.ensures

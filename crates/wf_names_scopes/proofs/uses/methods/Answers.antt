@@ -1,0 +1,14 @@
+use Rattle.std.proofs.Common.{◌∙◌}
+use Rattle.wf_ast.specs.ParsedTrees.{expr_trees, stmt_trees}
+use Rattle.wf_names_scopes.specs.Agreeing.{package_of}
+use Rattle.wf_names_scopes.proofs.UseLemmas.{methods_begun, methods_next}
+use Rattle.wf_names_scopes.proofs.uses.methods.Goals as goal
+
+pub loop-number-init : goal.loop-number-init
+loop-number-init c = (c.requires.constants, methods_begun c.args.parsed.now c.args.found)
+
+pub loop-number-preserved : goal.loop-number-preserved
+loop-number-preserved c =
+    let step = methods_next (expr_trees c.args.parsed.now.exprs) (stmt_trees c.args.parsed.now.exprs c.args.parsed.now.stmts) c.args.parsed.now.decls c.loop-number.number c.decl.result.now c.decl.ensures.node
+    (package_of c.args.parsed.now) c.loop-number.found c.in-Ok.next c.in-Ok.ensures.found in
+    (c.in-Ok.ensures.constants, step ∙ c.loop-number.invariant.1)

@@ -1,0 +1,16 @@
+use Rattle.std.proofs.Common.{◌≡◌, ◌-◌, drop, length, flat_map}
+use Rattle.wf_ast.specs.ParsedTrees.{expr_trees, stmt_trees, decls_made}
+use Rattle.wf_names_rules.specs.Declarations.{structs_of}
+use Rattle.wf_names_rules.specs.Uses.{struct_sites}
+use Rattle.wf_names_scopes.specs.Agreeing.{package_of, TellsConstants}
+use Rattle.wf_names_scopes.specs.UsesFound.{sites_judged}
+use Rattle.wf_names_scopes.proofs.uses.structs.Given as goal
+
+abbrev pub invariant-loop-number : goal.invariant-loop-number
+invariant-loop-number l =
+    TellsConstants (package_of l.parsed) l.scope
+    × (sites_judged (package_of l.parsed) l.found (flat_map (struct_sites (package_of l.parsed)) (structs_of (decls_made (expr_trees l.parsed.exprs) (stmt_trees l.parsed.exprs l.parsed.stmts) (drop l.number l.parsed.decls))))
+    ≡ sites_judged (package_of l.parsed) l.fn.found (flat_map (struct_sites (package_of l.parsed)) (package_of l.parsed).structs))
+
+abbrev pub decreases-loop-number : goal.decreases-loop-number
+decreases-loop-number l = length l.parsed.decls - l.number

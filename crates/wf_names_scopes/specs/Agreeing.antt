@@ -1,0 +1,62 @@
+-- What it is that tables tell what the declarations of a package mean.
+use Rattle.std.specs.Prelude.{◌≡◌, ℕ, List, Option, Some, map, is_some, nat_eq, option_map}
+use Rattle.std.specs.List.{list_any}
+use Rattle.indexmap.specs.IndexMap.{IndexMap, get}
+use Rattle.indexmap.specs.IndexSet.{contains}
+use Rattle.wf_names_rules.specs.declared.sorts.Sort.{Sort}
+use Rattle.wf_names_rules.specs.declared.tables.Tables.{Tables}
+use Rattle.wf_names_rules.specs.declared.tables.Scope.{Scope as ScopeTables}
+use Rattle.wf_ast.specs.ParsedParts.{Parsed}
+use Rattle.wf_ast.specs.ParsedTrees.{decl_trees}
+use Rattle.wf_names_rules.specs.Declarations.{Variable, Declared, declared, as_variable, bytes_of, is_spelt, status_named, struct_named, method_named, variable_named, fields_of}
+use Rattle.wf_names_rules.specs.Meanings.{Known, sort_of, sort_in, args_in}
+use Rattle.wf_names_rules.specs.Tables.{same_pair}
+use Rattle.wf_names_rules.specs.Uses.{Scope}
+
+-- The same is known: each look-up answers the same.
+pub record Agree (a b : Known) : Type 0 where
+  pub bytes : (text : ℕ) → a.bytes text ≡ b.bytes text
+  pub is_status : (text : ℕ) → a.is_status text ≡ b.is_status text
+  pub is_struct : (text : ℕ) → a.is_struct text ≡ b.is_struct text
+  pub local : (text : ℕ) → a.local text ≡ b.local text
+  pub constant : (text : ℕ) → a.constant text ≡ b.constant text
+  pub field : (text : ℕ) → a.field text ≡ b.field text
+  pub arg : (text : ℕ) → a.arg text ≡ b.arg text
+  pub own_method : (text : ℕ) → a.own_method text ≡ b.own_method text
+  pub struct_method : (owner text : ℕ) → a.struct_method owner text ≡ b.struct_method owner text
+  pub is_method : (text : ℕ) → a.is_method text ≡ b.is_method text
+  pub is_public : (m : ℕ) → a.is_public m ≡ b.is_public m
+  pub args : (m : ℕ) → a.args m ≡ b.args m
+
+-- What a parsed package declares.
+abbrev pub package_of : Parsed → Declared
+package_of p = declared p.texts (decl_trees p.exprs p.stmts p.decls)
+
+-- The tables of a package tell what its declarations mean.
+pub record TellsPackage (d : Declared) (t : Tables) : Type 0 where
+  pub statuses : (text : ℕ) → contains nat_eq t.statuses text ≡ is_some (status_named d text)
+  pub structs : (text : ℕ) → contains nat_eq t.structs text ≡ is_some (struct_named d text)
+  pub fields : (owner text : ℕ) → get same_pair t.fields (owner, text) ≡ sort_in d (fields_of d owner) text
+  pub methods : (owner text : ℕ) → get same_pair t.methods (owner, text) ≡ method_named d owner text
+  pub method_names : (text : ℕ) → contains nat_eq t.method_names text ≡ list_any (λ m. is_spelt text m.name) d.methods
+  pub publics : t.publics.items ≡ map (λ m. m.public) d.methods
+  pub args : map (λ names. names.keys) t.args.items ≡ map (λ m. args_in (Some m)) d.methods
+
+-- What may be called on the first of these variables that has this name; `texts` are those of the package.
+abbrev pub sort_among : (texts : List (List ℕ)) → List Variable → ℕ → Option Sort
+sort_among texts variables text = option_map (λ v. sort_of (bytes_of texts) v.of) (variable_named variables text)
+
+-- A table tells what may be called on these variables.
+abbrev pub TellsVariables : {S : Type 0} → (texts : List (List ℕ)) → List Variable → IndexMap ℕ Sort S → Type 0
+TellsVariables texts variables table = (text : ℕ) → get nat_eq table text ≡ sort_among texts variables text
+
+-- The tables of a scope tell what is known there besides.
+pub record TellsScope (d : Declared) (scope : Scope) (t : ScopeTables) : Type 0 where
+  pub constants : TellsVariables d.texts scope.constants t.constants
+  pub this : t.this ≡ scope.this
+  pub args : TellsVariables d.texts scope.args t.args
+  pub locals : TellsVariables d.texts scope.locals t.locals
+
+-- The table of constants tells all of the package.
+abbrev pub TellsConstants : Declared → ScopeTables → Type 0
+TellsConstants d t = TellsVariables d.texts (map as_variable d.constants) t.constants

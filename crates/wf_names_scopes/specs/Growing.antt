@@ -1,0 +1,48 @@
+-- Tables that grow by a name at a time, of which the first declared keeps its place.
+use Rattle.std.specs.Prelude.{◌≡◌, ℕ, Bool, cond, List, [], ◌∷◌, ◌++◌, map, Option, Some, None, nat_eq}
+use Rattle.std.specs.Option.{option_or}
+use Rattle.indexmap.specs.IndexMap.{IndexMap}
+use Rattle.wf_text.specs.declared.rules.Refusal.{Refusal}
+use Rattle.wf_names_rules.specs.declared.sorts.Sort.{Sort}
+use Rattle.wf_names_rules.specs.declared.tables.Scope.{Scope as ScopeTables}
+use Rattle.wf_ast.specs.declared.parsed.Name.{Name}
+use Rattle.wf_names_rules.specs.Declarations.{Variable, Constant, Structure, Method, Declared, as_variable}
+use Rattle.wf_names_rules.specs.Uses.{Scope, constant_scope, constant_sites}
+use Rattle.wf_names_rules.specs.Tables.{Pair}
+use Rattle.wf_names_scopes.specs.Agreeing.{TellsVariables, TellsScope, sort_among}
+use Rattle.wf_names_scopes.specs.UsesFound.{sites_judged}
+
+-- What a table answers behind one more key, where `look` is what it answers in front.
+abbrev pub with_first : {K X : Type 0} → (same : K → K → Bool) → (look : K → Option X) → K → X → K → Option X
+with_first same look key value other = option_or (look other) (cond (same key other) (Some value) None)
+
+-- What a table of fields answers behind the fields of one more struct.
+abbrev pub with_fields : (texts : List (List ℕ)) → (look : Pair → Option Sort) → (owner : ℕ) → List Variable → (other text : ℕ) → Option Sort
+with_fields texts look owner fields other text = option_or (look (other, text)) (cond (nat_eq owner other) (sort_among texts fields text) None)
+
+-- A table tells the variables in front of `rest`; with these they are the whole.
+pub record TellsUpTo {S : Type 0} (texts : List (List ℕ)) (rest whole : List Variable) (table : IndexMap ℕ Sort S) : Type 0 where
+  pub front : List Variable
+  pub split : front ++ rest ≡ whole
+  pub tells : TellsVariables texts front table
+
+-- Packages with one more declaration.
+abbrev pub with_status : Declared → Name → Declared
+with_status d name = record { texts = d.texts; statuses = d.statuses ++ name ∷ []; constants = d.constants; structs = d.structs; methods = d.methods }
+
+abbrev pub with_struct : Declared → Structure → Declared
+with_struct d s = record { texts = d.texts; statuses = d.statuses; constants = d.constants; structs = d.structs ++ s ∷ []; methods = d.methods }
+
+abbrev pub with_method : Declared → Method → Declared
+with_method d m = record { texts = d.texts; statuses = d.statuses; constants = d.constants; structs = d.structs; methods = d.methods ++ m ∷ [] }
+
+-- What is known in a declaration of the struct with this name, where all constants are.
+abbrev pub scope_in : Declared → (owner : Name) → (args locals : List Variable) → Scope
+scope_in d owner args locals = record { constants = map as_variable d.constants; this = Some owner.text.0; args = args; locals = locals }
+
+-- The constants in front of `rest` are passed.
+pub record AreConstantsPassed (d : Declared) (began found : Option Refusal) (rest : List Constant) (t : ScopeTables) : Type 0 where
+  pub known : List Variable
+  pub tells : TellsScope d (constant_scope known) t
+  pub split : known ++ map as_variable rest ≡ map as_variable d.constants
+  pub same : sites_judged d found (constant_sites known rest) ≡ sites_judged d began (constant_sites [] d.constants)

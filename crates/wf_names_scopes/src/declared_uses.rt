@@ -1,0 +1,122 @@
+// The walk over what one declaration uses, where its scope is known.
+
+ghost use Rattle.std.specs.Prelude.{◌≡◌, ◌<◌, ◌++◌, ◌∷◌, length, IfOk};
+ghost use Rattle.wf_ast.specs.ParsedTrees.{expr_trees, stmt_trees, expr_at, type_at, fields_at, result_at, block_at};
+ghost use Rattle.wf_ast.specs.ParsedParts.{TypeBelow, FieldsBelow, ResultBelow, BlockBelow};
+ghost use Rattle.wf_names_rules.specs.Declarations.{variables};
+ghost use Rattle.wf_names_rules.specs.Uses.{structure, uses_of, type_uses, result_uses, variable_uses, block_uses};
+ghost use Rattle.wf_names_rules.specs.Tables.{known_by};
+ghost use Rattle.wf_names_rules.specs.Judged.{walked};
+
+use std::alloc::Global;
+use wf_ast::parsed::{Block, Field, Name, TypeExpr};
+use wf_ast::{ExprId, Package};
+use wf_names_rules::seen::Seen;
+use wf_names_rules::tables::{Scope, Tables};
+use wf_names_rules::walk_exprs::{walk_expr, walk_struct, walk_type};
+use wf_names_rules::walk_stmts::walk_block;
+use wf_text::faults::NoMemory;
+
+/// A walk past the types of fields or arguments.
+pub fn walk_fields(
+    alloc: Global,
+    seen: Seen,
+    parsed: &Package,
+    tables: &Tables,
+    scope: &Scope,
+    fields: &[Field],
+) -> Result<Seen, NoMemory>
+    requires { FieldsBelow (length parsed.now.exprs) fields.now }
+    ensures { IfOk result (λ all. all ≡ walked (known_by parsed.now.texts tables.now scope.now) seen (variable_uses (variables (fields_at (expr_trees parsed.now.exprs) fields.now)))) }
+{
+    let mut seen = seen;
+    for field in fields {
+        match walk_type(alloc, seen, parsed, tables, scope, &field.of) {
+            Ok(next) => seen = next,
+            Err(fault) => return Err(fault),
+        }
+    }
+    Ok(seen)
+}
+
+fn walk_result(
+    alloc: Global,
+    seen: Seen,
+    parsed: &Package,
+    tables: &Tables,
+    scope: &Scope,
+    gives: &Option<TypeExpr>,
+) -> Result<Seen, NoMemory>
+    requires { ResultBelow (length parsed.now.exprs) gives.now }
+    ensures { IfOk result (λ all. all ≡ walked (known_by parsed.now.texts tables.now scope.now) seen (result_uses (result_at (expr_trees parsed.now.exprs) gives.now))) }
+{
+    match gives {
+        Some(of) => walk_type(alloc, seen, parsed, tables, scope, of),
+        None => Ok(seen),
+    }
+}
+
+/// A walk past the type of a constant and its value.
+pub fn walk_constant(
+    alloc: Global,
+    seen: Seen,
+    parsed: &Package,
+    tables: &Tables,
+    scope: &Scope,
+    of: &TypeExpr,
+    value: ExprId,
+) -> Result<Seen, NoMemory>
+    requires of { TypeBelow (length parsed.now.exprs) of.now }
+    requires value { value.0 < length parsed.now.exprs }
+    ensures { IfOk result (λ all. all ≡ walked (known_by parsed.now.texts tables.now scope.now) seen (type_uses (type_at (expr_trees parsed.now.exprs) of.now) ++ uses_of (expr_at (expr_trees parsed.now.exprs) value))) }
+{
+    match walk_type(alloc, seen, parsed, tables, scope, of) {
+        Ok(seen) => walk_expr(alloc, seen, parsed, tables, scope, value),
+        Err(fault) => Err(fault),
+    }
+}
+
+// A walk past what a method gives and its body.
+fn walk_inside(
+    alloc: Global,
+    seen: Seen,
+    parsed: &Package,
+    tables: &Tables,
+    scope: &Scope,
+    gives: &Option<TypeExpr>,
+    body: &Block,
+) -> Result<Seen, NoMemory>
+    requires gives { ResultBelow (length parsed.now.exprs) gives.now }
+    requires body { BlockBelow (length parsed.now.stmts) body.now }
+    ensures { IfOk result (λ all. all ≡ walked (known_by parsed.now.texts tables.now scope.now) seen (result_uses (result_at (expr_trees parsed.now.exprs) gives.now) ++ block_uses (block_at (stmt_trees parsed.now.exprs parsed.now.stmts) body.now))) }
+{
+    match walk_result(alloc, seen, parsed, tables, scope, gives) {
+        Ok(seen) => walk_block(alloc, seen, parsed, tables, scope, body),
+        Err(fault) => Err(fault),
+    }
+}
+
+/// A walk past a method: its owner, its arguments, what it gives, and its body.
+pub fn walk_method(
+    alloc: Global,
+    seen: Seen,
+    parsed: &Package,
+    tables: &Tables,
+    scope: &Scope,
+    owner: Name,
+    args: &[Field],
+    gives: &Option<TypeExpr>,
+    body: &Block,
+) -> Result<Seen, NoMemory>
+    requires args { FieldsBelow (length parsed.now.exprs) args.now }
+    requires gives { ResultBelow (length parsed.now.exprs) gives.now }
+    requires body { BlockBelow (length parsed.now.stmts) body.now }
+    ensures { IfOk result (λ all. all ≡ walked (known_by parsed.now.texts tables.now scope.now) seen (structure owner
+        ∷ (variable_uses (variables (fields_at (expr_trees parsed.now.exprs) args.now)) ++ (result_uses (result_at (expr_trees parsed.now.exprs) gives.now) ++ block_uses (block_at (stmt_trees parsed.now.exprs parsed.now.stmts) body.now))))) }
+{
+    let owned = walk_struct(seen, tables, owner);
+    match walk_fields(alloc, owned, parsed, tables, scope, args) {
+        Ok(seen) => walk_inside(alloc, seen, parsed, tables, scope, gives, body),
+        Err(fault) => Err(fault),
+    }
+}

@@ -1,0 +1,333 @@
+// The walk over every use of a name in a package: constants in order, each with those in front of it, structs, and
+// methods.
+
+ghost use Rattle.std.specs.Prelude.{◌≡◌, ◌<◌, ◌++◌, ◌∷◌, [], true, List, map, length, IfOk, OnOk};
+ghost use Rattle.std.specs.List.{flat_map};
+ghost use Rattle.wf_ast.specs.ParsedTrees.{expr_trees, stmt_trees, expr_at, type_at, fields_at, result_at, block_at, decl_made};
+ghost use Rattle.wf_ast.specs.ParsedParts.{TypeBelow, FieldsBelow, ResultBelow, BlockBelow, DeclParts};
+ghost use Rattle.wf_names_rules.specs.Declarations.{Variable, variables, locals_of, as_variable, constants_of, structs_of, methods_of};
+ghost use Rattle.wf_names_rules.specs.Uses.{structure, uses_of, type_uses, result_uses, variable_uses, block_uses, sites_in, constant_scope, constant_sites, struct_sites, method_sites};
+ghost use Rattle.wf_names_scopes.specs.Agreeing.{package_of, TellsPackage, TellsScope, TellsConstants};
+ghost use Rattle.wf_names_scopes.specs.Growing.{scope_in};
+ghost use Rattle.wf_names_scopes.specs.UsesFound.{sites_judged, uses_found};
+
+use crate::declared_uses::{walk_constant, walk_fields, walk_method};
+use crate::scopes::{add_constant, enter_method, enter_struct, outside};
+use std::alloc::Global;
+use wf_ast::parsed::{Block, Decl, DeclNode, Field, Name, TypeExpr};
+use wf_ast::{ExprId, Package};
+use wf_names_rules::seen::Seen;
+use wf_names_rules::tables::{Scope, Tables};
+use wf_text::faults::NoMemory;
+use wf_text::rules::Refusal;
+
+fn begin(found: Option<Refusal>) -> Seen
+    ensures { result ≡ record { found = found; known = true } }
+{
+    Seen { found, known: true }
+}
+
+// What a constant's declaration uses, where those in front of it are known.
+fn constant_uses(
+    alloc: Global,
+    found: Option<Refusal>,
+    parsed: &Package,
+    tables: &Tables,
+    scope: &Scope,
+    of: &TypeExpr,
+    value: ExprId,
+) -> Result<Option<Refusal>, NoMemory>
+    requires of { TypeBelow (length parsed.now.exprs) of.now }
+    requires value { value.0 < length parsed.now.exprs }
+    requires tables { TellsPackage (package_of parsed.now) tables.now }
+    ensures { IfOk result (λ all. (known : List Variable) → TellsScope (package_of parsed.now) (constant_scope known) scope.now
+        → all ≡ sites_judged (package_of parsed.now) found (sites_in (constant_scope known) (type_uses (type_at (expr_trees parsed.now.exprs) of.now) ++ uses_of (expr_at (expr_trees parsed.now.exprs) value)))) }
+{
+    match walk_constant(alloc, begin(found), parsed, tables, scope, of, value) {
+        Ok(seen) => Ok(seen.found),
+        Err(fault) => Err(fault),
+    }
+}
+
+// A constant's declaration: what it uses, and the constant behind those that are known.
+fn constant_next(
+    alloc: Global,
+    found: Option<Refusal>,
+    parsed: &Package,
+    tables: &Tables,
+    scope: &mut Scope,
+    name: Name,
+    of: &TypeExpr,
+    value: ExprId,
+) -> Result<Option<Refusal>, NoMemory>
+    requires of { TypeBelow (length parsed.now.exprs) of.now }
+    requires value { value.0 < length parsed.now.exprs }
+    requires tables { TellsPackage (package_of parsed.now) tables.now }
+    ensures found { IfOk result (λ all. (known : List Variable) → TellsScope (package_of parsed.now) (constant_scope known) scope.old
+        → all ≡ sites_judged (package_of parsed.now) found (sites_in (constant_scope known) (type_uses (type_at (expr_trees parsed.now.exprs) of.now) ++ uses_of (expr_at (expr_trees parsed.now.exprs) value)))) }
+    ensures constants { OnOk result ((known : List Variable) → TellsScope (package_of parsed.now) (constant_scope known) scope.old
+        → TellsScope (package_of parsed.now) (constant_scope (known ++ record { name = name; of = type_at (expr_trees parsed.now.exprs) of.now } ∷ [])) scope.new) }
+{
+    match constant_uses(alloc, found, parsed, tables, scope, of, value) {
+        Ok(all) => {
+            match add_constant(scope, parsed, name, of) {
+                Ok(()) => Ok(all),
+                Err(fault) => Err(fault),
+            }
+        }
+        Err(fault) => Err(fault),
+    }
+}
+
+fn constant_decl(
+    alloc: Global,
+    found: Option<Refusal>,
+    parsed: &Package,
+    tables: &Tables,
+    scope: &mut Scope,
+    node: &DeclNode,
+) -> Result<Option<Refusal>, NoMemory>
+    requires parts { DeclParts (length parsed.now.exprs) (length parsed.now.stmts) node.now.decl }
+    requires tables { TellsPackage (package_of parsed.now) tables.now }
+    ensures found { IfOk result (λ all. (known : List Variable) → TellsScope (package_of parsed.now) (constant_scope known) scope.old
+        → all ≡ sites_judged (package_of parsed.now) found (constant_sites known (constants_of (decl_made (expr_trees parsed.now.exprs) (stmt_trees parsed.now.exprs parsed.now.stmts) node.now.public node.now.decl node.now.at ∷ [])))) }
+    ensures constants { OnOk result ((known : List Variable) → TellsScope (package_of parsed.now) (constant_scope known) scope.old
+        → TellsScope (package_of parsed.now) (constant_scope (known ++ map as_variable (constants_of (decl_made (expr_trees parsed.now.exprs) (stmt_trees parsed.now.exprs parsed.now.stmts) node.now.public node.now.decl node.now.at ∷ [])))) scope.new) }
+{
+    match &node.decl {
+        Decl::Const { name, of, value } => {
+            constant_next(alloc, found, parsed, tables, scope, *name, of, *value)
+        }
+        Decl::Status(_) => Ok(found),
+        Decl::Struct { .. } => Ok(found),
+        Decl::Method { .. } => Ok(found),
+    }
+}
+
+/// The constants of a package in order: what decides of what was found before and of what their declarations use, each
+/// where those in front of it are known. Behind them `scope`, which knew nothing, knows all constants. `Err` where
+/// memory was refused.
+pub fn constants(
+    alloc: Global,
+    found: Option<Refusal>,
+    parsed: &Package,
+    tables: &Tables,
+    scope: &mut Scope,
+) -> Result<Option<Refusal>, NoMemory>
+    requires tables { TellsPackage (package_of parsed.now) tables.now }
+    requires outside { TellsScope (package_of parsed.now) (constant_scope []) scope.old }
+    ensures found { IfOk result (λ all. all ≡ sites_judged (package_of parsed.now) found (constant_sites [] (package_of parsed.now).constants)) }
+    ensures constants { OnOk result (TellsConstants (package_of parsed.now) scope.new) }
+{
+    let mut found = found;
+    let mut number = 0;
+    while number < parsed.decls().len() {
+        match constant_decl(alloc, found, parsed, tables, scope, parsed.decl(number)) {
+            Ok(next) => found = next,
+            Err(fault) => return Err(fault),
+        }
+        number += 1;
+    }
+    Ok(found)
+}
+
+fn struct_uses(
+    alloc: Global,
+    found: Option<Refusal>,
+    parsed: &Package,
+    tables: &Tables,
+    scope: &mut Scope,
+    name: Name,
+    fields: &[Field],
+) -> Result<Option<Refusal>, NoMemory>
+    requires fields { FieldsBelow (length parsed.now.exprs) fields.now }
+    requires tables { TellsPackage (package_of parsed.now) tables.now }
+    requires constants { TellsConstants (package_of parsed.now) scope.old }
+    ensures found { IfOk result (λ all. all ≡ sites_judged (package_of parsed.now) found (struct_sites (package_of parsed.now) (record { name = name; fields = variables (fields_at (expr_trees parsed.now.exprs) fields.now) }))) }
+    ensures constants { TellsConstants (package_of parsed.now) scope.new }
+{
+    enter_struct(alloc, scope, name);
+    match walk_fields(alloc, begin(found), parsed, tables, scope, fields) {
+        Ok(seen) => Ok(seen.found),
+        Err(fault) => Err(fault),
+    }
+}
+
+fn struct_decl(
+    alloc: Global,
+    found: Option<Refusal>,
+    parsed: &Package,
+    tables: &Tables,
+    scope: &mut Scope,
+    node: &DeclNode,
+) -> Result<Option<Refusal>, NoMemory>
+    requires parts { DeclParts (length parsed.now.exprs) (length parsed.now.stmts) node.now.decl }
+    requires tables { TellsPackage (package_of parsed.now) tables.now }
+    requires constants { TellsConstants (package_of parsed.now) scope.old }
+    ensures found { IfOk result (λ all. all ≡ sites_judged (package_of parsed.now) found (flat_map (struct_sites (package_of parsed.now)) (structs_of (decl_made (expr_trees parsed.now.exprs) (stmt_trees parsed.now.exprs parsed.now.stmts) node.now.public node.now.decl node.now.at ∷ [])))) }
+    ensures constants { TellsConstants (package_of parsed.now) scope.new }
+{
+    match &node.decl {
+        Decl::Struct { name, fields, .. } => {
+            struct_uses(
+                alloc,
+                found,
+                parsed,
+                tables,
+                scope,
+                *name,
+                fields.as_slice(),
+            )
+        }
+        Decl::Status(_) => Ok(found),
+        Decl::Const { .. } => Ok(found),
+        Decl::Method { .. } => Ok(found),
+    }
+}
+
+fn structs(
+    alloc: Global,
+    found: Option<Refusal>,
+    parsed: &Package,
+    tables: &Tables,
+    scope: &mut Scope,
+) -> Result<Option<Refusal>, NoMemory>
+    requires tables { TellsPackage (package_of parsed.now) tables.now }
+    requires constants { TellsConstants (package_of parsed.now) scope.old }
+    ensures found { IfOk result (λ all. all ≡ sites_judged (package_of parsed.now) found (flat_map (struct_sites (package_of parsed.now)) (package_of parsed.now).structs)) }
+    ensures constants { TellsConstants (package_of parsed.now) scope.new }
+{
+    let mut found = found;
+    let mut number = 0;
+    while number < parsed.decls().len() {
+        match struct_decl(alloc, found, parsed, tables, scope, parsed.decl(number)) {
+            Ok(next) => found = next,
+            Err(fault) => return Err(fault),
+        }
+        number += 1;
+    }
+    Ok(found)
+}
+
+fn method_uses(
+    alloc: Global,
+    found: Option<Refusal>,
+    parsed: &Package,
+    tables: &Tables,
+    scope: &mut Scope,
+    owner: Name,
+    args: &[Field],
+    gives: &Option<TypeExpr>,
+    body: &Block,
+) -> Result<Option<Refusal>, NoMemory>
+    requires args { FieldsBelow (length parsed.now.exprs) args.now }
+    requires gives { ResultBelow (length parsed.now.exprs) gives.now }
+    requires body { BlockBelow (length parsed.now.stmts) body.now }
+    requires tables { TellsPackage (package_of parsed.now) tables.now }
+    requires constants { TellsConstants (package_of parsed.now) scope.old }
+    ensures found { IfOk result (λ all. all ≡ sites_judged (package_of parsed.now) found (sites_in (scope_in (package_of parsed.now) owner (variables (fields_at (expr_trees parsed.now.exprs) args.now)) (locals_of (block_at (stmt_trees parsed.now.exprs parsed.now.stmts) body.now)))
+        (structure owner ∷ (variable_uses (variables (fields_at (expr_trees parsed.now.exprs) args.now)) ++ (result_uses (result_at (expr_trees parsed.now.exprs) gives.now) ++ block_uses (block_at (stmt_trees parsed.now.exprs parsed.now.stmts) body.now)))))) }
+    ensures constants { OnOk result (TellsConstants (package_of parsed.now) scope.new) }
+{
+    match enter_method(alloc, scope, parsed, owner, args, body) {
+        Ok(()) => {}
+        Err(fault) => return Err(fault),
+    }
+    match walk_method(
+        alloc,
+        begin(found),
+        parsed,
+        tables,
+        scope,
+        owner,
+        args,
+        gives,
+        body,
+    ) {
+        Ok(seen) => Ok(seen.found),
+        Err(fault) => Err(fault),
+    }
+}
+
+fn method_decl(
+    alloc: Global,
+    found: Option<Refusal>,
+    parsed: &Package,
+    tables: &Tables,
+    scope: &mut Scope,
+    node: &DeclNode,
+) -> Result<Option<Refusal>, NoMemory>
+    requires parts { DeclParts (length parsed.now.exprs) (length parsed.now.stmts) node.now.decl }
+    requires tables { TellsPackage (package_of parsed.now) tables.now }
+    requires constants { TellsConstants (package_of parsed.now) scope.old }
+    ensures found { IfOk result (λ all. all ≡ sites_judged (package_of parsed.now) found (flat_map (method_sites (package_of parsed.now)) (methods_of (decl_made (expr_trees parsed.now.exprs) (stmt_trees parsed.now.exprs parsed.now.stmts) node.now.public node.now.decl node.now.at ∷ [])))) }
+    ensures constants { OnOk result (TellsConstants (package_of parsed.now) scope.new) }
+{
+    match &node.decl {
+        Decl::Method {
+            of,
+            args,
+            gives,
+            body,
+            ..
+        } => method_uses(
+            alloc,
+            found,
+            parsed,
+            tables,
+            scope,
+            *of,
+            args.as_slice(),
+            gives,
+            body,
+        ),
+        Decl::Status(_) => Ok(found),
+        Decl::Const { .. } => Ok(found),
+        Decl::Struct { .. } => Ok(found),
+    }
+}
+
+fn methods(
+    alloc: Global,
+    found: Option<Refusal>,
+    parsed: &Package,
+    tables: &Tables,
+    scope: &mut Scope,
+) -> Result<Option<Refusal>, NoMemory>
+    requires tables { TellsPackage (package_of parsed.now) tables.now }
+    requires constants { TellsConstants (package_of parsed.now) scope.old }
+    ensures { IfOk result (λ all. all ≡ sites_judged (package_of parsed.now) found (flat_map (method_sites (package_of parsed.now)) (package_of parsed.now).methods)) }
+{
+    let mut found = found;
+    let mut number = 0;
+    while number < parsed.decls().len() {
+        match method_decl(alloc, found, parsed, tables, scope, parsed.decl(number)) {
+            Ok(next) => found = next,
+            Err(fault) => return Err(fault),
+        }
+        number += 1;
+    }
+    Ok(found)
+}
+
+/// What decides of what was found before and of all that the uses of names in the package break.
+pub fn uses(
+    alloc: Global,
+    found: Option<Refusal>,
+    parsed: &Package,
+    tables: &Tables,
+) -> Result<Option<Refusal>, NoMemory>
+    requires { TellsPackage (package_of parsed.now) tables.now }
+    ensures { IfOk result (λ all. all ≡ uses_found (package_of parsed.now) found) }
+{
+    let mut scope = outside(alloc);
+    match constants(alloc, found, parsed, tables, &mut scope) {
+        Ok(first) => {
+            match structs(alloc, first, parsed, tables, &mut scope) {
+                Ok(second) => methods(alloc, second, parsed, tables, &mut scope),
+                Err(fault) => Err(fault),
+            }
+        }
+        Err(fault) => Err(fault),
+    }
+}

@@ -1,0 +1,19 @@
+use Rattle.std.proofs.Common.{◌≤◌, ◌<◌, length, ◌∙◌, sym}
+use Rattle.wf_names_sizes.specs.Packages.{of_package}
+use Rattle.wf_names_sizes.specs.LongArrays.{method_longs}
+use Rattle.wf_names_sizes.proofs.ArrayLemmas.{methods_step, methods_over}
+use Rattle.wf_names_sizes.proofs.ValueLemmas.{item-there}
+use Rattle.wf_names_sizes.proofs.arrays.long_in_methods.Goals as goal
+
+pub loop-number-preserved : goal.loop-number-preserved
+loop-number-preserved c =
+    let p = c.args.parsed.now in
+    let within : c.loop-number.number < length p.decls = rw c.decls-number-end.ensures at c.loop-number-test.true in
+    let there = item-there p.decls c.loop-number.number within in
+    methods_step p.exprs p.stmts p.decls c.loop-number.number (method_longs (of_package p)) there.0 there.1 c.loop-number.found _ (c.in-Ok.ensures there.0 there.1) ∙ c.loop-number.invariant
+
+pub returns : goal.returns
+returns c =
+    let p = c.args.parsed.now in
+    let past : length p.decls ≤ c.loop-number.number = rw c.decls-number-end.ensures at c.loop-number-test.false in
+    sym (methods_over p.exprs p.stmts p.decls c.loop-number.number (method_longs (of_package p)) c.loop-number.found past) ∙ c.loop-number.invariant

@@ -1,0 +1,12 @@
+use Rattle.std.proofs.Common.{◌≡◌, Some, drop}
+use Rattle.wf_text.specs.Precedence.{soonest}
+use Rattle.wf_ast.specs.ParsedTrees.{expr_trees, fields_at}
+use Rattle.wf_names_rules.specs.Declarations.{variables}
+use Rattle.wf_names_sizes.specs.Packages.{of_package}
+use Rattle.wf_names_sizes.specs.StructSizes.{large_of}
+use Rattle.wf_names_sizes.proofs.large.large_field.Given as goal
+
+abbrev pub invariant-loop-field : goal.invariant-loop-field
+invariant-loop-field l =
+    soonest l.found (large_of (of_package l.parsed) l.flags l.sizes l.sum (variables (fields_at (expr_trees l.parsed.exprs) (drop l.field-index l.fields))))
+    ≡ soonest l.fn.found (large_of (of_package l.parsed) l.flags l.sizes (Some 0) (variables (fields_at (expr_trees l.parsed.exprs) l.fields)))

@@ -1,0 +1,132 @@
+// Chains of operands with one operator between them.
+
+ghost use Rattle.std.specs.Prelude.{◌≡◌, Option, Some, nat_lt, if◌then◌else◌};
+ghost use Rattle.wf_names_rules.specs.ConstantValues.{Sized, Running, started as start_of, is_shift as shifts, bits_or_most, joined_bits, run_joined, run_shifted, run_on, ended as end_of, fitted as fits_in};
+ghost use Rattle.wf_names_sizes.specs.Capped.{bits_in, sized, within, grows, Stays, ChainStays, IsRun, Runs};
+
+use crate::numbers::{Value, count, fitted, joined, joined_number, shifted_number};
+use wf_ast::operators::Op;
+use wf_base::widths::Width;
+
+/// A chain so far: the width of its operands, the largest of them, and the number, None where it lies beyond 64 bits.
+#[derive(Clone, Copy, PartialEq, Eq)]
+pub struct Chain {
+    pub width: Option<Width>,
+    pub largest: u64,
+    pub number: Option<u64>,
+}
+
+/// A chain of one operand.
+pub fn started(first: Option<Value>) -> Option<Chain>
+    ensures runs { Runs result (start_of (sized first)) }
+    ensures stays { (op : _) → ChainStays op result }
+{
+    match first {
+        Some(a) => Some(Chain {
+            width: a.width,
+            largest: a.number,
+            number: Some(a.number),
+        }),
+        None => None,
+    }
+}
+
+fn is_shift(op: Op) -> bool
+    ensures { result ≡ shifts op }
+{
+    match op {
+        Op::Shl => true,
+        Op::Shr => true,
+        Op::ModShl => true,
+        _ => false,
+    }
+}
+
+fn larger(a: u64, b: u64) -> u64
+    ensures { result ≡ (if nat_lt a b then b else a) }
+{
+    if a < b { b } else { a }
+}
+
+fn join(op: Op, chain: Chain, b: Value) -> Option<Chain>
+    requires { Stays (grows op) (Some chain.number) }
+    ensures runs { (r : Running) → IsRun chain r → Runs result (run_joined op r (record { bits = bits_in b.width; number = b.number }) (joined_bits r.bits (bits_in b.width))) }
+    ensures stays { ChainStays op result }
+{
+    match joined(chain.width, b.width) {
+        Some(width) => match joined_number(op, width, chain.number, b.number) {
+            Some(number) => Some(Chain {
+                width,
+                largest: larger(chain.largest, b.number),
+                number,
+            }),
+            None => None,
+        },
+        None => None,
+    }
+}
+
+fn shift(op: Op, chain: Chain, b: Value) -> Option<Chain>
+    requires { Stays (grows op) (Some chain.number) }
+    ensures runs { (r : Running) → IsRun chain r → Runs result (run_shifted op r (record { bits = bits_in b.width; number = b.number })) }
+    ensures stays { ChainStays op result }
+{
+    match shifted_number(op, chain.width, chain.number, b.number) {
+        Some(number) => Some(Chain {
+            width: chain.width,
+            largest: chain.largest,
+            number,
+        }),
+        None => None,
+    }
+}
+
+fn joined_or_shifted(op: Op, chain: Chain, b: Value) -> Option<Chain>
+    requires { Stays (grows op) (Some chain.number) }
+    ensures runs { (r : Running) → IsRun chain r → Runs result (run_on op (Some r) (sized (Some b))) }
+    ensures stays { ChainStays op result }
+{
+    if is_shift(op) {
+        shift(op, chain, b)
+    } else {
+        join(op, chain, b)
+    }
+}
+
+/// A chain with one operand more.
+pub fn run(op: Op, so_far: Option<Chain>, operand: Option<Value>) -> Option<Chain>
+    requires { ChainStays op so_far }
+    ensures runs { (r : Option Running) → Runs so_far r → Runs result (run_on op r (sized operand)) }
+    ensures stays { ChainStays op result }
+{
+    match (so_far, operand) {
+        (Some(chain), Some(b)) => joined_or_shifted(op, chain, b),
+        (Some(_), None) => None,
+        (None, _) => None,
+    }
+}
+
+fn ended_at(width: Option<Width>, number: Option<u64>) -> Option<Value>
+    ensures { (n : _) → number ≡ within n → sized result ≡ fits_in (bits_in width) n }
+{
+    match number {
+        Some(number) => fitted(width, number),
+        None => None,
+    }
+}
+
+/// The value of a whole chain.
+pub fn ended(chain: Option<Chain>) -> Option<Value>
+    ensures { (r : Option Running) → Runs chain r → sized result ≡ end_of r }
+{
+    match chain {
+        Some(chain) => {
+            if (chain.largest as u128) < count(chain.width) {
+                ended_at(chain.width, chain.number)
+            } else {
+                None
+            }
+        }
+        None => None,
+    }
+}

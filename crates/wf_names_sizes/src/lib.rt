@@ -1,0 +1,13 @@
+// The lengths of arrays and the sizes of structs, by the values of constant expressions.
+#![tactic(auto)]
+
+pub mod arrays;
+pub mod chains;
+pub mod constants;
+pub mod large;
+pub mod laws;
+pub mod numbers;
+pub mod parts;
+pub mod struct_sizes;
+pub mod tables;
+pub mod values;

@@ -1,0 +1,187 @@
+// Fields of structs by their bytes, as far as these don't depend on other structs.
+
+ghost use Rattle.std.specs.Prelude.{◌≡◌, ◌*◌, ◌<◌, ◌≤◌, length, min, map, IfOk, OnOk, [], false, codes, bytes_eq};
+ghost use Rattle.wf_ast.specs.ParsedTrees.{expr_trees, expr_at, type_at, core_at, fields_at};
+ghost use Rattle.wf_ast.specs.ParsedParts.{TypeBelow, FieldsBelow};
+ghost use Rattle.wf_names_rules.specs.Declarations.{variables};
+ghost use Rattle.wf_names_rules.specs.Meanings.{width_named as width_by_name};
+ghost use Rattle.wf_names_rules.specs.ConstantValues.{known_constants, value_of};
+ghost use Rattle.wf_names_rules.specs.Sizes.{number_or_zero, width_bytes as bytes_of_width, flag_bytes, plain_bytes as bytes_of_type, struct_held as held_by_type};
+ghost use Rattle.wf_names_sizes.specs.Packages.{of_package};
+ghost use Rattle.wf_names_sizes.specs.ValuesBy.{Knows};
+ghost use Rattle.wf_names_sizes.specs.StructSizes.{capped, part_with, part_of, AreNumbers};
+
+use crate::numbers::Value;
+use crate::values::value;
+use indexmap::{IndexMap, IndexSet};
+use std::alloc::Global;
+use wf_ast::parsed::{Core, Field, Prefix, TypeExpr};
+use wf_ast::sequences::Sequence;
+use wf_ast::{ExprId, Package};
+use wf_base::widths::Width;
+use wf_names_rules::tables::text_bytes;
+use wf_names_rules::types::{width, width_named};
+use wf_text::faults::NoMemory;
+
+/// A field: its bytes, of which numbers above 1,048,577 count as that, or the number of the struct that it holds.
+#[derive(Clone, Copy, PartialEq, Eq)]
+pub enum Part {
+    Plain(u32),
+    Struct(usize),
+}
+
+/// What numbers of bytes above it count as.
+pub const MOST_BYTES: u64 = 1_048_577;
+
+// The bytes that a width takes.
+fn width_bytes(width: Option<Width>) -> u64
+    ensures bytes { result ≡ bytes_of_width width }
+    ensures most { result ≤ 8 }
+{
+    match width {
+        Some(Width::W8) => 1,
+        Some(Width::W16) => 2,
+        Some(Width::W32) => 4,
+        Some(Width::W64) => 8,
+        None => 0,
+    }
+}
+
+// The bytes of a type of this name behind `base.`.
+fn named_bytes(name: &[u8]) -> u64
+    ensures bytes { result ≡ flag_bytes (bytes_eq name.now (codes "bool")) (bytes_of_width (width_by_name name.now)) }
+    ensures most { result ≤ 8 }
+{
+    if name == b"bool".as_slice() {
+        1
+    } else {
+        width_bytes(width_named(name))
+    }
+}
+
+// The bytes of a field that isn't an array.
+fn core_bytes(parsed: &Package, core: Core) -> u64
+    ensures bytes { (es : _) (bounds : _) → result ≡ bytes_of_type (of_package parsed.now) (core_at es core bounds) }
+    ensures most { result ≤ 8 }
+{
+    match core {
+        Core::Base { name, .. } => named_bytes(text_bytes(parsed, name.text)),
+        Core::BaseStatus { .. } => 8,
+        Core::Struct(_) => 0,
+    }
+}
+
+fn product(count: u64, bytes: u64) -> u32
+    requires { bytes ≤ 8 }
+    ensures { result ≡ capped (count * bytes) }
+{
+    (count as u128 * bytes as u128).min(MOST_BYTES as u128) as u32
+}
+
+fn count(
+    parsed: &Package,
+    constants: &IndexMap<u32, Option<Value>>,
+    nothing: &IndexSet<u32>,
+    elements: ExprId,
+) -> u64
+    requires elements { elements.0 < length parsed.now.exprs }
+    requires knows { Knows constants.now (known_constants (of_package parsed.now)) }
+    requires nothing { nothing.now.keys ≡ [] }
+    ensures { result ≡ number_or_zero (value_of (of_package parsed.now) (λ text. false) (known_constants (of_package parsed.now)) (expr_at (expr_trees parsed.now.exprs) elements)) }
+{
+    match value(parsed, constants, nothing, elements) {
+        Some(value) => value.number,
+        None => 0,
+    }
+}
+
+// The bytes of a field that holds no struct.
+fn plain_bytes(
+    parsed: &Package,
+    constants: &IndexMap<u32, Option<Value>>,
+    nothing: &IndexSet<u32>,
+    of: &TypeExpr,
+) -> u32
+    requires of { TypeBelow (length parsed.now.exprs) of.now }
+    requires knows { Knows constants.now (known_constants (of_package parsed.now)) }
+    requires nothing { nothing.now.keys ≡ [] }
+    ensures { result ≡ capped (bytes_of_type (of_package parsed.now) (type_at (expr_trees parsed.now.exprs) of.now)) }
+{
+    match of.prefixes.as_slice() {
+        [] => core_bytes(parsed, of.core) as u32,
+        [Prefix::Slice(_)] => 0,
+        [Prefix::Array { length, .. }] => product(
+            count(parsed, constants, nothing, *length),
+            width_bytes(width(parsed, of.core)),
+        ),
+        _ => 0,
+    }
+}
+
+// The struct that a field holds.
+fn struct_held(parsed: &Package, structs: &IndexMap<u32, usize>, of: &TypeExpr) -> Option<usize>
+    requires { AreNumbers structs.now (of_package parsed.now).structs }
+    ensures { (es : _) → result ≡ held_by_type (of_package parsed.now) (type_at es of.now) }
+{
+    match of.prefixes.as_slice() {
+        [] => core_held(parsed, structs, of.core),
+        _ => None,
+    }
+}
+
+fn core_held(parsed: &Package, structs: &IndexMap<u32, usize>, core: Core) -> Option<usize>
+    requires { AreNumbers structs.now (of_package parsed.now).structs }
+    ensures { (es : _) (bounds : _) → result ≡ held_by_type (of_package parsed.now) (core_at es core bounds) }
+{
+    match core {
+        Core::Struct(name) => structs.get(&name.text.0).copied(),
+        Core::Base { .. } => None,
+        Core::BaseStatus { .. } => None,
+    }
+}
+
+/// A field by its bytes, or by the struct that it holds.
+pub fn field_part(
+    parsed: &Package,
+    constants: &IndexMap<u32, Option<Value>>,
+    nothing: &IndexSet<u32>,
+    structs: &IndexMap<u32, usize>,
+    of: &TypeExpr,
+) -> Part
+    requires of { TypeBelow (length parsed.now.exprs) of.now }
+    requires knows { Knows constants.now (known_constants (of_package parsed.now)) }
+    requires nothing { nothing.now.keys ≡ [] }
+    requires structs { AreNumbers structs.now (of_package parsed.now).structs }
+    ensures { result ≡ part_with (bytes_of_type (of_package parsed.now) (type_at (expr_trees parsed.now.exprs) of.now)) (held_by_type (of_package parsed.now) (type_at (expr_trees parsed.now.exprs) of.now)) }
+{
+    match struct_held(parsed, structs, of) {
+        Some(s) => Part::Struct(s),
+        None => Part::Plain(plain_bytes(parsed, constants, nothing, of)),
+    }
+}
+
+/// The fields of a struct in order.
+pub fn row(
+    alloc: Global,
+    parsed: &Package,
+    constants: &IndexMap<u32, Option<Value>>,
+    nothing: &IndexSet<u32>,
+    structs: &IndexMap<u32, usize>,
+    fields: &[Field],
+) -> Result<Sequence<Part>, NoMemory>
+    requires fields { FieldsBelow (length parsed.now.exprs) fields.now }
+    requires knows { Knows constants.now (known_constants (of_package parsed.now)) }
+    requires nothing { nothing.now.keys ≡ [] }
+    requires structs { AreNumbers structs.now (of_package parsed.now).structs }
+    ensures { IfOk result (λ row. row ≡ map (part_of (of_package parsed.now)) (variables (fields_at (expr_trees parsed.now.exprs) fields.now))) }
+{
+    let mut row = Sequence::new(alloc);
+    for field in fields {
+        let part = field_part(parsed, constants, nothing, structs, &field.of);
+        match row.push(part) {
+            Ok(()) => {}
+            Err(_) => return Err(NoMemory),
+        }
+    }
+    Ok(row)
+}

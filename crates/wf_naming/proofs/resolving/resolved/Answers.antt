@@ -1,5 +1,0 @@
-use Rattle.wf_naming.proofs.NamingLemmas.{resolved-named}
-use Rattle.wf_naming.proofs.resolving.resolved.Goals as goal
-
-pub new-requires : goal.new-requires
-new-requires c = resolved-named c.args.parsed.now c.in-Ok.nodes c.in-Ok.ensures

@@ -1,2 +1,0 @@
-pub mod CallingLemmas
-pub mod FrontLemmas

@@ -1,5 +1,0 @@
-use Rattle.wf_order.proofs.FrontLemmas.{calls-open}
-use Rattle.wf_order.proofs.laws.where_no_rule_is_broken_calls_are_open.Goals as goal
-
-pub returns : goal.returns
-returns c = calls-open

@@ -1,0 +1,85 @@
+// The tokens as the grammar reads them: texts by their numbers, operators by what they may stand between.
+
+use wf_ast::{Op, TextId};
+use wf_text::Place;
+
+/// What a token is.
+#[derive(Clone, Copy, PartialEq, Eq)]
+pub enum Kind {
+    Name(TextId),
+    Number(u64),
+    /// The bytes between two quotes.
+    Text(TextId),
+    /// An operator that makes chains: `+ * & | ^ and or`.
+    Chain(Op),
+    /// Any other operator between two operands.
+    Binary(Op),
+    /// An operator that is followed directly by `=`.
+    Update(Op),
+    /// `=`
+    Equals,
+    /// `=?`
+    KeepEquals,
+    /// `(`
+    OpenRound,
+    /// `)`
+    CloseRound,
+    /// `[`
+    OpenSquare,
+    /// `]`
+    CloseSquare,
+    /// `{`
+    OpenCurly,
+    /// `}`
+    CloseCurly,
+    Comma,
+    Dot,
+    Colon,
+    Semicolon,
+    Question,
+    Exclamation,
+    /// `..`
+    Dots,
+    /// `..=`
+    DotsEquals,
+    Args,
+    Array,
+    As,
+    Assert,
+    Base,
+    Break,
+    Const,
+    Continue,
+    Else,
+    Endwhile,
+    False,
+    Func,
+    If,
+    Inv,
+    Not,
+    Nothing,
+    Ok,
+    Post,
+    Pre,
+    Pri,
+    Pub,
+    Return,
+    Slice,
+    Status,
+    Struct,
+    This,
+    True,
+    Var,
+    Via,
+    While,
+    Yield,
+    /// Bytes that are no token: nothing of the grammar begins with it or goes on with it.
+    Bad,
+}
+
+/// A token with the place of its first byte.
+#[derive(Clone, Copy, PartialEq, Eq)]
+pub struct Token {
+    pub kind: Kind,
+    pub at: Place,
+}

@@ -1,0 +1,43 @@
+// Calls.
+
+ghost use Rattle.std.specs.Prelude.{◌≡◌, ◌<◌, List, [], ◌∷◌, true, IfOk};
+ghost use Rattle.wf_parse_grammar.specs.declared.symbols.Action.TheVariants as does;
+ghost use Rattle.wf_parse_nodes.specs.Making.{making};
+ghost use Rattle.wf_parse_nodes.specs.Shapes.{fits};
+ghost use Rattle.wf_parse_nodes.specs.declared.shapes.Shape.TheVariants as shapes;
+
+use crate::pops::{pop_expr, pop_givens, pop_mark, pop_name, pop_receiver};
+use crate::products::Product;
+use crate::stack::Stack;
+use crate::values::Value;
+use std::alloc::AllocError;
+use wf_ast::parsed::{Call, Given};
+
+/// One argument more.
+pub fn add_given(values: &mut Stack<Value>) -> Result<Product, AllocError>
+    requires { fits (shapes.Expr ∷ shapes.Name ∷ shapes.Givens ∷ []) values.old ≡ true }
+    ensures { IfOk result (λ product. making does.AddGiven values.old ≡ record { product = product; vals = values.new }) }
+{
+    let value = pop_expr(values);
+    let name = pop_name(values);
+    let mut givens = pop_givens(values);
+    givens.push(Given { name, value })?;
+    Ok(Product::Value(Value::Givens(givens)))
+}
+
+/// A whole call.
+pub fn finish_call(values: &mut Stack<Value>) -> Product
+    requires { fits (shapes.Givens ∷ shapes.Mark ∷ shapes.Name ∷ shapes.Receiver ∷ []) values.old ≡ true }
+    ensures { making does.FinishCall values.old ≡ record { product = result; vals = values.new } }
+{
+    let given = pop_givens(values);
+    let mark = pop_mark(values);
+    let method = pop_name(values);
+    let on = pop_receiver(values);
+    Product::Value(Value::Call(Call {
+        on,
+        method,
+        mark,
+        args: given,
+    }))
+}

@@ -1,0 +1,169 @@
+// Expressions, as their last token is read.
+
+ghost use Rattle.std.specs.Prelude.{◌≡◌, ◌<◌, List, [], ◌∷◌, true, IfOk};
+ghost use Rattle.wf_parse_grammar.specs.declared.symbols.Action.TheVariants as does;
+ghost use Rattle.wf_parse_nodes.specs.Making.{making};
+ghost use Rattle.wf_parse_nodes.specs.Shapes.{fits};
+ghost use Rattle.wf_parse_nodes.specs.declared.shapes.Shape.TheVariants as shapes;
+
+use crate::pops::{
+    pop_call, pop_chain, pop_expr, pop_name, pop_part, pop_path, pop_place, pop_type,
+};
+use crate::products::Product;
+use crate::stack::Stack;
+use crate::values::{OpenChain, Value};
+use std::alloc::{AllocError, Global};
+use wf_ast::parsed::{Expr, ExprNode, Link};
+use wf_ast::{Op, Sequence};
+use wf_text::Place;
+
+/// A status of the language.
+pub fn base_status_expr(values: &mut Stack<Value>) -> Product
+    requires { fits (shapes.Name ∷ shapes.Place ∷ []) values.old ≡ true }
+    ensures { making does.BaseStatusExpr values.old ≡ record { product = result; vals = values.new } }
+{
+    let text = pop_name(values);
+    let at = pop_place(values);
+    Product::Expr(ExprNode {
+        expr: Expr::BaseStatus(text),
+        at,
+    })
+}
+
+/// A path as an operand.
+pub fn path_expr(values: &mut Stack<Value>) -> Product
+    requires { fits (shapes.Path ∷ []) values.old ≡ true }
+    ensures { making does.PathExpr values.old ≡ record { product = result; vals = values.new } }
+{
+    let path = pop_path(values);
+    Product::Expr(ExprNode {
+        expr: Expr::Path(path),
+        at: path.at,
+    })
+}
+
+/// An index.
+pub fn index_expr(values: &mut Stack<Value>) -> Product
+    requires { fits (shapes.Expr ∷ shapes.Place ∷ shapes.Path ∷ []) values.old ≡ true }
+    ensures { making does.IndexExpr values.old ≡ record { product = result; vals = values.new } }
+{
+    let index = pop_expr(values);
+    let at = pop_place(values);
+    let base = pop_path(values);
+    Product::Expr(ExprNode {
+        expr: Expr::Index { base, index },
+        at,
+    })
+}
+
+/// A slice.
+pub fn slice_expr(values: &mut Stack<Value>) -> Product
+    requires { fits (shapes.Part ∷ shapes.Part ∷ shapes.Place ∷ shapes.Path ∷ []) values.old ≡ true }
+    ensures { making does.SliceExpr values.old ≡ record { product = result; vals = values.new } }
+{
+    let to = pop_part(values);
+    let from = pop_part(values);
+    let at = pop_place(values);
+    let base = pop_path(values);
+    Product::Expr(ExprNode {
+        expr: Expr::Slice { base, from, to },
+        at,
+    })
+}
+
+/// A call as an operand.
+pub fn call_expr(values: &mut Stack<Value>) -> Product
+    requires { fits (shapes.Call ∷ []) values.old ≡ true }
+    ensures { making does.CallExpr values.old ≡ record { product = result; vals = values.new } }
+{
+    let call = pop_call(values);
+    let at = call.method.at;
+    Product::Expr(ExprNode {
+        expr: Expr::Call(call),
+        at,
+    })
+}
+
+/// A negation.
+pub fn not_expr(values: &mut Stack<Value>) -> Product
+    requires { fits (shapes.Expr ∷ shapes.Place ∷ []) values.old ≡ true }
+    ensures { making does.NotExpr values.old ≡ record { product = result; vals = values.new } }
+{
+    let of = pop_expr(values);
+    let at = pop_place(values);
+    Product::Expr(ExprNode {
+        expr: Expr::Not(of),
+        at,
+    })
+}
+
+/// A conversion.
+pub fn convert_expr(values: &mut Stack<Value>) -> Product
+    requires { fits (shapes.Type ∷ shapes.Place ∷ shapes.Expr ∷ []) values.old ≡ true }
+    ensures { making does.ConvertExpr values.old ≡ record { product = result; vals = values.new } }
+{
+    let to = pop_type(values);
+    let at = pop_place(values);
+    let of = pop_expr(values);
+    Product::Expr(ExprNode {
+        expr: Expr::Convert { of, to },
+        at,
+    })
+}
+
+/// A chain with its first operand.
+pub fn start_chain(alloc: Global, op: Op, at: Place, values: &mut Stack<Value>) -> Product
+    requires { fits (shapes.Expr ∷ []) values.old ≡ true }
+    ensures { making (does.StartChain op at) values.old ≡ record { product = result; vals = values.new } }
+{
+    let first = pop_expr(values);
+    Product::Value(Value::Chain(OpenChain {
+        op,
+        first,
+        links: Sequence::new(alloc),
+        at,
+    }))
+}
+
+/// One operand more of a chain.
+pub fn add_link(values: &mut Stack<Value>) -> Result<Product, AllocError>
+    requires { fits (shapes.Expr ∷ shapes.Place ∷ shapes.Chain ∷ []) values.old ≡ true }
+    ensures { IfOk result (λ product. making does.AddLink values.old ≡ record { product = product; vals = values.new }) }
+{
+    let operand = pop_expr(values);
+    let sign = pop_place(values);
+    let chain = pop_chain(values);
+    let mut links = chain.links;
+    links.push(Link { sign, operand })?;
+    Ok(Product::Value(Value::Chain(OpenChain {
+        op: chain.op,
+        first: chain.first,
+        links,
+        at: chain.at,
+    })))
+}
+
+/// A whole chain.
+pub fn finish_chain(values: &mut Stack<Value>) -> Product
+    requires { fits (shapes.Chain ∷ []) values.old ≡ true }
+    ensures { making does.FinishChain values.old ≡ record { product = result; vals = values.new } }
+{
+    let chain = pop_chain(values);
+    Product::Expr(ExprNode {
+        expr: Expr::Chain {
+            op: chain.op,
+            first: chain.first,
+            links: chain.links,
+        },
+        at: chain.at,
+    })
+}
+
+/// An expression that might be absent.
+pub fn some_part(values: &mut Stack<Value>) -> Product
+    requires { fits (shapes.Expr ∷ []) values.old ≡ true }
+    ensures { making does.SomePart values.old ≡ record { product = result; vals = values.new } }
+{
+    let part = pop_expr(values);
+    Product::Value(Value::Part(Some(part)))
+}

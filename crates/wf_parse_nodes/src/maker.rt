@@ -1,0 +1,84 @@
+// The package that is made, with the values of what is read so far.
+
+ghost use Rattle.std.specs.Prelude.{◌≡◌, ◌+◌, ◌<◌, ◌≤◌, ◌^◌, ℕ, List, [], ◌∷◌, length, true, IfOk, OnOk};
+ghost use Rattle.wf_ast.specs.ParsedTrees.{expr_trees, stmt_trees, decl_trees};
+ghost use Rattle.wf_parse_grammar.specs.Building.{all_performed};
+ghost use Rattle.wf_parse_grammar.specs.Values.{perform};
+ghost use Rattle.wf_parse_nodes.specs.Seen.{ProductParts, made_with, seen_values};
+ghost use Rattle.wf_parse_nodes.specs.Makers.{made, nodes, IsSound, KeepsTexts};
+
+use crate::actions::make;
+use crate::products::Product;
+use crate::shapes::{fits, takes};
+use crate::stack::Stack;
+use crate::values::Value;
+use std::alloc::{AllocError, Global};
+use wf_ast::Package;
+use wf_parse_grammar::Action;
+
+/// A package whose nodes are made of values on a stack.
+#[derive(Drop)]
+pub struct Maker {
+    pub alloc: Global,
+    pub package: Package,
+    pub values: Stack<Value>,
+}
+
+impl Maker {
+    /// Puts what was made into the package, and on the stack what stands for it.
+    fn put(&mut self, product: Product) -> Result<(), AllocError>
+        requires sound { IsSound self.old }
+        requires parts { ProductParts (length self.old.package.exprs) (length self.old.package.stmts) product }
+        requires room { nodes self.old < 2 ^ 32 }
+        ensures made { OnOk result (made self.new ≡ made_with (expr_trees self.old.package.exprs) (stmt_trees self.old.package.exprs self.old.package.stmts) product (seen_values (expr_trees self.old.package.exprs) (stmt_trees self.old.package.exprs self.old.package.stmts) self.old.values) (decl_trees self.old.package.exprs self.old.package.stmts self.old.package.decls)) }
+        ensures sound { OnOk result (IsSound self.new) }
+        ensures grows { OnOk result (nodes self.new ≤ nodes self.old + 1) }
+        ensures texts { OnOk result (KeepsTexts self.old.package self.new.package) }
+    {
+        match product {
+            Product::Value(value) => self.values.push(value),
+            Product::Expr(node) => {
+                let number = self.package.push_expr(node)?;
+                self.values.push(Value::Expr(number))
+            }
+            Product::Stmt(node) => {
+                let number = self.package.push_stmt(node)?;
+                self.values.push(Value::Stmt(number))
+            }
+            Product::Decl(node) => self.package.push_decl(node),
+        }
+    }
+
+    /// Performs an action. Where the topmost values are others than it takes, none are left; the actions of the
+    /// grammar's table never come to that.
+    pub fn perform(&mut self, action: Action) -> Result<(), AllocError>
+        requires sound { IsSound self.old }
+        requires room { nodes self.old < 2 ^ 32 }
+        ensures made { OnOk result (made self.new ≡ perform action (made self.old)) }
+        ensures sound { OnOk result (IsSound self.new) }
+        ensures grows { OnOk result (nodes self.new ≤ nodes self.old + 1) }
+        ensures texts { OnOk result (KeepsTexts self.old.package self.new.package) }
+    {
+        if !fits(takes(action), &self.values) {
+            self.values.clear();
+            return Ok(());
+        }
+        let product = make(self.alloc, action, &mut self.values)?;
+        self.put(product)
+    }
+
+    /// Performs actions one after the other.
+    pub fn perform_all(&mut self, actions: &[Action]) -> Result<(), AllocError>
+        requires sound { IsSound self.old }
+        requires room { nodes self.old + length actions.now < 2 ^ 32 }
+        ensures made { OnOk result (made self.new ≡ all_performed actions.now (made self.old)) }
+        ensures sound { OnOk result (IsSound self.new) }
+        ensures grows { OnOk result (nodes self.new ≤ nodes self.old + length actions.now) }
+        ensures texts { OnOk result (KeepsTexts self.old.package self.new.package) }
+    {
+        for action in actions {
+            self.perform(*action)?;
+        }
+        Ok(())
+    }
+}

@@ -1,0 +1,62 @@
+// Paths, and what calls are made on.
+
+ghost use Rattle.std.specs.Prelude.{◌≡◌, ◌<◌, List, [], ◌∷◌, true, IfOk};
+ghost use Rattle.wf_parse_grammar.specs.declared.symbols.Action.TheVariants as does;
+ghost use Rattle.wf_parse_nodes.specs.Making.{making};
+ghost use Rattle.wf_parse_nodes.specs.Shapes.{fits};
+ghost use Rattle.wf_parse_nodes.specs.declared.shapes.Shape.TheVariants as shapes;
+
+use crate::pops::{pop_name, pop_path, pop_place};
+use crate::products::Product;
+use crate::stack::Stack;
+use crate::values::Value;
+use std::alloc::AllocError;
+use wf_ast::parsed::{Path, Receiver, Root};
+
+/// A name behind `this` and a dot.
+pub fn this_path(values: &mut Stack<Value>) -> Product
+    requires { fits (shapes.Name ∷ shapes.Place ∷ []) values.old ≡ true }
+    ensures { making does.ThisPath values.old ≡ record { product = result; vals = values.new } }
+{
+    let name = pop_name(values);
+    let at = pop_place(values);
+    Product::Value(Value::Path(Path {
+        root: Root::This,
+        name,
+        at,
+    }))
+}
+
+/// A name behind `args` and a dot.
+pub fn args_path(values: &mut Stack<Value>) -> Product
+    requires { fits (shapes.Name ∷ shapes.Place ∷ []) values.old ≡ true }
+    ensures { making does.ArgsPath values.old ≡ record { product = result; vals = values.new } }
+{
+    let name = pop_name(values);
+    let at = pop_place(values);
+    Product::Value(Value::Path(Path {
+        root: Root::Args,
+        name,
+        at,
+    }))
+}
+
+/// A path that a call is made on.
+pub fn path_receiver(values: &mut Stack<Value>) -> Product
+    requires { fits (shapes.Path ∷ []) values.old ≡ true }
+    ensures { making does.PathReceiver values.old ≡ record { product = result; vals = values.new } }
+{
+    let path = pop_path(values);
+    Product::Value(Value::Receiver(Receiver::Path(path)))
+}
+
+/// `this` that a call is made on, below the method's name.
+pub fn this_method(values: &mut Stack<Value>) -> Result<Product, AllocError>
+    requires { fits (shapes.Name ∷ shapes.Place ∷ []) values.old ≡ true }
+    ensures { IfOk result (λ product. making does.ThisMethod values.old ≡ record { product = product; vals = values.new }) }
+{
+    let name = pop_name(values);
+    let at = pop_place(values);
+    values.push(Value::Receiver(Receiver::This(at)))?;
+    Ok(Product::Value(Value::Name(name)))
+}

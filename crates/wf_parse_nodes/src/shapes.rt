@@ -1,0 +1,206 @@
+// The shapes of values, and which values the actions take from the top of the stack.
+
+ghost use Rattle.std.specs.Prelude.{◌≡◌, ◌<◌, List, [], ◌∷◌, slice_get};
+ghost use Rattle.wf_parse_nodes.specs.Shapes.{is_shape, is_shape_at, fits, takes};
+
+use crate::stack::Stack;
+use crate::values::Value;
+use wf_parse_grammar::Action;
+
+/// The shape of a value, which is its variant.
+#[derive(Clone, Copy, PartialEq, Eq)]
+pub enum Shape {
+    Name,
+    Place,
+    Mark,
+    Public,
+    Sign,
+    Path,
+    Receiver,
+    Expr,
+    Part,
+    Chain,
+    Givens,
+    Call,
+    Prefixes,
+    Core,
+    Bounds,
+    Type,
+    Items,
+    Block,
+    Stmt,
+    Target,
+    Arms,
+    Otherwise,
+    Clauses,
+    Label,
+    Via,
+    Fields,
+    Result,
+}
+
+/// Whether a value has this shape.
+fn is_shape(shape: Shape, value: &Value) -> bool
+    ensures { result ≡ is_shape shape value.now }
+{
+    match (shape, value) {
+        (Shape::Name, Value::Name(_)) => true,
+        (Shape::Place, Value::Place(_)) => true,
+        (Shape::Mark, Value::Mark(_)) => true,
+        (Shape::Public, Value::Public(_)) => true,
+        (Shape::Sign, Value::Sign(_)) => true,
+        (Shape::Path, Value::Path(_)) => true,
+        (Shape::Receiver, Value::Receiver(_)) => true,
+        (Shape::Expr, Value::Expr(_)) => true,
+        (Shape::Part, Value::Part(_)) => true,
+        (Shape::Chain, Value::Chain(_)) => true,
+        (Shape::Givens, Value::Givens(_)) => true,
+        (Shape::Call, Value::Call(_)) => true,
+        (Shape::Prefixes, Value::Prefixes(_)) => true,
+        (Shape::Core, Value::Core(_)) => true,
+        (Shape::Bounds, Value::Bounds(_)) => true,
+        (Shape::Type, Value::Type(_)) => true,
+        (Shape::Items, Value::Items(_)) => true,
+        (Shape::Block, Value::Block(_)) => true,
+        (Shape::Stmt, Value::Stmt(_)) => true,
+        (Shape::Target, Value::Target(_)) => true,
+        (Shape::Arms, Value::Arms(_)) => true,
+        (Shape::Otherwise, Value::Otherwise(_)) => true,
+        (Shape::Clauses, Value::Clauses(_)) => true,
+        (Shape::Label, Value::Label(_)) => true,
+        (Shape::Via, Value::Via(_)) => true,
+        (Shape::Fields, Value::Fields(_)) => true,
+        (Shape::Result, Value::Result(_)) => true,
+        _ => false,
+    }
+}
+
+/// Whether the value so far below the top has this shape.
+fn has_shape(values: &Stack<Value>, depth: usize, shape: Shape) -> bool
+    ensures { result ≡ is_shape_at shape (slice_get values.now depth) }
+{
+    match values.get(depth) {
+        Some(value) => is_shape(shape, value),
+        None => false,
+    }
+}
+
+/// The shape at this place, if there is one.
+fn shape_at(shapes: &[Shape], place: usize) -> Option<Shape>
+    ensures { result ≡ slice_get shapes.now place }
+{
+    shapes.get(place).copied()
+}
+
+/// Whether the topmost values have these shapes, the topmost first.
+pub fn fits(shapes: &[Shape], values: &Stack<Value>) -> bool
+    ensures { result ≡ fits shapes.now values.now }
+{
+    let mut depth: usize = 0;
+    while let Some(shape) = shape_at(shapes, depth) {
+        if !has_shape(values, depth, shape) {
+            return false;
+        }
+        depth += 1;
+    }
+    true
+}
+
+/// The shapes of the values that an action takes, the topmost first.
+pub fn takes(action: Action) -> &'static [Shape]
+    ensures { result.now ≡ takes action }
+{
+    match action {
+        Action::PushName(_)
+        | Action::PushPlace(_)
+        | Action::PushMark(_)
+        | Action::PushPublic(_)
+        | Action::PushSign { .. }
+        | Action::BarePath(_)
+        | Action::NumberExpr { .. }
+        | Action::OwnStatusExpr(_)
+        | Action::FineExpr(_)
+        | Action::TruthExpr { .. }
+        | Action::NoPart
+        | Action::StartGivens
+        | Action::StartType
+        | Action::NoBounds
+        | Action::StartItems
+        | Action::StartArms
+        | Action::NoElse
+        | Action::StartClauses
+        | Action::NoLabel
+        | Action::NoVia
+        | Action::StartFields => &[],
+        Action::ThisPath | Action::ArgsPath | Action::ThisMethod | Action::BaseStatusExpr => &[
+            Shape::Name,
+            Shape::Place,
+        ],
+        Action::PathReceiver | Action::PathExpr | Action::PathTarget => &[Shape::Path],
+        Action::IndexExpr | Action::ElementTarget => &[Shape::Expr, Shape::Place, Shape::Path],
+        Action::SliceExpr => &[Shape::Part, Shape::Part, Shape::Place, Shape::Path],
+        Action::CallExpr => &[Shape::Call],
+        Action::NotExpr | Action::YieldStmt => &[Shape::Expr, Shape::Place],
+        Action::ConvertExpr => &[Shape::Type, Shape::Place, Shape::Expr],
+        Action::StartChain { .. } | Action::SomePart => &[Shape::Expr],
+        Action::AddLink => &[Shape::Expr, Shape::Place, Shape::Chain],
+        Action::FinishChain => &[Shape::Chain],
+        Action::AddGiven => &[Shape::Expr, Shape::Name, Shape::Givens],
+        Action::FinishCall => &[Shape::Givens, Shape::Mark, Shape::Name, Shape::Receiver],
+        Action::AddSlice(_) | Action::StructType(_) | Action::NoResult => &[Shape::Prefixes],
+        Action::AddArray => &[Shape::Expr, Shape::Place, Shape::Prefixes],
+        Action::BaseCore(_) | Action::StatusCore => &[Shape::Place],
+        Action::SomeBounds => &[Shape::Expr, Shape::Part],
+        Action::FinishType => &[Shape::Bounds, Shape::Core, Shape::Prefixes],
+        Action::AddStmt => &[Shape::Stmt, Shape::Items],
+        Action::CloseBlock(_) => &[Shape::Items],
+        Action::VarStmt => &[Shape::Type, Shape::Name, Shape::Place],
+        Action::AssignStmt => &[Shape::Expr, Shape::Sign, Shape::Target, Shape::Place],
+        Action::KeepStmt => &[Shape::Call, Shape::Target, Shape::Place],
+        Action::CallStmt => &[Shape::Call, Shape::Place],
+        Action::AddArm => &[Shape::Block, Shape::Expr, Shape::Arms],
+        Action::SomeElse => &[Shape::Block],
+        Action::IfStmt => &[Shape::Otherwise, Shape::Arms, Shape::Place],
+        Action::AddClause(_) => &[Shape::Expr, Shape::Place, Shape::Clauses],
+        Action::LoopStmt => &[Shape::Block, Shape::Clauses, Shape::Expr, Shape::Place],
+        Action::LabelledStmt => &[
+            Shape::Block,
+            Shape::Clauses,
+            Shape::Expr,
+            Shape::Name,
+            Shape::Place,
+        ],
+        Action::SomeLabel => &[Shape::Name],
+        Action::BreakStmt | Action::ContinueStmt => &[Shape::Label, Shape::Place],
+        Action::ReturnStmt => &[Shape::Part, Shape::Place],
+        Action::SomeVia => &[Shape::Givens, Shape::Name],
+        Action::AssertStmt => &[Shape::Via, Shape::Expr, Shape::Place],
+        Action::AddField => &[Shape::Type, Shape::Name, Shape::Fields],
+        Action::SomeResult => &[Shape::Type],
+        Action::StatusDecl => &[Shape::Name, Shape::Place, Shape::Public],
+        Action::ConstDecl => &[
+            Shape::Expr,
+            Shape::Type,
+            Shape::Name,
+            Shape::Place,
+            Shape::Public,
+        ],
+        Action::StructDecl => &[
+            Shape::Fields,
+            Shape::Mark,
+            Shape::Name,
+            Shape::Place,
+            Shape::Public,
+        ],
+        Action::MethodDecl => &[
+            Shape::Block,
+            Shape::Result,
+            Shape::Fields,
+            Shape::Mark,
+            Shape::Name,
+            Shape::Name,
+            Shape::Place,
+            Shape::Public,
+        ],
+    }
+}

@@ -1,0 +1,169 @@
+// Statements but for those with blocks.
+
+ghost use Rattle.std.specs.Prelude.{◌≡◌, ◌<◌, List, [], ◌∷◌, true, IfOk};
+ghost use Rattle.wf_parse_grammar.specs.declared.symbols.Action.TheVariants as does;
+ghost use Rattle.wf_parse_nodes.specs.Making.{making};
+ghost use Rattle.wf_parse_nodes.specs.Shapes.{fits};
+ghost use Rattle.wf_parse_nodes.specs.declared.shapes.Shape.TheVariants as shapes;
+
+use crate::pops::{
+    pop_call, pop_expr, pop_givens, pop_items, pop_name, pop_part, pop_path, pop_place, pop_sign,
+    pop_stmt, pop_target, pop_type, pop_via,
+};
+use crate::products::Product;
+use crate::stack::Stack;
+use crate::values::Value;
+use std::alloc::AllocError;
+use wf_ast::parsed::{Block, Stmt, StmtNode, Target, Via};
+use wf_text::Place;
+
+/// One statement more of a block.
+pub fn add_stmt(values: &mut Stack<Value>) -> Result<Product, AllocError>
+    requires { fits (shapes.Stmt ∷ shapes.Items ∷ []) values.old ≡ true }
+    ensures { IfOk result (λ product. making does.AddStmt values.old ≡ record { product = product; vals = values.new }) }
+{
+    let stmt = pop_stmt(values);
+    let mut items = pop_items(values);
+    items.push(stmt)?;
+    Ok(Product::Value(Value::Items(items)))
+}
+
+/// A whole block.
+pub fn close_block(close: Place, values: &mut Stack<Value>) -> Product
+    requires { fits (shapes.Items ∷ []) values.old ≡ true }
+    ensures { making (does.CloseBlock close) values.old ≡ record { product = result; vals = values.new } }
+{
+    let items = pop_items(values);
+    Product::Value(Value::Block(Block { items, close }))
+}
+
+/// A declaration of a local.
+pub fn var_stmt(values: &mut Stack<Value>) -> Product
+    requires { fits (shapes.Type ∷ shapes.Name ∷ shapes.Place ∷ []) values.old ≡ true }
+    ensures { making does.VarStmt values.old ≡ record { product = result; vals = values.new } }
+{
+    let of = pop_type(values);
+    let name = pop_name(values);
+    let at = pop_place(values);
+    Product::Stmt(StmtNode {
+        stmt: Stmt::Var { name, of },
+        at,
+    })
+}
+
+/// A path that is written to.
+pub fn path_target(values: &mut Stack<Value>) -> Product
+    requires { fits (shapes.Path ∷ []) values.old ≡ true }
+    ensures { making does.PathTarget values.old ≡ record { product = result; vals = values.new } }
+{
+    let path = pop_path(values);
+    Product::Value(Value::Target(Target::Path(path)))
+}
+
+/// An element that is written to.
+pub fn element_target(values: &mut Stack<Value>) -> Product
+    requires { fits (shapes.Expr ∷ shapes.Place ∷ shapes.Path ∷ []) values.old ≡ true }
+    ensures { making does.ElementTarget values.old ≡ record { product = result; vals = values.new } }
+{
+    let index = pop_expr(values);
+    let at = pop_place(values);
+    let base = pop_path(values);
+    Product::Value(Value::Target(Target::Element { base, index, at }))
+}
+
+/// An assignment.
+pub fn assign_stmt(values: &mut Stack<Value>) -> Product
+    requires { fits (shapes.Expr ∷ shapes.Sign ∷ shapes.Target ∷ shapes.Place ∷ []) values.old ≡ true }
+    ensures { making does.AssignStmt values.old ≡ record { product = result; vals = values.new } }
+{
+    let value = pop_expr(values);
+    let sign = pop_sign(values);
+    let target = pop_target(values);
+    let at = pop_place(values);
+    Product::Stmt(StmtNode {
+        stmt: Stmt::Assign {
+            target,
+            op: sign.op,
+            sign: sign.at,
+            value,
+        },
+        at,
+    })
+}
+
+/// An assignment by `=?`.
+pub fn keep_stmt(values: &mut Stack<Value>) -> Product
+    requires { fits (shapes.Call ∷ shapes.Target ∷ shapes.Place ∷ []) values.old ≡ true }
+    ensures { making does.KeepStmt values.old ≡ record { product = result; vals = values.new } }
+{
+    let call = pop_call(values);
+    let target = pop_target(values);
+    let at = pop_place(values);
+    Product::Stmt(StmtNode {
+        stmt: Stmt::Keep { target, call },
+        at,
+    })
+}
+
+/// A call as a statement.
+pub fn call_stmt(values: &mut Stack<Value>) -> Product
+    requires { fits (shapes.Call ∷ shapes.Place ∷ []) values.old ≡ true }
+    ensures { making does.CallStmt values.old ≡ record { product = result; vals = values.new } }
+{
+    let call = pop_call(values);
+    let at = pop_place(values);
+    Product::Stmt(StmtNode {
+        stmt: Stmt::Call(call),
+        at,
+    })
+}
+
+/// A `return`.
+pub fn return_stmt(values: &mut Stack<Value>) -> Product
+    requires { fits (shapes.Part ∷ shapes.Place ∷ []) values.old ≡ true }
+    ensures { making does.ReturnStmt values.old ≡ record { product = result; vals = values.new } }
+{
+    let value = pop_part(values);
+    let at = pop_place(values);
+    Product::Stmt(StmtNode {
+        stmt: Stmt::Return(value),
+        at,
+    })
+}
+
+/// A `yield`.
+pub fn yield_stmt(values: &mut Stack<Value>) -> Product
+    requires { fits (shapes.Expr ∷ shapes.Place ∷ []) values.old ≡ true }
+    ensures { making does.YieldStmt values.old ≡ record { product = result; vals = values.new } }
+{
+    let value = pop_expr(values);
+    let at = pop_place(values);
+    Product::Stmt(StmtNode {
+        stmt: Stmt::Yield(value),
+        at,
+    })
+}
+
+/// An axiom with what is given to it.
+pub fn some_via(values: &mut Stack<Value>) -> Product
+    requires { fits (shapes.Givens ∷ shapes.Name ∷ []) values.old ≡ true }
+    ensures { making does.SomeVia values.old ≡ record { product = result; vals = values.new } }
+{
+    let given = pop_givens(values);
+    let axiom = pop_name(values);
+    Product::Value(Value::Via(Some(Via { axiom, given })))
+}
+
+/// An assertion.
+pub fn assert_stmt(values: &mut Stack<Value>) -> Product
+    requires { fits (shapes.Via ∷ shapes.Expr ∷ shapes.Place ∷ []) values.old ≡ true }
+    ensures { making does.AssertStmt values.old ≡ record { product = result; vals = values.new } }
+{
+    let via = pop_via(values);
+    let goal = pop_expr(values);
+    let at = pop_place(values);
+    Product::Stmt(StmtNode {
+        stmt: Stmt::Assert { goal, via },
+        at,
+    })
+}

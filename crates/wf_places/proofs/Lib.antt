@@ -1,9 +1,0 @@
-pub mod BreakPlaces
-pub mod DeclCounts
-pub mod DeclPlaces
-pub mod DeclaredPlaces
-pub mod ExprPlaces
-pub mod FilePlaces
-pub mod ListLemmas
-pub mod StmtPlaces
-pub mod UsePlaces

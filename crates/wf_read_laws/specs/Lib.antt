@@ -1,0 +1,11 @@
+pub mod Examples
+pub mod FormLaws
+pub mod NamedPlaces
+pub mod PlaceLaws
+pub mod Places
+pub mod ReadOrder
+pub mod StatementPlaces
+pub mod TokenForms
+pub mod TypePlaceLaws
+pub mod TypedOrder
+pub mod WellFormed

@@ -1,7 +1,0 @@
-use Rattle.std.proofs.Common.{◌≡◌, drop}
-use Rattle.std.specs.List.{find}
-use Rattle.wf_names.specs.Declarations.{is_spelt}
-use Rattle.wf_resolve.proofs.arguments.given_named.Given as goal
-
-abbrev pub invariant-loop-one : goal.invariant-loop-one
-invariant-loop-one l = find (λ g. is_spelt l.text g.name) (drop l.one-index l.given) ≡ find (λ g. is_spelt l.text g.name) l.given

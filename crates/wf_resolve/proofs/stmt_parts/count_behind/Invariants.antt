@@ -1,6 +1,0 @@
-use Rattle.std.proofs.Common.{◌≡◌, ◌≤◌, drop}
-use Rattle.wf_resolve.specs.Resolved.{loops_behind}
-use Rattle.wf_resolve.proofs.stmt_parts.count_behind.Given as goal
-
-abbrev pub invariant-loop-label : goal.invariant-loop-label
-invariant-loop-label l = (l.count ≤ l.label-index) × (loops_behind l.text l.count (drop l.label-index l.labels) ≡ loops_behind l.text 0 l.labels)

@@ -1,7 +1,0 @@
-use Rattle.wf_ast.specs.ParsedTrees.{expr_trees}
-use Rattle.wf_resolve.specs.Standing.{standing_by}
-use Rattle.wf_resolve.proofs.StmtLemmas.{ClausesMade}
-use Rattle.wf_resolve.proofs.stmt_parts.resolve_clauses.Given as goal
-
-abbrev pub invariant-loop-clause : goal.invariant-loop-clause
-invariant-loop-clause l = ClausesMade (standing_by l.parsed.texts l.numbers l.around) (expr_trees l.parsed.exprs) l.clauses l.clause-index l.fn.nodes l.nodes l.made

@@ -1,6 +1,0 @@
-use Rattle.wf_names.specs.Declarations.{bytes_of}
-use Rattle.wf_resolve.proofs.WordLemmas.{LettersMade}
-use Rattle.wf_resolve.proofs.words.named_letters.Given as goal
-
-abbrev pub invariant-loop-one : goal.invariant-loop-one
-invariant-loop-one l = LettersMade (bytes_of l.parsed.texts) l.given l.one-index l.fn.nodes l.nodes l.made

@@ -1,7 +1,0 @@
-use Rattle.wf_named.specs.NamedParts.{named_package}
-use Rattle.wf_resolver.proofs.PackageLemmas.{package_made}
-use Rattle.wf_resolver.proofs.packages.resolve_package.Goals as goal
-
-pub returns-in-Ok-all_decls : goal.returns-in-Ok-all_decls
-returns-in-Ok-all_decls c =
-    package_made c.args.parsed.now c.in-Ok.nodes c.name.result.now c.args.order.items (named_package c.all_decls.new.nodes) (named_package c.set_order.new.self) c.name.ensures c.in-Ok.ensures c.in-Ok-all_decls.ensures c.set_order.ensures.«package»

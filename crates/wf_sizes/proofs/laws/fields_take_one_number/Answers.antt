@@ -1,5 +1,0 @@
-use Rattle.wf_sizes.proofs.TakeLemmas.{take-one}
-use Rattle.wf_sizes.proofs.laws.fields_take_one_number.Goals as goal
-
-pub returns : goal.returns
-returns c = take-one

@@ -1,5 +1,0 @@
-use Rattle.wf_sizes.proofs.CircleLemmas.{order-holds}
-use Rattle.wf_sizes.proofs.laws.numbers_left_by_a_walk_are_an_order_of_structs.Goals as goal
-
-pub returns : goal.returns
-returns c = order-holds

@@ -1,6 +1,0 @@
-use Rattle.wf_names.specs.Declarations.{bytes_of}
-use Rattle.wf_sizes.proofs.ValueLemmas.{deep_width}
-use Rattle.wf_sizes.proofs.values.numeric_width.Goals as goal
-
-pub returns-in_default : goal.returns-in_default
-returns-in_default c = λ es. deep_width (bytes_of c.args.parsed.now.texts) es c.args.of.now.prefixes _ (rw c.as_slice.ensures at c.in_default.len_at_least)

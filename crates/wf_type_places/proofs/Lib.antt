@@ -1,9 +1,0 @@
-pub mod BrokenPlaces
-pub mod ExprsResolved
-pub mod JudgedPlaces
-pub mod OperandPlaces
-pub mod PackageResolved
-pub mod PartPlaces
-pub mod PlaceLemmas
-pub mod ReadPlaces
-pub mod StmtsResolved

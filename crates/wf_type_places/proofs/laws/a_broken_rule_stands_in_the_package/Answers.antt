@@ -1,5 +1,0 @@
-use Rattle.wf_type_places.proofs.BrokenPlaces.{rules_stand_in_packages}
-use Rattle.wf_type_places.proofs.laws.a_broken_rule_stands_in_the_package.Goals as goal
-
-pub returns : goal.returns
-returns c = rules_stand_in_packages

@@ -1,5 +1,0 @@
-use Rattle.wf_type_places.proofs.PackageResolved.{resolving_keeps_places}
-use Rattle.wf_type_places.proofs.laws.resolving_keeps_places.Goals as goal
-
-pub returns : goal.returns
-returns c = resolving_keeps_places

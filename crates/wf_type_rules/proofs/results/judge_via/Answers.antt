@@ -1,5 +1,0 @@
-use Rattle.wf_judging.proofs.JudgedLaws.{judged-none}
-use Rattle.wf_type_rules.proofs.results.judge_via.Goals as goal
-
-pub returns-in-None : goal.returns-in-None
-returns-in-None c = rw c.in-None.is (judged-none c.args.around.now c.args.found)

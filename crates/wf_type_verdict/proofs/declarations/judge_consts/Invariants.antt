@@ -1,9 +1,0 @@
-use Rattle.std.proofs.Common.{drop, map}
-use Rattle.wf_named.specs.NamedTrees.{expr_trees, const_made}
-use Rattle.wf_type_verdict.proofs.DeclarationLemmas.{ConstsJudged}
-use Rattle.wf_type_verdict.proofs.declarations.judge_consts.Given as goal
-
-abbrev pub invariant-loop-constant : goal.invariant-loop-constant
-invariant-loop-constant l =
-    let made = const_made l.nodes.texts (expr_trees l.nodes.exprs) in
-    ConstsJudged (map made l.nodes.consts) (map made (drop l.constant-index l.nodes.consts)) l.all.found l.all.around

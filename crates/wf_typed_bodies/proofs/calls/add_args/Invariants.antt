@@ -1,8 +1,0 @@
-use Rattle.wf_named.specs.NamedParts.{named_package}
-use Rattle.wf_named.specs.NamedTrees.{expr_trees}
-use Rattle.wf_typed_bodies.specs.Right.{known_in}
-use Rattle.wf_typed_bodies.proofs.ListLemmas.{ArgsMade}
-use Rattle.wf_typed_bodies.proofs.calls.add_args.Given as goal
-
-abbrev pub invariant-loop-arg : goal.invariant-loop-arg
-invariant-loop-arg l = ArgsMade l.around (known_in (named_package l.named)) l.named (expr_trees l.named.exprs) l.args l.arg-index l.fn.nodes l.nodes l.made

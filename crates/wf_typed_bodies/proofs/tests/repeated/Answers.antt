@@ -1,8 +1,0 @@
-use Rattle.std.proofs.Common.{None, refl}
-use Rattle.wf_ast.specs.declared.types.Ty.TheVariants as types
-use Rattle.wf_types.specs.declared.meanings.Meaning.TheVariants as meanings
-use Rattle.wf_elaborator.proofs.SampleLemmas.{around_small}
-use Rattle.wf_typed_bodies.proofs.tests.repeated.Goals as goal
-
-pub typed-requires-clause-right : goal.typed-requires-clause-right
-typed-requires-clause-right c = rw (c.in_ok-s.ensures.made, c.in_ok-again.ensures, c.new.ensures, c.in_ok-e.ensures.made, c.in_ok-e.ensures.stmts, c.in_ok-jump.ensures.made) ((record { around = around_small; grammar = refl; named = refl; of = meanings.Typed types.Flag; means = refl }, (tt, (refl, tt))))

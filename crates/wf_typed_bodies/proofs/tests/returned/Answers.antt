@@ -1,5 +1,0 @@
-use Rattle.std.proofs.Common.{None, refl}
-use Rattle.wf_typed_bodies.proofs.tests.returned.Goals as goal
-
-pub typed-requires-clause-right : goal.typed-requires-clause-right
-typed-requires-clause-right c = rw (c.in_ok-s.ensures.made) (tt)

@@ -1,0 +1,137 @@
+use Rattle.std.proofs.Common.{◌≡◌, ◌∙◌, length, sym, ap, arith}
+use Rattle.wf_ast.specs.ParsedParts.{LinksBelow}
+use Rattle.wf_named.specs.NamedTree.{index, slice, chain}
+use Rattle.wf_named.specs.NamedTrees.{expr_trees, expr_at, part_at, links_at, args_at, type_at}
+use Rattle.wf_types_rules.specs.Meanings.{variable}
+use Rattle.wf_types_rules.specs.ExprTypes.{meaning}
+use Rattle.wf_types_exprs.specs.declared.found.Value.{Value}
+use Rattle.wf_types_exprs.proofs.AboveLemmas.{links_above, links_more, link_at_place}
+use Rattle.wf_typed_tree.specs.ElaboratedExprs.{path_tree}
+use Rattle.wf_typed_exprs.proofs.FormLaws.{value-makes, index-right, index-makes, slice-right, slice-makes, convert-right, convert-width, negation-right}
+use Rattle.wf_typed_exprs.proofs.ChainLaws.{chain-right, chain-makes}
+use Rattle.wf_typed_exprs.proofs.GrowthLemmas.{grows_more, stands_kept}
+use Rattle.wf_typed_exprs.proofs.WalkLemmas.{right_kept, end_right_kept, link_right, left_next}
+use Rattle.wf_typed_exprs.proofs.walk.+elaborate_exprs.Goals as goal
+
+pub elaborate_chain-elaborate_operands-requires : goal.elaborate_chain-elaborate_operands-requires
+elaborate_chain-elaborate_operands-requires t c =
+    let es = expr_trees c.args.named.now.exprs in
+    let parts = chain-right c.args.around.now c.args.nodes.now (length c.args.nodes.now.statuses) c.args.op (expr_at es c.args.first) (links_at es c.args.links.now) c.args.at c.requires.right in
+    (omega (arith, c.decreases), (c.requires.first, (c.requires.links, (parts.0, parts.1))))
+
+pub elaborate_chain-returns-in-Ok-clause-made : goal.elaborate_chain-returns-in-Ok-clause-made
+elaborate_chain-returns-in-Ok-clause-made t c =
+    let s = c.args.around.now in
+    let es = expr_trees c.args.named.now.exprs in
+    let nodes = c.elaborate_operands.new.nodes in
+    let whole = chain c.args.op (expr_at es c.args.first) (links_at es c.args.links.now) c.args.at in
+    rw c.chain_meant.ensures
+    (chain-makes s nodes c.args.op (expr_at es c.args.first) (links_at es c.args.links.now) c.args.at c.in-Ok.operands (right_kept s c.args.nodes.now nodes c.in-Ok.ensures.grows whole c.requires.right) c.in-Ok.ensures.all)
+
+pub elaborate_convert-elaborate_expr-requires : goal.elaborate_convert-elaborate_expr-requires
+elaborate_convert-elaborate_expr-requires t c =
+    let es = expr_trees c.args.named.now.exprs in
+    (omega (arith, c.decreases), (c.requires.there, convert-right c.args.around.now c.args.nodes.now (length c.args.nodes.now.statuses) (expr_at es c.args.of) (type_at es c.args.to.now) c.args.at c.requires.right))
+
+pub elaborate_convert-unreachable-requires : goal.elaborate_convert-unreachable-requires
+elaborate_convert-unreachable-requires t c =
+    let es = expr_trees c.args.named.now.exprs in
+    convert-width c.args.around.now c.args.nodes.now (length c.args.nodes.now.statuses) (expr_at es c.args.of) (type_at es c.args.to.now) c.args.at c.requires.right (sym c.in-None.is ∙ c.plain_width.ensures es)
+
+pub elaborate_index-elaborate_path-requires : goal.elaborate_index-elaborate_path-requires
+elaborate_index-elaborate_path-requires t c =
+    let es = expr_trees c.args.named.now.exprs in
+    (index-right c.args.around.now c.args.nodes.now (length c.args.nodes.now.statuses) c.args.base (expr_at es c.args.index) c.args.at c.requires.right).0
+
+pub elaborate_index-elaborate_expr-requires : goal.elaborate_index-elaborate_expr-requires
+elaborate_index-elaborate_expr-requires t c =
+    let s = c.args.around.now in
+    let i = expr_at (expr_trees c.args.named.now.exprs) c.args.index in
+    let right = (index-right s c.args.nodes.now (length c.args.nodes.now.statuses) c.args.base i c.args.at c.requires.right).1 in
+    (omega (arith, c.decreases), (c.requires.there, right_kept s c.args.nodes.now c.elaborate_path.new.nodes c.in-Ok.ensures.grows i right))
+
+pub elaborate_index-returns-in-Ok-elaborate_expr-clause-made : goal.elaborate_index-returns-in-Ok-elaborate_expr-clause-made
+elaborate_index-returns-in-Ok-elaborate_expr-clause-made t c =
+    let s = c.args.around.now in
+    let p = c.args.base in
+    let i = expr_at (expr_trees c.args.named.now.exprs) c.args.index in
+    let mid = c.elaborate_path.new.nodes in
+    let after = c.elaborate_expr.new.nodes in
+    let all = grows_more c.args.nodes.now mid after c.in-Ok.ensures.grows c.in-Ok-elaborate_expr.ensures.grows in
+    let base = stands_kept (path_tree s p) (variable s p.of) mid after c.in-Ok.cells.node c.in-Ok-elaborate_expr.ensures.grows c.in-Ok.ensures.stands in
+    let cells : c.in-Ok.cells.value.of ≡ variable s p.of = ap (λ (v : Value). v.of) c.in-Ok.ensures.value in
+    let place : c.in-Ok-elaborate_expr.index.value.of ≡ meaning s i = ap (λ (v : Value). v.of) c.in-Ok-elaborate_expr.ensures.value in
+    rw (c.unsigned.ensures, c.typed.ensures, c.if_number.ensures, c.elements.ensures, place, cells)
+    (index-makes s after p i c.args.at c.in-Ok.cells.node c.in-Ok-elaborate_expr.index.node (right_kept s c.args.nodes.now after all (index p i c.args.at) c.requires.right) base c.in-Ok-elaborate_expr.ensures.stands)
+
+pub elaborate_links-elaborate_link-requires : goal.elaborate_links-elaborate_link-requires
+elaborate_links-elaborate_link-requires t c =
+    let s = c.args.around.now in
+    let es = expr_trees c.args.named.now.exprs in
+    let l = c.loop-link in
+    let place = link_at_place (length c.args.named.now.exprs) c.args.links.now l.link-index _ c.loop-link-test.true c.requires.there in
+    let right = link_right s (length c.args.nodes.now.statuses) es c.args.links.now l.link-index _ c.loop-link-test.true c.requires.right in
+    (omega (arith, place.0, c.decreases), (place.1, right_kept s c.args.nodes.now l.nodes l.invariant.0 _ right))
+
+pub elaborate_links-loop-link-preserved : goal.elaborate_links-loop-link-preserved
+elaborate_links-loop-link-preserved t c =
+    let s = c.args.around.now in
+    let es = expr_trees c.args.named.now.exprs in
+    let l = c.loop-link in
+    let after = c.elaborate_link.new.nodes in (
+      grows_more c.args.nodes.now l.nodes after l.invariant.0 c.in-Ok.ensures.grows,
+      left_next s es c.args.links.now l.link-index _ l.nodes after c.args.before l.all c.in-Ok.next c.loop-link-test.true l.invariant.1 c.in-Ok.ensures.grows c.in-Ok.ensures.adds,
+    )
+
+pub elaborate_negation-elaborate_expr-requires : goal.elaborate_negation-elaborate_expr-requires
+elaborate_negation-elaborate_expr-requires t c =
+    let es = expr_trees c.args.named.now.exprs in
+    (omega (arith, c.decreases), (c.requires.there, negation-right c.args.around.now c.args.nodes.now (length c.args.nodes.now.statuses) (expr_at es c.args.of) c.args.at c.requires.right))
+
+pub elaborate_node-elaborate_answer-requires : goal.elaborate_node-elaborate_answer-requires
+elaborate_node-elaborate_answer-requires t c =
+    let es = expr_trees c.args.named.now.exprs in
+    let right = rw (c.expr-node.ensures.made, c.in-Call.is) at c.requires.right in
+    record { args = args_at es c.in-Call.call.args; right = right }
+
+pub elaborate_node-elaborate_chain-requires : goal.elaborate_node-elaborate_chain-requires
+elaborate_node-elaborate_chain-requires t c =
+    let parts = rw c.in-Chain.is at c.expr-node.ensures.parts in
+    let below : LinksBelow c.args.e.0 c.as_slice.result.now = rw c.as_slice.ensures parts.1 in
+    let right = rw (c.expr-node.ensures.made, c.in-Chain.is, ← c.as_slice.ensures) at c.requires.right in (
+      omega (arith, parts.0, links_above c.args.e.0 c.as_slice.result.now below, c.decreases),
+      (omega (arith, parts.0, c.requires.there), (links_more c.args.e.0 (length c.args.named.now.exprs) (omega (arith, c.requires.there)) c.as_slice.result.now below, right)),
+    )
+
+pub elaborate_node-returns-in-Path-clause-made : goal.elaborate_node-returns-in-Path-clause-made
+elaborate_node-returns-in-Path-clause-made t c =
+    let right = rw (c.expr-node.ensures.made, c.in-Path.is) at c.requires.right in
+    rw (c.expr-node.ensures.made, c.in-Path.is, c.as_value.ensures, c.path_node-made.ensures) (value-makes c.args.around.now c.args.nodes.now c.in-Path.path right)
+
+pub elaborate_slice-elaborate_path-requires : goal.elaborate_slice-elaborate_path-requires
+elaborate_slice-elaborate_path-requires t c =
+    let es = expr_trees c.args.named.now.exprs in
+    (slice-right c.args.around.now c.args.nodes.now (length c.args.nodes.now.statuses) c.args.base (part_at es c.args.from) (part_at es c.args.to) c.args.at c.requires.right).0
+
+pub elaborate_slice-elaborate_ends-requires : goal.elaborate_slice-elaborate_ends-requires
+elaborate_slice-elaborate_ends-requires t c =
+    let s = c.args.around.now in
+    let es = expr_trees c.args.named.now.exprs in
+    let right = (slice-right s c.args.nodes.now (length c.args.nodes.now.statuses) c.args.base (part_at es c.args.from) (part_at es c.args.to) c.args.at c.requires.right).1 in
+    let kept = end_right_kept s c.args.nodes.now c.elaborate_path.new.nodes c.in-Ok.ensures.grows in
+    (omega (arith, c.decreases), (c.requires.from, (c.requires.to, (kept (part_at es c.args.from) right.0, kept (part_at es c.args.to) right.1))))
+
+pub elaborate_slice-returns-in-Ok-elaborate_ends-clause-made : goal.elaborate_slice-returns-in-Ok-elaborate_ends-clause-made
+elaborate_slice-returns-in-Ok-elaborate_ends-clause-made t c =
+    let s = c.args.around.now in
+    let p = c.args.base in
+    let es = expr_trees c.args.named.now.exprs in
+    let mid = c.elaborate_path.new.nodes in
+    let after = c.elaborate_ends.new.nodes in
+    let ends = c.in-Ok-elaborate_ends in
+    let all = grows_more c.args.nodes.now mid after c.in-Ok.ensures.grows ends.ensures.grows in
+    let base = stands_kept (path_tree s p) (variable s p.of) mid after c.in-Ok.cells.node ends.ensures.grows c.in-Ok.ensures.stands in
+    let cells : c.in-Ok.cells.value.of ≡ variable s p.of = ap (λ (v : Value). v.of) c.in-Ok.ensures.value in
+    rw (c.unsigned.ensures, c.slice_meant.ensures, c.node_of.ensures, c.node_of-in-Ok-elaborate_ends.ensures, cells)
+    (slice-makes s after p (part_at es c.args.from) (part_at es c.args.to) c.args.at c.in-Ok.cells.node ends.from ends.to
+    (right_kept s c.args.nodes.now after all (slice p (part_at es c.args.from) (part_at es c.args.to) c.args.at) c.requires.right) base ends.ensures.from ends.ensures.to)

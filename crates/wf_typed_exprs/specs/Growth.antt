@@ -1,0 +1,34 @@
+-- How the nodes of a typed package grow while expressions are added.
+use Rattle.std.specs.Prelude.{◌≡◌, ◌<◌, ◌≤◌, ◌^◌, ℕ, true, List, [], length, map, slice_get}
+use Rattle.wf_ast.specs.declared.typed_nodes.TypedNodes.{TypedNodes}
+use Rattle.wf_ast.specs.TypedTrees.{expr_trees, type_of_node, constant_of_node}
+use Rattle.wf_ast.specs.TypedInvariant.{parts_below, each_numbered, node_fits}
+use Rattle.wf_typed_exprs.specs.declared.typed_exprs.TypedExpr.{TypedExpr}
+
+-- A package with these expressions, and one with none.
+abbrev pub with_exprs : TypedNodes → List TypedExpr → TypedNodes
+with_exprs nodes es = record nodes { exprs = map (λ x. x.node) es; types = map (λ x. x.ty) es; constants = map (λ x. x.constant) es }
+
+abbrev pub without_exprs : TypedNodes → TypedNodes
+without_exprs nodes = record nodes { exprs = []; types = []; constants = [] }
+
+-- What holds at any time while a package is built: the parts of an expression stand in front of it, and it and its parts
+-- have the kinds of their types. So many expressions have a number.
+pub record IsBuilt (nodes : TypedNodes) : Type 0 where
+  pub ordered : each_numbered (λ e node. parts_below e node.expr) 0 nodes.exprs ≡ true
+  pub kinds : each_numbered (λ e node. node_fits nodes (type_of_node nodes e) (constant_of_node nodes e) node.expr) 0 nodes.exprs ≡ true
+  pub typed : length nodes.types ≡ length nodes.exprs
+  pub counted : length nodes.constants ≡ length nodes.exprs
+  pub few : length nodes.exprs < 2 ^ 32
+
+-- The first items of a list are those of the other, by place.
+abbrev pub Keeps : {X : Type 0} → (count : ℕ) → (old new : List X) → Type 0
+Keeps count old new = (i : ℕ) → i < count → slice_get old i ≡ slice_get new i
+
+-- Expressions may be added: those that were there keep their numbers, their trees and their types. All else stays.
+pub record Grows (old new : TypedNodes) : Type 0 where
+  pub exprs : length old.exprs ≤ length new.exprs
+  pub same_trees : Keeps (length old.exprs) (expr_trees old) (expr_trees new)
+  pub same_types : Keeps (length old.exprs) old.types new.types
+  pub same_constants : Keeps (length old.exprs) old.constants new.constants
+  pub rest : without_exprs new ≡ without_exprs old

@@ -1,0 +1,57 @@
+// The operands of a chain as they grow.
+
+ghost use Rattle.std.specs.Prelude.{◌≡◌, ◌++◌, ◌∷◌, [], Some, IfOk};
+ghost use Rattle.wf_types_exprs.specs.Judged.{operand_behind as behind};
+
+use crate::elaborated::{Elaborated, MadeOperands};
+use std::alloc::Global;
+use wf_ast::Sequence;
+use wf_types_exprs::operands::operand_behind;
+use wf_text::Place;
+use wf_text::faults::NoMemory;
+
+/// No operand yet.
+pub fn no_operand(alloc: Global) -> MadeOperands
+    ensures { result ≡ record { parts = []; signs = []; of = Some [] } }
+{
+    MadeOperands {
+        parts: Sequence::new(alloc),
+        signs: Sequence::new(alloc),
+        of: Some(Sequence::new(alloc)),
+    }
+}
+
+/// One sign more.
+pub fn with_sign(before: MadeOperands, sign: Place) -> Result<MadeOperands, NoMemory>
+    ensures { IfOk result (λ all. all ≡ record before { signs = before.signs ++ sign ∷ [] }) }
+{
+    let mut signs = before.signs;
+    match signs.push(sign) {
+        Ok(()) => Ok(MadeOperands {
+            parts: before.parts,
+            signs,
+            of: before.of,
+        }),
+        Err(_) => Err(NoMemory),
+    }
+}
+
+/// One operand more.
+pub fn with_operand(before: MadeOperands, next: Elaborated) -> Result<MadeOperands, NoMemory>
+    ensures { IfOk result (λ all. all ≡ record { parts = before.parts ++ next.node ∷ []; signs = before.signs; of = behind before.of next.value }) }
+{
+    let mut parts = before.parts;
+    match parts.push(next.node) {
+        Ok(()) => {
+            match operand_behind(before.of, next.value) {
+                Ok(of) => Ok(MadeOperands {
+                    parts,
+                    signs: before.signs,
+                    of,
+                }),
+                Err(fault) => Err(fault),
+            }
+        }
+        Err(_) => Err(NoMemory),
+    }
+}

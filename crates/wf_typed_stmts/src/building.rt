@@ -1,0 +1,235 @@
+// The nodes of a typed package with its statements, as they are built. A statement's parts stand in front of it, but for the
+// loop that a jump tells.
+
+ghost use Rattle.std.specs.Prelude.{◌≡◌, ◌<◌, ◌++◌, [], ◌∷◌, true, length, IfOk, OnOk};
+ghost use Rattle.wf_ast.specs.declared.resolved.Expr.TheVariants as exprs;
+ghost use Rattle.wf_ast.specs.TypedTrees.{sort_of, chain_of, tree_of, stmt_made, stmt_makers, onto};
+ghost use Rattle.wf_ast.specs.TypedInvariant.{chain_fits};
+ghost use Rattle.wf_named.specs.NamedParts.{exprs_of, named_package};
+ghost use Rattle.wf_named.specs.NamedTrees.{expr_at};
+ghost use Rattle.wf_named.specs.NamedTree as tree;
+ghost use Rattle.wf_types_rules.specs.Meanings.{variable as variable_in};
+ghost use Rattle.wf_types_exprs.specs.Judged.{value_of};
+ghost use Rattle.wf_typed_exprs.specs.Growth.{IsBuilt};
+ghost use Rattle.wf_typed_exprs.specs.Nodes.{StandsForExpr, StandsForPath};
+ghost use Rattle.wf_typed_exprs.specs.Right.{IsRight, IsRightPath};
+ghost use Rattle.wf_typed_stmts.specs.Right.{known_in};
+ghost use Rattle.wf_typed_stmts.specs.StmtGrowth.{AreStmtsBuilt, IsBegun, GrowsExprs, GrowsStmts, stmt_there};
+
+use crate::lists::{all_of, one, two};
+use std::alloc::Global;
+use std::marker::Model;
+use wf_ast::{Expr, ExprId, ExprNode, Op, StmtId, StmtNode, Ty, TypedNodes};
+use wf_typed_exprs::typed_exprs::TypedExpr;
+use wf_typed_exprs::walk::{elaborate_element, elaborate_expr, elaborate_path};
+use wf_typed_exprs::{Building, Elaborated};
+use wf_named::{NamedNodes, NamedPath};
+use wf_text::Place;
+use wf_text::faults::NoMemory;
+use wf_types_rules::Setting;
+
+// How many statements a typed package may have.
+const NUMBERS: usize = 4294967295;
+
+/// A typed package, as far as it is built.
+#[derive(Drop)]
+pub struct BodyBuilding {
+    building: Building,
+    stmts: Vec<StmtNode>,
+}
+
+impl Model for BodyBuilding {
+    ghost use Rattle.wf_ast.specs.declared.typed_nodes.TypedNodes.{TypedNodes};
+    ghost use Rattle.wf_typed_stmts.specs.StmtGrowth.{with_stmts};
+
+    ghost Value = { TypedNodes };
+
+    ghost view = { λ b. with_stmts b.building b.stmts.items };
+}
+
+impl BodyBuilding {
+    /// The package with what is declared there, and no expression or statement yet. The bodies of `declared` stay.
+    pub fn new(alloc: Global, declared: TypedNodes) -> Self
+        ensures { result ≡ record declared { exprs = []; types = []; constants = []; stmts = [] } }
+    {
+        BodyBuilding {
+            building: Building::new(alloc, declared),
+            stmts: Vec::new(alloc),
+        }
+    }
+
+    /// The package that is built.
+    pub fn finish(self, alloc: Global) -> Result<TypedNodes, NoMemory>
+        ensures nodes { IfOk result (λ nodes. nodes ≡ self) }
+        ensures exprs { IfOk result IsBuilt }
+    {
+        match all_of(alloc, self.stmts) {
+            Ok(stmts) => {
+                match self.building.finish(alloc) {
+                    Ok(nodes) => Ok(TypedNodes {
+                        package: nodes.package,
+                        statuses: nodes.statuses,
+                        texts: nodes.texts,
+                        exprs: nodes.exprs,
+                        types: nodes.types,
+                        constants: nodes.constants,
+                        stmts,
+                        structs: nodes.structs,
+                        methods: nodes.methods,
+                        bodies: nodes.bodies,
+                        order: nodes.order,
+                    }),
+                    Err(fault) => Err(fault),
+                }
+            }
+            Err(fault) => Err(fault),
+        }
+    }
+
+    /// How many statements there are.
+    pub fn stmts(&self) -> usize
+        ensures { result ≡ length self.now.stmts }
+    {
+        self.stmts.len()
+    }
+
+    /// Adds the node of a path.
+    pub fn push_path(
+        &mut self,
+        alloc: Global,
+        named: &NamedNodes,
+        around: &Setting,
+        path: NamedPath,
+    ) -> Result<Elaborated, NoMemory>
+        requires begun { IsBegun named.now self.old }
+        requires right { IsRightPath around.now (known_in (named_package named.now)).statuses path }
+        ensures grows { OnOk result (GrowsExprs self.old self.new) }
+        ensures begun { OnOk result (IsBegun named.now self.new) }
+        ensures stands { IfOk result (λ r. StandsForPath around.now path self.new r.node) }
+        ensures value { IfOk result (λ r. r.value ≡ record { of = variable_in around.now path.of; at = path.at }) }
+    {
+        elaborate_path(alloc, &mut self.building, around, path)
+    }
+
+    /// Adds the nodes of an expression.
+    pub fn push_value(
+        &mut self,
+        alloc: Global,
+        named: &NamedNodes,
+        around: &Setting,
+        e: ExprId,
+    ) -> Result<Elaborated, NoMemory>
+        requires there { e.0 < length named.now.exprs }
+        requires begun { IsBegun named.now self.old }
+        requires right { IsRight around.now (known_in (named_package named.now)).statuses (expr_at (exprs_of named.now) e) }
+        ensures grows { OnOk result (GrowsExprs self.old self.new) }
+        ensures begun { OnOk result (IsBegun named.now self.new) }
+        ensures stands { IfOk result (λ r. StandsForExpr around.now (expr_at (exprs_of named.now) e) self.new r.node) }
+        ensures value { IfOk result (λ r. r.value ≡ value_of around.now (expr_at (exprs_of named.now) e)) }
+    {
+        elaborate_expr(alloc, &mut self.building, named, around, e)
+    }
+
+    /// Adds the nodes of an element that is written to.
+    pub fn push_element(
+        &mut self,
+        alloc: Global,
+        named: &NamedNodes,
+        around: &Setting,
+        base: NamedPath,
+        index: ExprId,
+        at: Place,
+    ) -> Result<Elaborated, NoMemory>
+        requires there { index.0 < length named.now.exprs }
+        requires begun { IsBegun named.now self.old }
+        requires right { IsRight around.now (known_in (named_package named.now)).statuses (tree.index base (expr_at (exprs_of named.now) index) at) }
+        ensures grows { OnOk result (GrowsExprs self.old self.new) }
+        ensures begun { OnOk result (IsBegun named.now self.new) }
+        ensures stands { IfOk result (λ r. StandsForExpr around.now (tree.index base (expr_at (exprs_of named.now) index) at) self.new r.node) }
+        ensures value { IfOk result (λ r. r.value ≡ value_of around.now (tree.index base (expr_at (exprs_of named.now) index) at)) }
+    {
+        elaborate_element(alloc, &mut self.building, named, around, base, index, at)
+    }
+
+    /// Adds the node of an operator between two expressions that are there, which gives numbers of this type.
+    pub fn push_operator(
+        &mut self,
+        alloc: Global,
+        named: &NamedNodes,
+        op: Op,
+        sign: Place,
+        ty: Ty,
+        left: ExprId,
+        right: ExprId,
+    ) -> Result<ExprId, NoMemory>
+        requires begun { IsBegun named.now self.old }
+        requires left { left.0 < length self.old.exprs }
+        requires right { right.0 < length self.old.exprs }
+        requires fits { chain_fits self.old (sort_of op) (left ∷ right ∷ []) ty ≡ true }
+        ensures grows { OnOk result (GrowsExprs self.old self.new) }
+        ensures begun { OnOk result (IsBegun named.now self.new) }
+        ensures there { IfOk result (λ e. e.0 < length self.new.exprs) }
+        ensures made { IfOk result (λ e. tree_of self.new e ≡ chain_of sign (sign ∷ []) ty (sort_of op) (tree_of self.old left ∷ tree_of self.old right ∷ [])) }
+    {
+        match operator_node(alloc, op, sign, left, right) {
+            Ok(node) => {
+                let chain = TypedExpr {
+                    node,
+                    ty,
+                    constant: None,
+                };
+                match self.building.push_expr(chain) {
+                    Ok(e) => return Ok(e),
+                    Err(_) => return Err(NoMemory),
+                }
+            }
+            Err(fault) => return Err(fault),
+        }
+    }
+
+    /// Adds a statement, whose parts are there. What it makes joins the others, which make what they made. `Err` also comes
+    /// where no number is left.
+    pub fn push_stmt(&mut self, node: StmtNode) -> Result<StmtId, NoMemory>
+        requires there { stmt_there self.old (length self.old.stmts) node.stmt ≡ true }
+        requires built { AreStmtsBuilt self.old }
+        ensures ok { OnOk result (self.new ≡ record self.old { stmts = self.old.stmts ++ node ∷ [] }) }
+        ensures number { IfOk result (λ s. s.0 ≡ length self.old.stmts) }
+        ensures grows { OnOk result (GrowsStmts self.old self.new) }
+        ensures built { OnOk result (AreStmtsBuilt self.new) }
+        ensures made { IfOk result (λ s. (rest : _) → onto (stmt_makers self.new) s rest ≡ stmt_made self.old (tree_of self.old) (onto (stmt_makers self.old)) (length self.old.stmts) node rest) }
+    {
+        let number = self.stmts.len();
+        if number >= NUMBERS {
+            return Err(NoMemory);
+        }
+        match self.stmts.push(node) {
+            Ok(()) => return Ok(StmtId(number as u32)),
+            Err(_) => return Err(NoMemory),
+        }
+    }
+}
+
+// The node of an operator between two expressions.
+fn operator_node(
+    alloc: Global,
+    op: Op,
+    sign: Place,
+    left: ExprId,
+    right: ExprId,
+) -> Result<ExprNode, NoMemory>
+    ensures { IfOk result (λ n. n ≡ record { expr = exprs.Chain op (left ∷ right ∷ []); at = sign; signs = sign ∷ [] }) }
+{
+    match two(alloc, left, right) {
+        Ok(parts) => {
+            match one(alloc, sign) {
+                Ok(signs) => Ok(ExprNode {
+                    expr: Expr::Chain { op, parts },
+                    at: sign,
+                    signs,
+                }),
+                Err(fault) => Err(fault),
+            }
+        }
+        Err(fault) => Err(fault),
+    }
+}

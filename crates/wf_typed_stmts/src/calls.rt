@@ -1,0 +1,150 @@
+// Calls that are whole statements, or whole right sides.
+
+ghost use Rattle.std.specs.Prelude.{◌≡◌, ◌<◌, true, length, IfOk, OnOk};
+ghost use Rattle.wf_ast.specs.TypedTrees.{tree_of, optional_target};
+ghost use Rattle.wf_ast.specs.TypedInvariant.{is_optional_expr};
+ghost use Rattle.wf_named.specs.NamedParts.{exprs_of, named_package, ArgsBelow};
+ghost use Rattle.wf_named.specs.NamedTrees.{expr_at, args_at, call_at};
+ghost use Rattle.wf_typed_tree.specs.ElaboratedExprs.{expr_tree};
+ghost use Rattle.wf_typed_tree.specs.ElaboratedStmts.{call_tree};
+ghost use Rattle.wf_typed_stmts.specs.Parts.{HasTree, StandForArgs, StandsForCallee, MakesSimple};
+ghost use Rattle.wf_typed_stmts.specs.Right.{known_in, IsRightArg, AreRightArgs, IsRightCallee, IsRightCall};
+ghost use Rattle.wf_typed_stmts.specs.StmtGrowth.{IsBegun, GrowsExprs};
+
+use crate::building::BodyBuilding;
+use std::alloc::Global;
+use wf_ast::{Callee, ExprId, Sequence, Stmt, StmtNode};
+use wf_base::Mark;
+use wf_types_exprs::reading::as_path;
+use wf_named::{NamedCall, NamedCallee, NamedNodes};
+use wf_text::Place;
+use wf_text::faults::NoMemory;
+use wf_types_rules::Setting;
+
+// Adds the nodes of an argument. A reader or writer is handed on by its path.
+fn add_arg(
+    alloc: Global,
+    nodes: &mut BodyBuilding,
+    named: &NamedNodes,
+    around: &Setting,
+    e: ExprId,
+) -> Result<ExprId, NoMemory>
+    requires there { e.0 < length named.now.exprs }
+    requires begun { IsBegun named.now nodes.old }
+    requires right { IsRightArg around.now (known_in (named_package named.now)) (expr_at (exprs_of named.now) e) }
+    ensures grows { OnOk result (GrowsExprs nodes.old nodes.new) }
+    ensures begun { OnOk result (IsBegun named.now nodes.new) }
+    ensures made { IfOk result (λ r. HasTree (expr_tree around.now (expr_at (exprs_of named.now) e)) nodes.new r) }
+{
+    match as_path(named, e) {
+        Some(path) => {
+            match nodes.push_path(alloc, named, around, path) {
+                Ok(made) => Ok(made.node),
+                Err(fault) => Err(fault),
+            }
+        }
+        None => {
+            match nodes.push_value(alloc, named, around, e) {
+                Ok(made) => Ok(made.node),
+                Err(fault) => Err(fault),
+            }
+        }
+    }
+}
+
+// Adds the nodes of a call's arguments, in order.
+fn add_args(
+    alloc: Global,
+    nodes: &mut BodyBuilding,
+    named: &NamedNodes,
+    around: &Setting,
+    args: &[ExprId],
+) -> Result<Sequence<ExprId>, NoMemory>
+    requires below { ArgsBelow (length named.now.exprs) args.now }
+    requires begun { IsBegun named.now nodes.old }
+    requires right { AreRightArgs around.now (known_in (named_package named.now)) (args_at (exprs_of named.now) args.now) }
+    ensures grows { OnOk result (GrowsExprs nodes.old nodes.new) }
+    ensures begun { OnOk result (IsBegun named.now nodes.new) }
+    ensures made { IfOk result (λ r. StandForArgs around.now (args_at (exprs_of named.now) args.now) nodes.new r) }
+{
+    let mut made = Sequence::new(alloc);
+    for arg in args {
+        match add_arg(alloc, nodes, named, around, *arg) {
+            Ok(e) => {
+                match made.push(e) {
+                    Ok(()) => {}
+                    Err(_) => return Err(NoMemory),
+                }
+            }
+            Err(fault) => return Err(fault),
+        }
+    }
+    Ok(made)
+}
+
+// Adds the node of what a base method is called on.
+fn add_callee(
+    alloc: Global,
+    nodes: &mut BodyBuilding,
+    named: &NamedNodes,
+    around: &Setting,
+    callee: NamedCallee,
+    mark: Mark,
+) -> Result<Callee, NoMemory>
+    requires begun { IsBegun named.now nodes.old }
+    requires right { IsRightCallee around.now (known_in (named_package named.now)) callee mark }
+    ensures grows { OnOk result (GrowsExprs nodes.old nodes.new) }
+    ensures begun { OnOk result (IsBegun named.now nodes.new) }
+    ensures made { IfOk result (λ c. StandsForCallee around.now callee mark nodes.new c) }
+{
+    match callee {
+        NamedCallee::Own(method) => Ok(Callee::Own(method)),
+        NamedCallee::Sub { field, method } => Ok(Callee::Sub { field, method }),
+        NamedCallee::Base { on, sig } => {
+            match nodes.push_path(alloc, named, around, on) {
+                Ok(made) => Ok(Callee::Base { on: made.node, sig }),
+                Err(fault) => Err(fault),
+            }
+        }
+    }
+}
+
+/// Adds the nodes of a call's parts, and answers the call. `target` is what it assigns to, if anything, and `keep` tells
+/// whether the target takes whatever status it comes to; `at` is the statement's place.
+pub fn add_call(
+    alloc: Global,
+    nodes: &mut BodyBuilding,
+    named: &NamedNodes,
+    around: &Setting,
+    target: Option<ExprId>,
+    keep: bool,
+    call: &NamedCall,
+    at: Place,
+) -> Result<StmtNode, NoMemory>
+    requires target { is_optional_expr nodes.old target ≡ true }
+    requires below { ArgsBelow (length named.now.exprs) call.now.args }
+    requires begun { IsBegun named.now nodes.old }
+    requires right { IsRightCall around.now (known_in (named_package named.now)) (call_at (exprs_of named.now) call.now) }
+    ensures grows { OnOk result (GrowsExprs nodes.old nodes.new) }
+    ensures begun { OnOk result (IsBegun named.now nodes.new) }
+    ensures made { IfOk result (λ n. MakesSimple (call_tree around.now (optional_target (tree_of nodes.old) target) keep (call_at (exprs_of named.now) call.now)) at nodes.new n) }
+{
+    match add_callee(alloc, nodes, named, around, call.callee, call.mark) {
+        Ok(callee) => {
+            match add_args(alloc, nodes, named, around, call.args.as_slice()) {
+                Ok(args) => Ok(StmtNode {
+                    stmt: Stmt::Call {
+                        target,
+                        keep,
+                        callee,
+                        args,
+                    },
+                    at,
+                    inner: call.at,
+                }),
+                Err(fault) => Err(fault),
+            }
+        }
+        Err(fault) => Err(fault),
+    }
+}

@@ -1,0 +1,166 @@
+// Conditions: the promises of a loop, and what is given for the letters of an axiom.
+
+ghost use Rattle.std.specs.Prelude.{◌≡◌, ◌<◌, length, IfOk, OnOk};
+ghost use Rattle.std.specs.List.{AllByRecursion};
+ghost use Rattle.wf_ast.specs.ParsedParts.{BlockBelow};
+ghost use Rattle.wf_named.specs.NamedParts.{exprs_of, stmts_of, named_package, LettersBelow, AxiomBelow};
+ghost use Rattle.wf_named.specs.NamedTrees.{expr_at, clauses_at, letters_at, via_at, block_at};
+ghost use Rattle.wf_typed_tree.specs.ElaboratedExprs.{expr_tree};
+ghost use Rattle.wf_typed_exprs.specs.Right.{IsRight};
+ghost use Rattle.wf_typed_stmts.specs.Parts.{HasTree, StandForClauses, StandForLetters, StandsForVia, StandsForHead};
+ghost use Rattle.wf_typed_stmts.specs.Right.{known_in, AreRightClauses, AreRightLetters, IsRightVia};
+ghost use Rattle.wf_typed_stmts.specs.StmtGrowth.{IsBegun, GrowsExprs};
+
+use crate::building::BodyBuilding;
+use std::alloc::Global;
+use wf_ast::parsed::{Block, Given, LoopClause, Via};
+use wf_ast::{AxiomRef, Clause, ExprId, LoopHead, Sequence, TextId};
+use wf_named::NamedNodes;
+use wf_text::faults::NoMemory;
+use wf_types_stmts::ends::block_leaves;
+use wf_types_rules::Setting;
+
+/// Adds the nodes of a condition, or of another expression of which the tree alone is wanted.
+pub fn add_tree(
+    alloc: Global,
+    nodes: &mut BodyBuilding,
+    named: &NamedNodes,
+    around: &Setting,
+    e: ExprId,
+) -> Result<ExprId, NoMemory>
+    requires there { e.0 < length named.now.exprs }
+    requires begun { IsBegun named.now nodes.old }
+    requires right { IsRight around.now (known_in (named_package named.now)).statuses (expr_at (exprs_of named.now) e) }
+    ensures grows { OnOk result (GrowsExprs nodes.old nodes.new) }
+    ensures begun { OnOk result (IsBegun named.now nodes.new) }
+    ensures made { IfOk result (λ r. HasTree (expr_tree around.now (expr_at (exprs_of named.now) e)) nodes.new r) }
+{
+    match nodes.push_value(alloc, named, around, e) {
+        Ok(made) => Ok(made.node),
+        Err(fault) => Err(fault),
+    }
+}
+
+// Adds the nodes of a loop's promises, in order.
+fn add_clauses(
+    alloc: Global,
+    nodes: &mut BodyBuilding,
+    named: &NamedNodes,
+    around: &Setting,
+    clauses: &[LoopClause],
+) -> Result<Sequence<(Clause, ExprId)>, NoMemory>
+    requires below { AllByRecursion (λ c. c.condition.0 < length named.now.exprs) clauses.now }
+    requires begun { IsBegun named.now nodes.old }
+    requires right { AreRightClauses around.now (known_in (named_package named.now)) (clauses_at (exprs_of named.now) clauses.now) }
+    ensures grows { OnOk result (GrowsExprs nodes.old nodes.new) }
+    ensures begun { OnOk result (IsBegun named.now nodes.new) }
+    ensures made { IfOk result (λ r. StandForClauses around.now (clauses_at (exprs_of named.now) clauses.now) nodes.new r) }
+{
+    let mut made = Sequence::new(alloc);
+    for clause in clauses {
+        match add_tree(alloc, nodes, named, around, clause.condition) {
+            Ok(e) => {
+                match made.push((clause.kind, e)) {
+                    Ok(()) => {}
+                    Err(_) => return Err(NoMemory),
+                }
+            }
+            Err(fault) => return Err(fault),
+        }
+    }
+    Ok(made)
+}
+
+/// Adds the nodes of what stands in front of a loop's body.
+pub fn add_head(
+    alloc: Global,
+    nodes: &mut BodyBuilding,
+    named: &NamedNodes,
+    around: &Setting,
+    condition: ExprId,
+    clauses: &[LoopClause],
+    body: &Block,
+) -> Result<LoopHead, NoMemory>
+    requires there { condition.0 < length named.now.exprs }
+    requires below { AllByRecursion (λ c. c.condition.0 < length named.now.exprs) clauses.now }
+    requires body { BlockBelow (length named.now.stmts) body.now }
+    requires begun { IsBegun named.now nodes.old }
+    requires right { IsRight around.now (known_in (named_package named.now)).statuses (expr_at (exprs_of named.now) condition) }
+    requires clauses_right { AreRightClauses around.now (known_in (named_package named.now)) (clauses_at (exprs_of named.now) clauses.now) }
+    ensures grows { OnOk result (GrowsExprs nodes.old nodes.new) }
+    ensures begun { OnOk result (IsBegun named.now nodes.new) }
+    ensures made { IfOk result (λ r. StandsForHead around.now (expr_at (exprs_of named.now) condition) (clauses_at (exprs_of named.now) clauses.now) (block_at (stmts_of named.now) body.now) body.now.close nodes.new r) }
+{
+    match add_tree(alloc, nodes, named, around, condition) {
+        Ok(cond) => {
+            match add_clauses(alloc, nodes, named, around, clauses) {
+                Ok(clauses) => Ok(LoopHead {
+                    cond,
+                    clauses,
+                    has_break: block_leaves(named, 0, body),
+                }),
+                Err(fault) => Err(fault),
+            }
+        }
+        Err(fault) => Err(fault),
+    }
+}
+
+// Adds the nodes of what is given for the letters of an axiom, in order.
+fn add_letters(
+    alloc: Global,
+    nodes: &mut BodyBuilding,
+    named: &NamedNodes,
+    around: &Setting,
+    given: &[Given],
+) -> Result<Sequence<(TextId, ExprId)>, NoMemory>
+    requires below { LettersBelow (length named.now.texts) (length named.now.exprs) given.now }
+    requires begun { IsBegun named.now nodes.old }
+    requires right { AreRightLetters around.now (known_in (named_package named.now)) (letters_at named.now.texts (exprs_of named.now) given.now) }
+    ensures grows { OnOk result (GrowsExprs nodes.old nodes.new) }
+    ensures begun { OnOk result (IsBegun named.now nodes.new) }
+    ensures made { IfOk result (λ r. StandForLetters around.now (letters_at named.now.texts (exprs_of named.now) given.now) nodes.new r) }
+{
+    let mut made = Sequence::new(alloc);
+    for one in given {
+        match add_tree(alloc, nodes, named, around, one.value) {
+            Ok(e) => {
+                match made.push((one.name.text, e)) {
+                    Ok(()) => {}
+                    Err(_) => return Err(NoMemory),
+                }
+            }
+            Err(fault) => return Err(fault),
+        }
+    }
+    Ok(made)
+}
+
+/// Adds the nodes of an axiom, if one is named.
+pub fn add_via(
+    alloc: Global,
+    nodes: &mut BodyBuilding,
+    named: &NamedNodes,
+    around: &Setting,
+    via: &Option<Via>,
+) -> Result<Option<AxiomRef>, NoMemory>
+    requires below { AxiomBelow (length named.now.texts) (length named.now.exprs) via.now }
+    requires begun { IsBegun named.now nodes.old }
+    requires right { IsRightVia around.now (known_in (named_package named.now)) (via_at named.now.texts (exprs_of named.now) via.now) }
+    ensures grows { OnOk result (GrowsExprs nodes.old nodes.new) }
+    ensures begun { OnOk result (IsBegun named.now nodes.new) }
+    ensures made { IfOk result (λ r. StandsForVia around.now (via_at named.now.texts (exprs_of named.now) via.now) nodes.new r) }
+{
+    match via {
+        Some(via) => {
+            match add_letters(alloc, nodes, named, around, via.given.as_slice()) {
+                Ok(given) => Ok(Some(AxiomRef {
+                    name: via.axiom.text,
+                    given,
+                })),
+                Err(fault) => Err(fault),
+            }
+        }
+        None => Ok(None),
+    }
+}

@@ -1,0 +1,179 @@
+// Statements without a block, other than assignments.
+
+ghost use Rattle.std.specs.Prelude.{◌≡◌, ◌<◌, true, false, length, nat_lt, IfOk, OnOk};
+ghost use Rattle.wf_ast.specs.ParsedParts.{IsBelow};
+ghost use Rattle.wf_ast.specs.TypedTree as typed;
+ghost use Rattle.wf_ast.specs.TypedTrees.{cond_in};
+ghost use Rattle.wf_named.specs.NamedParts.{exprs_of, named_package, ArgsBelow, AxiomBelow};
+ghost use Rattle.wf_named.specs.NamedTrees.{expr_at, part_at, call_at, via_at};
+ghost use Rattle.wf_typed_tree.specs.ElaboratedExprs.{expr_tree};
+ghost use Rattle.wf_typed_tree.specs.ElaboratedStmts.{call_tree, returned_tree, status_in, axiom_tree, loop_meant};
+ghost use Rattle.wf_typed_exprs.specs.Right.{IsRight, IsRightEnd};
+ghost use Rattle.wf_typed_stmts.specs.Parts.{StandsForPart, MakesSimple};
+ghost use Rattle.wf_typed_stmts.specs.Right.{known_in, IsRightCall, IsRightVia};
+ghost use Rattle.wf_typed_stmts.specs.StmtGrowth.{IsBegun, GrowsExprs};
+
+use crate::building::BodyBuilding;
+use crate::calls::add_call;
+use crate::heads::{add_tree, add_via};
+use std::alloc::Global;
+use wf_ast::parsed::Via;
+use wf_ast::{ExprId, Stmt, StmtId, StmtNode};
+use wf_named::{NamedCall, NamedExpr, NamedNodes};
+use wf_text::faults::NoMemory;
+use wf_text::{Place, StatusId};
+use wf_types_rules::Setting;
+
+/// Adds the nodes of a call that is a whole statement.
+pub fn add_do_call(
+    alloc: Global,
+    nodes: &mut BodyBuilding,
+    named: &NamedNodes,
+    around: &Setting,
+    call: &NamedCall,
+    at: Place,
+) -> Result<StmtNode, NoMemory>
+    requires args { ArgsBelow (length named.now.exprs) call.now.args }
+    requires begun { IsBegun named.now nodes.old }
+    requires right { IsRightCall around.now (known_in (named_package named.now)) (call_at (exprs_of named.now) call.now) }
+    ensures grows { OnOk result (GrowsExprs nodes.old nodes.new) }
+    ensures begun { OnOk result (IsBegun named.now nodes.new) }
+    ensures made { IfOk result (λ n. MakesSimple (call_tree around.now typed.to_nothing false (call_at (exprs_of named.now) call.now)) at nodes.new n) }
+{
+    match add_call(alloc, nodes, named, around, None, false, call, at) {
+        Ok(node) => Ok(node),
+        Err(fault) => Err(fault),
+    }
+}
+
+/// The number of the loop that stands so many loops outwards. `loops` are those of the loops round a jump, the innermost
+/// first.
+pub fn loop_number(loops: &[u32], outwards: u32) -> StmtId
+    requires { nat_lt outwards (length loops.now) ≡ true }
+    ensures { result.0 ≡ loop_meant loops.now outwards }
+{
+    match loops.get(outwards as usize) {
+        Some(number) => StmtId(*number),
+        None => StmtId(0),
+    }
+}
+
+// Adds the nodes of an expression that may be absent.
+fn add_part(
+    alloc: Global,
+    nodes: &mut BodyBuilding,
+    named: &NamedNodes,
+    around: &Setting,
+    part: Option<ExprId>,
+) -> Result<Option<ExprId>, NoMemory>
+    requires below { IsBelow (length named.now.exprs) part }
+    requires begun { IsBegun named.now nodes.old }
+    requires right { IsRightEnd around.now (known_in (named_package named.now)).statuses (part_at (exprs_of named.now) part) }
+    ensures grows { OnOk result (GrowsExprs nodes.old nodes.new) }
+    ensures begun { OnOk result (IsBegun named.now nodes.new) }
+    ensures made { IfOk result (λ r. StandsForPart around.now (part_at (exprs_of named.now) part) nodes.new r) }
+{
+    match part {
+        Some(e) => {
+            match add_tree(alloc, nodes, named, around, e) {
+                Ok(made) => Ok(Some(made)),
+                Err(fault) => Err(fault),
+            }
+        }
+        None => Ok(None),
+    }
+}
+
+/// Adds the nodes of what a `return` gives.
+pub fn add_return(
+    alloc: Global,
+    nodes: &mut BodyBuilding,
+    named: &NamedNodes,
+    around: &Setting,
+    value: Option<ExprId>,
+    at: Place,
+) -> Result<StmtNode, NoMemory>
+    requires below { IsBelow (length named.now.exprs) value }
+    requires begun { IsBegun named.now nodes.old }
+    requires right { IsRightEnd around.now (known_in (named_package named.now)).statuses (part_at (exprs_of named.now) value) }
+    ensures grows { OnOk result (GrowsExprs nodes.old nodes.new) }
+    ensures begun { OnOk result (IsBegun named.now nodes.new) }
+    ensures made { IfOk result (λ n. MakesSimple (typed.give_back (returned_tree around.now (part_at (exprs_of named.now) value))) at nodes.new n) }
+{
+    match add_part(alloc, nodes, named, around, value) {
+        Ok(value) => Ok(StmtNode {
+            stmt: Stmt::Return(value),
+            at,
+            inner: at,
+        }),
+        Err(fault) => Err(fault),
+    }
+}
+
+// The status that an expression is.
+fn status_of(named: &NamedNodes, e: ExprId) -> StatusId
+    requires { e.0 < length named.now.exprs }
+    ensures { result.0 ≡ status_in (expr_at (exprs_of named.now) e) }
+{
+    let node = named.expr(e);
+    match &node.expr {
+        NamedExpr::Status(status) => *status,
+        NamedExpr::Call(_) => StatusId(0),
+        NamedExpr::Path(_) => StatusId(0),
+        NamedExpr::Number(_) => StatusId(0),
+        NamedExpr::Truth(_) => StatusId(0),
+        NamedExpr::Index { .. } => StatusId(0),
+        NamedExpr::Slice { .. } => StatusId(0),
+        NamedExpr::Chain { .. } => StatusId(0),
+        NamedExpr::Convert { .. } => StatusId(0),
+        NamedExpr::Not(_) => StatusId(0),
+    }
+}
+
+/// A `yield?`, which has no parts.
+pub fn yield_node(nodes: &BodyBuilding, named: &NamedNodes, e: ExprId, at: Place) -> StmtNode
+    requires there { e.0 < length named.now.exprs }
+    requires begun { IsBegun named.now nodes.now }
+    requires right { nat_lt (status_in (expr_at (exprs_of named.now) e)) (known_in (named_package named.now)).statuses ≡ true }
+    ensures made { MakesSimple (typed.yield (status_in (expr_at (exprs_of named.now) e))) at nodes.now result }
+{
+    StmtNode {
+        stmt: Stmt::Yield(status_of(named, e)),
+        at,
+        inner: at,
+    }
+}
+
+/// Adds the nodes of an `assert`'s parts.
+pub fn add_claim(
+    alloc: Global,
+    nodes: &mut BodyBuilding,
+    named: &NamedNodes,
+    around: &Setting,
+    goal: ExprId,
+    via: &Option<Via>,
+    at: Place,
+) -> Result<StmtNode, NoMemory>
+    requires there { goal.0 < length named.now.exprs }
+    requires below { AxiomBelow (length named.now.texts) (length named.now.exprs) via.now }
+    requires begun { IsBegun named.now nodes.old }
+    requires right { IsRight around.now (known_in (named_package named.now)).statuses (expr_at (exprs_of named.now) goal) }
+    requires via_right { IsRightVia around.now (known_in (named_package named.now)) (via_at named.now.texts (exprs_of named.now) via.now) }
+    ensures grows { OnOk result (GrowsExprs nodes.old nodes.new) }
+    ensures begun { OnOk result (IsBegun named.now nodes.new) }
+    ensures made { IfOk result (λ n. MakesSimple (typed.claim (cond_in (expr_tree around.now (expr_at (exprs_of named.now) goal))) (axiom_tree around.now (via_at named.now.texts (exprs_of named.now) via.now))) at nodes.new n) }
+{
+    match add_tree(alloc, nodes, named, around, goal) {
+        Ok(goal) => {
+            match add_via(alloc, nodes, named, around, via) {
+                Ok(axiom) => Ok(StmtNode {
+                    stmt: Stmt::Assert { goal, axiom },
+                    at,
+                    inner: at,
+                }),
+                Err(fault) => Err(fault),
+            }
+        }
+        Err(fault) => Err(fault),
+    }
+}

@@ -1,0 +1,184 @@
+-- The nodes of a package that breaks no rule are those of a typed package.
+use Rattle.std.proofs.Common.{◌≡◌, ◌∙◌, refl, sym, ap, subst, ℕ, ◌+◌, ◌<◌, true, not, List, [], ◌∷◌, length, map, take, drop, None, nat_lt, arith}
+use Rattle.std.specs.List.{list_all}
+use Rattle.std.proofs.lemmas.Bool.Decides.{nat_tests}
+use Rattle.std.proofs.lemmas.List.{length-map}
+use Rattle.wf_text.specs.declared.rules.Rule.TheVariants.{T5}
+use Rattle.wf_text.specs.declared.categories.Category.TheVariants.{Fine}
+use Rattle.wf_text.specs.StatusText.{category_of}
+use Rattle.wf_ast.specs.declared.resolved.Block as resolved
+use Rattle.wf_ast.specs.declared.resolved.Stmt.{Stmt}
+use Rattle.wf_ast.specs.declared.resolved.Stmt.TheVariants as stmts
+use Rattle.wf_ast.specs.declared.resolved.StmtNode.{StmtNode}
+use Rattle.wf_ast.specs.declared.typed_nodes.TypedNodes.{TypedNodes}
+use Rattle.wf_ast.specs.StatementOrder.{stand_in_order}
+use Rattle.wf_ast.specs.TypedInvariant.{each_numbered, stmt_below, block_below, has_kind_byte, IsTyped}
+use Rattle.wf_ast.specs.TypedPackage.{PackageTree}
+use Rattle.wf_ast.specs.TypedTrees.{block_of, expr_trees, stmt_makers}
+use Rattle.wf_ast.specs.Value.{same_category}
+use Rattle.wf_ast.specs.WellTyped.{well_typed}
+use Rattle.wf_ast.proofs.Arena.{both_true}
+use Rattle.wf_named.specs.NamedParts.{NamedParts, exprs_of, stmts_of, named_package}
+use Rattle.wf_named.specs.NamedTree.{Word, NamedMethodTree, NamedPackageTree}
+use Rattle.wf_named.specs.NamedTrees.{word_at, method_made}
+use Rattle.wf_named.specs.WellNamed.{well_named}
+use Rattle.wf_types_rules.specs.DeclaredTypes.{for_types}
+use Rattle.wf_types_rules.specs.FirstBreak.{deciding}
+use Rattle.wf_types_rules.specs.Judgements.{is_status_text, wrong_status}
+use Rattle.wf_types_rules.specs.Parts.{status_declared, at_sites, const_sites, sites}
+use Rattle.wf_types_rules.specs.TypeRules as rules
+use Rattle.wf_typed_tree.specs.ElaboratedPackage.{seen_text, typed_package}
+use Rattle.wf_typed_tree.specs.ElaboratedStmts.{count_block}
+use Rattle.wf_typed_tree.specs.Grammar.{package_by_grammar}
+use Rattle.wf_typed_tree.proofs.BlockLaws.{package-keeps}
+use Rattle.wf_typed_tree.proofs.ConstantLaws.{AllFineSites, sites-fine, sites-split, parts-fine}
+use Rattle.wf_typed_tree.proofs.NoBreaks.{AllFine, at-none, not-not}
+use Rattle.wf_typed_exprs.specs.Growth.{IsBuilt}
+use Rattle.wf_typed_stmts.specs.StmtGrowth.{without_nodes, stmt_there, jump_below, jumps_below}
+use Rattle.wf_types.specs.Bodies.{without_bodies, AreBodies, BodiesMade, IsWhole, has_numbers}
+use Rattle.wf_types.specs.DeclaredNodes.{declared_method, seen_statuses, declared_nodes}
+use Rattle.wf_types.proofs.PackageLaws.{package_same}
+
+-- Status texts that break no rule begin with the byte of their kind, also as a caller sees them.
+text_told : (name text : List ℕ) → is_status_text text ≡ true → has_kind_byte (seen_text name text) ≡ true
+text_told name [] h = absurd (cc h)
+text_told name (a ∷ []) h = absurd (cc h)
+text_told name (a ∷ b ∷ bs) h = (both_true (not (same_category Fine (category_of (a ∷ [])))) _ h).0
+
+module _ (p : NamedPackageTree) (name : List ℕ) where
+  texts_told : (ws : List Word) → AllFine p (for_types p) (map status_declared ws) → list_all has_kind_byte (map (λ (w : Word). seen_text name w.text) ws) ≡ true
+  texts_told [] h = refl
+  texts_told (w ∷ ws) h =
+      let right : is_status_text w.text ≡ true = not-not (is_status_text w.text) (at-none (not (is_status_text w.text)) w.at (h.0 T5 wrong_status (λ at wrong. rules.status_text at wrong))) in
+      let first = text_told name w.text right in
+      let others = texts_told ws h.1 in
+      rw (first, others) refl
+
+statuses-fine : (p : NamedPackageTree) → deciding p ≡ None → AllFine p (for_types p) (map status_declared p.statuses)
+unfolding sites
+statuses-fine p none =
+    let fine : AllFineSites p (sites p) = sites-fine p none in
+    let behind = sites-split p (const_sites [] p.consts) _ fine in
+    parts-fine p (for_types p) (map status_declared p.statuses) (sites-split p (at_sites (for_types p) (map status_declared p.statuses)) _ behind.1).0
+
+own_words : (q : NamedParts) → (named_package q).statuses ≡ map (word_at q.texts) q.statuses
+unfolding named_package
+own_words q = refl
+
+statuses_told : (q : NamedParts) → deciding (named_package q) ≡ None → list_all has_kind_byte (drop 1 (seen_statuses q)) ≡ true
+statuses_told q none =
+    let p = named_package q in
+    let P : List Word → Type 0 = λ ws. AllFine p (for_types p) (map status_declared ws) in
+    texts_told p q.package_name (map (word_at q.texts) q.statuses) (subst P (own_words q) (statuses-fine p none))
+
+-- One body for each method, and each of statements that are there.
+bodies_long : (p : NamedPackageTree) (nodes : TypedNodes) (n : ℕ) (ms : List NamedMethodTree) (bs : List resolved.Block) → AreBodies p nodes n ms bs → length bs ≡ length ms
+bodies_long p nodes n [] [] h = refl
+bodies_long p nodes n [] (b ∷ bs) h = absurd h
+bodies_long p nodes n (m ∷ ms) [] h = absurd h
+bodies_long p nodes n (m ∷ ms) (b ∷ bs) h = let e = bodies_long p nodes (n + count_block m.body) ms bs h.1 in omega (arith, e)
+
+bodies_below : (p : NamedPackageTree) (nodes : TypedNodes) (n : ℕ) (ms : List NamedMethodTree) (bs : List resolved.Block) → AreBodies p nodes n ms bs
+    → list_all (λ b. block_below (length nodes.stmts) b) bs ≡ true
+bodies_below p nodes n [] [] h = refl
+bodies_below p nodes n [] (b ∷ bs) h = absurd h
+bodies_below p nodes n (m ∷ ms) [] h = absurd h
+bodies_below p nodes n (m ∷ ms) (b ∷ bs) h =
+    let first = h.0.below in
+    let others = bodies_below p nodes (n + count_block m.body) ms bs h.1 in
+    rw (first, others) refl
+
+-- Statements whose jumps tell statements.
+stmt_kept : (nodes : TypedNodes) (s : ℕ) (st : Stmt) → stmt_there nodes s st ≡ true → jump_below (length nodes.stmts) st ≡ true → stmt_below nodes s st ≡ true
+stmt_kept nodes s (stmts.Break w) h j = j
+stmt_kept nodes s (stmts.Continue w) h j = j
+stmt_kept nodes s st h j = h
+
+stmts_kept : (nodes : TypedNodes) (s : ℕ) (ns : List StmtNode) → each_numbered (λ s node. stmt_there nodes s node.stmt) s ns ≡ true → jumps_below (length nodes.stmts) ns ≡ true
+    → each_numbered (λ s node. stmt_below nodes s node.stmt) s ns ≡ true
+stmts_kept nodes s [] h j = refl
+stmts_kept nodes s (n ∷ ns) h j =
+    let there = both_true (stmt_there nodes s n.stmt) _ h in
+    let jumps = both_true (jump_below (length nodes.stmts) n.stmt) _ j in
+    let first = stmt_kept nodes s n.stmt there.0 jumps.0 in
+    let others = stmts_kept nodes (s + 1) ns there.1 jumps.1 in
+    rw (first, others) refl
+
+-- What is declared among the nodes.
+statuses_are : (q : NamedParts) → (declared_nodes q).statuses ≡ seen_statuses q
+unfolding declared_nodes
+statuses_are q = refl
+
+methods_long : (q : NamedParts) → length (declared_nodes q).methods ≡ length (named_package q).methods
+unfolding declared_nodes named_package
+methods_long q = length-map q.methods (declared_method q) ∙ sym (length-map q.methods (method_made q.texts (exprs_of q) (stmts_of q)))
+
+-- The bodies change no tree.
+blocks_same : (nodes : TypedNodes) (bs : List resolved.Block) (b : resolved.Block) → block_of (record nodes { bodies = bs }) b ≡ block_of nodes b
+unfolding stmt_makers expr_trees
+blocks_same nodes bs b = refl
+
+bodies_placed : (p : NamedPackageTree) (nodes : TypedNodes) (all : List resolved.Block) (n : ℕ) (ms : List NamedMethodTree) (bs : List resolved.Block) → AreBodies p nodes n ms bs
+    → AreBodies p (record nodes { bodies = all }) n ms bs
+bodies_placed p nodes all n [] [] h = tt
+bodies_placed p nodes all n [] (b ∷ bs) h = absurd h
+bodies_placed p nodes all n (m ∷ ms) [] h = absurd h
+bodies_placed p nodes all n (m ∷ ms) (b ∷ bs) h =
+    (record { below = h.0.below; makes = blocks_same nodes all b ∙ h.0.makes }, bodies_placed p nodes all (n + count_block m.body) ms bs h.1)
+
+declared_alone : (q : NamedParts) → without_bodies (declared_nodes q) ≡ declared_nodes q
+unfolding declared_nodes
+declared_alone q = refl
+
+whole_made : (q : NamedParts) (nodes : TypedNodes) (bs : List resolved.Block) → BodiesMade q (named_package q).methods nodes bs → IsBuilt nodes → IsWhole q (record nodes { bodies = bs })
+whole_made q nodes bs made built = record {
+  declared = ap without_bodies made.declared ∙ declared_alone q;
+  bodies = bodies_placed (named_package q) nodes bs 0 (named_package q).methods bs made.bodies;
+  exprs = record { ordered = built.ordered; kinds = built.kinds; typed = built.typed; counted = built.counted; few = built.few };
+  stmts = record { ordered = made.begun.stmts.ordered; few = made.begun.stmts.few };
+  jumps = made.jumps;
+}
+
+pub declared_bare : (q : NamedParts) → without_nodes (declared_nodes q) ≡ declared_nodes q
+unfolding declared_nodes
+declared_bare q = refl
+
+pub whole_at : (q : NamedParts) (nodes all whole : TypedNodes) (bs : List resolved.Block) → BodiesMade q (named_package q).methods nodes bs → all ≡ nodes → IsBuilt all
+    → whole ≡ record all { bodies = bs } → IsWhole q whole
+whole_at q nodes all whole bs made same built is =
+    let M : TypedNodes → Type 0 = λ x. BodiesMade q (named_package q).methods x bs in
+    let W : TypedNodes → Type 0 = λ x. IsWhole q x in
+    subst W (sym is) (whole_made q all bs (subst M (sym same) made) built)
+
+-- The whole.
+below : (m n : ℕ) → nat_lt m n ≡ true → m < n
+below m n h = grind (arith, nat_tests, h)
+
+pub nodes_typed : (q : NamedParts) (nodes : TypedNodes) → IsWhole q nodes → deciding (named_package q) ≡ None → well_named (named_package q) ≡ true → package_by_grammar (named_package q) ≡ true
+    → stand_in_order (typed_package (named_package q)) ≡ true → has_numbers nodes ≡ true → IsTyped nodes
+nodes_typed q nodes whole none named grammar placed numbers =
+    let p = named_package q in
+    let same = package_same q nodes whole.declared whole.bodies in
+    let statuses : nodes.statuses ≡ seen_statuses q = ap (λ (x : TypedNodes). x.statuses) whole.declared ∙ statuses_are q in
+    let first = both_true (nat_lt (length nodes.statuses) 4294967296) _ numbers in
+    let others = both_true (nat_lt (length nodes.structs) 4294967296) (nat_lt (length nodes.methods) 4294967296) first.1 in
+    let W : PackageTree → Type 0 = λ t. well_typed t ≡ true in
+    let P : PackageTree → Type 0 = λ t. stand_in_order t ≡ true in
+    record {
+      exprs_ordered = whole.exprs.ordered;
+      stmts_ordered = stmts_kept nodes 0 nodes.stmts whole.stmts.ordered whole.jumps;
+      typed = whole.exprs.typed;
+      counted = whole.exprs.counted;
+      bodied = bodies_long p nodes 0 p.methods nodes.bodies whole.bodies ∙ sym (methods_long q) ∙ sym (ap (λ (x : TypedNodes). length x.methods) whole.declared);
+      base_first = ap (take 10) statuses;
+      told = ap (λ texts. list_all has_kind_byte (drop 1 texts)) statuses ∙ statuses_told q none;
+      few_statuses = below (length nodes.statuses) 4294967296 first.0;
+      few_exprs = whole.exprs.few;
+      few_stmts = whole.stmts.few;
+      few_structs = below (length nodes.structs) 4294967296 others.0;
+      few_methods = below (length nodes.methods) 4294967296 others.1;
+      bodies_made = bodies_below p nodes 0 p.methods nodes.bodies whole.bodies;
+      kinds = whole.exprs.kinds;
+      rules = subst W (sym same) (package-keeps p none named grammar);
+      placed = subst P (sym same) placed;
+    }

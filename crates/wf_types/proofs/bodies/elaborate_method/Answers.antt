@@ -1,0 +1,27 @@
+use Rattle.wf_named.specs.NamedParts.{exprs_of, stmts_of, named_package}
+use Rattle.wf_named.specs.NamedTrees.{block_at, method_made}
+use Rattle.wf_types_rules.specs.DeclaredTypes.{in_method}
+use Rattle.wf_typed_stmts.specs.Right.{known_in}
+use Rattle.wf_types.proofs.LocalLemmas.{paths_inside, nodes_inside, block_inside}
+use Rattle.wf_types.proofs.bodies.elaborate_method.Goals as goal
+
+pub elaborate_locals-requires-clause-right : goal.elaborate_locals-requires-clause-right
+elaborate_locals-requires-clause-right c =
+    let q = c.args.named.now in
+    let m = c.args.method.now in
+    let s = in_method (named_package q) (method_made q.texts (exprs_of q) (stmts_of q) m) in
+    paths_inside q.texts (exprs_of q) m.locals c.as_slice.result.now c.as_slice.ensures c.in-Ok-round_body.inside s c.in-Ok-round_body.ensures (known_in (named_package q)).statuses c.requires.paths
+
+pub returns-in-Ok-elaborate_body-clause-stands : goal.returns-in-Ok-elaborate_body-clause-stands
+returns-in-Ok-elaborate_body-clause-stands c =
+    let q = c.args.named.now in
+    let m = c.args.method.now in
+    let s = in_method (named_package q) (method_made q.texts (exprs_of q) (stmts_of q) m) in
+    block_inside c.in-Ok-round_body.inside s c.args.nodes.now c.elaborate_locals.new.nodes c.elaborate_body.new.nodes (block_at (stmts_of q) m.body) c.in-Ok-elaborate_body.body c.in-Ok-round_body.ensures c.in-Ok-elaborate_locals.ensures.grows c.in-Ok-elaborate_body.ensures.stands
+
+pub returns-in-Ok-elaborate_body-clause-locals : goal.returns-in-Ok-elaborate_body-clause-locals
+returns-in-Ok-elaborate_body-clause-locals c =
+    let q = c.args.named.now in
+    let m = c.args.method.now in
+    let s = in_method (named_package q) (method_made q.texts (exprs_of q) (stmts_of q) m) in
+    nodes_inside q.texts (exprs_of q) m.locals c.as_slice.result.now c.as_slice.ensures c.in-Ok-round_body.inside s c.in-Ok-round_body.ensures c.elaborate_locals.new.nodes c.elaborate_body.new.nodes c.in-Ok-elaborate_body.ensures.adds.grows c.in-Ok-elaborate_locals.ensures.stand

@@ -1,0 +1,31 @@
+use Rattle.std.proofs.Common.{◌≤◌, length, get_or, arith}
+use Rattle.std.proofs.lemmas.List.{length-map}
+use Rattle.wf_named.specs.declared.declarations.NamedVar.{NamedVar}
+use Rattle.wf_text.specs.declared.place.Place.{Place}
+use Rattle.wf_typed_stmts.proofs.GrowthLemmas.{exprs_more_still}
+use Rattle.wf_types.specs.Locals.{places_named}
+use Rattle.wf_types.proofs.LocalLemmas.{first_more, place_at, first_all}
+use Rattle.wf_types.proofs.locals.elaborate_locals.Goals as goal
+
+pub loop-number-preserved : goal.loop-number-preserved
+loop-number-preserved c =
+    let xs = c.args.locals.now in
+    let n = c.loop-number.number in
+    let x = c.index-locals-number.result in
+    let old = c.loop-number.nodes in
+    let new = c.push_path.new.self in
+    let made = c.loop-number.invariant in (
+      exprs_more_still c.args.nodes.now old new made.0 c.in-Ok.ensures.grows,
+      (
+        c.in-Ok.ensures.begun,
+        first_more c.args.around.now old new (places_named xs) n (get_or xs n x).name.at c.in-Ok.field-0.node c.in-Ok.ensures.grows (place_at xs n x c.loop-number-test.true) c.in-Ok.ensures.stands made.1.1,
+      ),
+    )
+
+pub returns-clause-stand : goal.returns-clause-stand
+returns-clause-stand c =
+    let xs = c.args.locals.now in
+    let P : NamedVar → Place = λ y. y.name.at in
+    let long = length-map xs P in
+    let past : length (places_named xs) ≤ c.loop-number.number = omega (arith, long, c.loop-number-test.false) in
+    first_all c.args.around.now c.loop-number.nodes c.loop-number.number (places_named xs) past c.loop-number.invariant.1.1

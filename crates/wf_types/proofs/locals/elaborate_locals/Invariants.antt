@@ -1,0 +1,6 @@
+use Rattle.wf_typed_stmts.specs.StmtGrowth.{GrowsExprs, IsBegun}
+use Rattle.wf_types.specs.Locals.{places_named, FirstHaveNodes}
+use Rattle.wf_types.proofs.locals.elaborate_locals.Given as goal
+
+abbrev pub invariant-loop-number : goal.invariant-loop-number
+invariant-loop-number l = GrowsExprs l.fn.nodes l.nodes × (IsBegun l.named l.nodes × FirstHaveNodes l.around l.nodes l.number (places_named l.locals))

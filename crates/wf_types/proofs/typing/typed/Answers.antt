@@ -1,0 +1,31 @@
+use Rattle.std.proofs.Common.{◌≡◌, ◌∙◌, ap, sym, subst, true}
+use Rattle.wf_ast.specs.declared.typed_nodes.TypedNodes.{TypedNodes}
+use Rattle.wf_ast.specs.TypedPackage.{package_of}
+use Rattle.wf_named.specs.NamedParts.{named_package}
+use Rattle.wf_typed_stmts.proofs.RightLaws.{body_is_right}
+use Rattle.wf_types.specs.Bodies.{has_numbers}
+use Rattle.wf_types.specs.Locals.{LocalsHaveNodes}
+use Rattle.wf_types.proofs.LocalLemmas.{locals_are_right, locals_placed_so}
+use Rattle.wf_types.proofs.PackageLaws.{package_same}
+use Rattle.wf_types.proofs.TypedLaws.{nodes_typed}
+use Rattle.wf_types.proofs.typing.typed.Goals as goal
+
+pub typed_nodes-requires-clause-right : goal.typed_nodes-requires-clause-right
+typed_nodes-requires-clause-right c = body_is_right (named_package c.args.named.now) c.requires.kept c.requires.names c.requires.grammar
+
+pub typed_nodes-requires-clause-paths : goal.typed_nodes-requires-clause-paths
+typed_nodes-requires-clause-paths c = locals_are_right (named_package c.args.named.now) c.requires.kept c.requires.names
+
+pub new-requires : goal.new-requires
+new-requires c =
+    let numbered : has_numbers c.in-Ok.nodes ≡ true = sym c.has_numbers.ensures ∙ c.if-has_numbers.true in
+    nodes_typed c.args.named.now c.in-Ok.nodes c.in-Ok.ensures.whole c.requires.kept c.requires.names c.requires.grammar c.requires.placed numbered
+
+pub returns-then-has_numbers-clause-tree : goal.returns-then-has_numbers-clause-tree
+returns-then-has_numbers-clause-tree c = ap package_of c.new.ensures ∙ package_same c.args.named.now c.in-Ok.nodes c.in-Ok.ensures.whole.declared c.in-Ok.ensures.whole.bodies
+
+pub returns-then-has_numbers-clause-locals : goal.returns-then-has_numbers-clause-locals
+returns-then-has_numbers-clause-locals c =
+    let q = c.args.named.now in
+    let P : TypedNodes → Type 0 = λ x. LocalsHaveNodes (named_package q) x in
+    subst P (sym c.new.ensures) (locals_placed_so (named_package q) c.in-Ok.nodes c.requires.kept c.requires.names c.in-Ok.ensures.whole.exprs c.in-Ok.ensures.locals)

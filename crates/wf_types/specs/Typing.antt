@@ -1,0 +1,22 @@
+-- What the phase of types answers of a resolved package.
+use Rattle.std.specs.Prelude.{◌≡◌, ⊤}
+use Rattle.wf_text.specs.declared.faults.PhaseFault.{PhaseFault}
+use Rattle.wf_text.specs.declared.faults.PhaseFault.TheVariants as phase
+use Rattle.wf_text.specs.declared.rules.Refusal.{Refusal}
+use Rattle.wf_text.specs.Precedence.{IsFirst}
+use Rattle.wf_ast.specs.declared.typed_nodes.TypedNodes.{TypedNodes}
+use Rattle.wf_ast.specs.TypedPackage.{package_of}
+use Rattle.wf_named.specs.NamedParts.{NamedParts, named_package}
+use Rattle.wf_types_rules.specs.TypeRules.{Breaks}
+use Rattle.wf_typed_tree.specs.ElaboratedPackage.{typed_package}
+
+-- A package is refused by what decides of all that it breaks of the rules of types and effects. Want of memory says nothing
+-- of it.
+abbrev pub IsMistyped : NamedParts → PhaseFault → Type 0
+IsMistyped named (phase.Refused refusal) = IsFirst (Breaks (named_package named)) refusal
+IsMistyped named phase.Memory = ⊤
+
+-- A package breaks no rule of types and effects, and this is its typed tree.
+pub record IsElaborated (named : NamedParts) (typed : TypedNodes) : Type 0 where
+  pub kept : (refusal : Refusal) → Breaks (named_package named) refusal → ⊥
+  pub tree : package_of typed ≡ typed_package (named_package named)

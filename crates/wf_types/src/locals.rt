@@ -1,0 +1,49 @@
+// The names in `var` as nodes: the checker of bounds begins a method with what its locals begin as, and says so of the local
+// at its name.
+
+ghost use Rattle.std.specs.Prelude.{OnOk};
+ghost use Rattle.wf_named.specs.NamedParts.{named_package};
+ghost use Rattle.wf_typed_stmts.specs.Right.{known_in};
+ghost use Rattle.wf_typed_stmts.specs.StmtGrowth.{GrowsExprs, IsBegun};
+ghost use Rattle.wf_types.specs.Locals.{places_named, AreRightPaths, HaveNodes};
+
+use std::alloc::Global;
+use wf_ast::LocalId;
+use wf_named::{NamedNodes, NamedPath, NamedVar, Variable};
+use wf_text::faults::NoMemory;
+use wf_typed_stmts::BodyBuilding;
+use wf_types_rules::Setting;
+
+// How many numbers there are for locals.
+const NUMBERS: usize = 4294967296;
+
+/// Adds a node for each local of a method, in order: its path, at the place of its name. `Err` also comes where no number
+/// is left.
+pub fn elaborate_locals(
+    alloc: Global,
+    nodes: &mut BodyBuilding,
+    named: &NamedNodes,
+    around: &Setting,
+    locals: &[NamedVar],
+) -> Result<(), NoMemory>
+    requires begun { IsBegun named.now nodes.old }
+    requires right { AreRightPaths around.now (known_in (named_package named.now)).statuses (places_named locals.now) }
+    ensures grows { OnOk result (GrowsExprs nodes.old nodes.new) }
+    ensures begun { OnOk result (IsBegun named.now nodes.new) }
+    ensures stand { OnOk result (HaveNodes around.now nodes.new (places_named locals.now)) }
+{
+    for number in 0..locals.len() {
+        if number >= NUMBERS {
+            return Err(NoMemory);
+        }
+        let path = NamedPath {
+            of: Variable::Local(LocalId(number as u32)),
+            at: locals[number].name.at,
+        };
+        match nodes.push_path(alloc, named, around, path) {
+            Ok(_) => {}
+            Err(fault) => return Err(fault),
+        }
+    }
+    Ok(())
+}

@@ -1,0 +1,44 @@
+-- What decides of the parts of a package with what stands round each, and what a walk over its declarations keeps.
+use Rattle.std.specs.Prelude.{◌≡◌, ℕ, Bool, false, ◌&&◌, ◌||◌, List, [], ◌∷◌, map, Option, None, Some, nat_eq, option_and_then}
+use Rattle.std.specs.List.{flat_map}
+use Rattle.wf_text.specs.declared.rules.Refusal.{Refusal}
+use Rattle.wf_text.specs.declared.rules.Rule.TheVariants.{T1, T5}
+use Rattle.wf_text.specs.Precedence.{sooner, soonest}
+use Rattle.wf_ast.specs.declared.types.Ty.{Ty}
+use Rattle.wf_named.specs.NamedTree.{NamedPackageTree}
+use Rattle.wf_types_rules.specs.declared.settings.Role.TheVariants as roles
+use Rattle.wf_types_rules.specs.declared.settings.Setting.{Setting}
+use Rattle.wf_types_rules.specs.DeclaredTypes.{constants_of, types_in, method_type, status_texts}
+use Rattle.wf_types_rules.specs.Meanings.{is_constant, constant_number}
+use Rattle.wf_types_rules.specs.Judgements.{at_if, fails, both_fail, lies_in}
+use Rattle.wf_types_rules.specs.Parts.{Site}
+use Rattle.wf_types_rules.specs.FirstBreak.{told, refusals_of}
+use Rattle.wf_types_exprs.specs.declared.found.Value.{Value}
+
+-- What decides of what was found before and of all that the rules say of these parts.
+unfoldable pub decided : Option Refusal → List Site → Option Refusal
+decided found sites = soonest found (flat_map refusals_of sites)
+
+-- What stands round every method of a package.
+pub record IsAround (p : NamedPackageTree) (s : Setting) : Type 0 where
+  pub constants : s.constants ≡ constants_of p
+  pub methods : s.methods ≡ map (method_type p) p.methods
+  pub statuses : s.statuses ≡ status_texts p
+
+-- The types of all fields, by struct.
+abbrev pub field_types : NamedPackageTree → List (List (Option Ty))
+field_types p = map (λ x. types_in p roles.Field x.fields) p.structs
+
+abbrev pub types_or_none : Option (List (Option Ty)) → List (Option Ty)
+types_or_none None = []
+types_or_none (Some types) = types
+
+-- What the value of a constant of this type breaks.
+abbrev pub constant_found : Option Ty → Value → Option Refusal → Option Refusal
+constant_found ty v found =
+    sooner (sooner found (told T1 (at_if (fails is_constant v.of) v.at))) (told T5 (at_if (both_fail lies_in ty (option_and_then constant_number v.of)) v.at))
+
+-- Two `?` in a row, of byte 63, where the byte in front is one or isn't.
+abbrev pub questions_behind : (before : Bool) → List ℕ → Bool
+questions_behind before [] = false
+questions_behind before (b ∷ bs) = (before && nat_eq b 63) || questions_behind (nat_eq b 63) bs

@@ -1,0 +1,13 @@
+// The rules of types and effects on expressions, types and calls: one walk finds the refusal that decides among all their
+// parts, and what they mean. Each expression is visited once.
+#![tactic(auto)]
+
+pub mod found;
+pub mod operands;
+pub mod parts;
+pub mod reading;
+pub mod types;
+pub mod walk;
+pub mod whole;
+
+pub use found::{Judged, JudgedArgs, JudgedOperands, JudgedType};

@@ -1,0 +1,82 @@
+// Lists of operands, arguments and bounds as they grow.
+
+ghost use Rattle.std.specs.Prelude.{◌≡◌, ◌&&◌, ◌||◌, ◌++◌, ◌∷◌, [], Some, IfOk, option_and_then};
+ghost use Rattle.wf_types_rules.specs.Meanings.{is_constant as means_constant, constant_number as number_meant};
+ghost use Rattle.wf_types_rules.specs.Judgements.{fails};
+ghost use Rattle.wf_types_exprs.specs.Judged.{operand_behind as behind};
+
+use crate::found::{Bound, JudgedArgs, JudgedOperands, Value};
+use std::alloc::Global;
+use wf_ast::Sequence;
+use wf_types_meanings::values::number_in;
+use wf_types_operators::meanings::is_constant;
+use wf_text::faults::NoMemory;
+use wf_text::rules::Refusal;
+use wf_types_rules::{Meaning, Operand};
+
+/// No operand yet.
+pub fn no_operand(alloc: Global, found: Option<Refusal>) -> JudgedOperands
+    ensures { result ≡ record { found = found; of = Some [] } }
+{
+    JudgedOperands {
+        found,
+        of: Some(Sequence::new(alloc)),
+    }
+}
+
+fn pushed(mut os: Sequence<Operand>, o: Operand) -> Result<Sequence<Operand>, NoMemory>
+    ensures { IfOk result (λ all. all ≡ os ++ o ∷ []) }
+{
+    match os.push(o) {
+        Ok(()) => Ok(os),
+        Err(_) => Err(NoMemory),
+    }
+}
+
+/// An operand behind others, where each means something.
+pub fn operand_behind(
+    os: Option<Sequence<Operand>>,
+    v: Value,
+) -> Result<Option<Sequence<Operand>>, NoMemory>
+    ensures { IfOk result (λ all. all ≡ behind os v) }
+{
+    match (os, v.of) {
+        (Some(os), Some(of)) => {
+            match pushed(os, Operand { at: v.at, of }) {
+                Ok(all) => Ok(Some(all)),
+                Err(fault) => Err(fault),
+            }
+        }
+        _ => Ok(None),
+    }
+}
+
+/// An argument behind others.
+pub fn with_argument(before: JudgedArgs, next: JudgedArgs) -> JudgedArgs
+    ensures { result ≡ record { found = next.found; fit = before.fit && next.fit } }
+{
+    JudgedArgs {
+        found: next.found,
+        fit: before.fit && next.fit,
+    }
+}
+
+fn is_not_constant(of: Option<Meaning>) -> bool
+    ensures { result ≡ fails means_constant of }
+{
+    match of {
+        Some(m) => !is_constant(m),
+        None => false,
+    }
+}
+
+/// What has to be a constant number, by whether it names anything but constants, and what it means.
+pub fn bound(others: bool, v: Value) -> Bound
+    ensures { result ≡ record { unfit = others || fails means_constant v.of; number = option_and_then number_meant v.of; at = v.at } }
+{
+    Bound {
+        unfit: others || is_not_constant(v.of),
+        number: number_in(v.of),
+        at: v.at,
+    }
+}

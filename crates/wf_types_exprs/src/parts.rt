@@ -1,0 +1,347 @@
+// What each kind of expression breaks and means, by what its parts mean.
+
+ghost use Rattle.std.specs.Prelude.{◌≡◌, ◌&&◌, ◌||◌, Some, None, if◌then◌else◌, option_map, option_and_then};
+ghost use Rattle.wf_ast.specs.TypedTrees.{sort_of};
+ghost use Rattle.wf_named.specs.NamedTree as tree;
+ghost use Rattle.wf_types_rules.specs.declared.meanings.Meaning.TheVariants as meanings;
+ghost use Rattle.wf_types_rules.specs.Meanings.{variable as variable_in, is_flag as means_flag};
+ghost use Rattle.wf_types_rules.specs.Operands.{meaning_of_operator as operator_means};
+ghost use Rattle.wf_types_rules.specs.ExprTypes.{only_where, meaning, element_of, slice_in, if_number as only_for_number, converted as converts, answer_inside};
+ghost use Rattle.wf_ast.specs.WellTyped.{same_mark as same_marks};
+ghost use Rattle.wf_types_rules.specs.Judgements.{fails, both_fail, takes as takes_value, has_room as has_room_for, may_be_handed as may_hand, is_argument as fits_argument, answer_type as type_answered, declared_mark as mark_declared};
+ghost use Rattle.wf_types_rules.specs.FirstBreak.{told as told_by};
+ghost use Rattle.wf_text.specs.Precedence.{sooner as sooner_of};
+ghost use Rattle.wf_text.specs.declared.rules.Rule.TheVariants as rules;
+ghost use Rattle.wf_types_exprs.specs.Found.{no_number as no_number_at, no_flag as no_flag_at, no_value as no_value_at, no_index as no_index_at, no_end as no_end_at, is_known as known_end, end_kept, no_slice as no_slice_at, chain_found, is_cut as cuts, conversion_found, argument_found, wrong_inside, calling_found};
+
+use crate::found::{Judged, JudgedArgs, JudgedEnds, JudgedOperands, Value};
+use wf_ast::{Op, Ty};
+use wf_base::Width;
+use wf_types_meanings::calls::{answer_type, declared_mark, is_base, pure_answer};
+use wf_types_meanings::marks::{is_coroutine, is_impure, is_pure, same_mark};
+use wf_types_meanings::places::{at_if, first_place, told};
+use wf_types_meanings::values::{
+    as_flag, as_value, conversion, element_of as element, elements, has_room, if_number,
+    is_argument, may_be_handed, slice_in as slice, slices, takes,
+};
+use wf_types_meanings::variables::{typed, variable};
+use wf_named::{NamedCall, NamedCallee, NamedPath};
+use wf_types_operators::fitting::not_fitting;
+use wf_types_operators::given::{has_no_value, meaning_of_operator};
+use wf_types_operators::meanings::{greatest, is_flag, is_number, is_value};
+use wf_types_operators::taken::not_taken;
+use wf_text::Place;
+use wf_text::precedence::sooner;
+use wf_text::rules::{Refusal, Rule};
+use wf_types_rules::{Meaning, Operand, Setting};
+
+fn no_number(v: Value) -> Option<Place>
+    ensures { result ≡ no_number_at v }
+{
+    match v.of {
+        Some(m) => at_if(!is_number(m), v.at),
+        None => None,
+    }
+}
+
+fn no_flag(v: Value) -> Option<Place>
+    ensures { result ≡ no_flag_at v }
+{
+    match v.of {
+        Some(m) => at_if(!is_flag(m), v.at),
+        None => None,
+    }
+}
+
+fn no_value(v: Value) -> Option<Place>
+    ensures { result ≡ no_value_at v }
+{
+    match v.of {
+        Some(m) => at_if(!is_value(m), v.at),
+        None => None,
+    }
+}
+
+/// A path: whether it may stand as a value.
+pub fn judged_path(found: Option<Refusal>, around: &Setting, path: NamedPath) -> Judged
+    ensures found { result.found ≡ sooner_of found (told_by rules.T1 (no_value_at (record { of = variable_in around.now path.of; at = path.at }))) }
+    ensures of { result.of ≡ meaning around.now (tree.path path) }
+{
+    let of = variable(around, path.of);
+    let wrong = no_value(Value { of, at: path.at });
+    Judged {
+        found: sooner(found, told(Rule::T1, wrong)),
+        of: as_value(of),
+    }
+}
+
+/// What a path means, with its place.
+pub fn base_value(around: &Setting, path: NamedPath) -> Value
+    ensures { result ≡ record { of = variable_in around.now path.of; at = path.at } }
+{
+    Value {
+        of: variable(around, path.of),
+        at: path.at,
+    }
+}
+
+fn no_index(base: Value, index: Value) -> Option<Place>
+    ensures { result ≡ no_index_at base index }
+{
+    match base.of {
+        Some(m) => {
+            if index.of.is_some() {
+                first_place(at_if(!element(m).is_some(), base.at), no_number(index))
+            } else {
+                None
+            }
+        }
+        None => None,
+    }
+}
+
+/// An element of what a path stands for.
+pub fn judged_index(found: Option<Refusal>, base: Value, index: Value) -> Judged
+    ensures found { result.found ≡ sooner_of found (told_by rules.T1 (no_index_at base index)) }
+    ensures of { result.of ≡ option_map meanings.Typed (only_for_number index.of (option_and_then element_of base.of)) }
+{
+    Judged {
+        found: sooner(found, told(Rule::T1, no_index(base, index))),
+        of: typed(if_number(index.of, elements(base.of))),
+    }
+}
+
+fn no_end(end: Option<Value>) -> Option<Place>
+    ensures { result ≡ no_end_at end }
+{
+    match end {
+        Some(v) => no_number(v),
+        None => None,
+    }
+}
+
+fn is_known(end: Option<Value>) -> bool
+    ensures { result ≡ known_end end }
+{
+    match end {
+        Some(v) => v.of.is_some(),
+        None => true,
+    }
+}
+
+fn if_end(end: Option<Value>, ty: Option<Ty>) -> Option<Ty>
+    ensures { result ≡ end_kept end ty }
+{
+    match end {
+        Some(v) => if_number(v.of, ty),
+        None => ty,
+    }
+}
+
+fn both_known(from: Option<Value>, to: Option<Value>) -> bool
+    ensures { result ≡ (known_end from && known_end to) }
+{
+    is_known(from) && is_known(to)
+}
+
+fn no_slice(base: Value, from: Option<Value>, to: Option<Value>) -> Option<Place>
+    ensures { result ≡ no_slice_at base from to }
+{
+    match base.of {
+        Some(m) => {
+            if both_known(from, to) {
+                first_place(
+                    at_if(!slice(m).is_some(), base.at),
+                    first_place(no_end(from), no_end(to)),
+                )
+            } else {
+                None
+            }
+        }
+        None => None,
+    }
+}
+
+/// A slice of what a path stands for, by its ends.
+pub fn judged_slice(ends: JudgedEnds, base: Value) -> Judged
+    ensures found { result.found ≡ sooner_of ends.found (told_by rules.T1 (no_slice_at base ends.from ends.to)) }
+    ensures of { result.of ≡ option_map meanings.Typed (end_kept ends.from (end_kept ends.to (option_and_then slice_in base.of))) }
+{
+    Judged {
+        found: sooner(
+            ends.found,
+            told(Rule::T1, no_slice(base, ends.from, ends.to)),
+        ),
+        of: typed(if_end(ends.from, if_end(ends.to, slices(base.of)))),
+    }
+}
+
+fn found_in_chain(found: Option<Refusal>, op: Op, os: &[Operand], at: Place) -> Option<Refusal>
+    ensures { result ≡ chain_found (sort_of op) (Some os.now) at found }
+{
+    let taken = sooner(found, told(Rule::T1, not_taken(op, os)));
+    let valued = sooner(taken, told(Rule::T5, at_if(has_no_value(op, os), at)));
+    sooner(valued, told(Rule::T5, not_fitting(op, os)))
+}
+
+/// A chain of operands, where each means something.
+pub fn judged_chain(operands: &JudgedOperands, op: Op, at: Place) -> Judged
+    ensures found { result.found ≡ chain_found (sort_of op) operands.now.of at operands.now.found }
+    ensures of { result.of ≡ option_and_then (operator_means (sort_of op)) operands.now.of }
+{
+    match &operands.of {
+        Some(os) => Judged {
+            found: found_in_chain(operands.found, op, os.as_slice(), at),
+            of: meaning_of_operator(op, os.as_slice()),
+        },
+        None => Judged {
+            found: operands.found,
+            of: None,
+        },
+    }
+}
+
+fn is_cut(of: Option<Meaning>, width: Option<Width>) -> bool
+    ensures { result ≡ cuts of width }
+{
+    match (of, width) {
+        (Some(Meaning::Constant { value, .. }), Some(width)) => value > greatest(width),
+        _ => false,
+    }
+}
+
+/// A conversion to numbers of a width.
+pub fn judged_conversion(
+    found: Option<Refusal>,
+    v: Value,
+    width: Option<Width>,
+    at: Place,
+) -> Judged
+    ensures found { result.found ≡ conversion_found v width at found }
+    ensures of { result.of ≡ option_and_then (converts width) v.of }
+{
+    let taken = sooner(found, told(Rule::T1, no_number(v)));
+    Judged {
+        found: sooner(taken, told(Rule::T5, at_if(is_cut(v.of, width), at))),
+        of: conversion(width, v.of),
+    }
+}
+
+/// A `not`.
+pub fn judged_negation(found: Option<Refusal>, v: Value) -> Judged
+    ensures found { result.found ≡ sooner_of found (told_by rules.T1 (no_flag_at v)) }
+    ensures of { result.of ≡ option_and_then (only_where means_flag) v.of }
+{
+    Judged {
+        found: sooner(found, told(Rule::T1, no_flag(v))),
+        of: as_flag(v.of),
+    }
+}
+
+// Whether an argument may not be handed on, or isn't taken by its type.
+fn is_wrong_argument(ty: Option<Ty>, of: Option<Meaning>) -> bool
+    ensures { result ≡ (fails may_hand of || both_fail takes_value ty of) }
+{
+    match (ty, of) {
+        (Some(ty), Some(m)) => !may_be_handed(m) || !takes(ty, m),
+        (None, Some(m)) => !may_be_handed(m),
+        (Some(_), None) => false,
+        (None, None) => false,
+    }
+}
+
+fn is_unfit_argument(ty: Option<Ty>, of: Option<Meaning>) -> bool
+    ensures { result ≡ both_fail has_room_for ty of }
+{
+    match (ty, of) {
+        (Some(ty), Some(m)) => !has_room(ty, m),
+        (None, Some(_)) => false,
+        (Some(_), None) => false,
+        (None, None) => false,
+    }
+}
+
+/// An argument, by the type that is wanted of it.
+pub fn judged_argument(found: Option<Refusal>, ty: Option<Ty>, v: Value) -> JudgedArgs
+    ensures found { result.found ≡ argument_found ty v found }
+    ensures fit { result.fit ≡ fits_argument ty v.of }
+{
+    let wrong = at_if(is_wrong_argument(ty, v.of), v.at);
+    let unfit = at_if(is_unfit_argument(ty, v.of), v.at);
+    JudgedArgs {
+        found: sooner(sooner(found, told(Rule::T1, wrong)), told(Rule::T5, unfit)),
+        fit: is_argument(ty, v.of),
+    }
+}
+
+fn call_inside(inside: bool, call: &NamedCall) -> Option<Place>
+    ensures { result ≡ wrong_inside inside call.now.callee call.now.at call.now.mark }
+{
+    if inside {
+        at_if(!is_pure(call.mark) || !is_base(call.callee), call.at)
+    } else {
+        None
+    }
+}
+
+fn has_other_mark(around: &Setting, call: &NamedCall) -> bool
+    ensures { result ≡ fails (same_marks call.now.mark) (mark_declared around.now call.now.callee) }
+{
+    match declared_mark(around, call.callee) {
+        Some(mark) => !same_mark(call.mark, mark),
+        None => false,
+    }
+}
+
+/// What a call breaks by its mark; `inside` tells whether it stands inside an expression.
+pub fn judged_calling(
+    found: Option<Refusal>,
+    around: &Setting,
+    call: &NamedCall,
+    inside: bool,
+) -> Option<Refusal>
+    ensures { result ≡ calling_found around.now inside call.now.callee call.now.at call.now.mark found }
+{
+    let impure = at_if(is_impure(call.mark) && is_pure(around.mark), call.at);
+    let coroutine = at_if(
+        is_coroutine(call.mark) && !is_coroutine(around.mark),
+        call.at,
+    );
+    let outside = sooner(
+        sooner(found, told(Rule::E1, impure)),
+        told(Rule::E2, coroutine),
+    );
+    let marked = at_if(has_other_mark(around, call), call.at);
+    sooner(
+        sooner(outside, told(Rule::E3, call_inside(inside, call))),
+        told(Rule::E3, marked),
+    )
+}
+
+/// What a call inside an expression means.
+pub fn inner_answer(around: &Setting, call: &NamedCall) -> Option<Meaning>
+    ensures { (args : _) → result ≡ answer_inside around.now (tree.call call.now.callee call.now.at call.now.mark args) }
+{
+    match call.callee {
+        NamedCallee::Base { on, sig } => {
+            if variable(around, on.of).is_some() {
+                pure_answer(sig, call.mark)
+            } else {
+                None
+            }
+        }
+        NamedCallee::Own(_) => None,
+        NamedCallee::Sub { .. } => None,
+    }
+}
+
+/// What a call means as the whole right side of `=`, by whether its arguments fit.
+pub fn whole_answer(around: &Setting, callee: NamedCallee, fit: bool) -> Option<Meaning>
+    ensures { result ≡ (if fit then option_map meanings.Typed (type_answered around.now callee) else None) }
+{
+    if fit {
+        typed(answer_type(around, callee))
+    } else {
+        None
+    }
+}

@@ -1,0 +1,61 @@
+// What a variable is.
+
+ghost use Rattle.std.specs.Prelude.{◌≡◌, slice_get, option_map};
+ghost use Rattle.wf_types_rules.specs.declared.meanings.Meaning.TheVariants as meanings;
+ghost use Rattle.wf_types_rules.specs.Meanings.{there, as_constant, variable as variable_in};
+
+use wf_ast::{ConstId, Ty};
+use wf_named::Variable;
+use wf_types_rules::{Constant, Meaning, Setting};
+
+fn constant_at(constants: &[Option<Constant>], c: ConstId) -> Option<Constant>
+    ensures { result ≡ there (slice_get constants.now c.0) }
+{
+    match constants.get(c.0 as usize) {
+        Some(known) => *known,
+        None => None,
+    }
+}
+
+fn type_at(types: &[Option<Ty>], n: u32) -> Option<Ty>
+    ensures { result ≡ there (slice_get types.now n) }
+{
+    match types.get(n as usize) {
+        Some(known) => *known,
+        None => None,
+    }
+}
+
+fn constant(of: Option<Constant>) -> Option<Meaning>
+    ensures { result ≡ option_map as_constant of }
+{
+    match of {
+        Some(c) => Some(Meaning::Constant {
+            width: Some(c.width),
+            value: c.value,
+        }),
+        None => None,
+    }
+}
+
+/// What has a type that may be absent.
+pub fn typed(of: Option<Ty>) -> Option<Meaning>
+    ensures { result ≡ option_map meanings.Typed of }
+{
+    match of {
+        Some(ty) => Some(Meaning::Typed(ty)),
+        None => None,
+    }
+}
+
+/// What a variable is.
+pub fn variable(around: &Setting, of: Variable) -> Option<Meaning>
+    ensures { result ≡ variable_in around.now of }
+{
+    match of {
+        Variable::Const(c) => constant(constant_at(around.constants.as_slice(), c)),
+        Variable::Local(x) => typed(type_at(around.locals.as_slice(), x.0)),
+        Variable::Field(x) => typed(type_at(around.fields.as_slice(), x.0)),
+        Variable::Arg(x) => typed(type_at(around.args.as_slice(), x.0)),
+    }
+}

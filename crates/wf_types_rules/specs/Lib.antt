@@ -1,0 +1,9 @@
+pub mod DeclaredTypes
+pub mod Examples
+pub mod ExprTypes
+pub mod FirstBreak
+pub mod Judgements
+pub mod Meanings
+pub mod Operands
+pub mod Parts
+pub mod TypeRules

@@ -1,0 +1,11 @@
+use Rattle.std.proofs.Common.{◌∙◌}
+use Rattle.wf_named.specs.NamedTrees.{stmt_trees, block_at}
+use Rattle.wf_types_stmts.proofs.BlockLemmas.{closes}
+use Rattle.wf_types_stmts.proofs.StatementLemmas.{end_judged}
+use Rattle.wf_types_stmts.proofs.ends.judge_whole_body.Goals as goal
+
+pub returns : goal.returns
+returns c =
+    let ts = stmt_trees c.args.nodes.now.texts c.args.nodes.now.exprs c.args.nodes.now.stmts in
+    let body = c.args.body.now in
+    c.judged_end.ensures ∙ end_judged c.args.around.now c.args.found (block_at ts body) c.block_stops.result body.close c.block_stops.ensures (closes ts body.items body.close)

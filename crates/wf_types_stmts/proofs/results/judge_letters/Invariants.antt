@@ -1,0 +1,10 @@
+use Rattle.std.proofs.Common.{◌≡◌, drop}
+use Rattle.wf_named.specs.NamedTrees.{expr_trees, letters_at}
+use Rattle.wf_types_rules.specs.Parts.{letters_parts}
+use Rattle.wf_types_exprs.specs.Judged.{judged}
+use Rattle.wf_types_stmts.proofs.results.judge_letters.Given as goal
+
+abbrev pub invariant-loop-one : goal.invariant-loop-one
+invariant-loop-one l =
+    judged l.around l.found (letters_parts (letters_at l.nodes.texts (expr_trees l.nodes.exprs) (drop l.one-index l.given)))
+    ≡ judged l.around l.fn.found (letters_parts (letters_at l.nodes.texts (expr_trees l.nodes.exprs) l.given))

@@ -1,0 +1,325 @@
+// Assignments: `=`, operators with `=`, and `=?`.
+
+ghost use Rattle.std.specs.Prelude.{◌≡◌, ◌<◌, ◌∷◌, ◌++◌, [], None, Some, length, IfOk, IfSome, IfNone, option_and_then};
+ghost use Rattle.wf_named.specs.NamedParts.{exprs_of, ArgsBelow, NamedTargetBelow};
+ghost use Rattle.wf_named.specs.NamedTrees.{expr_at, call_at, target_at};
+ghost use Rattle.wf_types_rules.specs.Judgements.{type_in as typed_so, both_fail, fails, takes as takes_value, has_room as has_room_for};
+ghost use Rattle.wf_types_rules.specs.Meanings.{is_status as means_status};
+ghost use Rattle.wf_types_rules.specs.Parts.{assigned, kept, target_parts, value_parts, whole_call_parts};
+ghost use Rattle.wf_types_exprs.specs.Judged.{judged, value_of};
+ghost use Rattle.wf_types_stmts.specs.Statements.{type_of as type_meant, assigned_found, two_operands, operands_found, kept_found};
+ghost use Rattle.wf_types_stmts.specs.Targets.{call_in, right_value, lacks_value};
+
+use crate::targets::{judge_target, judge_value};
+use std::alloc::Global;
+use wf_ast::{ExprId, Op, Ty};
+use wf_types_exprs::found::{JudgedValue, Value};
+use wf_types_exprs::reading::place_of;
+use wf_types_exprs::whole::judge_whole_call;
+use wf_types_meanings::calls::{gives_no_value, is_coroutine_called};
+use wf_types_meanings::marks::is_coroutine;
+use wf_types_meanings::places::{at_if, told};
+use wf_types_meanings::values::{has_room, takes, type_in};
+use wf_named::{NamedCall, NamedCallee, NamedExpr, NamedNodes, NamedTarget};
+use wf_types_operators::fitting::not_fitting;
+use wf_types_operators::meanings::is_status;
+use wf_types_operators::taken::not_taken;
+use wf_text::Place;
+use wf_text::faults::NoMemory;
+use wf_text::precedence::sooner;
+use wf_text::rules::{Refusal, Rule};
+use wf_types_rules::{Meaning, Operand, Setting};
+
+/// The right side of `=`: what decides so far, what it means, with its place, and whether it is a call that gives no
+/// value.
+#[derive(Clone, Copy, PartialEq, Eq)]
+pub struct RightSide {
+    pub found: Option<Refusal>,
+    pub value: Value,
+    pub lacks: bool,
+}
+
+fn type_of(of: Option<Meaning>) -> Option<Ty>
+    ensures { result ≡ option_and_then typed_so of }
+{
+    match of {
+        Some(m) => type_in(m),
+        None => None,
+    }
+}
+
+/// Whether a type doesn't take a value, where both are known.
+pub fn is_not_taken(ty: Option<Ty>, of: Option<Meaning>) -> bool
+    ensures { result ≡ both_fail takes_value ty of }
+{
+    match (ty, of) {
+        (Some(ty), Some(m)) => !takes(ty, m),
+        (None, Some(_)) => false,
+        (Some(_), None) => false,
+        (None, None) => false,
+    }
+}
+
+/// Whether a type has no room for a value, where both are known.
+pub fn has_no_room(ty: Option<Ty>, of: Option<Meaning>) -> bool
+    ensures { result ≡ both_fail has_room_for ty of }
+{
+    match (ty, of) {
+        (Some(ty), Some(m)) => !has_room(ty, m),
+        (None, Some(_)) => false,
+        (Some(_), None) => false,
+        (None, None) => false,
+    }
+}
+
+/// Whether it means something that is no status.
+pub fn is_no_status(of: Option<Meaning>) -> bool
+    ensures { result ≡ fails means_status of }
+{
+    match of {
+        Some(m) => !is_status(m),
+        None => false,
+    }
+}
+
+/// What `=` breaks. `lacks` tells whether the value is a call that gives none.
+pub fn judged_assigned(
+    found: Option<Refusal>,
+    target: Value,
+    value: Value,
+    lacks: bool,
+) -> Option<Refusal>
+    ensures { result ≡ assigned_found target value lacks found }
+{
+    let ty = type_of(target.of);
+    let wrong = at_if(is_not_taken(ty, value.of), target.at);
+    let unfit = at_if(has_no_room(ty, value.of), value.at);
+    let taken = sooner(found, told(Rule::T2, wrong));
+    let given = sooner(taken, told(Rule::T2, at_if(lacks, target.at)));
+    sooner(given, told(Rule::T5, unfit))
+}
+
+fn operands_judged(found: Option<Refusal>, op: Op, os: &[Operand]) -> Option<Refusal>
+    ensures { result ≡ operands_found op (Some os.now) found }
+{
+    sooner(
+        sooner(found, told(Rule::T1, not_taken(op, os))),
+        told(Rule::T5, not_fitting(op, os)),
+    )
+}
+
+/// What an operator with `=` breaks.
+pub fn judged_update(found: Option<Refusal>, op: Op, target: Value, value: Value) -> Option<Refusal>
+    ensures { result ≡ operands_found op (two_operands target value) found }
+{
+    match (target.of, value.of) {
+        (Some(first), Some(second)) => {
+            let os = [
+                Operand {
+                    at: target.at,
+                    of: first,
+                },
+                Operand {
+                    at: value.at,
+                    of: second,
+                },
+            ];
+            operands_judged(found, op, os.as_slice())
+        }
+        (None, Some(_)) => found,
+        (Some(_), None) => found,
+        (None, None) => found,
+    }
+}
+
+/// What `=?` breaks, by the meaning of its target.
+pub fn judged_kept(
+    found: Option<Refusal>,
+    around: &Setting,
+    target: Option<Meaning>,
+    callee: NamedCallee,
+    at: Place,
+) -> Option<Refusal>
+    ensures { result ≡ kept_found around.now target callee at found }
+{
+    let outside = at_if(!is_coroutine(around.mark), at);
+    let other = at_if(is_no_status(target), at);
+    let uncalled = at_if(!is_coroutine_called(around, callee), at);
+    sooner(
+        sooner(
+            sooner(found, told(Rule::E2, outside)),
+            told(Rule::E4, other),
+        ),
+        told(Rule::E4, uncalled),
+    )
+}
+
+/// The call that an expression is, if it is one.
+pub fn as_call(nodes: &NamedNodes, e: ExprId) -> Option<&NamedCall>
+    requires { e.0 < length nodes.now.exprs }
+    ensures call { IfSome result (λ c. call_in (expr_at (exprs_of nodes.now) e) ≡ Some (call_at (exprs_of nodes.now) c.now)) }
+    ensures args { IfSome result (λ c. ArgsBelow (length nodes.now.exprs) c.now.args) }
+    ensures none { IfNone result (call_in (expr_at (exprs_of nodes.now) e) ≡ None) }
+{
+    let node = nodes.expr(e);
+    match &node.expr {
+        NamedExpr::Call(call) => Some(call),
+        NamedExpr::Path(_) => None,
+        NamedExpr::Number(_) => None,
+        NamedExpr::Status(_) => None,
+        NamedExpr::Truth(_) => None,
+        NamedExpr::Index { .. } => None,
+        NamedExpr::Slice { .. } => None,
+        NamedExpr::Chain { .. } => None,
+        NamedExpr::Convert { .. } => None,
+        NamedExpr::Not(_) => None,
+    }
+}
+
+// The right side of `=` where it is no call.
+fn judge_plain(
+    alloc: Global,
+    found: Option<Refusal>,
+    nodes: &NamedNodes,
+    around: &Setting,
+    e: ExprId,
+) -> Result<RightSide, NoMemory>
+    requires e { e.0 < length nodes.now.exprs }
+    requires plain { call_in (expr_at (exprs_of nodes.now) e) ≡ None }
+    ensures found { IfOk result (λ j. j.found ≡ judged around.now found (value_parts None (expr_at (exprs_of nodes.now) e))) }
+    ensures value { IfOk result (λ j. j.value ≡ right_value around.now (expr_at (exprs_of nodes.now) e)) }
+    ensures lacks { IfOk result (λ j. j.lacks ≡ lacks_value around.now (expr_at (exprs_of nodes.now) e)) }
+{
+    match judge_value(alloc, found, nodes, around, e) {
+        Ok(j) => Ok(RightSide {
+            found: j.found,
+            value: j.value,
+            lacks: false,
+        }),
+        Err(fault) => Err(fault),
+    }
+}
+
+/// The right side of `=`.
+pub fn judge_right(
+    alloc: Global,
+    found: Option<Refusal>,
+    nodes: &NamedNodes,
+    around: &Setting,
+    e: ExprId,
+) -> Result<RightSide, NoMemory>
+    requires { e.0 < length nodes.now.exprs }
+    ensures found { IfOk result (λ j. j.found ≡ judged around.now found (value_parts None (expr_at (exprs_of nodes.now) e))) }
+    ensures value { IfOk result (λ j. j.value ≡ right_value around.now (expr_at (exprs_of nodes.now) e)) }
+    ensures lacks { IfOk result (λ j. j.lacks ≡ lacks_value around.now (expr_at (exprs_of nodes.now) e)) }
+{
+    match as_call(nodes, e) {
+        Some(call) => {
+            match judge_whole_call(alloc, found, nodes, around, call) {
+                Ok(j) => Ok(RightSide {
+                    found: j.found,
+                    value: Value {
+                        of: j.of,
+                        at: place_of(nodes, e),
+                    },
+                    lacks: gives_no_value(around, call.callee),
+                }),
+                Err(fault) => Err(fault),
+            }
+        }
+        None => judge_plain(alloc, found, nodes, around, e),
+    }
+}
+
+/// `=`.
+pub fn judge_equal(
+    alloc: Global,
+    found: Option<Refusal>,
+    nodes: &NamedNodes,
+    around: &Setting,
+    target: NamedTarget,
+    e: ExprId,
+) -> Result<Option<Refusal>, NoMemory>
+    requires target { NamedTargetBelow (length nodes.now.exprs) target }
+    requires e { e.0 < length nodes.now.exprs }
+    ensures { IfOk result (λ r. r ≡ judged around.now found (assigned (target_at (exprs_of nodes.now) target) None (expr_at (exprs_of nodes.now) e) ∷ (target_parts (target_at (exprs_of nodes.now) target) ++ value_parts None (expr_at (exprs_of nodes.now) e)))) }
+{
+    match judge_target(alloc, found, nodes, around, target) {
+        Ok(to) => {
+            match judge_right(alloc, to.found, nodes, around, e) {
+                Ok(right) => Ok(judged_assigned(right.found, to.value, right.value, right.lacks)),
+                Err(fault) => Err(fault),
+            }
+        }
+        Err(fault) => Err(fault),
+    }
+}
+
+/// An operator with `=`.
+pub fn judge_update(
+    alloc: Global,
+    found: Option<Refusal>,
+    nodes: &NamedNodes,
+    around: &Setting,
+    target: NamedTarget,
+    op: Op,
+    e: ExprId,
+) -> Result<Option<Refusal>, NoMemory>
+    requires target { NamedTargetBelow (length nodes.now.exprs) target }
+    requires e { e.0 < length nodes.now.exprs }
+    ensures { IfOk result (λ r. r ≡ judged around.now found (assigned (target_at (exprs_of nodes.now) target) (Some op) (expr_at (exprs_of nodes.now) e) ∷ (target_parts (target_at (exprs_of nodes.now) target) ++ value_parts (Some op) (expr_at (exprs_of nodes.now) e)))) }
+{
+    match judge_target(alloc, found, nodes, around, target) {
+        Ok(to) => {
+            match judge_value(alloc, to.found, nodes, around, e) {
+                Ok(j) => Ok(judged_update(j.found, op, to.value, j.value)),
+                Err(fault) => Err(fault),
+            }
+        }
+        Err(fault) => Err(fault),
+    }
+}
+
+/// An assignment, with or without an operator.
+pub fn judge_assign(
+    alloc: Global,
+    found: Option<Refusal>,
+    nodes: &NamedNodes,
+    around: &Setting,
+    target: NamedTarget,
+    op: Option<Op>,
+    e: ExprId,
+) -> Result<Option<Refusal>, NoMemory>
+    requires target { NamedTargetBelow (length nodes.now.exprs) target }
+    requires e { e.0 < length nodes.now.exprs }
+    ensures { IfOk result (λ r. r ≡ judged around.now found (assigned (target_at (exprs_of nodes.now) target) op (expr_at (exprs_of nodes.now) e) ∷ (target_parts (target_at (exprs_of nodes.now) target) ++ value_parts op (expr_at (exprs_of nodes.now) e)))) }
+{
+    match op {
+        Some(op) => judge_update(alloc, found, nodes, around, target, op, e),
+        None => judge_equal(alloc, found, nodes, around, target, e),
+    }
+}
+
+/// `=?`.
+pub fn judge_keep(
+    alloc: Global,
+    found: Option<Refusal>,
+    nodes: &NamedNodes,
+    around: &Setting,
+    target: NamedTarget,
+    call: &NamedCall,
+) -> Result<Option<Refusal>, NoMemory>
+    requires target { NamedTargetBelow (length nodes.now.exprs) target }
+    requires args { ArgsBelow (length nodes.now.exprs) call.now.args }
+    ensures { IfOk result (λ r. r ≡ judged around.now found (kept (target_at (exprs_of nodes.now) target) (call_at (exprs_of nodes.now) call.now) ∷ (target_parts (target_at (exprs_of nodes.now) target) ++ whole_call_parts (call_at (exprs_of nodes.now) call.now)))) }
+{
+    match judge_target(alloc, found, nodes, around, target) {
+        Ok(to) => {
+            match judge_whole_call(alloc, to.found, nodes, around, call) {
+                Ok(j) => Ok(judged_kept(j.found, around, to.value.of, call.callee, call.at)),
+                Err(fault) => Err(fault),
+            }
+        }
+        Err(fault) => Err(fault),
+    }
+}

@@ -1,0 +1,9 @@
+// The rules of types and effects on statements: one walk over a body finds the refusal that decides among all that stands
+// in it. Each statement is visited once, and once more for whether the body reaches its end.
+#![tactic(auto)]
+
+pub mod assignments;
+pub mod ends;
+pub mod results;
+pub mod statements;
+pub mod targets;

@@ -1,0 +1,346 @@
+// Conditions, what is given to an axiom, `return` and `yield?`.
+
+ghost use Rattle.std.specs.Prelude.{◌≡◌, ◌<◌, ◌∷◌, ◌++◌, length, slice_get, IfOk};
+ghost use Rattle.std.specs.List.{AllByRecursion};
+ghost use Rattle.wf_ast.specs.ParsedParts.{IsBelow};
+ghost use Rattle.wf_ast.specs.WellTyped.{is_suspension};
+ghost use Rattle.wf_named.specs.NamedParts.{exprs_of, LettersBelow, AxiomBelow};
+ghost use Rattle.wf_named.specs.NamedTrees.{expr_at, part_at, clauses_at, letters_at, via_at};
+ghost use Rattle.wf_types_rules.specs.Judgements.{fails, wrong_result, is_suspension_text};
+ghost use Rattle.wf_types_rules.specs.Meanings.{there, is_flag as means_flag, is_number as means_number};
+ghost use Rattle.wf_types_rules.specs.Parts.{letter_value, returned, yielded, end_parts, expr_parts, condition_parts, clauses_parts, letters_parts, via_parts};
+ghost use Rattle.wf_types_exprs.specs.Judged.{judged, end_value};
+ghost use Rattle.wf_types_stmts.specs.Statements.{condition_found, letter_found, is_wrong_result as wrong_result_in, unfit_result as result_without_room, return_found, yield_found};
+
+use crate::assignments::{has_no_room, is_no_status, is_not_taken};
+use crate::targets::judge_value;
+use std::alloc::Global;
+use wf_ast::parsed::{Given, LoopClause, Via};
+use wf_ast::{ExprId, Sequence, Ty};
+use wf_types_exprs::found::{JudgedEnd, Value};
+use wf_types_exprs::reading::place_of;
+use wf_types_meanings::marks::is_coroutine;
+use wf_types_meanings::places::{at_if, told};
+use wf_named::{NamedExpr, NamedNodes};
+use wf_types_operators::meanings::{is_flag, is_number};
+use wf_text::categories::Category;
+use wf_text::faults::NoMemory;
+use wf_text::precedence::sooner;
+use wf_text::rules::{Refusal, Rule};
+use wf_text::status_text::category;
+use wf_text::{Place, StatusId};
+use wf_types_rules::{Meaning, Setting};
+
+fn is_no_flag(of: Option<Meaning>) -> bool
+    ensures { result ≡ fails means_flag of }
+{
+    match of {
+        Some(m) => !is_flag(m),
+        None => false,
+    }
+}
+
+fn is_no_number(of: Option<Meaning>) -> bool
+    ensures { result ≡ fails means_number of }
+{
+    match of {
+        Some(m) => !is_number(m),
+        None => false,
+    }
+}
+
+/// What a condition breaks.
+pub fn judged_condition(found: Option<Refusal>, v: Value) -> Option<Refusal>
+    ensures { result ≡ condition_found v found }
+{
+    sooner(found, told(Rule::T3, at_if(is_no_flag(v.of), v.at)))
+}
+
+/// What a value breaks that is given for a letter of an axiom.
+pub fn judged_letter(found: Option<Refusal>, v: Value) -> Option<Refusal>
+    ensures { result ≡ letter_found v found }
+{
+    sooner(found, told(Rule::T1, at_if(is_no_number(v.of), v.at)))
+}
+
+fn is_no_result(gives: Option<Option<Ty>>, of: Option<Meaning>) -> bool
+    ensures { result ≡ wrong_result gives of }
+{
+    match gives {
+        Some(ty) => is_not_taken(ty, of),
+        None => true,
+    }
+}
+
+fn is_wrong_result(around: &Setting, value: Option<Value>) -> bool
+    ensures { result ≡ wrong_result_in around.now value }
+{
+    match value {
+        Some(v) => {
+            if is_coroutine(around.mark) {
+                is_no_status(v.of)
+            } else {
+                is_no_result(around.gives, v.of)
+            }
+        }
+        None => is_coroutine(around.mark) || around.gives.is_some(),
+    }
+}
+
+fn type_given(gives: Option<Option<Ty>>) -> Option<Ty>
+    ensures { result ≡ there gives }
+{
+    match gives {
+        Some(ty) => ty,
+        None => None,
+    }
+}
+
+fn unfit_result(around: &Setting, value: Option<Value>) -> Option<Place>
+    ensures { result ≡ result_without_room around.now value }
+{
+    match value {
+        Some(v) => {
+            let unfit = has_no_room(type_given(around.gives), v.of);
+            at_if(!is_coroutine(around.mark) && unfit, v.at)
+        }
+        None => None,
+    }
+}
+
+/// What a `return` breaks, whose value may be absent.
+pub fn judged_return(
+    found: Option<Refusal>,
+    around: &Setting,
+    value: Option<Value>,
+    at: Place,
+) -> Option<Refusal>
+    ensures { result ≡ return_found around.now value at found }
+{
+    let wrong = at_if(is_wrong_result(around, value), at);
+    sooner(
+        sooner(found, told(Rule::T4, wrong)),
+        told(Rule::T5, unfit_result(around, value)),
+    )
+}
+
+/// What a `yield?` breaks. `suspends` tells whether a suspension's text stands there, at `place`.
+pub fn judged_yield(
+    found: Option<Refusal>,
+    around: &Setting,
+    suspends: bool,
+    place: Place,
+    at: Place,
+) -> Option<Refusal>
+    ensures { result ≡ yield_found around.now suspends place at found }
+{
+    let outside = at_if(!is_coroutine(around.mark), at);
+    sooner(
+        sooner(found, told(Rule::E2, outside)),
+        told(Rule::E5, at_if(!suspends, place)),
+    )
+}
+
+fn is_suspension_at(statuses: &[Sequence<u8>], status: StatusId) -> bool
+    ensures { result ≡ is_suspension (slice_get statuses.now status.0) }
+{
+    match statuses.get(status.0 as usize) {
+        Some(text) => matches!(category(text.as_slice()), Category::Suspension),
+        None => false,
+    }
+}
+
+/// Whether an expression is the text of a suspension.
+pub fn suspends(nodes: &NamedNodes, around: &Setting, e: ExprId) -> bool
+    requires { e.0 < length nodes.now.exprs }
+    ensures { result ≡ is_suspension_text around.now (expr_at (exprs_of nodes.now) e) }
+{
+    let node = nodes.expr(e);
+    match &node.expr {
+        NamedExpr::Status(status) => is_suspension_at(around.statuses.as_slice(), *status),
+        NamedExpr::Call(_) => false,
+        NamedExpr::Path(_) => false,
+        NamedExpr::Number(_) => false,
+        NamedExpr::Truth(_) => false,
+        NamedExpr::Index { .. } => false,
+        NamedExpr::Slice { .. } => false,
+        NamedExpr::Chain { .. } => false,
+        NamedExpr::Convert { .. } => false,
+        NamedExpr::Not(_) => false,
+    }
+}
+
+/// A condition of `if`, `while`, a clause or `assert`.
+pub fn judge_condition(
+    alloc: Global,
+    found: Option<Refusal>,
+    nodes: &NamedNodes,
+    around: &Setting,
+    e: ExprId,
+) -> Result<Option<Refusal>, NoMemory>
+    requires { e.0 < length nodes.now.exprs }
+    ensures { IfOk result (λ r. r ≡ judged around.now found (condition_parts (expr_at (exprs_of nodes.now) e))) }
+{
+    match judge_value(alloc, found, nodes, around, e) {
+        Ok(j) => Ok(judged_condition(j.found, j.value)),
+        Err(fault) => Err(fault),
+    }
+}
+
+/// The promises of a loop.
+pub fn judge_clauses(
+    alloc: Global,
+    found: Option<Refusal>,
+    nodes: &NamedNodes,
+    around: &Setting,
+    clauses: &[LoopClause],
+) -> Result<Option<Refusal>, NoMemory>
+    requires { AllByRecursion (λ c. c.condition.0 < length nodes.now.exprs) clauses.now }
+    ensures { IfOk result (λ r. r ≡ judged around.now found (clauses_parts (clauses_at (exprs_of nodes.now) clauses.now))) }
+{
+    let mut found = found;
+    for clause in clauses {
+        match judge_condition(alloc, found, nodes, around, clause.condition) {
+            Ok(next) => found = next,
+            Err(fault) => return Err(fault),
+        }
+    }
+    Ok(found)
+}
+
+fn judge_letter(
+    alloc: Global,
+    found: Option<Refusal>,
+    nodes: &NamedNodes,
+    around: &Setting,
+    e: ExprId,
+) -> Result<Option<Refusal>, NoMemory>
+    requires { e.0 < length nodes.now.exprs }
+    ensures { IfOk result (λ r. r ≡ judged around.now found (letter_value (expr_at (exprs_of nodes.now) e) ∷ expr_parts (expr_at (exprs_of nodes.now) e))) }
+{
+    match judge_value(alloc, found, nodes, around, e) {
+        Ok(j) => Ok(judged_letter(j.found, j.value)),
+        Err(fault) => Err(fault),
+    }
+}
+
+/// What is given for the letters of an axiom.
+pub fn judge_letters(
+    alloc: Global,
+    found: Option<Refusal>,
+    nodes: &NamedNodes,
+    around: &Setting,
+    given: &[Given],
+) -> Result<Option<Refusal>, NoMemory>
+    requires { LettersBelow (length nodes.now.texts) (length nodes.now.exprs) given.now }
+    ensures { IfOk result (λ r. r ≡ judged around.now found (letters_parts (letters_at nodes.now.texts (exprs_of nodes.now) given.now))) }
+{
+    let mut found = found;
+    for one in given {
+        match judge_letter(alloc, found, nodes, around, one.value) {
+            Ok(next) => found = next,
+            Err(fault) => return Err(fault),
+        }
+    }
+    Ok(found)
+}
+
+/// The axiom of an assertion, if it names one.
+pub fn judge_via(
+    alloc: Global,
+    found: Option<Refusal>,
+    nodes: &NamedNodes,
+    around: &Setting,
+    via: &Option<Via>,
+) -> Result<Option<Refusal>, NoMemory>
+    requires { AxiomBelow (length nodes.now.texts) (length nodes.now.exprs) via.now }
+    ensures { IfOk result (λ r. r ≡ judged around.now found (via_parts (via_at nodes.now.texts (exprs_of nodes.now) via.now))) }
+{
+    match via {
+        Some(via) => judge_letters(alloc, found, nodes, around, via.given.as_slice()),
+        None => Ok(found),
+    }
+}
+
+/// An assertion: its condition, and what is given to its axiom.
+pub fn judge_claim(
+    alloc: Global,
+    found: Option<Refusal>,
+    nodes: &NamedNodes,
+    around: &Setting,
+    goal: ExprId,
+    via: &Option<Via>,
+) -> Result<Option<Refusal>, NoMemory>
+    requires goal { goal.0 < length nodes.now.exprs }
+    requires via { AxiomBelow (length nodes.now.texts) (length nodes.now.exprs) via.now }
+    ensures { IfOk result (λ r. r ≡ judged around.now found (condition_parts (expr_at (exprs_of nodes.now) goal) ++ via_parts (via_at nodes.now.texts (exprs_of nodes.now) via.now))) }
+{
+    match judge_condition(alloc, found, nodes, around, goal) {
+        Ok(next) => judge_via(alloc, next, nodes, around, via),
+        Err(fault) => Err(fault),
+    }
+}
+
+fn judge_end(
+    alloc: Global,
+    found: Option<Refusal>,
+    nodes: &NamedNodes,
+    around: &Setting,
+    value: Option<ExprId>,
+) -> Result<JudgedEnd, NoMemory>
+    requires { IsBelow (length nodes.now.exprs) value }
+    ensures found { IfOk result (λ j. j.found ≡ judged around.now found (end_parts (part_at (exprs_of nodes.now) value))) }
+    ensures end { IfOk result (λ j. j.end ≡ end_value around.now (part_at (exprs_of nodes.now) value)) }
+{
+    match value {
+        Some(e) => {
+            match judge_value(alloc, found, nodes, around, e) {
+                Ok(j) => Ok(JudgedEnd {
+                    found: j.found,
+                    end: Some(j.value),
+                }),
+                Err(fault) => Err(fault),
+            }
+        }
+        None => Ok(JudgedEnd { found, end: None }),
+    }
+}
+
+/// A `return` at this place.
+pub fn judge_return(
+    alloc: Global,
+    found: Option<Refusal>,
+    nodes: &NamedNodes,
+    around: &Setting,
+    value: Option<ExprId>,
+    at: Place,
+) -> Result<Option<Refusal>, NoMemory>
+    requires { IsBelow (length nodes.now.exprs) value }
+    ensures { IfOk result (λ r. r ≡ judged around.now found (returned at (part_at (exprs_of nodes.now) value) ∷ end_parts (part_at (exprs_of nodes.now) value))) }
+{
+    match judge_end(alloc, found, nodes, around, value) {
+        Ok(j) => Ok(judged_return(j.found, around, j.end, at)),
+        Err(fault) => Err(fault),
+    }
+}
+
+/// A `yield?` at this place.
+pub fn judge_yield(
+    alloc: Global,
+    found: Option<Refusal>,
+    nodes: &NamedNodes,
+    around: &Setting,
+    e: ExprId,
+    at: Place,
+) -> Result<Option<Refusal>, NoMemory>
+    requires { e.0 < length nodes.now.exprs }
+    ensures { IfOk result (λ r. r ≡ judged around.now found (yielded at (expr_at (exprs_of nodes.now) e) ∷ expr_parts (expr_at (exprs_of nodes.now) e))) }
+{
+    match judge_value(alloc, found, nodes, around, e) {
+        Ok(j) => {
+            let suspension = suspends(nodes, around, e);
+            Ok(judged_yield(j.found, around, suspension, place_of(nodes, e), at))
+        }
+        Err(fault) => Err(fault),
+    }
+}

@@ -1,6 +1,0 @@
-pub mod BodyLemmas
-pub mod DeclaredLemmas
-pub mod LocalLemmas
-pub mod NodePlaces
-pub mod PackageLaws
-pub mod TypedLaws

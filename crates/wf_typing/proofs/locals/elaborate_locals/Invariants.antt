@@ -1,6 +1,0 @@
-use Rattle.wf_typed_bodies.specs.StmtGrowth.{GrowsExprs, IsBegun}
-use Rattle.wf_typing.specs.Locals.{places_named, FirstHaveNodes}
-use Rattle.wf_typing.proofs.locals.elaborate_locals.Given as goal
-
-abbrev pub invariant-loop-number : goal.invariant-loop-number
-invariant-loop-number l = GrowsExprs l.fn.nodes l.nodes × (IsBegun l.named l.nodes × FirstHaveNodes l.around l.nodes l.number (places_named l.locals))

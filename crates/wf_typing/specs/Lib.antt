@@ -1,4 +1,0 @@
-pub mod Bodies
-pub mod DeclaredNodes
-pub mod Locals
-pub mod Typing

@@ -1,5 +1,0 @@
-use Rattle.wf_uses.proofs.MeaningLaws.{calls-fit}
-use Rattle.wf_uses.proofs.laws.where_nothing_is_found_every_call_fits.Goals as goal
-
-pub returns : goal.returns
-returns c = calls-fit

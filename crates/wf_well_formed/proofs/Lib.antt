@@ -1,9 +1,0 @@
-pub mod BoolLemmas
-pub mod DeclForms
-pub mod ExprForms
-pub mod ExprsKept
-pub mod PackageKept
-pub mod ReadPackages
-pub mod SpeltTokens
-pub mod StmtForms
-pub mod StmtsKept

@@ -1,5 +1,0 @@
-use Rattle.wf_well_formed.proofs.PackageKept.{resolving_keeps_form}
-use Rattle.wf_well_formed.proofs.laws.resolving_keeps_the_form.Goals as goal
-
-pub returns : goal.returns
-returns c = resolving_keeps_form

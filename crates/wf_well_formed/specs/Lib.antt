@@ -1,4 +1,0 @@
-pub mod Examples
-pub mod FormLaws
-pub mod TokenForms
-pub mod WellFormed

@@ -1,5 +1,0 @@
-use Rattle.wf_well_named.proofs.PackageLaws.{package-named}
-use Rattle.wf_well_named.proofs.laws.a_package_that_breaks_no_rule_is_well_named.Goals as goal
-
-pub returns : goal.returns
-returns c = package-named

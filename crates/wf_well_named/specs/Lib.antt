@@ -1,4 +1,0 @@
-pub mod Kept
-pub mod Ordered
-pub mod ResolvedScopes
-pub mod Unbroken
