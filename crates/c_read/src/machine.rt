@@ -11,8 +11,8 @@ ghost use Rattle.c_read.specs.Machines.{AnswersMeeting, AnswersToken, AnswersEnd
 use c_read_grammar::{ItemSym, Sym, Want};
 use c_read_nodes::{Maker, Stack, Value};
 use c_read_table::{Move, Wants, may_end, move_of};
-use c_text::Unit;
 use c_read_tokens::Kind;
+use c_text::Unit;
 use std::alloc::Global;
 use wf_text::NoMemory;
 

@@ -12,8 +12,8 @@ ghost use Rattle.c_read.specs.Reading.{HasEnding, EndsThere, StepsThere, StepsOn
 
 use crate::faults::ReadFault;
 use crate::machine::Machine;
-use c_text::{CMark, Unit};
 use c_read_tokens::{Kind, behind_lines, first_piece, gap_len};
+use c_text::{CMark, Unit};
 use std::alloc::Global;
 use wf_text::NoMemory;
 

@@ -9,8 +9,8 @@ ghost use Rattle.c_read_nodes.specs.Shapes.{value_expr, expr_in, is_pointer, is_
 use crate::stack::Stack;
 use crate::values::Value;
 use c_read_grammar::{Action, ExprAction, StmtAction};
-use c_text::{CExpr, CExprId, COp, Unit};
 use c_read_tokens::repeats;
+use c_text::{CExpr, CExprId, COp, Unit};
 
 /// Whether an expression is a literal.
 fn is_literal(unit: &Unit, e: CExprId) -> bool

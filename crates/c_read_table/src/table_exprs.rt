@@ -9,8 +9,8 @@ use crate::moves::Move;
 use crate::table_types;
 use c_read_grammar::Want::{Perform, Read};
 use c_read_grammar::{Action, ExprAction, ExprSym, Sym, TokenSym, TypeAction};
-use c_text::{CMark, COp, CUnary, CWord};
 use c_read_tokens::{Kind, repeats};
+use c_text::{CMark, COp, CUnary, CWord};
 use std::alloc::Global;
 use wf_text::NoMemory;
 

@@ -9,8 +9,8 @@ use crate::moves::Move;
 use crate::{table_stmts, table_types};
 use c_read_grammar::Want::{Perform, Read};
 use c_read_grammar::{Action, ExprSym, ItemAction, ItemSym, StmtSym, Sym, TokenSym, TypeAction};
-use c_text::{CMark, COp, CWord, Linkage};
 use c_read_tokens::Kind;
+use c_text::{CMark, COp, CWord, Linkage};
 use std::alloc::Global;
 use wf_text::NoMemory;
 

@@ -9,8 +9,8 @@ use crate::moves::Move;
 use crate::table_exprs;
 use c_read_grammar::Want::{Perform, Read};
 use c_read_grammar::{Action, ExprAction, ExprSym, StmtAction, StmtSym, Sym, TokenSym};
-use c_text::{CMark, COp, CWord};
 use c_read_tokens::Kind;
+use c_text::{CMark, COp, CWord};
 use std::alloc::Global;
 use wf_text::NoMemory;
 

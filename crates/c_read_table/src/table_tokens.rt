@@ -8,8 +8,8 @@ ghost use Rattle.c_read_table.specs.Moves.{seen};
 use crate::moves::Move;
 use c_read_grammar::Want::Perform;
 use c_read_grammar::{Action, TokenSym, TypeAction};
-use c_text::{CMark, COp, CWord};
 use c_read_tokens::Kind;
+use c_text::{CMark, COp, CWord};
 use std::alloc::Global;
 use wf_text::NoMemory;
 

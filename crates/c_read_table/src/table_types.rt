@@ -8,8 +8,8 @@ ghost use Rattle.c_read_table.specs.Moves.{seen};
 use crate::moves::Move;
 use c_read_grammar::Want::{Perform, Read};
 use c_read_grammar::{Action, Sym, TokenSym, TypeAction};
-use c_text::{CUint, CWord};
 use c_read_tokens::Kind;
+use c_text::{CUint, CWord};
 use std::alloc::Global;
 use wf_text::NoMemory;
 

@@ -23,4 +23,3 @@ pub use nodes::{CArg, CCall, CExpr, CField, CFieldType, CItem, CLocal, CParam, C
 pub use printing::{print, print_len};
 pub use tokens::{CMark, CWord};
 pub use unit::Unit;
-

@@ -18,7 +18,6 @@ use std::marker::Model;
 use wf_text::NoMemory;
 
 /// A C text as a tree. Its items stand in the text in the order in which they were added.
-#[derive(Drop)]
 pub struct Unit {
     names: IndexSet<Vec<u8>>,
     strings: Vec<CList<u8>>,
@@ -26,6 +25,19 @@ pub struct Unit {
     stmts: Vec<CStmt>,
     items: Vec<CItem>,
     alloc: Global,
+}
+
+impl Drop for Unit {
+    fn drop(self) {
+        let Unit {
+            names: _,
+            strings: _,
+            exprs: _,
+            stmts: _,
+            items: _,
+            alloc: _,
+        } = self;
+    }
 }
 
 impl Model for Unit {

@@ -12,13 +12,24 @@ use std::alloc::{AllocError, Global};
 use std::marker::Model;
 
 /// A package as its files spell it.
-#[derive(Drop)]
 pub struct Package {
     name: Vec<u8>,
     texts: Texts,
     exprs: Vec<ExprNode>,
     stmts: Vec<StmtNode>,
     decls: Vec<DeclNode>,
+}
+
+impl Drop for Package {
+    fn drop(self) {
+        let Package {
+            name: _,
+            texts: _,
+            exprs: _,
+            stmts: _,
+            decls: _,
+        } = self;
+    }
 }
 
 impl Model for Package {

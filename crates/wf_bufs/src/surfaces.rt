@@ -80,11 +80,20 @@ impl Model for StructDecl {
 
 /// The public surface of a package. `statuses` has the text of each status by number, that of ok, which is
 /// empty, and those of the base statuses included.
-#[derive(Drop)]
 pub struct PublicSurface {
     pub package_name: Vec<u8>,
     pub statuses: Vec<Vec<u8>>,
     pub structs: Vec<StructDecl>,
+}
+
+impl Drop for PublicSurface {
+    fn drop(self) {
+        let PublicSurface {
+            package_name: _,
+            statuses: _,
+            structs: _,
+        } = self;
+    }
 }
 
 impl Model for PublicSurface {

@@ -18,7 +18,6 @@ use wf_ast::{ExprId, StmtId, TextId};
 const NUMBERS: usize = 4294967296;
 
 /// A package whose names are resolved, as far as it is built.
-#[derive(Drop)]
 pub struct NamedNodes {
     pub(crate) package_name: Vec<u8>,
     pub(crate) texts: Texts,
@@ -29,6 +28,22 @@ pub struct NamedNodes {
     pub(crate) structs: Vec<NamedStruct>,
     pub(crate) methods: Vec<NamedMethod>,
     pub(crate) order: Vec<u32>,
+}
+
+impl Drop for NamedNodes {
+    fn drop(self) {
+        let NamedNodes {
+            package_name: _,
+            texts: _,
+            exprs: _,
+            stmts: _,
+            consts: _,
+            statuses: _,
+            structs: _,
+            methods: _,
+            order: _,
+        } = self;
+    }
 }
 
 impl Model for NamedNodes {

@@ -9,16 +9,16 @@ ghost use Rattle.wf_names_resolve.specs.Package.{resolved_package};
 ghost use Rattle.wf_names_laws.specs.Ordered.{HasOrder};
 ghost use Rattle.wf_names.specs.Naming.{IsMisnamed, IsResolved};
 
+use graphs::order::callees_first;
 use std::alloc::Global;
 use wf_ast::Package;
-use graphs::order::callees_first;
-use wf_names_scopes::tables::tables;
+use wf_named::{Named, NamedNodes};
+use wf_names_nodes::packages::resolve_package;
+use wf_names_numbers::packages::number_package;
 use wf_names_refusal::calls::call_rows;
 use wf_names_refusal::deciding::deciding;
-use wf_named::{Named, NamedNodes};
 use wf_names_rules::tables::Tables;
-use wf_names_numbers::packages::number_package;
-use wf_names_nodes::packages::resolve_package;
+use wf_names_scopes::tables::tables;
 use wf_text::faults::{NoMemory, PhaseFault};
 
 // The numbers of all methods, each behind those that it calls. Methods that keep the rules of names have such an order.

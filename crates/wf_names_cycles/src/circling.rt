@@ -5,10 +5,10 @@ ghost use Rattle.wf_names_rules.specs.Graphs.{AreWithin};
 ghost use Rattle.wf_names_rules.specs.Found.{RecursName};
 ghost use Rattle.wf_names_cycles.specs.Circling.{DecidesWith};
 
+use graphs::circles::circle_flags;
 use std::alloc::Global;
 use wf_ast::Sequence;
 use wf_ast::parsed::Name;
-use graphs::circles::circle_flags;
 use wf_names_rules::lists::flagged;
 use wf_text::faults::NoMemory;
 use wf_text::rules::Refusal;

@@ -16,8 +16,8 @@ use indexmap::IndexMap;
 use std::alloc::Global;
 use wf_ast::Package;
 use wf_ast::parsed::{Decl, DeclNode};
-use wf_names_rules::tables::Tables;
 use wf_names_resolve::numbers::PackageNumbers;
+use wf_names_rules::tables::Tables;
 use wf_text::faults::NoMemory;
 
 // How many statuses the language has, with the one that says that all is fine.

@@ -16,8 +16,8 @@ use indexmap::IndexMap;
 use std::alloc::Global;
 use wf_ast::Package;
 use wf_ast::parsed::{Block, Field, Name, TypeExpr};
-use wf_names_scopes::scopes;
 use wf_names_resolve::numbers::ScopeNumbers;
+use wf_names_scopes::scopes;
 use wf_text::faults::NoMemory;
 
 /// Where no constant is declared yet.

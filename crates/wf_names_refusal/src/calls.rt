@@ -13,9 +13,9 @@ use std::alloc::Global;
 use wf_ast::parsed::{Block, Decl, DeclNode, Field, Name, TypeExpr};
 use wf_ast::{Package, Sequence};
 use wf_names_cycles::methods::method_row;
+use wf_names_rules::tables::{Scope, Tables};
 use wf_names_scopes::scopes::{enter_method, outside};
 use wf_names_scopes::uses::constants;
-use wf_names_rules::tables::{Scope, Tables};
 use wf_text::faults::NoMemory;
 
 // The methods that a method of the struct with the name `owner` calls, by what is known in it.

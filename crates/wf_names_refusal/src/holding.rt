@@ -6,11 +6,11 @@ ghost use Rattle.wf_names_sizes.specs.Orders.{IsHoldingOrder};
 ghost use Rattle.wf_names_sizes.specs.StructSizes.{AreHolding};
 ghost use Rattle.wf_names_refusal.specs.StructRows.{AreStructRows};
 
+use graphs::circles::circle_flags;
+use graphs::order::order_off_circles;
 use std::alloc::Global;
 use wf_ast::{Package, Sequence};
 use wf_names_cycles::structs::{numbered, struct_names, struct_rows};
-use graphs::circles::circle_flags;
-use graphs::order::order_off_circles;
 use wf_text::faults::NoMemory;
 
 // For each struct that is declared, in order, the numbers of those that it holds.

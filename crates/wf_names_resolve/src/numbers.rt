@@ -4,7 +4,6 @@ use indexmap::IndexMap;
 use wf_names_rules::tables::{Scope, Tables};
 
 /// What the whole package knows. Names stand by their texts.
-#[derive(Drop)]
 pub struct PackageNumbers {
     /// What the rules of names ask of it.
     pub tables: Tables,
@@ -16,12 +15,33 @@ pub struct PackageNumbers {
     pub fields: IndexMap<(u32, u32), u32>,
 }
 
+impl Drop for PackageNumbers {
+    fn drop(self) {
+        let PackageNumbers {
+            tables: _,
+            statuses: _,
+            structs: _,
+            fields: _,
+        } = self;
+    }
+}
+
 /// What is known at a place besides: the places of constants, arguments and locals, from 0, by their names.
-#[derive(Drop)]
 pub struct ScopeNumbers {
     /// What the rules of names ask of it, with the struct of `this`.
     pub scope: Scope,
     pub constants: IndexMap<u32, u32>,
     pub args: IndexMap<u32, u32>,
     pub locals: IndexMap<u32, u32>,
+}
+
+impl Drop for ScopeNumbers {
+    fn drop(self) {
+        let ScopeNumbers {
+            scope: _,
+            constants: _,
+            args: _,
+            locals: _,
+        } = self;
+    }
 }

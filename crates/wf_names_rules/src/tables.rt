@@ -16,7 +16,6 @@ use wf_ast::{Package, TextId};
 use wf_base::base_methods::{Kind, base_method};
 
 /// What the whole package knows. Names stand by their texts, methods by their numbers in order.
-#[derive(Drop)]
 pub struct Tables {
     pub statuses: IndexSet<u32>,
     pub structs: IndexSet<u32>,
@@ -31,13 +30,37 @@ pub struct Tables {
     pub args: Vec<IndexSet<u32>>,
 }
 
+impl Drop for Tables {
+    fn drop(self) {
+        let Tables {
+            statuses: _,
+            structs: _,
+            fields: _,
+            methods: _,
+            method_names: _,
+            publics: _,
+            args: _,
+        } = self;
+    }
+}
+
 /// What is known at a place besides: constants, the struct of `this` by its name, arguments and locals.
-#[derive(Drop)]
 pub struct Scope {
     pub constants: IndexMap<u32, Sort>,
     pub this: Option<u32>,
     pub args: IndexMap<u32, Sort>,
     pub locals: IndexMap<u32, Sort>,
+}
+
+impl Drop for Scope {
+    fn drop(self) {
+        let Scope {
+            constants: _,
+            this: _,
+            args: _,
+            locals: _,
+        } = self;
+    }
 }
 
 /// The bytes of a text, none where the package doesn't have it.

@@ -12,7 +12,6 @@ use std::marker::Model;
 
 /// Names with their bytes, and the numbers of the calls that fail, counted from 0. A name that isn't held fails
 /// too. Nothing else does.
-#[derive(Drop)]
 pub struct MemInputs {
     alloc: Global,
     held: Vec<(String, Vec<u8>)>,
@@ -20,6 +19,19 @@ pub struct MemInputs {
     last_failed: Option<String>,
     calls: u64,
     faults: u64,
+}
+
+impl Drop for MemInputs {
+    fn drop(self) {
+        let MemInputs {
+            alloc: _,
+            held: _,
+            failing: _,
+            last_failed: _,
+            calls: _,
+            faults: _,
+        } = self;
+    }
 }
 
 impl Model for MemInputs {

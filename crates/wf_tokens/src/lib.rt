@@ -20,4 +20,3 @@ pub use lexer::Lexer;
 pub use symbols::{Comparison, Operator, Symbol};
 pub use token::Token;
 pub use words::Word;
-

@@ -1,8 +1,8 @@
 // What a walk over the resolved tree answers.
 
 use wf_ast::{ExprId, ExprNode, Sequence};
-use wf_types_exprs::found::Value;
 use wf_text::Place;
+use wf_types_exprs::found::Value;
 use wf_types_rules::{Meaning, Operand};
 
 /// An expression whose nodes are there: the number of its node, and what it means, with its place.

@@ -15,12 +15,12 @@ use crate::elaborated::{Elaborated, MadeNode};
 use std::alloc::Global;
 use wf_ast::{Expr, ExprId, ExprNode, Op, Sequence, Ty};
 use wf_base::Width;
+use wf_named::{BaseType, NamedCore, NamedPath, NamedType, Variable};
+use wf_text::Place;
 use wf_types_meanings::values::{if_number, slices};
 use wf_types_meanings::variables::{typed, variable};
-use wf_named::{BaseType, NamedCore, NamedPath, NamedType, Variable};
 use wf_types_operators::given::meaning_of_operator;
 use wf_types_operators::meanings::all_of;
-use wf_text::Place;
 use wf_types_rules::{Meaning, Operand, Setting};
 
 /// The type of what means this. A constant has all numbers of its width, and 64 bits where it has none.

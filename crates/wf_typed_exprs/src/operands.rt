@@ -6,9 +6,9 @@ ghost use Rattle.wf_types_exprs.specs.Judged.{operand_behind as behind};
 use crate::elaborated::{Elaborated, MadeOperands};
 use std::alloc::Global;
 use wf_ast::Sequence;
-use wf_types_exprs::operands::operand_behind;
 use wf_text::Place;
 use wf_text::faults::NoMemory;
+use wf_types_exprs::operands::operand_behind;
 
 /// No operand yet.
 pub fn no_operand(alloc: Global) -> MadeOperands

@@ -25,14 +25,14 @@ use crate::typed_exprs::TypedExpr;
 use std::alloc::Global;
 use wf_ast::parsed::Link;
 use wf_ast::{Expr, ExprId, ExprNode, Op, Ty};
+use wf_named::{NamedCall, NamedCallee, NamedExpr, NamedNodes, NamedPath, NamedType};
+use wf_text::Place;
+use wf_text::faults::NoMemory;
 use wf_types_exprs::found::Value;
 use wf_types_exprs::parts::inner_answer;
 use wf_types_exprs::reading::place_of;
 use wf_types_meanings::values::{as_flag, as_value, conversion, elements, if_number, number_in};
 use wf_types_meanings::variables::typed;
-use wf_named::{NamedCall, NamedCallee, NamedExpr, NamedNodes, NamedPath, NamedType};
-use wf_text::Place;
-use wf_text::faults::NoMemory;
 use wf_types_rules::{Meaning, Setting};
 
 // Adds a node whose parts are there.

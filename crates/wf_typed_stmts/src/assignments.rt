@@ -18,13 +18,13 @@ use crate::calls::add_call;
 use crate::targets::add_target;
 use std::alloc::Global;
 use wf_ast::{ExprId, Op, Stmt, StmtNode};
-use wf_typed_exprs::forms::type_meant;
-use wf_types_meanings::marks::is_pure;
 use wf_named::{NamedCall, NamedCallee, NamedNodes, NamedTarget};
 use wf_text::Place;
 use wf_text::faults::NoMemory;
-use wf_types_stmts::assignments::as_call;
+use wf_typed_exprs::forms::type_meant;
+use wf_types_meanings::marks::is_pure;
 use wf_types_rules::Setting;
+use wf_types_stmts::assignments::as_call;
 
 // Whether a call asks a pure base method.
 fn is_answer(callee: NamedCallee) -> bool

@@ -20,12 +20,12 @@ use crate::lists::{all_of, one, two};
 use std::alloc::Global;
 use std::marker::Model;
 use wf_ast::{Expr, ExprId, ExprNode, Op, StmtId, StmtNode, Ty, TypedNodes};
-use wf_typed_exprs::typed_exprs::TypedExpr;
-use wf_typed_exprs::walk::{elaborate_element, elaborate_expr, elaborate_path};
-use wf_typed_exprs::{Building, Elaborated};
 use wf_named::{NamedNodes, NamedPath};
 use wf_text::Place;
 use wf_text::faults::NoMemory;
+use wf_typed_exprs::typed_exprs::TypedExpr;
+use wf_typed_exprs::walk::{elaborate_element, elaborate_expr, elaborate_path};
+use wf_typed_exprs::{Building, Elaborated};
 use wf_types_rules::Setting;
 
 // How many statements a typed package may have.

@@ -15,10 +15,10 @@ use crate::building::BodyBuilding;
 use std::alloc::Global;
 use wf_ast::{Callee, ExprId, Sequence, Stmt, StmtNode};
 use wf_base::Mark;
-use wf_types_exprs::reading::as_path;
 use wf_named::{NamedCall, NamedCallee, NamedNodes};
 use wf_text::Place;
 use wf_text::faults::NoMemory;
+use wf_types_exprs::reading::as_path;
 use wf_types_rules::Setting;
 
 // Adds the nodes of an argument. A reader or writer is handed on by its path.

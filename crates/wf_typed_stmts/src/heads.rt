@@ -17,8 +17,8 @@ use wf_ast::parsed::{Block, Given, LoopClause, Via};
 use wf_ast::{AxiomRef, Clause, ExprId, LoopHead, Sequence, TextId};
 use wf_named::NamedNodes;
 use wf_text::faults::NoMemory;
-use wf_types_stmts::ends::block_leaves;
 use wf_types_rules::Setting;
+use wf_types_stmts::ends::block_leaves;
 
 /// Adds the nodes of a condition, or of another expression of which the tree alone is wanted.
 pub fn add_tree(

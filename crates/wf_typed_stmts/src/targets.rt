@@ -10,9 +10,9 @@ ghost use Rattle.wf_typed_stmts.specs.StmtGrowth.{IsBegun, GrowsExprs};
 
 use crate::building::BodyBuilding;
 use std::alloc::Global;
-use wf_typed_exprs::Elaborated;
 use wf_named::{NamedNodes, NamedTarget};
 use wf_text::faults::NoMemory;
+use wf_typed_exprs::Elaborated;
 use wf_types_rules::Setting;
 
 /// Adds the nodes of a target, and tells what it means.

@@ -16,8 +16,8 @@ use std::alloc::Global;
 use wf_ast::{Block, Sequence, Ty};
 use wf_named::{NamedMethod, NamedNodes};
 use wf_text::faults::NoMemory;
-use wf_types_decls::packages::{judge_head, round_body};
 use wf_typed_stmts::{BodyBuilding, elaborate_body};
+use wf_types_decls::packages::{judge_head, round_body};
 use wf_types_rules::Setting;
 
 // The body of a method, and what stands round it.

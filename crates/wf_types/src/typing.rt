@@ -21,10 +21,10 @@ use std::alloc::Global;
 use wf_ast::{Block, Sequence, Ty, Typed, TypedNodes};
 use wf_named::{Named, NamedNodes};
 use wf_text::faults::{NoMemory, PhaseFault};
+use wf_typed_stmts::BodyBuilding;
 use wf_types_decls::declarations::judge_consts;
 use wf_types_decls::declared_types::judge_fields;
 use wf_types_decls::packages::{round_methods, type_refusal};
-use wf_typed_stmts::BodyBuilding;
 use wf_types_rules::Setting;
 
 // How many numbers there are for statuses, for structs and for methods.

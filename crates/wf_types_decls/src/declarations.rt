@@ -16,20 +16,20 @@ use std::alloc::Global;
 use wf_ast::parsed::Name;
 use wf_ast::{Sequence, Ty};
 use wf_base::Mark;
-use wf_types_exprs::found::Value;
-use wf_types_exprs::whole::judge_type;
-use wf_types_meanings::places::{at_if, told};
-use wf_types_meanings::types::{constant_with, lies_in};
-use wf_types_meanings::values::number_in;
 use wf_named::{NamedConst, NamedNodes};
-use wf_types_operators::meanings::is_constant;
 use wf_text::categories::Category;
 use wf_text::faults::NoMemory;
 use wf_text::precedence::sooner;
 use wf_text::rules::{Refusal, Rule};
 use wf_text::status_text::category;
-use wf_types_stmts::targets::judge_value;
+use wf_types_exprs::found::Value;
+use wf_types_exprs::whole::judge_type;
+use wf_types_meanings::places::{at_if, told};
+use wf_types_meanings::types::{constant_with, lies_in};
+use wf_types_meanings::values::number_in;
+use wf_types_operators::meanings::is_constant;
 use wf_types_rules::{Constant, Meaning, Role, Setting};
+use wf_types_stmts::targets::judge_value;
 
 const BASE_STATUSES: [&str; 10] = [
     "",

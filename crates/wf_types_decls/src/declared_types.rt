@@ -13,12 +13,12 @@ ghost use Rattle.wf_types_decls.specs.Packages.{types_or_none};
 use std::alloc::Global;
 use wf_ast::{Sequence, Ty};
 use wf_base::Mark;
-use wf_types_exprs::found::JudgedType;
-use wf_types_exprs::whole::judge_type;
 use wf_named::{NamedMethod, NamedNodes, NamedStruct, NamedType, NamedVar};
 use wf_text::StructId;
 use wf_text::faults::NoMemory;
 use wf_text::rules::Refusal;
+use wf_types_exprs::found::JudgedType;
+use wf_types_exprs::whole::judge_type;
 use wf_types_rules::{MethodType, Role, Setting};
 
 /// Variables: what decides so far, and their types in order, each where it breaks no rule.

@@ -21,9 +21,9 @@ use wf_base::Mark;
 use wf_named::{Named, NamedMethod, NamedNodes};
 use wf_text::faults::NoMemory;
 use wf_text::rules::Refusal;
+use wf_types_rules::{Constant, MethodType, Role, Setting};
 use wf_types_stmts::ends::judge_whole_body;
 use wf_types_stmts::statements::judge_block;
-use wf_types_rules::{Constant, MethodType, Role, Setting};
 
 /// The variables that a method declares: what decides so far, and the types of its arguments and its locals.
 #[derive(Drop)]
@@ -134,16 +134,13 @@ pub fn judge_head(
 fn entered(around: Setting, head: JudgedHead, fields: Sequence<Option<Ty>>, mark: Mark) -> Setting
     ensures { result ≡ record around { fields = fields; args = head.args; locals = head.locals; mark = mark; gives = head.gives } }
 {
-    Setting {
-        constants: around.constants,
-        fields,
-        args: head.args,
-        locals: head.locals,
-        methods: around.methods,
-        statuses: around.statuses,
-        mark,
-        gives: head.gives,
-    }
+    let mut inside = around;
+    inside.fields = fields;
+    inside.args = head.args;
+    inside.locals = head.locals;
+    inside.mark = mark;
+    inside.gives = head.gives;
+    inside
 }
 
 /// What stands round the body of a method: what stands round every one, and what it declares.

@@ -8,10 +8,10 @@ ghost use Rattle.wf_types_exprs.specs.Judged.{operand_behind as behind};
 use crate::found::{Bound, JudgedArgs, JudgedOperands, Value};
 use std::alloc::Global;
 use wf_ast::Sequence;
-use wf_types_meanings::values::number_in;
-use wf_types_operators::meanings::is_constant;
 use wf_text::faults::NoMemory;
 use wf_text::rules::Refusal;
+use wf_types_meanings::values::number_in;
+use wf_types_operators::meanings::is_constant;
 use wf_types_rules::{Meaning, Operand};
 
 /// No operand yet.

@@ -17,6 +17,10 @@ ghost use Rattle.wf_types_exprs.specs.Found.{no_number as no_number_at, no_flag 
 use crate::found::{Judged, JudgedArgs, JudgedEnds, JudgedOperands, Value};
 use wf_ast::{Op, Ty};
 use wf_base::Width;
+use wf_named::{NamedCall, NamedCallee, NamedPath};
+use wf_text::Place;
+use wf_text::precedence::sooner;
+use wf_text::rules::{Refusal, Rule};
 use wf_types_meanings::calls::{answer_type, declared_mark, is_base, pure_answer};
 use wf_types_meanings::marks::{is_coroutine, is_impure, is_pure, same_mark};
 use wf_types_meanings::places::{at_if, first_place, told};
@@ -25,14 +29,10 @@ use wf_types_meanings::values::{
     is_argument, may_be_handed, slice_in as slice, slices, takes,
 };
 use wf_types_meanings::variables::{typed, variable};
-use wf_named::{NamedCall, NamedCallee, NamedPath};
 use wf_types_operators::fitting::not_fitting;
 use wf_types_operators::given::{has_no_value, meaning_of_operator};
 use wf_types_operators::meanings::{greatest, is_flag, is_number, is_value};
 use wf_types_operators::taken::not_taken;
-use wf_text::Place;
-use wf_text::precedence::sooner;
-use wf_text::rules::{Refusal, Rule};
 use wf_types_rules::{Meaning, Operand, Setting};
 
 fn no_number(v: Value) -> Option<Place>

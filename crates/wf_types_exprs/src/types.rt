@@ -12,15 +12,15 @@ ghost use Rattle.wf_types_exprs.specs.Found.{slice_type_found, array_type_found,
 use crate::found::{Bound, WrittenType};
 use wf_ast::Ty;
 use wf_base::Width;
+use wf_named::BaseType;
+use wf_text::precedence::sooner;
+use wf_text::rules::{Refusal, Rule};
+use wf_text::{Place, StructId};
 use wf_types_meanings::places::{at_if, told};
 use wf_types_meanings::types::{
     array_type, base_of, holds_zero, is_numeric, is_zero_kept, may_be, refined_type,
 };
-use wf_named::BaseType;
 use wf_types_operators::meanings::greatest;
-use wf_text::precedence::sooner;
-use wf_text::rules::{Refusal, Rule};
-use wf_text::{Place, StructId};
 use wf_types_rules::Role;
 
 fn slices_of(plain: Option<Width>) -> Option<Ty>

@@ -29,11 +29,11 @@ use crate::types::{
 use std::alloc::Global;
 use wf_ast::parsed::{Bounds, Link, Prefix};
 use wf_ast::{ExprId, Ty};
-use wf_types_meanings::arguments::wanted;
 use wf_named::{BaseType, NamedCall, NamedCallee, NamedCore, NamedExpr, NamedNodes, NamedType};
 use wf_text::Place;
 use wf_text::faults::NoMemory;
 use wf_text::rules::Refusal;
+use wf_types_meanings::arguments::wanted;
 use wf_types_rules::{Meaning, Role, Setting};
 
 /// An expression of the package.

@@ -13,10 +13,10 @@ use crate::parts::whole_answer;
 use crate::types::found_at_place;
 use crate::walk::{judge_call, judge_written};
 use std::alloc::Global;
-use wf_types_meanings::types::allowed;
 use wf_named::{NamedCall, NamedNodes, NamedType};
 use wf_text::faults::NoMemory;
 use wf_text::rules::Refusal;
+use wf_types_meanings::types::allowed;
 use wf_types_rules::{Role, Setting};
 
 /// A type at its place: a declaration's, or the one behind `as`.

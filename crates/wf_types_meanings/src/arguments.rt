@@ -9,8 +9,8 @@ use crate::variables::variable;
 use wf_ast::Ty;
 use wf_base::{ArgTy, BaseSig, Kind, Width};
 use wf_named::NamedCallee;
-use wf_types_operators::meanings::all_of;
 use wf_text::MethodId;
+use wf_types_operators::meanings::all_of;
 use wf_types_rules::{MethodType, Setting};
 
 /// The kind of values that a base method is called on.

@@ -13,8 +13,8 @@ use crate::variables::{typed, variable};
 use wf_ast::Ty;
 use wf_base::{BaseSig, Gives, Mark};
 use wf_named::NamedCallee;
-use wf_types_operators::meanings::all_of;
 use wf_text::MethodId;
+use wf_types_operators::meanings::all_of;
 use wf_types_rules::{Meaning, MethodType, Setting};
 
 /// The type of what a base method gives.

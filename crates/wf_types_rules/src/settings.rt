@@ -7,7 +7,6 @@ use wf_base::Mark;
 /// What stands round an expression: the constants that it knows, the types of the receiver's fields, of the arguments
 /// and of the locals, the package's methods and the texts of all statuses, by number; and the mark and the written
 /// result of its method. What breaks a rule is absent.
-#[derive(Drop)]
 pub struct Setting {
     pub constants: Sequence<Option<Constant>>,
     pub fields: Sequence<Option<Ty>>,
@@ -17,6 +16,21 @@ pub struct Setting {
     pub statuses: Sequence<Sequence<u8>>,
     pub mark: Mark,
     pub gives: Option<Option<Ty>>,
+}
+
+impl Drop for Setting {
+    fn drop(self) {
+        let Setting {
+            constants: _,
+            fields: _,
+            args: _,
+            locals: _,
+            methods: _,
+            statuses: _,
+            mark: _,
+            gives: _,
+        } = self;
+    }
 }
 
 /// Where a type is written.

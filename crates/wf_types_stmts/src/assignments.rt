@@ -13,6 +13,11 @@ ghost use Rattle.wf_types_stmts.specs.Targets.{call_in, right_value, lacks_value
 use crate::targets::{judge_target, judge_value};
 use std::alloc::Global;
 use wf_ast::{ExprId, Op, Ty};
+use wf_named::{NamedCall, NamedCallee, NamedExpr, NamedNodes, NamedTarget};
+use wf_text::Place;
+use wf_text::faults::NoMemory;
+use wf_text::precedence::sooner;
+use wf_text::rules::{Refusal, Rule};
 use wf_types_exprs::found::{JudgedValue, Value};
 use wf_types_exprs::reading::place_of;
 use wf_types_exprs::whole::judge_whole_call;
@@ -20,14 +25,9 @@ use wf_types_meanings::calls::{gives_no_value, is_coroutine_called};
 use wf_types_meanings::marks::is_coroutine;
 use wf_types_meanings::places::{at_if, told};
 use wf_types_meanings::values::{has_room, takes, type_in};
-use wf_named::{NamedCall, NamedCallee, NamedExpr, NamedNodes, NamedTarget};
 use wf_types_operators::fitting::not_fitting;
 use wf_types_operators::meanings::is_status;
 use wf_types_operators::taken::not_taken;
-use wf_text::Place;
-use wf_text::faults::NoMemory;
-use wf_text::precedence::sooner;
-use wf_text::rules::{Refusal, Rule};
 use wf_types_rules::{Meaning, Operand, Setting};
 
 /// The right side of `=`: what decides so far, what it means, with its place, and whether it is a call that gives no

@@ -13,12 +13,12 @@ ghost use Rattle.wf_types_stmts.specs.Statements.{end_found};
 
 use wf_ast::parsed::{Arm, Block};
 use wf_ast::{ExprId, StmtId};
-use wf_types_meanings::marks::is_coroutine;
-use wf_types_meanings::places::{at_if, told};
 use wf_named::{NamedExpr, NamedNodes, NamedStmt};
 use wf_text::Place;
 use wf_text::precedence::sooner;
 use wf_text::rules::{Refusal, Rule};
+use wf_types_meanings::marks::is_coroutine;
+use wf_types_meanings::places::{at_if, told};
 use wf_types_rules::Setting;
 
 /// Whether an expression is the word `true`.

@@ -17,18 +17,18 @@ use crate::targets::judge_value;
 use std::alloc::Global;
 use wf_ast::parsed::{Given, LoopClause, Via};
 use wf_ast::{ExprId, Sequence, Ty};
-use wf_types_exprs::found::{JudgedEnd, Value};
-use wf_types_exprs::reading::place_of;
-use wf_types_meanings::marks::is_coroutine;
-use wf_types_meanings::places::{at_if, told};
 use wf_named::{NamedExpr, NamedNodes};
-use wf_types_operators::meanings::{is_flag, is_number};
 use wf_text::categories::Category;
 use wf_text::faults::NoMemory;
 use wf_text::precedence::sooner;
 use wf_text::rules::{Refusal, Rule};
 use wf_text::status_text::category;
 use wf_text::{Place, StatusId};
+use wf_types_exprs::found::{JudgedEnd, Value};
+use wf_types_exprs::reading::place_of;
+use wf_types_meanings::marks::is_coroutine;
+use wf_types_meanings::places::{at_if, told};
+use wf_types_operators::meanings::{is_flag, is_number};
 use wf_types_rules::{Meaning, Setting};
 
 fn is_no_flag(of: Option<Meaning>) -> bool

@@ -13,10 +13,10 @@ use crate::results::{judge_claim, judge_clauses, judge_condition, judge_return, 
 use std::alloc::Global;
 use wf_ast::parsed::{Arm, Block, LoopClause};
 use wf_ast::{ExprId, StmtId};
-use wf_types_exprs::whole::judge_whole_call;
 use wf_named::{NamedCall, NamedNodes, NamedStmt};
 use wf_text::faults::NoMemory;
 use wf_text::rules::Refusal;
+use wf_types_exprs::whole::judge_whole_call;
 use wf_types_rules::Setting;
 
 // A call that is a whole statement.

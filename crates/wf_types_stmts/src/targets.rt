@@ -14,6 +14,11 @@ ghost use Rattle.wf_types_stmts.specs.Targets.{target_value};
 
 use std::alloc::Global;
 use wf_ast::ExprId;
+use wf_named::{NamedNodes, NamedPath, NamedTarget, Variable};
+use wf_text::Place;
+use wf_text::faults::NoMemory;
+use wf_text::precedence::sooner;
+use wf_text::rules::{Refusal, Rule};
 use wf_types_exprs::found::{Judged, JudgedValue, Value};
 use wf_types_exprs::parts::{base_value, judged_index};
 use wf_types_exprs::reading::place_of;
@@ -21,12 +26,7 @@ use wf_types_exprs::walk::judge_expr;
 use wf_types_meanings::marks::is_pure;
 use wf_types_meanings::places::{at_if, told};
 use wf_types_meanings::variables::variable;
-use wf_named::{NamedNodes, NamedPath, NamedTarget, Variable};
 use wf_types_operators::meanings::is_value;
-use wf_text::Place;
-use wf_text::faults::NoMemory;
-use wf_text::precedence::sooner;
-use wf_text::rules::{Refusal, Rule};
 use wf_types_rules::{Meaning, Setting};
 
 fn is_no_value(of: Option<Meaning>) -> bool
