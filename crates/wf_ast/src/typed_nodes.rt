@@ -6,7 +6,6 @@ use crate::sequences::Sequence;
 use crate::types::Ty;
 
 /// A package whose names are resolved and whose expressions have types.
-#[derive(Drop)]
 pub struct TypedNodes {
     /// The package's name.
     pub package: Sequence<u8>,
@@ -27,4 +26,22 @@ pub struct TypedNodes {
     pub bodies: Sequence<Block>,
     /// The numbers of all methods, each behind those that it calls.
     pub order: Sequence<u32>,
+}
+
+impl Drop for TypedNodes {
+    fn drop(self) {
+        let TypedNodes {
+            package: _,
+            statuses: _,
+            texts: _,
+            exprs: _,
+            types: _,
+            constants: _,
+            stmts: _,
+            structs: _,
+            methods: _,
+            bodies: _,
+            order: _,
+        } = self;
+    }
 }

@@ -74,19 +74,13 @@ impl Building {
         ensures built { IfOk result IsBuilt }
     {
         match taken_apart(alloc, self.exprs) {
-            Ok(all) => Ok(TypedNodes {
-                package: self.rest.package,
-                statuses: self.rest.statuses,
-                texts: self.rest.texts,
-                exprs: all.exprs,
-                types: all.types,
-                constants: all.constants,
-                stmts: self.rest.stmts,
-                structs: self.rest.structs,
-                methods: self.rest.methods,
-                bodies: self.rest.bodies,
-                order: self.rest.order,
-            }),
+            Ok(all) => {
+                let mut whole = self.rest;
+                whole.exprs = all.exprs;
+                whole.types = all.types;
+                whole.constants = all.constants;
+                Ok(whole)
+            }
             Err(fault) => Err(fault),
         }
     }

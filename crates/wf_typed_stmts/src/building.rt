@@ -66,19 +66,11 @@ impl BodyBuilding {
         match all_of(alloc, self.stmts) {
             Ok(stmts) => {
                 match self.building.finish(alloc) {
-                    Ok(nodes) => Ok(TypedNodes {
-                        package: nodes.package,
-                        statuses: nodes.statuses,
-                        texts: nodes.texts,
-                        exprs: nodes.exprs,
-                        types: nodes.types,
-                        constants: nodes.constants,
-                        stmts,
-                        structs: nodes.structs,
-                        methods: nodes.methods,
-                        bodies: nodes.bodies,
-                        order: nodes.order,
-                    }),
+                    Ok(nodes) => {
+                        let mut whole = nodes;
+                        whole.stmts = stmts;
+                        Ok(whole)
+                    }
                     Err(fault) => Err(fault),
                 }
             }

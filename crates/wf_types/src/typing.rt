@@ -34,19 +34,9 @@ const NUMBERS: usize = 4294967296;
 fn with_bodies(nodes: TypedNodes, bodies: Sequence<Block>) -> TypedNodes
     ensures { result ≡ record nodes { bodies = bodies } }
 {
-    TypedNodes {
-        package: nodes.package,
-        statuses: nodes.statuses,
-        texts: nodes.texts,
-        exprs: nodes.exprs,
-        types: nodes.types,
-        constants: nodes.constants,
-        stmts: nodes.stmts,
-        structs: nodes.structs,
-        methods: nodes.methods,
-        bodies,
-        order: nodes.order,
-    }
+    let mut whole = nodes;
+    whole.bodies = bodies;
+    whole
 }
 
 // The nodes of a package, where `types` knows the constants, `fields` are the types of fields by struct, and `around` stands
