@@ -1,0 +1,78 @@
+#!/usr/bin/env python3
+"""rule_examples.py PROGRAM: the examples of docs/RULES.md, each a whole file, through the built program.
+
+A block that begins with ```wuffs refused RULE LINE:COL has to be refused so. One that begins with ```wuffs passes stands
+under a rule and must not be refused by it, nor by any other but N9, by which methods with statements are refused as long
+as their bounds aren't checked.
+"""
+import pathlib
+import re
+import subprocess
+import sys
+import tempfile
+
+PAGE = pathlib.Path(__file__).resolve().parent.parent / "docs" / "RULES.md"
+
+
+def examples(page):
+    """The blocks of the page: line, rule of the section, the words after `wuffs`, text."""
+    section, block = None, None
+    for number, line in enumerate(page.splitlines(), 1):
+        heading = re.fullmatch(r"## ([A-Z]\d+)", line)
+        if block is None and heading:
+            section = heading.group(1)
+        elif block is None and line.startswith("```wuffs"):
+            block = (number, section, line.split()[1:], [])
+        elif block is not None and line == "```":
+            yield block[0], block[1], block[2], "".join(one + "\n" for one in block[3])
+            block = None
+        elif block is not None:
+            block[3].append(line)
+
+
+def answer(program, text):
+    with tempfile.TemporaryDirectory() as folder:
+        pathlib.Path(folder, "demo.wuffs").write_text(text)
+        ran = subprocess.run([program, "check", "demo", "demo.wuffs"], cwd=folder, capture_output=True, text=True, timeout=60)
+    return ran.stdout.strip()
+
+
+def fault(section, words, got):
+    """What is wrong with an answer, or None."""
+    if words and words[0] == "refused":
+        if words[1] != section:
+            return f"stands under {section}"
+        want = f"refused {words[1]} demo.wuffs:{words[2]}"
+        return None if got == want else f"want {want}, got {got}"
+    if words == ["passes"]:
+        fine = re.fullmatch(r"ok \d+ methods", got) or (section != "N9" and got.startswith("refused N9 "))
+        return None if fine else f"want a package that passes, got {got}"
+    return f"no such kind of example: {' '.join(words)}"
+
+
+def main():
+    if len(sys.argv) != 2:
+        sys.exit(__doc__)
+    program = str(pathlib.Path(sys.argv[1]).resolve())
+    passed = failed = 0
+    refused, passes = set(), set()
+    for line, section, words, text in examples(PAGE.read_text()):
+        wrong = fault(section, words, answer(program, text))
+        (refused if words[:1] == ["refused"] else passes).add(section)
+        if wrong is None:
+            passed += 1
+        else:
+            failed += 1
+            print(f"{PAGE.name}:{line}: {wrong}")
+    for rule in sorted(refused ^ passes):
+        failed += 1
+        print(f"{rule}: has no example that {'passes' if rule in refused else 'is refused'}")
+    if not passed:
+        failed += 1
+        print("there is no example")
+    print(f"rule_examples: {passed} passed, {failed} failed")
+    sys.exit(1 if failed else 0)
+
+
+if __name__ == "__main__":
+    main()
