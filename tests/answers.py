@@ -12,6 +12,9 @@ import tempfile
 
 USAGE = "usage: wuffsc COMMAND PKG [SCRIPT] FILE\n"
 
+# 262,144 tokens, the semicolons that line ends add included: ten of each constant, four of the status.
+TOKENS = b"".join(b"pri const c%d:base.u8=0\n" % n for n in range(26214)) + b'pub status "#a"\n'
+
 # A method with its first statement.
 METHOD = b"pub struct s()\npub func s.f() {\n    var x : base.u32\n"
 
@@ -48,6 +51,8 @@ ANSWERS = [
     ("a product above the type", {"t.wuffs": b"pri const X : base.u8 = (1 + 2) * 100\npub struct s()\n"}, "check t t.wuffs", "refused T5 t.wuffs:1:33\n", 1),
     ("a method that only declares a local", {"t.wuffs": METHOD + b"}\n"}, "check t t.wuffs", "ok 1 methods\n", 0),
     ("a method of 4,096 statements, which isn't built", {"t.wuffs": METHOD + b"    x = 1\n" * 4095 + b"}\n"}, "check t t.wuffs", "refused N9 t.wuffs:2:5\n", 1),
+    ("262,144 tokens", {"t.wuffs": TOKENS}, "check t t.wuffs", "ok 0 methods\n", 0),
+    ("one token more", {"t.wuffs": TOKENS + b'pub status "#b"\n'}, "check t t.wuffs", "refused L3 t.wuffs:26216:1\n", 1),
     ("one statement more", {"t.wuffs": METHOD + b"    x = 1\n" * 4096 + b"}\n"}, "check t t.wuffs", "refused L5 t.wuffs:4099:5\n", 1),
     ("two files", {"a.wuffs": b'pub status "#a"\n', "b.wuffs": b"pri const X : base.u8 = 256\n"},
      "check t a.wuffs b.wuffs", "refused T5 b.wuffs:1:25\n", 1),
