@@ -1,9 +1,9 @@
 #!/usr/bin/env python3
-"""rule_examples.py PROGRAM: the examples of docs/RULES.md, each a whole file, through the built program.
+"""rule_examples.py PROGRAM: the examples of docs/RULES.md and docs/LANGUAGE.md that are whole files, through the built program.
 
-A block that begins with ```wuffs refused RULE LINE:COL has to be refused so. One that begins with ```wuffs passes stands
-under a rule and must not be refused by it, nor by any other but N9, by which methods with statements are refused as long
-as their bounds aren't checked.
+A block that begins with ```wuffs refused RULE LINE:COL has to be refused so, and stands under its rule. One that begins with
+```wuffs passes must not be refused, but by N9, by which methods with statements are refused as long as their bounds aren't
+checked.
 """
 import pathlib
 import re
@@ -11,7 +11,7 @@ import subprocess
 import sys
 import tempfile
 
-PAGE = pathlib.Path(__file__).resolve().parent.parent / "docs" / "RULES.md"
+DOCS = pathlib.Path(__file__).resolve().parent.parent / "docs"
 
 
 def examples(page):
@@ -21,7 +21,7 @@ def examples(page):
         heading = re.fullmatch(r"## ([A-Z]\d+)", line)
         if block is None and heading:
             section = heading.group(1)
-        elif block is None and line.startswith("```wuffs"):
+        elif block is None and line.startswith("```wuffs "):
             block = (number, section, line.split()[1:], [])
         elif block is not None and line == "```":
             yield block[0], block[1], block[2], "".join(one + "\n" for one in block[3])
@@ -56,14 +56,16 @@ def main():
     program = str(pathlib.Path(sys.argv[1]).resolve())
     passed = failed = 0
     refused, passes = set(), set()
-    for line, section, words, text in examples(PAGE.read_text()):
-        wrong = fault(section, words, answer(program, text))
-        (refused if words[:1] == ["refused"] else passes).add(section)
-        if wrong is None:
-            passed += 1
-        else:
-            failed += 1
-            print(f"{PAGE.name}:{line}: {wrong}")
+    for page in (DOCS / "RULES.md", DOCS / "LANGUAGE.md"):
+        for line, section, words, text in examples(page.read_text()):
+            wrong = fault(section, words, answer(program, text))
+            if section:
+                (refused if words[:1] == ["refused"] else passes).add(section)
+            if wrong is None:
+                passed += 1
+            else:
+                failed += 1
+                print(f"{page.name}:{line}: {wrong}")
     for rule in sorted(refused ^ passes):
         failed += 1
         print(f"{rule}: has no example that {'passes' if rule in refused else 'is refused'}")
