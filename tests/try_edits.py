@@ -5,7 +5,8 @@ usage: try_edits.py [--fits] [--jobs N] [CRATE..]    all crates that have edits 
 An edit is a line 'file: PATH' and pairs of lines 'old: TEXT' and 'new: TEXT'; each old TEXT stands once in that file.
 The last commit is tried, in a clone that is removed again, N crates at a time (1 is the default). What was tried is
 kept in tests/out/, by the sums of the edit, of its crate and of the crates below that one, and isn't tried again.
-With --fits nothing is proved: it only looks whether each edit can be applied to the files as they stand.
+With --fits nothing is proved: it only looks whether each edit, those of crates/CRATE/must-fail/ too, which `rt ci` tries,
+can be applied to the files as they stand.
 Prints a line for each edit, and last how many passed; ends with 1 where an edit isn't refused.
 """
 import argparse
@@ -30,7 +31,8 @@ def edits_of(root, crate):
 
 
 def crates_with_edits(root):
-    return sorted(folder.name for folder in (root / "tests" / "edits").iterdir() if folder.is_dir())
+    folders = [*(root / "tests" / "edits").iterdir(), *(folder.parent for folder in (root / "crates").glob("*/must-fail"))]
+    return sorted({folder.name for folder in folders if folder.is_dir()})
 
 
 def misfit(edit, folder):
@@ -58,7 +60,7 @@ def misfit(edit, folder):
 def look_whether_they_fit(crates):
     passed = failed = 0
     for crate in crates:
-        for edit in edits_of(ROOT, crate):
+        for edit in edits_of(ROOT, crate) + sorted((ROOT / "crates" / crate / "must-fail").glob("*.edit")):
             why = misfit(edit, ROOT / "crates" / crate)
             passed += not why
             failed += bool(why)
@@ -161,7 +163,7 @@ def main():
     every = crates_with_edits(ROOT)
     unknown = [name for name in given.crates if name not in every]
     if unknown:
-        options.error(f"tests/edits/ has no folder {unknown[0]}")
+        options.error(f"{unknown[0]} is no crate with edits")
     crates = given.crates or every
     passed, failed = look_whether_they_fit(crates) if given.fits else try_all(crates, given.jobs)
     print(f"{'edits that fit' if given.fits else 'edits'}: {passed} passed, {failed} failed")
