@@ -182,7 +182,7 @@ def main():
         failed += status != 4
         if status != 4:
             print(f"a full output: wanted status 4, came {status}")
-    print(f"{passed} passed, {failed} failed")
+    print(f"answers.py: {passed} passed, {failed} failed")
     return failed > 0
 
 
