@@ -152,6 +152,7 @@ PACKAGES = [
     ("1,025 methods", "pub struct s()" + "".join(f" | pub func s.f{i}() {{}}" for i in range(1025)), "L6 1026:12"),
     ("1,024 methods", "pub struct s()" + "".join(f" | pub func s.f{i}() {{}}" for i in range(1024)), "later"),
     ("1,026 methods", "pub struct s()" + "".join(f" | pub func s.f{i}() {{}}" for i in range(1026)), "L6 1026:12"),
+    ("20,000 methods", "pub struct s() | " + lines("pub func s.f{0}() {{}}", 20000), "L6 1026:12"),
     ("257 locals", S + method(*[f"var x{i} : base.u8" for i in range(257)]), "L7 261:5"),
     ("256 locals", S + method(*[f"var x{i} : base.u8" for i in range(256)]), "later"),
     ("65 arguments", S + " | pub func s.f(" + ",".join(f" | a{i}: base.u8" for i in range(65)) + ") {}", "L7 69:1"),
