@@ -4,7 +4,7 @@
 usage: reading_answers.py PROGRAM [NAME]    only the files whose name has NAME in it
 Each package is one file n.wuffs of package n, its bytes as they stand; its name is what it shows and its text. An
 answer is a rule with its line and column, or `read` where no rule of reading is broken. At last a package is cut
-behind each of its bytes and has each of them made 0, and the answers are compared with a second opinion.
+after each of its bytes and has each of them made 0, and the answers are compared with a second opinion.
 """
 import sys
 
@@ -100,8 +100,8 @@ WRONG_EXPRESSIONS = [
     ("x.f(", "S5 1:29"), ("1 ! 2", "S5 1:27"), ("(1 + 2) * 3 + 4", "S6 1:37"),
 ]
 
-# Each word at the end of a line. Behind some a semicolon is added, so that the line ends there: it is read, or refused
-# in its own line; behind the others the next line goes on.
+# Each word at the end of a line. After some a semicolon is added, so that the line ends there: it is read, or refused
+# in its own line; after the others the next line goes on.
 WORDS_IN_FILES = [
     ("pub\n", "S5 2:1"), ("pri\n", "S5 2:1"), ("pub const\n", "S5 2:1"), ("pub struct\n", "S5 2:1"), ("pub func\n", "S5 2:1"),
     ("pub status\n", "S5 1:11"), ("pri const X : array\n", "S5 2:1"), ("pri const X : slice\n", "S5 2:1"), ("pri const X : base\n", "S5 2:1"),
@@ -121,7 +121,7 @@ NAMES = [("pri const %s : base.u8 = 1" % word, "S5 1:11") for word in (
     "status struct this true var via while yield").split()] + [
     ("pri const %s : base.u8 = 1" % name, "read") for name in "_ ands an_d And whil x0 u8".split()]
 
-# Each symbol at the end of a line, which no semicolon ends but behind `)`, `]` and `}`.
+# Each symbol at the end of a line, which no semicolon ends but after `)`, `]` and `}`.
 OPERATORS = "+ - * / % << >> & | ^ ~mod+ ~mod- ~mod* ~mod<< ~sat+ ~sat-".split()
 SYMBOLS_IN_VALUES = [(f"x {symbol}\n", "S5 2:1") for symbol in OPERATORS + "== <> < <= > >=".split()] + [
     ("(\n", "S5 2:1"), ("x[\n", "S5 2:1"), ("x.\n", "S5 2:1"), ("x.f(a:\n", "S5 2:1"), ("x.f(a: 1,\n", "S5 2:1"), ("x[1 ..\n", "S5 2:1"),
@@ -191,10 +191,10 @@ pub func parser.parse?(src: base.io_reader) {
 '''
 
 
-def rows(shows, texts, before="", behind=""):
+def rows(shows, texts, before="", after=""):
     """The packages of a table: texts that are read, or pairs of a text and its answer."""
     pairs = [(text, "read") if isinstance(text, str) else text for text in texts]
-    return [(f"{shows}: {text[:60]!r}", (before + text + behind).encode(), right) for text, right in pairs]
+    return [(f"{shows}: {text[:60]!r}", (before + text + after).encode(), right) for text, right in pairs]
 
 
 PACKAGES = (
@@ -210,7 +210,7 @@ PACKAGES = (
 
 
 def spoilt(text):
-    """A text that is cut behind each of its bytes, and with each of them made 0."""
+    """A text that is cut after each of its bytes, and with each of them made 0."""
     for place in range(len(text)):
         yield text[:place]
         yield text[:place] + "\0" + text[place + 1:]

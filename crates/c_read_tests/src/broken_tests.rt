@@ -1,13 +1,13 @@
 // Broken texts with the place where they break. Each row is cut at that place: the first token of its right part can't
-// stand behind its left part. Written by hand from the grammar, a construct after another.
+// stand after its left part. Written by hand from the grammar, a construct after another.
 
 use crate::reading::{Answer, becomes, outcome_of, text};
 use std::alloc::Global;
 
-/// A text's part in front of the token that can't go on, and the part that begins with it.
+/// A text's part before the token that can't go on, and the part that begins with it.
 type Cut = (&'static [u8], &'static [u8]);
 
-/// Whether the text breaks in front of `right`.
+/// Whether the text breaks before `right`.
 fn breaks(alloc: Global, before: &[u8], left: &[u8], right: &[u8], after: &[u8]) -> bool {
     match text(alloc, &[before, left]) {
         Ok(front) => becomes(
@@ -19,7 +19,7 @@ fn breaks(alloc: Global, before: &[u8], left: &[u8], right: &[u8], after: &[u8])
     }
 }
 
-/// Whether each row breaks at its cut, with `before` in front of it and `after` behind it.
+/// Whether each row breaks at its cut, with `before` before it and `after` after it.
 fn all_break(alloc: Global, before: &[u8], rows: &[Cut], after: &[u8]) -> bool {
     let mut fine = true;
     for (left, right) in rows {

@@ -3,7 +3,7 @@
 use crate::reading::{Answer, becomes, outcome_of, text};
 use std::alloc::Global;
 
-/// A text behind the three lines, and what becomes of it.
+/// A text after the three lines, and what becomes of it.
 type Row = (&'static [u8], Answer);
 
 /// Whether each row becomes what it says.
@@ -40,7 +40,7 @@ const SHORT: &[Row] = &[
 /// A front, a piece, how often it stands, a back, and what becomes of the whole.
 type Repeated = (&'static [u8], &'static [u8], usize, &'static [u8], Answer);
 
-/// Whether so many of one piece, with `front` in front and `back` behind, become that.
+/// Whether so many of one piece, between `front` and `back`, become that.
 fn many_become(alloc: Global, row: &Repeated) -> bool {
     let (front, piece, count, back, expected) = row;
     let Ok(mut bytes) = text(alloc, &[*front]) else {

@@ -8,7 +8,7 @@ use wf_text::NoMemory;
 
 const HEAD: &[u8] = b"#include <stddef.h>\n#include <stdint.h>\n#include <string.h>\n";
 
-/// The three lines, and the parts behind them.
+/// The three lines, and the parts after them.
 pub(crate) fn text(alloc: Global, parts: &[&[u8]]) -> Result<Vec<u8>, NoMemory> {
     let Ok(mut bytes) = Vec::from_slice(alloc, HEAD) else {
         return Err(NoMemory);

@@ -67,8 +67,8 @@ static inline const char* c_1(uint32_t* x) {
 ";
 
 // The expressions: numbers of each kind, the largest ones too; names; `->`, `[..]`, `(*P)`; the 18 operators, then more
-// operands for the seven that may repeat; the three operators in front of one operand; a cast to each type; `? :`; calls
-// without, with one and with more arguments, `sizeof` among them, in front and behind.
+// operands for the seven that may repeat; the three operators before one operand; a cast to each type; `? :`; calls
+// without, with one and with more arguments, `sizeof` among them, before and after.
 const EXPRESSIONS: &[u8] = b"
 void numbers_and_names(void) {
     x = 0;
@@ -201,8 +201,8 @@ void statements(void) {
 }
 ";
 
-// What the reader tells apart only by a second or third token: all that may stand behind `(`, `((`, `((NAME` and
-// `((NAME *`; behind a name or `(` at the front of a statement or of a value; and what ends the locals of a function.
+// What the reader tells apart only by a second or third token: all that may stand after `(`, `((`, `((NAME` and
+// `((NAME *`; after a name or `(` at the front of a statement or of a value; and what ends the locals of a function.
 const LOOKS: &[u8] = b"
 static inline uint8_t behind_a_parenthesis(node* p) {
     x = (1 + a);
@@ -362,7 +362,7 @@ fn every_alternative_comes_back(rt: HostRuntime) {
 }
 
 // The fronts of a text that don't end too early, in two tables by their lengths, the least and the greatest: those that
-// are texts themselves, which end with an item or in the line feeds behind it; and those whose last token is cut to one
+// are texts themselves, which end with an item or in the line feeds after it; and those whose last token is cut to one
 // that can't stand there, with the place where that token stands.
 
 const TEXTS_IN_ITEMS: &[(usize, usize)] = &[

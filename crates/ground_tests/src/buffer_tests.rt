@@ -76,7 +76,7 @@ fn bytes_are_taken_up_to_the_last(alloc: Global) -> Result<bool, NoMemory> {
     Ok(last && more)
 }
 
-// What stands behind `wi` isn't unread, nor what stands before `ri`.
+// What stands after `wi` isn't unread, nor what stands before `ri`.
 fn peeks(alloc: Global, rows: &[(u64, Option<u8>)]) -> Result<bool, NoMemory> {
     let buf = four(alloc, (1, 3, 0))?;
     for (at, byte) in rows {
@@ -154,7 +154,7 @@ fn counts_are_set_in_order(alloc: Global) -> Result<bool, NoMemory> {
     Ok(at_the_end && refused && kept && open && buf.bytes() == b"ABCD".as_slice())
 }
 
-// Any cell is set, behind `wi` and in a closed buffer too, and the counts stay.
+// Any cell is set, after `wi` and in a closed buffer too, and the counts stay.
 fn one_cell_is_set(alloc: Global) -> Result<bool, NoMemory> {
     let mut buf = four(alloc, (1, 2, 3))?;
     let set = buf.set_cell(0, 97) && buf.set_cell(3, 255) && is(&buf, (1, 2, 3), b"aBC\xff");

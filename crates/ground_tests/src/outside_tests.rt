@@ -70,7 +70,7 @@ fn puts(sink: &mut MemSink, piece: &[u8], answer: Result<(), SinkFault>) -> bool
     sink.put(piece) == answer
 }
 
-// The first put fails behind one byte, and the third finds no room.
+// The first put fails after one byte, and the third finds no room.
 fn sinks_in_memory_hold(alloc: Global) -> Result<bool, NoMemory> {
     let failing = Vec::from_slice(alloc, &[(0, 1)])?;
     let mut sink = MemSink::new(alloc, failing, 5)?;
