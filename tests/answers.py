@@ -75,6 +75,87 @@ ANSWERS = [
 ]
 
 
+# Files k.wuffs of the package k, and what is written of each.
+ONE_FILE = [
+    (b'pub status "#not a digit" // a status\npri const X : base.u8 = 0xF_F; pub const y:base.u64=0\n', "ok 0 methods"),
+    (b'pri const X : base.u8 = 256', "refused T5 k.wuffs:1:25"),
+    (b'pri const X : base.u8 = 255', "ok 0 methods"),
+    (b'pri const X\n', "refused S5 k.wuffs:1:12"),
+    (b'pri const X : base.u8 =', "refused S5 k.wuffs:1:24"),
+    (b'pri const X : base.u8 = $\n', "refused S1 k.wuffs:1:25"),
+    (b'pri const X : base.u8 = 0b2\n', "refused S3 k.wuffs:1:25"),
+    (b'pub status "a"\npri const X : base.u8 = $', "refused S1 k.wuffs:2:25"),
+    (b'pub status "a"\npri const X : base.u8 = 256', "refused T5 k.wuffs:1:12"),
+    (b'pub status "#"', "refused T5 k.wuffs:1:12"),
+    (b'pub status "#a??"', "refused T5 k.wuffs:1:12"),
+    (b'pub status "#a?b?"', "ok 0 methods"),
+    (b'pub struct s()', "ok 0 methods"),
+    (b'pub status ok', "refused S5 k.wuffs:1:12"),
+    (b'pri const X : base.u16 = 65536; pub', "refused S5 k.wuffs:1:36"),
+    (b'pri const X : base.u8 = (255)', "ok 0 methods"),
+    (b'pri const X : base.u8 = ((256))', "refused T5 k.wuffs:1:27"),
+    (b'pri const X : base.u8 = 1 + 2', "ok 0 methods"),
+    (b'pri const X : base.u8[..= 9] = 1', "ok 0 methods"),
+    (b'pri const X : slice base.u8 = 1', "refused T1 k.wuffs:1:15"),
+    (b'pri const X : array[2] base.u8 = 1', "refused T1 k.wuffs:1:15"),
+    (b'pri const X : base.status = 1', "refused T1 k.wuffs:1:15"),
+    (b'pri const X : s = 1\npub struct s()', "refused T1 k.wuffs:1:15"),
+    (b'pri const X : base.u8 = 256\npub struct s()', "refused T5 k.wuffs:1:25"),
+    (b'pub func s.f() { }\npub struct s()', "ok 1 methods"),
+    (b'pub struct s()\npub func s.f() { x = a * b + 1\n}', "refused S6 k.wuffs:2:28"),
+    (b'pri const A : base.u8 = B', "refused N1 k.wuffs:1:25"),
+    (b'pri const X : s = 1', "refused N1 k.wuffs:1:15"),
+    (b'pub status "#a"\npri status "#a"', "refused N2 k.wuffs:2:12"),
+    (b'pub status "#a"\npri status "#b"', "ok 0 methods"),
+    (b'pri const _a : base.u8 = 1', "refused N3 k.wuffs:1:11"),
+    (b'pri const a_a : base.u8 = 1', "ok 0 methods"),
+    (b'pub struct a(b : c)\npub struct c(d : a)', "refused N4 k.wuffs:1:12"),
+    (b'pub struct a(b : c)\npub struct c(d : base.u8)', "ok 0 methods"),
+    (b'pub struct s()\npub func s.f() {\nbreak\n}', "refused N5 k.wuffs:3:1"),
+    (b'pub struct s()\npri func s.g(a: base.u8) {}\npub func s.f!() {\nthis.g!(a: 1, b: 2)\n}', "refused N6 k.wuffs:4:15"),
+    (b'pub struct s()\npri func s.g(a: base.u8) {}\npub func s.f!() {\nthis.g!()\n}', "refused N7 k.wuffs:4:6"),
+    (b'pub struct s()\npri func s.g(a: base.u8) {}\npub func s.f!() {\nthis.g!(a: 1)\n}', "refused E3 k.wuffs:4:6"),
+    (b'pub struct t()\npub func t.g() {}\npub struct s()\npub func s.f!() {\nthis.g!()\n}', "refused N8 k.wuffs:5:6"),
+    (b'pub struct s(a : array[65537] base.u8)', "refused L7 k.wuffs:1:14"),
+    (b'pub struct s(a : array[65536] base.u8)', "ok 0 methods"),
+    (b'pub struct s()\npri const A : base.u8 = B', "refused N1 k.wuffs:2:25"),
+    (b'pri const X : base.u8 = 256\npri const X : base.u8 = 1', "refused N2 k.wuffs:2:11"),
+    (b'pri const a_ : base.u8 = b', "refused N3 k.wuffs:1:11"),
+    (b'pri const X : base.u8 = Y\npub', "refused S5 k.wuffs:2:4"),
+    (b'pri const A : base.u8 = (1 + 2) * 100\npub struct n()', "refused T5 k.wuffs:1:33"),
+    (b'pri const A : base.u8 = (1 + 2) * 80\npub struct n()', "ok 0 methods"),
+    (b'pub struct s()\npub func s.f() {}\npri func s.g?(a: base.u8) {\nvar b : base.bool\n}', "ok 2 methods"),
+    (b'pub struct s()\npub func s.f() {\nreturn nothing\n}', "refused N9 k.wuffs:2:5"),
+    (b'pub struct s()\npub func s.f() {}\npri func s.g() {\nvar b : base.u8\nb = 1\n}\npri func s.h() {\nreturn nothing\n}', "refused N9 k.wuffs:3:5"),
+    (b'pub struct s()\npub func s.f() {\nreturn 1\n}', "refused T4 k.wuffs:3:1"),
+    (b'pub struct s()\npub func s.f() {\nreturn nothing\n}\npri const A : base.u8 = 256', "refused T5 k.wuffs:5:25"),
+    (b'pub struct s()\npub func s.f() {\nyield? ok\n}', "refused E2 k.wuffs:3:1"),
+    (b'pri const A : base.u8 = 256\npri const A : base.u8 = 1', "refused N2 k.wuffs:2:11"),
+    (b'pub struct s()\npub func s.f() {\nreturn nothing\n}\npri const A : t = 1', "refused N1 k.wuffs:5:15"),
+]
+
+STATUS, OTHER, CUT, LARGE = b'pub status "#a"', b'pub status "#b"', b"\npub", b"pri const X : base.u8 = 256"
+UNKNOWN, KNOWN, RESERVED = b"pub struct s(x : t)", b"pri struct t()", b"\npri const _a : base.u8 = 1"
+UNBUILT = b"pri struct s()\npri func s.f() {\nreturn nothing\n}"
+
+# Files f0, f1 and so on of a package, and what is written of them: of two places the one in the earlier file decides, but
+# reading comes before names, names before types, and these before what isn't built.
+FILES = [
+    ([STATUS, OTHER], "ok 0 methods"), ([STATUS, CUT], "refused S5 f1:2:4"), ([CUT, CUT], "refused S5 f0:2:4"),
+    ([LARGE, CUT], "refused S5 f1:2:4"), ([STATUS, UNBUILT], "refused N9 f1:2:5"), ([UNBUILT, LARGE], "refused T5 f1:1:25"),
+    ([STATUS, LARGE], "refused T5 f1:1:25"), ([STATUS, STATUS], "refused N2 f1:1:12"),
+    ([STATUS, UNKNOWN, RESERVED], "refused N1 f1:1:18"), ([STATUS, RESERVED, UNKNOWN], "refused N3 f1:2:11"),
+    ([UNKNOWN, CUT], "refused S5 f1:2:4"), ([UNKNOWN, KNOWN], "ok 0 methods"), ([b""] * 17, "refused L2 f16:1:1"),
+    ([b" " * 524288, b" " * 524288, b" "], "refused L1 f2:1:1"),
+]
+
+ANSWERS += [(f"one file: {text[:60]!r}", {"k.wuffs": text}, "check k k.wuffs", line + "\n", int(line.startswith("refused"))) for text, line in ONE_FILE]
+ANSWERS += [(f"{len(files)} files: {line}", {f"f{number}": data for number, data in enumerate(files)},
+             "check k " + " ".join(f"f{number}" for number in range(len(files))), line + "\n", int(line.startswith("refused")))
+            for files, line in FILES]
+ANSWERS += [(f"words: {words!r}", {"k.wuffs": b""}, words, USAGE, 2) for words in ("check", "check k", "check K k.wuffs", "check k_B k.wuffs", "check k- k.wuffs", "Check k k.wuffs")]
+
+
 def run(program, files, words):
     with tempfile.TemporaryDirectory() as folder:
         for name, data in files.items():
@@ -106,7 +187,7 @@ def main():
         failed += status != 4
         if status != 4:
             print(f"a full output: wanted status 4, came {status}")
-    print(f"{passed} passed, {failed} failed")
+    print(f"answers.py: {passed} passed, {failed} failed")
     return failed > 0
 
 

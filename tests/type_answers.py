@@ -46,6 +46,22 @@ def through(*body, mark="?"):
     return f"{SUB} | pub func s.f{mark}() {{ | var q : base.status | " + " | ".join(body) + " | }"
 
 
+# Constants and their values, where a number as a byte keeps 8 bits; the column of the sign that is refused where there is
+# another number or none, from 1 on.
+VALUES = [
+    ("1 - 1", 0), ("255 + 1", 256), ("3 * 4 * 5", 60), ("7 / 2", 3), ("7 % 2", 1), ("1 + 2 + 4", 7), ("7 & 6 & 12", 4), ("1 |4 |8", 13), ("7 ^ 1 ^ 2", 4),
+    ("9223372036854775808 * 2 * 0", 0), ("9223372036854775808 * 0 * 2", 0), ("9223372036854775808 * 4 * 0", 0), ("(254 as base.u8) + 1", 255),
+    ("(255 as base.u8) ~mod+ 2", 1), ("(1 as base.u8) ~mod- 2", 255), ("(16 as base.u8) ~mod* 17", 16), ("(250 as base.u8) ~sat+ 7", 255),
+    ("(3 as base.u8) ~sat- 4", 0), ("0 ~mod- 1", 2**64 - 1), ("(1 as base.u8) << 7", 128), ("(3 as base.u8) ~mod<< 7", 128), ("(255 as base.u8) >> 7", 1),
+    ("1 << 63", 2**63), ("(255 as base.u8)", 255), ("5 as base.u32", 5),
+]
+OTHER_VALUES = [("7 / 2", 3, 3), ("7 & 6 & 12", 4, 3), ("(255 as base.u8) ~mod+ 2", 1, 18)]
+NO_VALUES = [
+    ("0 - 1", 3), ("(255 as base.u8) + 1", 18), ("18446744073709551615 + 1", 22), ("7 / 0", 3), ("7 % 0", 3), ("9223372036854775808 * 2 * 1", 21),
+    ("9223372036854775808 * 4 * 1", 21), ("9223372036854775808 + 9223372036854775808 + 0", 21), ("(1 as base.u8) << 8", 16), ("(2 as base.u8) << 7", 16),
+    ("(3 as base.u8) ~mod<< 8", 16), ("(0 as base.u8) >> 8", 16), ("1 << 64", 3), ("256 as base.u8", 5),
+]
+
 PACKAGES = [
     # T1: operands
     ("two numbers of one width", method("x = x + x"), "later"),
@@ -196,6 +212,8 @@ PACKAGES = [
     ("a constant outside its bounds", constant("base.u8[2 ..= 5]", "1"), "T5 1:34"),
     ("a constant within its bounds", constant("base.u8[2 ..= 5]", "5"), "later"),
     ("bounds that cross", constant("base.u8[9 ..= 5]", "5"), "T5 1:23"),
+    ("a constant that others are counted from", "pri const A : base.u8 = 200 | pri const B : base.u8 = A + 55", "later"),
+    ("a constant that is counted too far from another", "pri const A : base.u8 = 200 | pri const B : base.u8 = A + 56", "T5 2:27"),
     ("a bound above the type", constant("base.u8[..= 256]", "5"), "T5 1:27"),
     ("a field that can't be 0", "pub struct s( | n : base.u8[1 ..= 3], | )", "T5 2:5"),
     ("an argument that can't be 0", "pub struct s() | pub func s.g(k: base.u8[1 ..= 3]) {}", "later"),
@@ -215,6 +233,15 @@ PACKAGES = [
     ("a status of a mark alone", 'pub status "#"', "T5 1:12"),
     ("a status with two question marks", 'pub status "#a??"', "T5 1:12"),
     ("a status with a question mark", 'pub status "#a?b?"', "later"),
+    ("a note with two question marks apart", 'pub status "@a?b?"', "later"),
+    ("a suspension with two question marks", 'pub status "$a??"', "T5 1:12"),
+    ("a status before a constant", 'pub status "bad" | pri const A : base.u8 = 256', "T5 1:12"),
+    ("a constant before a status", 'pri const A : base.u8 = 256 | pub status "bad"', "T5 1:25"),
+    # values of operators: of all numbers only this one is in the type's bounds
+    *[(f"{text} is {number}", constant(f"base.u64[{number} ..= {number}]", text), "later") for text, number in VALUES],
+    *[(f"{text} is another number", constant(f"base.u64[{number + 1} ..= {number + 1}]", text), f"T5 1:{32 + 2 * len(str(number + 1)) + sign}")
+      for text, number, sign in OTHER_VALUES],
+    *[(f"{text} has no value", constant("base.u64", text), f"T5 1:{25 + sign}") for text, sign in NO_VALUES],
     # E1: pure methods
     ("a pure method that writes a field", method("this.n = 1", mark=""), "E1 16:1"),
     ("a pure method that writes an element", method("this.a[0] = 1", mark=""), "E1 16:7"),

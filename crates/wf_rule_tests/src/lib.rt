@@ -1,0 +1,8 @@
+// Tests of the phases of a package and of the top call, through their public calls: what the built program doesn't show.
+// The typed tree of a small package, and inputs and sinks that fail where they are told to. Nothing stands on this crate.
+#![tactic(auto)]
+
+#[cfg(test)]
+mod tool_tests;
+#[cfg(test)]
+mod typed_tests;

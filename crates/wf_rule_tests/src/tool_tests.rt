@@ -1,0 +1,168 @@
+// The top call over inputs and sinks in memory that fail where they are told to, and the exit statuses.
+
+use std::alloc::{AllocError, Global};
+use wf_outside::{MemInputs, MemSink, PureInputs, PureSink};
+use wf_text::NoMemory;
+use wf_tool::{Ending, wuffs_tool};
+
+const SAMPLE: &[u8] =
+    b"pub status \"#not a digit\" // a status\npri const X : base.u8 = 0xF_F; pub const y:base.u64=0\n";
+
+// Words that spaces separate.
+fn words_of(alloc: Global, line: &str) -> Result<Vec<String>, AllocError> {
+    let mut words = Vec::new(alloc);
+    for word in line.split_whitespace() {
+        words.push(String::from_str(alloc, word)?)?;
+    }
+    Ok(words)
+}
+
+// The sample under the name `k.wuffs`.
+fn sample(alloc: Global) -> Result<Vec<(String, Vec<u8>)>, AllocError> {
+    let name = String::from_str(alloc, "k.wuffs")?;
+    let bytes = Vec::from_slice(alloc, SAMPLE)?;
+    let mut held = Vec::new(alloc);
+    held.push((name, bytes))?;
+    Ok(held)
+}
+
+/// Words, the takes that fail, the puts that fail with the bytes that are gone then, how the program ends, and what it has
+/// written.
+type Row = (
+    &'static str,
+    &'static [u64],
+    &'static [(u64, usize)],
+    Ending,
+    &'static [u8],
+);
+
+const ROWS: &[Row] = &[
+    ("check k k.wuffs", &[], &[], Ending::Done, b"ok 0 methods\n"),
+    (
+        "check k k.wuffs",
+        &[0],
+        &[],
+        Ending::InputFault,
+        b"input fault k.wuffs\n",
+    ),
+    (
+        "check k k.wuffs",
+        &[1],
+        &[],
+        Ending::Done,
+        b"ok 0 methods\n",
+    ),
+    (
+        "check k k.wuffs k.wuffs",
+        &[1],
+        &[],
+        Ending::InputFault,
+        b"input fault k.wuffs\n",
+    ),
+    (
+        "check k other",
+        &[],
+        &[],
+        Ending::InputFault,
+        b"input fault other\n",
+    ),
+    (
+        "check k k.wuffs other",
+        &[],
+        &[],
+        Ending::InputFault,
+        b"input fault other\n",
+    ),
+    ("check k k.wuffs", &[], &[(0, 0)], Ending::OutputFault, b""),
+    ("check k k.wuffs", &[], &[(0, 1)], Ending::OutputFault, b"o"),
+    (
+        "check k k.wuffs",
+        &[],
+        &[(0, 13)],
+        Ending::OutputFault,
+        b"ok 0 methods\n",
+    ),
+    (
+        "check k other",
+        &[],
+        &[(0, 5)],
+        Ending::OutputFault,
+        b"input",
+    ),
+    ("check k", &[], &[(0, 5)], Ending::OutputFault, b"usage"),
+    (
+        "check k",
+        &[0],
+        &[],
+        Ending::Usage,
+        b"usage: wuffsc COMMAND PKG [SCRIPT] FILE\n",
+    ),
+];
+
+// Whether the program ends so over the sample, with this written.
+fn ends(alloc: Global, row: &Row) -> Result<bool, NoMemory> {
+    let words = words_of(alloc, row.0)?;
+    let failing = Vec::from_slice(alloc, row.1)?;
+    let mut inputs = MemInputs::new(alloc, sample(alloc)?, failing);
+    let gone = Vec::from_slice(alloc, row.2)?;
+    let mut sink = MemSink::new(alloc, gone, 200)?;
+    let ending = wuffs_tool(alloc, words.as_slice(), &mut inputs, &mut sink);
+    Ok(ending == row.3 && sink.written() == row.4)
+}
+
+fn all_end(alloc: Global, rows: &[Row]) -> Result<bool, NoMemory> {
+    for row in rows {
+        if !ends(alloc, row)? {
+            return Ok(false);
+        }
+    }
+    Ok(true)
+}
+
+// Whether a sink with this room ends the sample so, with these bytes written.
+fn fills(alloc: Global, room: usize, ending: Ending, line: &[u8]) -> Result<bool, NoMemory> {
+    let words = words_of(alloc, "check k k.wuffs")?;
+    let mut inputs = PureInputs::new(sample(alloc)?);
+    let mut sink = PureSink::with_room(alloc, room)?;
+    let came = wuffs_tool(alloc, words.as_slice(), &mut inputs, &mut sink);
+    Ok(came == ending && sink.written() == line)
+}
+
+fn keeps_to_the_room(alloc: Global) -> Result<bool, NoMemory> {
+    Ok(
+        fills(alloc, 13, Ending::Done, b"ok 0 methods\n")?
+            && fills(alloc, 12, Ending::OutputFault, b"")?,
+    )
+}
+
+// Whether the endings have the exit statuses 0, 1, 2 and so on.
+fn are_counted(endings: &[Ending]) -> bool {
+    let mut status = 0u8;
+    for ending in endings {
+        if ending.status() != status {
+            return false;
+        }
+        status = status.saturating_add(1);
+    }
+    true
+}
+
+#[test]
+fn faults_and_endings(rt: HostRuntime) {
+    assert!(rt; all_end(rt.alloc(), ROWS) == Ok(true));
+    assert!(rt; keeps_to_the_room(rt.alloc()) == Ok(true));
+    assert!(rt;
+        are_counted(&[
+            Ending::Done,
+            Ending::Refused,
+            Ending::Usage,
+            Ending::InputFault,
+            Ending::OutputFault,
+            Ending::ScriptRefused,
+            Ending::NoMemory,
+            Ending::Turns,
+            Ending::TextRefused,
+            Ending::Undefined,
+        ])
+    );
+}

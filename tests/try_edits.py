@@ -1,0 +1,174 @@
+#!/usr/bin/env python3
+"""Tries the wrong versions of the crates' code, tests/edits/CRATE/*.edit: the prover must refuse each.
+
+usage: try_edits.py [--fits] [--jobs N] [CRATE..]    all crates that have edits are the default
+An edit is a line 'file: PATH' and pairs of lines 'old: TEXT' and 'new: TEXT'; each old TEXT stands once in that file.
+The last commit is tried, in a clone that is removed again, N crates at a time (1 is the default). What was tried is
+kept in tests/out/, by the sums of the edit, of its crate and of the crates below that one, and isn't tried again.
+With --fits nothing is proved: it only looks whether each edit, those of crates/CRATE/must-fail/ too, which `rt ci` tries,
+can be applied to the files as they stand.
+Prints a line for each edit, and last how many passed; ends with 1 where an edit isn't refused.
+"""
+import argparse
+import concurrent.futures
+import hashlib
+import pathlib
+import re
+import shutil
+import subprocess
+import sys
+import tempfile
+
+ROOT = pathlib.Path(__file__).resolve().parent.parent
+KEPT = ROOT / "tests" / "out" / "edits"
+TOLD = re.compile(r"must-fail (\w+)/(\S+\.edit): (refused|BAD EDIT|NOT REFUSED|NOT TRIED)(.*)")
+# What comes to the same whenever the same is tried.
+SETTLED = ("refused", "BAD EDIT", "NOT REFUSED")
+
+
+def edits_of(root, crate):
+    return sorted((root / "tests" / "edits" / crate).glob("*.edit"))
+
+
+def crates_with_edits(root):
+    folders = [*(root / "tests" / "edits").iterdir(), *(folder.parent for folder in (root / "crates").glob("*/must-fail"))]
+    return sorted({folder.name for folder in folders if folder.is_dir()})
+
+
+def misfit(edit, folder):
+    """Why an edit can't be applied to the crate in a folder, or an empty text."""
+    path, old, texts, first = None, None, {}, {}
+    for line in edit.read_text().split("\n"):
+        if line.startswith("file: "):
+            path = line[len("file: "):].strip()
+            if not re.match(r"(src|specs|proofs)/", path) or not (folder / path).is_file():
+                return f"there is no file {path}"
+        elif line.startswith("old: "):
+            old = line[len("old: "):]
+        elif line.startswith("new:"):
+            if path is None or not old:
+                return "a 'new:' line stands before its 'file:' and 'old:' lines"
+            if path not in texts:
+                texts[path] = first[path] = (folder / path).read_text()
+            times = texts[path].count(old)
+            if times != 1:
+                return f"'{old}' stands in {path} {times} times"
+            texts[path], old = texts[path].replace(old, line[len("new:"):].removeprefix(" ")), None
+    return "" if texts != first else "it changes nothing"
+
+
+def look_whether_they_fit(crates):
+    passed = failed = 0
+    for crate in crates:
+        for edit in edits_of(ROOT, crate) + sorted((ROOT / "crates" / crate / "must-fail").glob("*.edit")):
+            why = misfit(edit, ROOT / "crates" / crate)
+            passed += not why
+            failed += bool(why)
+            if why:
+                print(f"{crate}/{edit.name}: {why}")
+    return passed, failed
+
+
+def below(root):
+    """The crates of the repository that each crate stands on, itself among them."""
+    uses = {}
+    for line in (root / "crates.txt").read_text().split("\n"):
+        name, colon, those = line.partition(":")
+        if colon and not line.startswith("#"):
+            uses[name.split()[0]] = those.split()
+    reached = {}
+
+    def reach(name):
+        if name not in reached:
+            reached[name] = {name}.union(*(reach(one) for one in uses[name] if one in uses))
+        return reached[name]
+
+    for name in uses:
+        reach(name)
+    return reached
+
+
+def sum_of_crate(root, crate):
+    total = hashlib.sha256()
+    for part in ("src", "specs", "proofs"):
+        for file in sorted((root / "crates" / crate / part).rglob("*")):
+            if file.is_file():
+                total.update(f"{file.relative_to(root)}\0".encode() + hashlib.sha256(file.read_bytes()).digest())
+    return total.hexdigest()
+
+
+class Trial:
+    """A clone in which the edits of crates are tried."""
+
+    def __init__(self, clone):
+        self.clone, self.below, self.sums = clone, below(clone), {}
+        self.kit = subprocess.run(["rt", "version"], capture_output=True, text=True, check=True).stdout
+
+    def sum(self, crate):
+        if crate not in self.sums:
+            self.sums[crate] = sum_of_crate(self.clone, crate)
+        return self.sums[crate]
+
+    def place(self, crate, edit):
+        """Where the result of an edit is kept."""
+        stands_on = [self.sum(one) for one in sorted(self.below[crate])]
+        said = "\0".join([self.kit, (self.clone / "crates.txt").read_text(), *stands_on, edit.read_text()])
+        return KEPT / hashlib.sha256(f"{crate}\0{said}".encode()).hexdigest()
+
+    def tried(self, crate):
+        """What each edit of a crate came to, with what the prover said, in the edits' order."""
+        edits = edits_of(self.clone, crate)
+        places = {edit.name: self.place(crate, edit) for edit in edits}
+        told = {name: tuple(place.read_text().split("\n", 1)) for name, place in places.items() if place.is_file()}
+        new = [edit for edit in edits if edit.name not in told]
+        if new:
+            folder = self.clone / "crates" / crate / "must-fail"
+            shutil.rmtree(folder, ignore_errors=True)
+            folder.mkdir()
+            for edit in new:
+                shutil.copy(edit, folder)
+            ran = subprocess.run(["rt", "must-fail", crate], cwd=self.clone, stdin=subprocess.DEVNULL, stdout=subprocess.PIPE,
+                                 stderr=subprocess.STDOUT, text=True, errors="replace")
+            found = {match[2]: (match[3], match[4].lstrip(",: ")) for match in TOLD.finditer(ran.stdout) if match[1] == crate}
+            for edit in new:
+                came = found.get(edit.name, ("NOT TRIED", ran.stdout[-300:]))
+                told[edit.name] = came
+                if came[0] in SETTLED:
+                    KEPT.mkdir(parents=True, exist_ok=True)
+                    places[edit.name].write_text("\n".join(came))
+        return [(f"{crate}/{edit.name}", *told[edit.name]) for edit in edits]
+
+
+def try_all(crates, jobs):
+    passed = failed = 0
+    with tempfile.TemporaryDirectory(prefix="edits-") as room:
+        clone = pathlib.Path(room, "clone")
+        subprocess.run(["git", "clone", "-q", str(ROOT), str(clone)], check=True)
+        trial = Trial(clone)
+        with concurrent.futures.ThreadPoolExecutor(jobs) as pool:
+            for results in pool.map(trial.tried, crates):
+                for name, came, said in results:
+                    passed += came == "refused"
+                    failed += came != "refused"
+                    print(f"{name}: {came}: {said}", flush=True)
+    return passed, failed
+
+
+def main():
+    options = argparse.ArgumentParser(usage="try_edits.py [--fits] [--jobs N] [CRATE..]")
+    options.add_argument("--fits", action="store_true")
+    options.add_argument("--jobs", type=int, default=1)
+    options.add_argument("crates", nargs="*")
+    given = options.parse_args()
+    every = crates_with_edits(ROOT)
+    unknown = [name for name in given.crates if name not in every]
+    if unknown:
+        options.error(f"{unknown[0]} is no crate with edits")
+    crates = given.crates or every
+    passed, failed = look_whether_they_fit(crates) if given.fits else try_all(crates, given.jobs)
+    print(f"{'edits that fit' if given.fits else 'edits'}: {passed} passed, {failed} failed")
+    return 1 if failed or not passed else 0
+
+
+if __name__ == "__main__":
+    sys.exit(main())
