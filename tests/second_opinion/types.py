@@ -2,7 +2,7 @@
 from .rules import Rule
 from .trees import (Assert, Assign, Call, CallStatement, Constant, If, Index, Jump, Keep, Method, Return, Status, StatusText,
                     Struct, Truth, While, Yield)
-from .values import Type, Values, most
+from .values import Type, Values
 
 
 def judge_types(declarations):
@@ -75,7 +75,9 @@ class Types(Values):
         """A coroutine writes no result."""
         if method.mark != "?":
             self.type(method.result, "result")
-        elif self.any_type(method.result):
+            return
+        self.any_type(method.result)
+        if self.form(method.result) is not None:
             self.breaks(Rule.T1, method.result.place)
 
     # Statements
@@ -152,14 +154,11 @@ class Types(Values):
             if self.gives_nothing(it.value):
                 self.breaks(Rule.T2, it.target.place)
         if is_target and target and value:
-            self.judge_fit(target.kind, value, Rule.T2, it.target.place, it.value)
+            self.judge_fit(target.kind, value, Rule.T2, it.target.place)
 
-    def judge_fit(self, kind, value, rule, place, expression):
-        """A value of another kind breaks the rule at the place, and a constant outside the width breaks T5 where it stands."""
-        if value.kind == ("number", None) and kind[0] == "number":
-            if most(kind[1]) < value.constant:
-                self.breaks(Rule.T5, expression.place)
-        elif value.kind != kind:
+    def judge_fit(self, kind, value, rule, place):
+        """A value of another kind breaks the rule at the place; a constant without a width is taken as any number."""
+        if value.kind != kind and not (value.kind == ("number", None) and kind[0] == "number"):
             self.breaks(rule, place)
 
     def judge_update(self, it):
@@ -193,7 +192,7 @@ class Types(Values):
         if (result is None) != (it.value is None):
             self.breaks(Rule.T4, it.place)
         elif result and result.kind and value:
-            self.judge_fit(result.kind, value, Rule.T4, it.place, it.value)
+            self.judge_fit(result.kind, value, Rule.T4, it.place)
 
     def judge_yield(self, it):
         if self.method.mark != "?":

@@ -116,11 +116,11 @@ class Values:
     # Types
 
     def type(self, of, role):
-        found = self.any_type(of)
+        found, form = self.any_type(of), self.form(of)
+        if form is not None and (form not in ROLES[role] or role == "conversion" and not self.is_plain(of)):
+            return self.breaks(Rule.T1, of.place)
         if found is None:
             return None
-        if found.kind[0] not in ROLES[role] or role == "conversion" and found.refined:
-            return self.breaks(Rule.T1, of.place)
         if role in HOLDING_ZERO and found.kind[0] == "number" and 0 < found.low:
             return self.breaks(Rule.T5, of.place)
         return found
@@ -132,22 +132,35 @@ class Values:
             return self.slice_type(of)
         return self.array_type(of) if isinstance(of, ArrayType) else self.base_type(of)
 
+    def form(self, of):
+        """The kind of type that is written, whatever its bounds and its length break. Where it has none, what has none is refused
+        by itself: a name that is no type, bounds of no number, or bounds that are no constant number."""
+        if isinstance(of, StructType):
+            return "struct"
+        if isinstance(of, (SliceType, ArrayType)):
+            return self.form(of.element) and ("slice" if isinstance(of, SliceType) else "array")
+        if not of.bounds:
+            return "number" if of.name in BITS else WORDS_OF_TYPES[of.name][0] if of.name in WORDS_OF_TYPES else None
+        fit = of.name in BITS and not any(self.quietly(self.is_no_constant, it) for it in of.bounds if it is not None)
+        return "number" if fit else None
+
+    def is_plain(self, of):
+        return not isinstance(of, (StructType, SliceType, ArrayType)) and of.name in BITS and not of.bounds
+
     def slice_type(self, of):
         element = self.any_type(of.element)
-        if element is None:
-            return None
-        if element.kind[0] != "number" or element.refined:
+        if self.form(of.element) is not None and not self.is_plain(of.element):
             return self.breaks(Rule.T1, of.place)
-        return Type(("slice", element.kind[1]))
+        return element and Type(("slice", element.kind[1]))
 
     def array_type(self, of):
         length, element = self.type_constant(of, of.length), self.any_type(of.element)
         if length == 0:
             length = self.breaks(Rule.T5, of.length.place)
+        if self.form(of.element) not in (None, "number"):
+            return self.breaks(Rule.T1, of.place)
         if element is None:
             return None
-        if element.kind[0] != "number":
-            return self.breaks(Rule.T1, of.place)
         if 0 < element.low:
             return self.breaks(Rule.T5, of.element.place)
         return None if length is None else Type(("array", element.kind[1]), element.low, element.high)
@@ -155,9 +168,13 @@ class Values:
     def type_constant(self, of, expression):
         """The number of a bound or a length of a type."""
         value = self.value(expression)
-        if names_a_variable(expression) or value is not None and value.constant is None:
+        if self.quietly(self.is_no_constant, expression):
             return self.breaks(Rule.T1, of.place)
         return value and value.constant
+
+    def is_no_constant(self, expression):
+        value = self.value(expression)
+        return names_a_variable(expression) or value is not None and value.constant is None
 
     def base_type(self, of):
         bounds = of.bounds and [0 if it is None else self.type_constant(of, it) for it in of.bounds]
@@ -330,11 +347,7 @@ class Values:
             return False
         if wanted is None:
             return False
-        if value.kind == ("number", None) and wanted[0] == "number":
-            if most(wanted[1]) < value.constant:
-                self.breaks(Rule.T5, expression.place)
-                return False
-        elif value.kind != wanted:
+        if value.kind != wanted and not (value.kind == ("number", None) and wanted[0] == "number"):
             self.breaks(Rule.T1, expression.place)
             return False
         return True

@@ -93,6 +93,12 @@ fits bits (convert at sign own_bits a) = nat_eq bits own_bits
 fits bits (length_of at cells) = nat_eq bits 64
 fits bits (asked at question a) = nat_eq bits (question_width question)
 
+-- Where numbers of a width are wanted, everything else has this width, and a constant may be any number: whether it lies in the
+-- type that takes it is for the rules of bounds.
+abbrev pub may_go_into : (bits : ℕ) → NumTree → Bool
+may_go_into bits (number at n) = true
+may_go_into bits t = fits bits t
+
 -- A shift takes any right side.
 abbrev pub is_shift : Arith → Bool
 is_shift shift_left = true
@@ -184,9 +190,9 @@ well_cond c (has_category at a category) = well_status c a
 abbrev pub slice_of : Context → (bits : ℕ) → SliceTree → Bool
 slice_of c bits t = well_slice c t && nat_eq (element_type t).bits bits
 
--- The value fits a type: a number its width, whatever its refinement.
+-- The value is one of a type: a number of its width, whatever its refinement, or any constant.
 abbrev pub fits_type : Context → Ty → ValueTree → Bool
-fits_type c (types.Num width lo hi) (numeric t) = fits (bits_of width) t && well_num c t
+fits_type c (types.Num width lo hi) (numeric t) = may_go_into (bits_of width) t && well_num c t
 fits_type c types.Flag (logical t) = well_cond c t
 fits_type c types.Status (state t) = well_status c t
 fits_type c (types.Slice width) (elements t) = slice_of c (bits_of width) t
@@ -225,8 +231,8 @@ takes c target ty = false
 
 -- The target takes this very value.
 abbrev pub well_assigned : Context → Target → ValueTree → Bool
-well_assigned c (to_number at of path) (numeric t) = may_write c.method.mark path && (well_num c (read at of path) && (fits of.bits t && well_num c t))
-well_assigned c (to_element at of cells index) (numeric t) = not (is_pure c.method.mark) && (well_num c (element at of cells index) && (fits of.bits t && well_num c t))
+well_assigned c (to_number at of path) (numeric t) = may_write c.method.mark path && (well_num c (read at of path) && (may_go_into of.bits t && well_num c t))
+well_assigned c (to_element at of cells index) (numeric t) = not (is_pure c.method.mark) && (well_num c (element at of cells index) && (may_go_into of.bits t && well_num c t))
 well_assigned c (to_flag at path) (logical t) = may_write c.method.mark path && (is_flag (type_at c path) && well_cond c t)
 well_assigned c (to_status at path) (state t) = may_write c.method.mark path && (is_status (type_at c path) && well_status c t)
 well_assigned c (to_slice at bits path) (elements t) = may_write c.method.mark path && (is_slice bits (type_at c path) && slice_of c bits t)
@@ -255,13 +261,13 @@ takes_bits c target bits = false
 
 abbrev pub well_awaited : Context → Target → (io_arg : ℕ) → Awaited → Bool
 well_awaited c target a (take_number form) = is_reader (type_at c (arg a)) && takes_bits c target (bits_of (read_width form))
-well_awaited c target a (skip n) = is_reader (type_at c (arg a)) && (has_none target && (fits 32 n && well_num c n))
-well_awaited c target a (write b) = is_writer (type_at c (arg a)) && (has_none target && (fits 8 b && well_num c b))
+well_awaited c target a (skip n) = is_reader (type_at c (arg a)) && (has_none target && (may_go_into 32 n && well_num c n))
+well_awaited c target a (write b) = is_writer (type_at c (arg a)) && (has_none target && (may_go_into 8 b && well_num c b))
 
 abbrev pub well_written : Context → Target → Written → Bool
 well_written c target (skip_fast a actual worst_case) =
-    is_reader (type_at c (arg a)) && (has_none target && ((fits 32 actual && well_num c actual) && (fits 32 worst_case && well_num c worst_case)))
-well_written c target (write_fast a b) = is_writer (type_at c (arg a)) && (has_none target && (fits 8 b && well_num c b))
+    is_reader (type_at c (arg a)) && (has_none target && ((may_go_into 32 actual && well_num c actual) && (may_go_into 32 worst_case && well_num c worst_case)))
+well_written c target (write_fast a b) = is_writer (type_at c (arg a)) && (has_none target && (may_go_into 8 b && well_num c b))
 well_written c target (copy_to_writer a source) = is_writer (type_at c (arg a)) && (takes_bits c target 64 && slice_of c 8 source)
 well_written c target (copy_to_slice to source) = takes_bits c target 64 && (well_slice c to && slice_of c (element_type to).bits source)
 

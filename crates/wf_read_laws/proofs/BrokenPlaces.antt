@@ -5,7 +5,7 @@ use Rattle.wf_text.specs.declared.rules.Refusal.{Refusal}
 use Rattle.wf_named.specs.NamedTree.{NamedPackageTree}
 use Rattle.wf_types_rules.specs.declared.settings.Setting.{Setting}
 use Rattle.wf_types_rules.specs.Parts.{Part, IsPart, sites}
-use Rattle.wf_types_rules.specs.Judgements.{wrong_operand, wrong_update, wrong_argument, wrong_letter, wrong_type, misplaced_type, value_no_number, wrong_target, wrong_assigned, no_value_assigned, wrong_condition, wrong_return, reaches_end, node_without_value, unfit_operand, unfit_update, unfit_assigned, unfit_argument, unfit_return, value_outside, crossed_bounds, high_bound, no_elements, element_above_zero, begins_above_zero, wrong_status, impure_call, impure_write, coroutine_call, kept_outside, yielded_outside, call_inside, wrong_mark, not_kept_in_status, keeps_no_coroutine, wrong_yield}
+use Rattle.wf_types_rules.specs.Judgements.{wrong_operand, wrong_update, wrong_argument, wrong_letter, wrong_type, misplaced_type, value_no_number, wrong_target, wrong_assigned, no_value_assigned, wrong_condition, wrong_return, reaches_end, node_without_value, unfit_operand, unfit_update, value_outside, crossed_bounds, high_bound, no_elements, element_above_zero, begins_above_zero, wrong_status, impure_call, impure_write, coroutine_call, kept_outside, yielded_outside, call_inside, wrong_mark, not_kept_in_status, keeps_no_coroutine, wrong_yield}
 use Rattle.wf_types_rules.specs.TypeRules as rules
 use Rattle.wf_types_rules.specs.TypeRules.{IsWrong, Breaks}
 use Rattle.wf_read_laws.proofs.ListLemmas.{all-at}
@@ -39,9 +39,6 @@ module _ (In : Place → Type 0) (p : NamedPackageTree) (there : PackageIsIn In 
   breaks-in _ (rules.without_value at w) = wrong-in node_without_value (judged.without-value-kept In) at w
   breaks-in _ (rules.unfit_beside at w) = wrong-in unfit_operand (judged.unfit-operand-kept In) at w
   breaks-in _ (rules.unfit_in_update at w) = wrong-in unfit_update (judged.unfit-update-kept In) at w
-  breaks-in _ (rules.unfit_for_target at w) = wrong-in unfit_assigned (judged.unfit-assigned-kept In) at w
-  breaks-in _ (rules.unfit_for_argument at w) = wrong-in unfit_argument (judged.unfit-argument-kept In) at w
-  breaks-in _ (rules.unfit_for_result at w) = wrong-in unfit_return (judged.unfit-return-kept In) at w
   breaks-in _ (rules.outside at w) = wrong-in value_outside (judged.outside-kept In) at w
   breaks-in _ (rules.crossed at w) = wrong-in crossed_bounds (judged.crossed-kept In) at w
   breaks-in _ (rules.too_high at w) = wrong-in high_bound (judged.high-kept In) at w

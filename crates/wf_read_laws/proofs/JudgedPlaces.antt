@@ -11,7 +11,7 @@ use Rattle.wf_types_rules.specs.Meanings.{variable, place_of}
 use Rattle.wf_types_rules.specs.ExprTypes.{element_of, slice_in, operand_at, meaning, operands}
 use Rattle.wf_types_rules.specs.Operands.{first_of, not_taken, not_fitting}
 use Rattle.wf_types_rules.specs.Parts.{Part, expression, calling, argument, placed_type, type_part, constant_declared, status_declared, target, assigned, kept, condition, letter_value, returned, yielded, whole_body}
-use Rattle.wf_types_rules.specs.Judgements.{at_if, fails, is_known_end, wrong_number, wrong_end, wrong_operand, unfit_operand, node_without_value, wrong_argument, unfit_argument, wrong_letter, wrong_type, misplaced_type, crossed_bounds, high_bound, no_elements, element_above_zero, begins_above_zero, value_no_number, value_outside, wrong_status, target_place, target_meaning, updated, wrong_target, wrong_assigned, no_value_assigned, unfit_assigned, wrong_update, unfit_update, wrong_condition, wrong_return, unfit_return, closing_brace, reaches_end, impure_call, impure_write, coroutine_call, kept_outside, yielded_outside, call_inside, wrong_mark, not_kept_in_status, keeps_no_coroutine, wrong_yield}
+use Rattle.wf_types_rules.specs.Judgements.{at_if, fails, is_known_end, wrong_number, wrong_end, wrong_operand, unfit_operand, node_without_value, wrong_argument, wrong_letter, wrong_type, misplaced_type, crossed_bounds, high_bound, no_elements, element_above_zero, begins_above_zero, value_no_number, value_outside, wrong_status, target_place, target_meaning, updated, wrong_target, wrong_assigned, no_value_assigned, wrong_update, unfit_update, wrong_condition, wrong_return, closing_brace, reaches_end, impure_call, impure_write, coroutine_call, kept_outside, yielded_outside, call_inside, wrong_mark, not_kept_in_status, keeps_no_coroutine, wrong_yield}
 use Rattle.wf_read_laws.specs.NamedPlaces.{ExprIsIn, EndIsIn, TypeIsIn, TargetIsIn, BlockIsIn}
 use Rattle.wf_read_laws.proofs.PartPlaces.{PartIsIn}
 use Rattle.wf_read_laws.proofs.PlaceLemmas.{then-in, at-if, if-both, first-in}
@@ -71,10 +71,6 @@ module _ (In : Place → Type 0) (s : Setting) where
   pub argument-kept : Keeps (wrong_argument s)
   argument-kept (argument callee n e) h = at-if In _ (place_of e) (place-in In e h)
   argument-kept _ h = tt
-
-  pub unfit-argument-kept : Keeps (unfit_argument s)
-  unfit-argument-kept (argument callee n e) h = at-if In _ (place_of e) (place-in In e h)
-  unfit-argument-kept _ h = tt
 
   pub letter-kept : Keeps (wrong_letter s)
   letter-kept (letter_value e) h = number-in e h
@@ -140,10 +136,6 @@ module _ (In : Place → Type 0) (s : Setting) where
   no-value-kept (assigned t None (tree.answer (tree.call callee at mark args))) h = at-if In _ (target_place t) (target-place-in t h.0)
   no-value-kept _ h = tt
 
-  pub unfit-assigned-kept : Keeps (unfit_assigned s)
-  unfit-assigned-kept (assigned t None e) h = at-if In _ (place_of e) (place-in In e h.1)
-  unfit-assigned-kept _ h = tt
-
   updated-in : (t : NamedTargetTree) (e : NamedExprTree) → TargetIsIn In t → ExprIsIn In e → IfSome (updated s t e) (OperandsAreIn In)
   updated-in t e h k =
       let value = option_map (operand_at (place_of e)) (meaning s e) in
@@ -165,10 +157,6 @@ module _ (In : Place → Type 0) (s : Setting) where
   pub return-kept : Keeps (wrong_return s)
   return-kept (returned at e) h = at-if In _ at h.0
   return-kept _ h = tt
-
-  pub unfit-return-kept : Keeps (unfit_return s)
-  unfit-return-kept (returned at (tree.present e)) h = at-if In _ (place_of e) (place-in In e h.1)
-  unfit-return-kept _ h = tt
 
   pub end-kept : Keeps (reaches_end s)
   end-kept (whole_body body) h = at-if In _ (closing_brace body) (brace-in body h)

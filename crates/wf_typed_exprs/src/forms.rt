@@ -9,6 +9,7 @@ ghost use Rattle.wf_types_rules.specs.Meanings.{variable as variable_in};
 ghost use Rattle.wf_types_rules.specs.ExprTypes.{slice_in, plain_width as width_written};
 ghost use Rattle.wf_types_rules.specs.Operands.{meaning_of_operator as meaning_given};
 ghost use Rattle.wf_typed_tree.specs.ElaboratedExprs.{type_meant as type_of_meaning};
+ghost use Rattle.wf_typed_tree.specs.ElaboratedStmts.{unrefined as without_bounds};
 ghost use Rattle.wf_typed_exprs.specs.Forms.{naming, node_of as node_in, end_kept};
 
 use crate::elaborated::{Elaborated, MadeNode};
@@ -37,6 +38,16 @@ pub fn type_meant(of: Option<Meaning>) -> Ty
         ) => all_of(width),
         Some(Meaning::Constant { width: None, .. }) => all_of(Width::W64),
         None => Ty::Flag,
+    }
+}
+
+/// All numbers of a type's width; a type of no numbers stays.
+pub fn unrefined(ty: Ty) -> Ty
+    ensures { result ≡ without_bounds ty }
+{
+    match ty {
+        Ty::Num { width, .. } => all_of(width),
+        _ => ty,
     }
 }
 

@@ -10,6 +10,7 @@ use Rattle.wf_base.specs.declared.base_methods.BaseSig.{BaseSig}
 use Rattle.wf_base.specs.declared.base_methods.Kind.{Kind}
 use Rattle.wf_base.specs.BaseTable.{row_of}
 use Rattle.wf_ast.specs.declared.operators.Op.{Op}
+use Rattle.wf_ast.specs.declared.types.Ty.{Ty}
 use Rattle.wf_ast.specs.declared.types.Ty.TheVariants as types
 use Rattle.wf_ast.specs.TypedTree.{Arith}
 use Rattle.wf_ast.specs.TypedTrees.{Sort, arithmetic, sort_of}
@@ -33,7 +34,7 @@ use Rattle.wf_types_rules.specs.Judgements.{fails, both_fail, takes, wanted, may
 use Rattle.wf_types_rules.specs.TypeRules as rules
 use Rattle.wf_types_rules.specs.FirstBreak.{deciding}
 use Rattle.wf_typed_tree.specs.ElaboratedExprs.{type_meant}
-use Rattle.wf_typed_tree.specs.ElaboratedStmts.{written_to, status_in}
+use Rattle.wf_typed_tree.specs.ElaboratedStmts.{unrefined, written_to, status_in}
 use Rattle.wf_typed_tree.specs.ElaboratedPackage.{context_of}
 use Rattle.wf_typed_tree.specs.Grammar.{by_grammar, end_by_grammar, args_by_grammar, call_by_grammar, target_by_grammar, gives_number, updates, clauses_by_grammar, letters_by_grammar, via_by_grammar, has_condition, stmt_by_grammar, block_by_grammar, arms_by_grammar, package_by_grammar}
 use Rattle.wf_typed_tree.specs.MeaningTrees.{kind_meant}
@@ -83,6 +84,10 @@ number-type m h = absurd (cc h)
 
 number-told : (o : Option Meaning) (m : Meaning) → o ≡ Some m → is_number m ≡ true → is_numeric (type_meant o) ≡ true
 number-told o m e h = let P : Option Meaning → Type 0 = λ z. is_numeric (type_meant z) ≡ true in subst P (sym e) (number-type m h)
+
+unrefined-number : (ty : Ty) → is_numeric ty ≡ true → is_numeric (unrefined ty) ≡ true
+unrefined-number (types.Num width lo hi) h = refl
+unrefined-number ty h = absurd (cc h)
 
 grammar-at : (ms : List NamedMethodTree) (i : ℕ) (m : NamedMethodTree) → list_all (λ m. block_by_grammar m.body) ms ≡ true → slice_get ms i ≡ Some m → block_by_grammar m.body ≡ true
 grammar-at [] i m g e = absurd (cc e)
@@ -208,7 +213,8 @@ module _ (p : NamedPackageTree) (m : NamedMethodTree) (is : MethodIs p m) (whole
       let T : Option (List Operand) → Type 0 = λ x. option_and_then (not_taken (sort_of op)) x ≡ None in
       let S : Sort → Type 0 = λ s. not_taken s (o ∷ q ∷ []) ≡ None in
       let numbers = both-numbers sort.0 o q (subst S sort.1 (subst T all (h.0 T1 wrong_update (λ at w. rules.update at w)))) in
-      record { gives = number; target = number-told (target_meaning around t) (meanings.Typed to.ty) to.means numbers.0; value = number-told (meaning around e) it.of it.means numbers.1; right = it }
+      let target = number-told (target_meaning around t) (meanings.Typed to.ty) to.means numbers.0 in
+      record { gives = number; target = target; result = unrefined-number (type_meant (target_meaning around t)) target; value = number-told (meaning around e) it.of it.means numbers.1; right = it }
 
   assign-right : (t : NamedTargetTree) (op : Option Op) (e : NamedExprTree) → AllFine p around (assigned t op e ∷ (target_parts t ++ value_parts op e)) → updates op ≡ true
       → target_by_grammar t ≡ true → by_grammar e ≡ true → named_target names t ≡ true → named_expr names e ≡ true → IsRightTarget around known t × IsRightSide around known t op e

@@ -13,7 +13,7 @@ use Rattle.wf_types_rules.specs.declared.settings.Setting.{Setting}
 use Rattle.wf_types_rules.specs.Meanings.{variable}
 use Rattle.wf_types_rules.specs.Judgements.{target_meaning}
 use Rattle.wf_typed_tree.specs.ElaboratedExprs.{type_meant, type_of}
-use Rattle.wf_typed_tree.specs.ElaboratedStmts.{status_in}
+use Rattle.wf_typed_tree.specs.ElaboratedStmts.{type_of_update, status_in}
 use Rattle.wf_typed_tree.specs.Grammar.{gives_number, has_condition}
 use Rattle.wf_typed_exprs.specs.Right.{IsRight, IsRightPath, IsRightEnd}
 
@@ -69,6 +69,7 @@ IsRightTarget s k (to_element p i at) = IsRight s k.statuses (index p i at)
 pub record IsRightUpdate (s : Setting) (k : Known) (t : NamedTargetTree) (op : Op) (e : NamedExprTree) : Type 0 where
   pub gives : gives_number (sort_of op) ≡ true
   pub target : is_numeric (type_meant (target_meaning s t)) ≡ true
+  pub result : is_numeric (type_of_update s t) ≡ true
   pub value : is_numeric (type_of s e) ≡ true
   pub right : IsRight s k.statuses e
 

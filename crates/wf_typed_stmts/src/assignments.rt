@@ -21,7 +21,7 @@ use wf_ast::{ExprId, Op, Stmt, StmtNode};
 use wf_named::{NamedCall, NamedCallee, NamedNodes, NamedTarget};
 use wf_text::Place;
 use wf_text::faults::NoMemory;
-use wf_typed_exprs::forms::type_meant;
+use wf_typed_exprs::forms::{type_meant, unrefined};
 use wf_types_meanings::marks::is_pure;
 use wf_types_rules::Setting;
 use wf_types_stmts::assignments::as_call;
@@ -149,7 +149,7 @@ fn add_update(
         Ok(to) => {
             match nodes.push_value(alloc, named, around, e) {
                 Ok(value) => {
-                    let ty = type_meant(to.value.of);
+                    let ty = unrefined(type_meant(to.value.of));
                     match nodes.push_operator(alloc, named, op, sign, ty, to.node, value.node) {
                         Ok(whole) => Ok(StmtNode {
                             stmt: Stmt::Assign {

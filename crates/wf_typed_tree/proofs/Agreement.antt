@@ -112,7 +112,7 @@ pub declared-known : (p : NamedPackageTree) → ConstantsAre [] p.consts → (na
 declared-known p are names same role other t h n =
     let T : Scope → Type 0 = λ scope. named_type scope t ≡ true in
     let renamed = subst T same (type-renamed p names (for_types p) t h.1 n) in
-    placed-known p (for_types p) role t other h.0 (type-known p (scope_of_const p (length p.consts)) (for_types p) (types-known p are) t h.1 renamed)
+    placed-known p (for_types p) role t other h.0 h.1 (type-known p (scope_of_const p (length p.consts)) (for_types p) (types-known p are) t h.1 renamed)
 
 pub all-declared : (p : NamedPackageTree) → ConstantsAre [] p.consts → (names : Scope) → only_constants names ≡ scope_of_const p (length p.consts) → (role : Role) → (role ≡ roles.Conversion → ⊥)
     → (xs : List VarTree) → AllFine p (for_types p) (variables_parts role xs) → list_all (λ x. named_type names x.of) xs ≡ true → AllDeclared p role xs

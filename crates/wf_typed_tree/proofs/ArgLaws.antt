@@ -3,7 +3,7 @@ use Rattle.std.proofs.Common.{◌≡◌, ℕ, suc, ◌+◌, Bool, true, false, L
 use Rattle.std.specs.Prelude.{slice_get, unwrap_or}
 use Rattle.std.specs.Bool.{⊤}
 use Rattle.wf_text.specs.declared.place.Place.{Place}
-use Rattle.wf_text.specs.declared.rules.Rule.TheVariants.{T1, T5}
+use Rattle.wf_text.specs.declared.rules.Rule.TheVariants.{T1}
 use Rattle.wf_ast.specs.declared.types.Ty.{Ty}
 use Rattle.wf_ast.specs.declared.types.Ty.TheVariants as types
 use Rattle.wf_ast.specs.TypedTree.{Path, ValueTree}
@@ -20,7 +20,7 @@ use Rattle.wf_types_rules.specs.Meanings.{variable, is_value, place_of}
 use Rattle.wf_types_rules.specs.declared.settings.Role.TheVariants as roles
 use Rattle.wf_types_rules.specs.DeclaredTypes.{declared, for_types}
 use Rattle.wf_types_rules.specs.Parts.{argument, expr_parts, args_parts}
-use Rattle.wf_types_rules.specs.Judgements.{fails, both_fail, takes, has_room, wanted, meaning_of_argument, may_be_handed, wrong_argument, unfit_argument}
+use Rattle.wf_types_rules.specs.Judgements.{fails, both_fail, takes, wanted, meaning_of_argument, may_be_handed, wrong_argument}
 use Rattle.wf_types_rules.specs.TypeRules as rules
 use Rattle.wf_typed_tree.specs.ElaboratedExprs.{variable_tree, expr_tree, arg_trees}
 use Rattle.wf_typed_tree.specs.ElaboratedPackage.{type_declared, typed_variable}
@@ -68,14 +68,14 @@ module _ (p : NamedPackageTree) (n : ℕ) (m : NamedMethodTree) (is : MethodIs p
   io-fits at x ty (meanings.Typed (types.Part part)) h v k = absurd (cc h)
   io-fits at x ty of h v k = absurd (cc v)
 
-  path-fits : (q : NamedPath) (ty : Ty) (of : Meaning) → takes ty of ≡ true → has_room ty of ≡ true → variable (around p n m is) q.of ≡ Some of
+  path-fits : (q : NamedPath) (ty : Ty) (of : Meaning) → takes ty of ≡ true → variable (around p n m is) q.of ≡ Some of
       → fits_type (context p n m is) ty (expr_tree (around p n m is) (path q)) ≡ true
-  path-fits q ty of h room k =
+  path-fits q ty of h k =
       let P : Option Meaning → Type 0 = λ o. fits_type (context p n m is) ty (variable_tree q.at q.of o) ≡ true in
       subst P (sym k) (by_value (is_value of) refl)
     where
       by_value : (b : Bool) → is_value of ≡ b → fits_type (context p n m is) ty (variable_tree q.at q.of (Some of)) ≡ true
-      by_value true e = fits-value (context p n m is) ty of (variable_tree q.at q.of (Some of)) h room e (variable-means (names p n m is) (around p n m is) (context p n m is) (method-agrees p n m is) q.at q.of of k e)
+      by_value true e = fits-value (context p n m is) ty of (variable_tree q.at q.of (Some of)) h e (variable-means (names p n m is) (around p n m is) (context p n m is) (method-agrees p n m is) q.at q.of of k e)
       by_value false e = io-fits q.at q.of ty of h e k
 
   pub value-is : (of : Meaning) (t : ValueTree) → HasMeaning (context p n m is) of t → is_value of ≡ true
@@ -91,30 +91,27 @@ module _ (p : NamedPackageTree) (n : ℕ) (m : NamedMethodTree) (is : MethodIs p
     pub of : Meaning
     pub means : meaning_of_argument (around p n m is) e ≡ Some of
     pub taken : takes ty of ≡ true
-    pub room : has_room ty of ≡ true
     pub fits : fits_type (context p n m is) ty (expr_tree (around p n m is) e) ≡ true
 
   -- An argument that means something is taken.
   arg-taken : (callee : NamedCallee) (j : ℕ) (e : NamedExprTree) (ty : Ty) (of : Meaning) → Fine p (around p n m is) (argument callee j e) → wanted (around p n m is) callee j ≡ Some ty
-      → meaning_of_argument (around p n m is) e ≡ Some of → (takes ty of ≡ true) × (has_room ty of ≡ true)
+      → meaning_of_argument (around p n m is) e ≡ Some of → takes ty of ≡ true
   arg-taken callee j e ty of fine w k =
       let meant : Option Meaning = meaning_of_argument (around p n m is) e in
-      let wrong = either-false (fails may_be_handed meant) (both_fail takes (wanted (around p n m is) callee j) meant) (at-none _ (place_of e) (fine T1 wrong_argument (λ at f. rules.argument at f))) in (
-        both-hold takes (wanted (around p n m is) callee j) meant ty of w k wrong.1,
-        both-hold has_room (wanted (around p n m is) callee j) meant ty of w k (at-none _ (place_of e) (fine T5 unfit_argument (λ at f. rules.unfit_for_argument at f))),
-      )
+      let wrong = either-false (fails may_be_handed meant) (both_fail takes (wanted (around p n m is) callee j) meant) (at-none _ (place_of e) (fine T1 wrong_argument (λ at f. rules.argument at f))) in
+      both-hold takes (wanted (around p n m is) callee j) meant ty of w k wrong.1
 
   pub arg-is : (callee : NamedCallee) (j : ℕ) (e : NamedExprTree) (ty : Ty) → Fine p (around p n m is) (argument callee j e) → ArgFine e → by_grammar e ≡ true
       → named_expr (names p n m is) e ≡ true → wanted (around p n m is) callee j ≡ Some ty → ArgIs e ty
   arg-is callee j (path q) ty fine parts g k w =
       let it = method-known p m is q.of k in
-      let tests = arg-taken callee j (path q) ty it.0 fine w it.1 in
-      record { of = it.0; means = it.1; taken = tests.0; room = tests.1; fits = path-fits q ty it.0 tests.0 tests.1 it.1 }
+      let taken = arg-taken callee j (path q) ty it.0 fine w it.1 in
+      record { of = it.0; means = it.1; taken = taken; fits = path-fits q ty it.0 taken it.1 }
   arg-is callee j e ty fine parts g k w =
       let it = value-of p n m is e parts g k in
-      let tests = arg-taken callee j e ty it.of fine w it.means in
+      let taken = arg-taken callee j e ty it.of fine w it.means in
       let t : ValueTree = expr_tree (around p n m is) e in
-      record { of = it.of; means = it.means; taken = tests.0; room = tests.1; fits = fits-value (context p n m is) ty it.of t tests.0 tests.1 (value-is it.of t it.tree) it.tree }
+      record { of = it.of; means = it.means; taken = taken; fits = fits-value (context p n m is) ty it.of t taken (value-is it.of t it.tree) it.tree }
 
   -- All arguments of a call of a method.
   pub args-fit : (callee : NamedCallee) (j : ℕ) (args : NamedArgTrees) (xs : List VarTree) → AllFine p (around p n m is) (args_parts callee j args) → args_by_grammar args ≡ true

@@ -26,7 +26,7 @@ use Rattle.wf_types_rules.specs.ExprTypes.{given_by_base, pure_answer}
 use Rattle.wf_types_rules.specs.declared.settings.Role.TheVariants as roles
 use Rattle.wf_types_rules.specs.DeclaredTypes.{declared, for_types, method_type}
 use Rattle.wf_types_rules.specs.Parts.{target_parts, whole_call_parts, assigned}
-use Rattle.wf_types_rules.specs.Judgements.{fails, both_fail, has_room, base_arg, wanted, result_of, is_given_nothing, gives_no_value, are_arguments, answer_type, whole_answer, target_meaning, type_in, target_type, target_place, wrong_assigned, no_value_assigned, not_kept_in_status, is_coroutine_called, keeps_no_coroutine}
+use Rattle.wf_types_rules.specs.Judgements.{fails, both_fail, base_arg, wanted, result_of, is_given_nothing, gives_no_value, are_arguments, answer_type, whole_answer, target_meaning, type_in, target_type, target_place, wrong_assigned, no_value_assigned, not_kept_in_status, is_coroutine_called, keeps_no_coroutine}
 use Rattle.wf_types_rules.specs.Judgements as judged
 use Rattle.wf_types_rules.specs.TypeRules as rules
 use Rattle.wf_typed_tree.specs.ElaboratedExprs.{variable_tree, path_tree, arg_trees}
@@ -45,7 +45,7 @@ use Rattle.wf_typed_tree.proofs.BodyLaws.{around, names, context, TargetIs}
 use Rattle.wf_typed_tree.proofs.ArgLaws.{value-is}
 use Rattle.wf_typed_tree.proofs.CallArgLaws.{args-taken}
 use Rattle.wf_typed_tree.proofs.CalledLaws.{mark-same, Calls, own-calls, sub-calls, declared-args, call-keeps}
-use Rattle.wf_typed_tree.proofs.CallStmtLaws.{same-marks, answer-taken, takes-same, goes, has-room, target-is, OnBase, on-base, base-wanted, base-call-keeps}
+use Rattle.wf_typed_tree.proofs.CallStmtLaws.{same-marks, answer-taken, takes-same, goes, target-is, OnBase, on-base, base-wanted, base-call-keeps}
 
 result-parts : {X : Type 0} (b : Bool) (f : NamedTypeTree → X) (o : Option NamedTypeTree) → is_some (if b then None else option_map f o) ≡ true → (b ≡ false) × HasValue o
 result-parts true f o h = absurd (cc h)
@@ -147,7 +147,7 @@ module _ (p : NamedPackageTree) (n : ℕ) (m : NamedMethodTree) (is : MethodIs p
           (answer-means (names p n m is) (around p n m is) (context p n m is) (method-agrees p n m is) at on mark (meanings.Typed ty.0) sig it.of it.meant it.kind gives_it) in
           let of : ValueTree = answer_of at sig (path_tree (around p n m is) on) in
           to.accepts.assigned of
-          (fits-value (context p n m is) to.ty (meanings.Typed ty.0) of fits (has-room to.ty ty.0) (value-is p n m is (meanings.Typed ty.0) of tree) tree)
+          (fits-value (context p n m is) to.ty (meanings.Typed ty.0) of fits (value-is p n m is (meanings.Typed ty.0) of tree) tree)
 
   pub call-assigned-keeps : (loops : List ℕ) (t : NamedTargetTree) (c : NamedCallTree) → AllFine p (around p n m is) (assigned t None (answer c) ∷ (target_parts t ++ whole_call_parts c))
       → target_by_grammar t ≡ true → by_grammar (answer c) ≡ true → named_target (names p n m is) t ≡ true → named_call (names p n m is) c ≡ true

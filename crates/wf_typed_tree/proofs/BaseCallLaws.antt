@@ -19,7 +19,7 @@ use Rattle.wf_ast.specs.declared.types.Ty.{Ty}
 use Rattle.wf_ast.specs.declared.types.Ty.TheVariants as types
 use Rattle.wf_ast.specs.TypedTree.{arg, ValueTree, numeric, elements, Target}
 use Rattle.wf_ast.specs.TypedTrees.{num_in, slice_in, io_in, base_call}
-use Rattle.wf_ast.specs.WellTyped.{Context, type_at, is_reader, is_writer, is_pure, is_coroutine, has_none, takes_bits, fits, well_num, well_slice, slice_of, element_type, fits_type, well_simple}
+use Rattle.wf_ast.specs.WellTyped.{Context, type_at, is_reader, is_writer, is_pure, is_coroutine, has_none, takes_bits, may_go_into, well_num, well_slice, slice_of, element_type, fits_type, well_simple}
 use Rattle.wf_named.specs.declared.nodes.Variable.{Variable}
 use Rattle.wf_named.specs.WellNamed.{Scope, has_kind}
 use Rattle.wf_types_rules.specs.declared.meanings.Meaning.{Meaning}
@@ -68,7 +68,7 @@ Goes c target gives.Nothing = has_none target ≡ true
 Goes c target (gives.Num width) = takes_bits c target (bits_of width) ≡ true
 Goes c target gives.Flag = ⊤
 
-number-arg : (c : Context) (width : Width) (t : ValueTree) → fits_type c (all_of width) t ≡ true → (fits (bits_of width) (num_in t) && well_num c (num_in t)) ≡ true
+number-arg : (c : Context) (width : Width) (t : ValueTree) → fits_type c (all_of width) t ≡ true → (may_go_into (bits_of width) (num_in t) && well_num c (num_in t)) ≡ true
 number-arg c width (numeric t) h = h
 number-arg c width t h = absurd (cc h)
 
@@ -93,18 +93,18 @@ base-keeps c loops at target on (sigs.Read form) [] pure may of to fit =
     and-true (is_coroutine c.method.mark) _ (suspends c.method.mark may) (and-true (is_reader (type_at c (arg (io_in on)))) (takes_bits c target (bits_of (read_width form))) of to)
 base-keeps c loops at target on sigs.Skip (t ∷ []) pure may of to fit =
     and-true (is_coroutine c.method.mark) _ (suspends c.method.mark may)
-    (and-true (is_reader (type_at c (arg (io_in on)))) _ of (and-true (has_none target) (fits 32 (num_in t) && well_num c (num_in t)) to (number-arg c W32 t fit.0)))
+    (and-true (is_reader (type_at c (arg (io_in on)))) _ of (and-true (has_none target) (may_go_into 32 (num_in t) && well_num c (num_in t)) to (number-arg c W32 t fit.0)))
 base-keeps c loops at target on sigs.Write (t ∷ []) pure may of to fit =
     and-true (is_coroutine c.method.mark) _ (suspends c.method.mark may)
-    (and-true (is_writer (type_at c (arg (io_in on)))) _ of (and-true (has_none target) (fits 8 (num_in t) && well_num c (num_in t)) to (number-arg c W8 t fit.0)))
+    (and-true (is_writer (type_at c (arg (io_in on)))) _ of (and-true (has_none target) (may_go_into 8 (num_in t) && well_num c (num_in t)) to (number-arg c W8 t fit.0)))
 base-keeps c loops at target on sigs.SkipFast (t ∷ u ∷ []) pure may of to fit =
     and-true (not (is_pure c.method.mark)) _ (writes c.method.mark may)
     (and-true (is_reader (type_at c (arg (io_in on)))) _ of
     (and-true (has_none target) _ to
-    (and-true (fits 32 (num_in t) && well_num c (num_in t)) (fits 32 (num_in u) && well_num c (num_in u)) (number-arg c W32 t fit.0) (number-arg c W32 u fit.1.0))))
+    (and-true (may_go_into 32 (num_in t) && well_num c (num_in t)) (may_go_into 32 (num_in u) && well_num c (num_in u)) (number-arg c W32 t fit.0) (number-arg c W32 u fit.1.0))))
 base-keeps c loops at target on sigs.WriteFast (t ∷ []) pure may of to fit =
     and-true (not (is_pure c.method.mark)) _ (writes c.method.mark may)
-    (and-true (is_writer (type_at c (arg (io_in on)))) _ of (and-true (has_none target) (fits 8 (num_in t) && well_num c (num_in t)) to (number-arg c W8 t fit.0)))
+    (and-true (is_writer (type_at c (arg (io_in on)))) _ of (and-true (has_none target) (may_go_into 8 (num_in t) && well_num c (num_in t)) to (number-arg c W8 t fit.0)))
 base-keeps c loops at target on sigs.WriterCopy (t ∷ []) pure may of to fit =
     and-true (not (is_pure c.method.mark)) _ (writes c.method.mark may)
     (and-true (is_writer (type_at c (arg (io_in on)))) _ of (and-true (takes_bits c target 64) (slice_of c 8 (slice_in t)) to (slice-arg c W8 t fit.0)))

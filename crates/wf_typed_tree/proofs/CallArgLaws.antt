@@ -10,7 +10,7 @@ use Rattle.wf_named.specs.NamedTree.{NamedArgTrees, no_arg, more_args, NamedMeth
 use Rattle.wf_named.specs.WellNamed.{count_args, named_expr, named_args}
 use Rattle.wf_types_rules.specs.declared.meanings.Meaning.{Meaning}
 use Rattle.wf_types_rules.specs.Parts.{args_parts}
-use Rattle.wf_types_rules.specs.Judgements.{takes, has_room, base_arg, wanted, meaning_of_argument, is_argument, are_arguments}
+use Rattle.wf_types_rules.specs.Judgements.{takes, base_arg, wanted, meaning_of_argument, is_argument, are_arguments}
 use Rattle.wf_typed_tree.specs.ElaboratedExprs.{arg_trees}
 use Rattle.wf_typed_tree.specs.Grammar.{by_grammar, args_by_grammar}
 use Rattle.wf_typed_tree.proofs.NumberLemmas.{both, and-true}
@@ -21,11 +21,11 @@ use Rattle.wf_typed_tree.proofs.BodyLaws.{around, names, context}
 use Rattle.wf_typed_tree.proofs.ArgLaws.{split-arg, arg-is}
 use Rattle.wf_typed_tree.proofs.BaseCallLaws.{FitArgs}
 
-argument-is : (o : Option Ty) (q : Option Meaning) (ty : Ty) (of : Meaning) → o ≡ Some ty → q ≡ Some of → takes ty of ≡ true → has_room ty of ≡ true → is_argument o q ≡ true
-argument-is o q ty of e f h k =
+argument-is : (o : Option Ty) (q : Option Meaning) (ty : Ty) (of : Meaning) → o ≡ Some ty → q ≡ Some of → takes ty of ≡ true → is_argument o q ≡ true
+argument-is o q ty of e f h =
     let P : Option Ty → Type 0 = λ x. is_argument x q ≡ true in
     let Q : Option Meaning → Type 0 = λ x. is_argument (Some ty) x ≡ true in
-    subst P (sym e) (subst Q (sym f) (and-true (takes ty of) (has_room ty of) h k))
+    subst P (sym e) (subst Q (sym f) h)
 
 module _ (p : NamedPackageTree) (n : ℕ) (m : NamedMethodTree) (is : MethodIs p m) where
   -- All arguments of a call are taken.
@@ -46,7 +46,7 @@ module _ (p : NamedPackageTree) (n : ℕ) (m : NamedMethodTree) (is : MethodIs p
       let it = arg-is p n m is callee j e first.0 parts.0 parts.1 grammar.0 named_parts.0 asked in
       let R : ℕ → Type 0 = λ i. are_arguments (around p n m is) callee i others ≡ true in
       and-true (is_argument (wanted (around p n m is) callee j) (meaning_of_argument (around p n m is) e)) (are_arguments (around p n m is) callee (suc j) others)
-      (argument-is (wanted (around p n m is) callee j) (meaning_of_argument (around p n m is) e) first.0 it.of asked it.means it.taken it.room)
+      (argument-is (wanted (around p n m is) callee j) (meaning_of_argument (around p n m is) e) first.0 it.of asked it.means it.taken)
       (subst R next
       (args-taken callee (j + 1) others parts.2 grammar.1 named_parts.1
       (λ i low. let moved : j + suc i ≡ j + 1 + i = omega arith in

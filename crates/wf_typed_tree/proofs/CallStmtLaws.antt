@@ -32,7 +32,7 @@ use Rattle.wf_types_rules.specs.Meanings as meant
 use Rattle.wf_types_rules.specs.Operands.{differs_in}
 use Rattle.wf_types_rules.specs.ExprTypes.{given_by_base}
 use Rattle.wf_types_rules.specs.Parts.{target_parts, whole_call_parts, kept}
-use Rattle.wf_types_rules.specs.Judgements.{fails, both_fail, has_room, base_arg, wanted, result_of, is_given_nothing, gives_no_value, are_arguments, answer_type, whole_answer, target_meaning, type_in, target_type, target_place, wrong_assigned, no_value_assigned, not_kept_in_status, is_coroutine_called, keeps_no_coroutine}
+use Rattle.wf_types_rules.specs.Judgements.{fails, both_fail, base_arg, wanted, result_of, is_given_nothing, gives_no_value, are_arguments, answer_type, whole_answer, target_meaning, type_in, target_type, target_place, wrong_assigned, no_value_assigned, not_kept_in_status, is_coroutine_called, keeps_no_coroutine}
 use Rattle.wf_types_rules.specs.Judgements as judged
 use Rattle.wf_types_rules.specs.TypeRules as rules
 use Rattle.wf_typed_tree.specs.ElaboratedExprs.{variable_tree, path_tree, arg_trees}
@@ -131,10 +131,6 @@ goes c target (gives.Num w) ty own_ty e h k =
     let T : Ty → Type 0 = λ z. judged.takes ty (meanings.Typed z) ≡ true in
     absurd (cc (subst T (sym same) h))
 goes c target gives.Flag ty own_ty e h k = tt
-
-pub has-room : (ty own_ty : Ty) → has_room ty (meanings.Typed own_ty) ≡ true
-has-room (types.Num width lo hi) own_ty = refl
-has-room ty own_ty = refl
 
 module _ (p : NamedPackageTree) (n : ℕ) (m : NamedMethodTree) (is : MethodIs p m) (whole : PackageIs p) where
   pub target-is : (t : NamedTargetTree) → AllFine p (around p n m is) (target_parts t) → target_by_grammar t ≡ true → named_target (names p n m is) t ≡ true → TargetIs p n m is t

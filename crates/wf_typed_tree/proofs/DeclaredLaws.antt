@@ -22,14 +22,14 @@ use Rattle.wf_types_rules.specs.Meanings.{all_of}
 use Rattle.wf_types_rules.specs.ExprTypes.{plain_width, base_of, refined_type, array_type, meaning, number_of, low_number, written}
 use Rattle.wf_types_rules.specs.declared.settings.Role.{Role}
 use Rattle.wf_types_rules.specs.declared.settings.Role.TheVariants as roles
-use Rattle.wf_types_rules.specs.DeclaredTypes.{is_numeric, may_be, is_zero_kept, if_allowed, declared}
+use Rattle.wf_types_rules.specs.DeclaredTypes.{form_of, is_number_form, may_have, may_be, is_zero_kept, if_allowed, declared}
 use Rattle.wf_types_rules.specs.Parts.{placed_type, expr_parts, links_parts, type_parts}
-use Rattle.wf_types_rules.specs.Judgements.{fails, names_others, links_name_others, is_no_constant, wrong_type, is_misplaced, misplaced_type, begins_above_zero, is_constant_name}
+use Rattle.wf_types_rules.specs.Judgements.{fails, names_others, links_name_others, is_no_constant, form, wrong_type, is_misplaced, misplaced_type, begins_above_zero, is_constant_name}
 use Rattle.wf_types_rules.specs.Meanings as meant
 use Rattle.wf_types_rules.specs.TypeRules as rules
 use Rattle.wf_typed_tree.proofs.NumberLemmas.{both, and-true, where-parts, width-is, then-parts, map-parts}
 use Rattle.wf_typed_tree.proofs.NoBreaks.{Fine, AllFine, fine-split, at-none, either-false, holds}
-use Rattle.wf_typed_tree.proofs.KnownMeanings.{HasValue, then-known}
+use Rattle.wf_typed_tree.proofs.KnownMeanings.{HasValue, then-known, form-known}
 
 -- The numbers of a written type lie in its width.
 abbrev pub HasRange : Ty → Type 0
@@ -105,11 +105,11 @@ declared-parts s role t ty h =
     record { is = it.is ∙ ap Some allowed.1; may = subst M allowed.1 tests.0; zero = subst Z allowed.1 tests.1 }
 
 -- A type at a place where it may stand.
-placed-allowed : (p : NamedPackageTree) (s : Setting) (role : Role) (t : NamedTypeTree) → is_misplaced s role t ≡ fails (may_be role) (written s t)
-    → Fine p s (placed_type role t) → HasValue (written s t) → HasValue (declared s role t)
-placed-allowed p s role t same fine it =
-    let misplaced : fails (may_be role) (written s t) ≡ false = sym same ∙ at-none (is_misplaced s role t) _ (fine T1 misplaced_type (λ at w. rules.misplaced at w)) in
-    let may = holds (may_be role) (written s t) it.0 it.1 misplaced in
+placed-allowed : (p : NamedPackageTree) (s : Setting) (role : Role) (t : NamedTypeTree) → is_misplaced s role t ≡ fails (may_have role) (form s t)
+    → Fine p s (placed_type role t) → AllFine p s (type_parts t) → HasValue (written s t) → HasValue (declared s role t)
+placed-allowed p s role t same fine parts it =
+    let misplaced : fails (may_have role) (form s t) ≡ false = sym same ∙ at-none (is_misplaced s role t) _ (fine T1 misplaced_type (λ at w. rules.misplaced at w)) in
+    let may = holds (may_have role) (form s t) (form_of it.0) (form-known p s t it.0 parts it.1) misplaced in
     let zero = holds (is_zero_kept role) (written s t) it.0 it.1 (at-none (fails (is_zero_kept role) (written s t)) _ (fine T5 begins_above_zero (λ at w. rules.not_zero at w))) in
     let allowed : if_allowed role it.0 ≡ Some it.0 = allow (may_be role it.0) (is_zero_kept role it.0) it.0 may zero in
     (it.0, then-known (if_allowed role) (written s t) it.0 it.0 it.1 allowed)
@@ -117,14 +117,14 @@ placed-allowed p s role t same fine it =
     allow : (a b : Bool) (ty : Ty) → a ≡ true → b ≡ true → (if a && b then Some ty else None) ≡ Some ty
     allow a b ty e f = rw (e, f) refl
 
-pub placed-known : (p : NamedPackageTree) (s : Setting) (role : Role) (t : NamedTypeTree) → (role ≡ roles.Conversion → ⊥) → Fine p s (placed_type role t) → HasValue (written s t)
-    → HasValue (declared s role t)
-placed-known p s roles.Const t other fine it = placed-allowed p s roles.Const t refl fine it
-placed-known p s roles.Field t other fine it = placed-allowed p s roles.Field t refl fine it
-placed-known p s roles.Arg t other fine it = placed-allowed p s roles.Arg t refl fine it
-placed-known p s roles.Local t other fine it = placed-allowed p s roles.Local t refl fine it
-placed-known p s (roles.Result mark) t other fine it = placed-allowed p s (roles.Result mark) t refl fine it
-placed-known p s roles.Conversion t other fine it = absurd (other refl)
+pub placed-known : (p : NamedPackageTree) (s : Setting) (role : Role) (t : NamedTypeTree) → (role ≡ roles.Conversion → ⊥) → Fine p s (placed_type role t) → AllFine p s (type_parts t)
+    → HasValue (written s t) → HasValue (declared s role t)
+placed-known p s roles.Const t other fine parts it = placed-allowed p s roles.Const t refl fine parts it
+placed-known p s roles.Field t other fine parts it = placed-allowed p s roles.Field t refl fine parts it
+placed-known p s roles.Arg t other fine parts it = placed-allowed p s roles.Arg t refl fine parts it
+placed-known p s roles.Local t other fine parts it = placed-allowed p s roles.Local t refl fine parts it
+placed-known p s (roles.Result mark) t other fine parts it = placed-allowed p s (roles.Result mark) t refl fine parts it
+placed-known p s roles.Conversion t other fine parts it = absurd (other refl)
 
 -- What names only constants is named among them alone.
 abbrev pub only_constants : Scope → Scope
@@ -170,7 +170,7 @@ module _ (p : NamedPackageTree) (names : Scope) (s : Setting) where
     type-renamed (array_of length at element) h n =
         let named = both (named_expr names length) (named_type names element) n in
         let parts = fine-split p s (expr_parts length) (type_parts element) h.1 in
-        let wrong = either-false (is_no_constant s length) (fails is_numeric (written s element)) (at-none _ at (h.0 T1 wrong_type (λ at w. rules.unknown_type at w))) in
+        let wrong = either-false (is_no_constant s length) (fails is_number_form (form s element)) (at-none _ at (h.0 T1 wrong_type (λ at w. rules.unknown_type at w))) in
         let alone = either-false (names_others length) (fails meant.is_constant (meaning s length)) wrong.0 in
         and-true (named_expr (only_constants names) length) (named_type (only_constants names) element) (expr-renamed length parts.0 alone.0 named.0) (type-renamed element parts.1 named.1)
     type-renamed (base_type None at bounds) h n = absurd (cc (h.0 T1 wrong_type (λ at w. rules.unknown_type at w)))

@@ -1,5 +1,5 @@
 -- Where no judgement finds fault, every expression means something and every written type is one.
-use Rattle.std.proofs.Common.{◌≡◌, ℕ, ◌-◌, ◌^◌, Bool, true, false, not, ◌&&◌, List, [], ◌∷◌, Option, Some, None, refl, sym, subst, arith, nat_lt, nat_le}
+use Rattle.std.proofs.Common.{◌≡◌, ℕ, ◌-◌, ◌^◌, Bool, true, false, not, ◌&&◌, ◌||◌, List, [], ◌∷◌, Option, Some, None, refl, sym, ap, subst, arith, nat_lt, nat_le, nat_eq}
 use Rattle.std.specs.Prelude.{option_and_then, option_map, is_some, if◌then◌else◌, min}
 use Rattle.std.proofs.lemmas.Bool.Decides.{nat_tests}
 use Rattle.wf_text.specs.declared.place.Place.{Place}
@@ -14,6 +14,7 @@ use Rattle.wf_ast.specs.declared.types.Ty.{Ty}
 use Rattle.wf_ast.specs.declared.types.Ty.TheVariants as types
 use Rattle.wf_ast.specs.TypedTrees.{Sort, sort_of}
 use Rattle.wf_ast.specs.WellTyped.{is_pure, same_mark}
+use Rattle.wf_named.specs.declared.nodes.BaseType.{BaseType}
 use Rattle.wf_named.specs.declared.nodes.BaseType.TheVariants as bases
 use Rattle.wf_named.specs.declared.nodes.NamedCallee.TheVariants as callees
 use Rattle.wf_named.specs.declared.nodes.Variable.{Variable}
@@ -23,15 +24,17 @@ use Rattle.wf_types_rules.specs.declared.meanings.Meaning.{Meaning}
 use Rattle.wf_types_rules.specs.declared.meanings.Meaning.TheVariants as meanings
 use Rattle.wf_types_rules.specs.declared.meanings.Operand.{Operand}
 use Rattle.wf_types_rules.specs.Meanings as meant
+use Rattle.wf_types_rules.specs.declared.settings.Form.{Form}
+use Rattle.wf_types_rules.specs.declared.settings.Form.TheVariants as forms
 use Rattle.wf_types_rules.specs.declared.settings.Setting.{Setting}
 use Rattle.wf_types_rules.specs.Meanings.{all_of, variable, is_value, constant_number, place_of}
 use Rattle.wf_types_rules.specs.Operands.{first_of, not_taken, not_fitting, are_taken, given, meaning_of_operator, has_no_value}
-use Rattle.wf_types_rules.specs.ExprTypes.{only_where, element_of, slice_in, pure_answer, given_by_base, plain_width, base_of, refined_type, array_type, converted, in_front, operand_at, if_number, meaning, if_end, operands_behind, operands, number_of, written}
-use Rattle.wf_types_rules.specs.DeclaredTypes.{is_numeric, holds_zero}
+use Rattle.wf_types_rules.specs.ExprTypes.{only_where, element_of, slice_in, pure_answer, given_by_base, plain_width, base_of, refined_type, array_type, converted, in_front, operand_at, if_number, meaning, if_end, operands_behind, operands, number_of, low_number, written}
+use Rattle.wf_types_rules.specs.DeclaredTypes.{form_of, is_number_form, is_numeric, holds_zero}
 use Rattle.wf_types_rules.specs.Parts.{expr_parts, end_parts, links_parts, type_parts}
-use Rattle.wf_types_rules.specs.Judgements.{at_if, fails, if_both, wrong_number, wrong_end, is_known_end, wrong_operand, unfit_operand, node_without_value, leaves_width, names_others, is_no_constant, wrong_type, misplaced_type, crossed_bounds, is_too_high, high_bound, no_elements, element_above_zero, call_inside, wrong_mark}
+use Rattle.wf_types_rules.specs.Judgements.{at_if, fails, if_both, wrong_number, wrong_end, is_known_end, wrong_operand, unfit_operand, node_without_value, leaves_width, names_others, is_no_constant, is_no_low_bound, base_form, refined_form, with_elements, form, wrong_type, misplaced_type, crossed_bounds, is_too_high, high_bound, no_elements, element_above_zero, call_inside, wrong_mark}
 use Rattle.wf_types_rules.specs.TypeRules as rules
-use Rattle.wf_typed_tree.proofs.NumberLemmas.{both, and-true}
+use Rattle.wf_typed_tree.proofs.NumberLemmas.{both, and-true, where-parts}
 use Rattle.wf_typed_tree.proofs.ExprLaws.{kind-wanted}
 use Rattle.wf_typed_tree.proofs.NoBreaks.{AllFine, fine-split, at-none, either-false, not-not, first-none, holds, both-hold, there-of, some-is}
 
@@ -136,6 +139,58 @@ end-gives s (present e) x ty k h f =
     let it = there-of (meaning s e) k in
     number-known (meaning s e) x it.0 ty it.1 (holds meant.is_number (meaning s e) it.0 it.1 (at-none (fails meant.is_number (meaning s e)) (place_of e) h)) f
 
+-- A type that is written has the form of what it is.
+base-formed : (of : BaseType) → base_form of ≡ form_of (base_of of)
+base-formed (bases.Number width) = refl
+base-formed bases.Flag = refl
+base-formed bases.Status = refl
+base-formed bases.Reader = refl
+base-formed bases.Writer = refl
+
+plain-formed : (s : Setting) (t : NamedTypeTree) (w : Width) → plain_width t ≡ Some w → form s t ≡ Some forms.Number
+plain-formed s (base_type (Some (bases.Number width)) at unrefined) w h = refl
+plain-formed s t w h = absurd (cc h)
+
+slice-formed : (s : Setting) (element : NamedTypeTree) (o : Option Width) (ty : Ty) → plain_width element ≡ o → option_map types.Slice o ≡ Some ty
+    → with_elements forms.Slice (form s element) ≡ Some (form_of ty)
+slice-formed s element (Some w) ty e h =
+    let same : types.Slice w ≡ ty = cc h in
+    let F : Ty → Type 0 = λ z. with_elements forms.Slice (form s element) ≡ Some (form_of z) in
+    subst F same (rw (plain-formed s element w e) refl)
+slice-formed s element None ty e h = absurd (cc h)
+
+array-formed : (count : Option ℕ) (element : Option Ty) (kind : Option Form) (ty : Ty) → ((of : Ty) → element ≡ Some of → kind ≡ Some (form_of of)) → array_type count element ≡ Some ty
+    → with_elements forms.Array kind ≡ Some (form_of ty)
+array-formed (Some n) (Some (types.Num width lo hi)) kind ty inside h =
+    let it = where-parts (nat_lt 0 n && nat_eq lo 0) (types.Array width lo hi (min n (2 ^ 32 - 1))) ty h in
+    let F : Ty → Type 0 = λ z. with_elements forms.Array kind ≡ Some (form_of z) in
+    subst F it.1 (rw (inside (types.Num width lo hi) refl) refl)
+array-formed None element kind ty inside h = absurd (cc h)
+array-formed (Some n) element kind ty inside h = absurd (cc h)
+
+refined-formed : (width : Width) (low high : Option ℕ) (unfit : Bool) (ty : Ty) → unfit ≡ false → refined_type width low high ≡ Some ty → refined_form unfit ≡ Some (form_of ty)
+refined-formed width (Some m) (Some n) unfit ty e h =
+    let it = where-parts (nat_le m n && nat_lt n (2 ^ bits_of width)) (types.Num width m n) ty h in
+    let F : Ty → Type 0 = λ z. refined_form unfit ≡ Some (form_of z) in
+    subst F it.1 (rw e refl)
+refined-formed width None high unfit ty e h = absurd (cc h)
+refined-formed width (Some m) None unfit ty e h = absurd (cc h)
+
+pub form-known : (p : NamedPackageTree) (s : Setting) (t : NamedTypeTree) (ty : Ty) → AllFine p s (type_parts t) → written s t ≡ Some ty → form s t ≡ Some (form_of ty)
+form-known p s (slice_of at element) ty h e = slice-formed s element (plain_width element) ty refl e
+form-known p s (array_of length at element) ty h e =
+    let parts = fine-split p s (expr_parts length) (type_parts element) h.1 in
+    array-formed (number_of s length) (written s element) (form s element) ty (λ of f. form-known p s element of parts.1 f) e
+form-known p s (base_type None at bounds) ty h e = absurd (cc e)
+form-known p s (base_type (Some of) at unrefined) ty h e =
+    let same : base_of of ≡ ty = cc e in
+    let F : Ty → Type 0 = λ z. Some (base_form of) ≡ Some (form_of z) in
+    subst F same (ap Some (base-formed of))
+form-known p s (base_type (Some (bases.Number width)) at (refined low high)) ty h e =
+    refined-formed width (low_number s low) (number_of s high) (is_no_low_bound s low || is_no_constant s high) ty (at-none _ at (h.0 T1 wrong_type (λ at w. rules.unknown_type at w))) e
+form-known p s (base_type (Some of) at (refined low high)) ty h e = absurd (cc e)
+form-known p s (struct_type n at) ty h e = let same : types.Part (record { 0 = n }) ≡ ty = cc e in let F : Ty → Type 0 = λ z. Some forms.Struct ≡ Some (form_of z) in subst F same refl
+
 module _ (p : NamedPackageTree) (names : Scope) (s : Setting) (known : (x : Variable) → is_some (type_of_variable names x) ≡ true → HasValue (variable s x)) where
   mutual
     pub expr-known : (e : NamedExprTree) → AllFine p s (expr_parts e) → named_expr names e ≡ true → HasValue (meaning s e)
@@ -208,8 +263,8 @@ module _ (p : NamedPackageTree) (names : Scope) (s : Setting) (known : (x : Vari
         let it = expr-known e parts.0 named.0 in
         let ty = type-known t parts.1 named.1 in
         let misplaced = at-none _ _ (h.1.0 T1 misplaced_type (λ at w. rules.misplaced at w)) in
-        let W : Option Ty → Type 0 = λ o. (is_some o && not (is_some (plain_width t))) ≡ false in
-        let width = there-of (plain_width t) (not-not (is_some (plain_width t)) (subst W ty.1 misplaced)) in
+        let W : Option Form → Type 0 = λ o. (is_some o && not (is_some (plain_width t))) ≡ false in
+        let width = there-of (plain_width t) (not-not (is_some (plain_width t)) (subst W (form-known p s t ty.0 parts.1 ty.1) misplaced)) in
         let number = holds meant.is_number (meaning s e) it.0 it.1 (at-none (fails meant.is_number (meaning s e)) (place_of e) (h.0 T1 wrong_operand (λ at w. rules.operand at w))) in
         let stays = not-true _ (holds (λ m. not (leaves_width m t)) (meaning s e) it.0 it.1 (at-none _ at (h.0 T5 node_without_value (λ at w. rules.without_value at w)))) in
         let gives = converted-known t it.0 width.0 width.1 number stays in
@@ -235,18 +290,18 @@ module _ (p : NamedPackageTree) (names : Scope) (s : Setting) (known : (x : Vari
     pub type-known : (t : NamedTypeTree) → AllFine p s (type_parts t) → named_type names t ≡ true → HasValue (written s t)
     type-known (slice_of at element) h n =
         let it = type-known element h.1 n in
-        let W : Option Ty → Type 0 = λ o. (is_some o && not (is_some (plain_width element))) ≡ false in
-        let width = there-of (plain_width element) (not-not (is_some (plain_width element)) (subst W it.1 (at-none _ at (h.0 T1 wrong_type (λ at w. rules.unknown_type at w))))) in
+        let W : Option Form → Type 0 = λ o. (is_some o && not (is_some (plain_width element))) ≡ false in
+        let width = there-of (plain_width element) (not-not (is_some (plain_width element)) (subst W (form-known p s element it.0 h.1 it.1) (at-none _ at (h.0 T1 wrong_type (λ at w. rules.unknown_type at w))))) in
         (types.Slice width.0, map-known types.Slice (plain_width element) width.0 width.1)
     type-known (array_of length at element) h n =
         let named = both (named_expr names length) (named_type names element) n in
         let parts = fine-split p s (expr_parts length) (type_parts element) h.1 in
         let count = expr-known length parts.0 named.0 in
         let of = type-known element parts.1 named.1 in
-        let wrong = either-false (is_no_constant s length) (fails is_numeric (written s element)) (at-none _ at (h.0 T1 wrong_type (λ at w. rules.unknown_type at w))) in
+        let wrong = either-false (is_no_constant s length) (fails is_number_form (form s element)) (at-none _ at (h.0 T1 wrong_type (λ at w. rules.unknown_type at w))) in
         let constant = numbered-known (meaning s length) count.0 count.1 (either-false (names_others length) (fails meant.is_constant (meaning s length)) wrong.0).1 in
         let positive = holds (nat_lt 0) (number_of s length) constant.0 constant.1 (at-none _ (place_of length) (h.0 T5 no_elements (λ at w. rules.empty_array at w))) in
-        let numeric = holds is_numeric (written s element) of.0 of.1 wrong.1 in
+        let numeric = holds is_number_form (form s element) (form_of of.0) (form-known p s element of.0 parts.1 of.1) wrong.1 in
         let zero = holds holds_zero (written s element) of.0 of.1 (at-none _ _ (h.0 T5 element_above_zero (λ at w. rules.element_not_zero at w))) in
         array-known (number_of s length) (written s element) constant.0 of.0 constant.1 of.1 positive numeric zero
     type-known (base_type None at bounds) h n = absurd (cc (h.0 T1 wrong_type (λ at w. rules.unknown_type at w)))

@@ -17,24 +17,24 @@ use Rattle.wf_ast.specs.TypedTree.{Arith, NumTree, link, numeric, state, Target,
 use Rattle.wf_ast.specs.TypedTree as typed
 use Rattle.wf_ast.specs.TypedTrees.{Sort, arithmetic, sort_of, num_in, cond_in, chain_of, arith_in}
 use Rattle.wf_ast.specs.Same.{same_arith, arith_number}
-use Rattle.wf_ast.specs.WellTyped.{Context, is_coroutine, fits, is_shift, is_whole_number, well_part, well_num, well_cond, fits_type, well_assigned, is_operator, well_returned, is_suspension, well_axiom, well_simple}
+use Rattle.wf_ast.specs.WellTyped.{Context, is_coroutine, may_go_into, is_shift, is_whole_number, well_part, well_num, well_cond, fits_type, well_assigned, is_operator, well_returned, is_suspension, well_axiom, well_simple}
 use Rattle.wf_named.specs.NamedTree.{NamedExprTree, status, answer, NamedPartTree, absent, present, NamedTypeTree, NamedTargetTree, LetterTrees, no_letter, more_letters, NamedViaTree, by_itself, via, Word, NamedMethodTree, NamedPackageTree}
 use Rattle.wf_named.specs.WellNamed.{named_expr, named_part, named_target, named_letters, named_via}
 use Rattle.wf_types_rules.specs.declared.meanings.Meaning.{Meaning}
 use Rattle.wf_types_rules.specs.declared.meanings.Meaning.TheVariants as meanings
 use Rattle.wf_types_rules.specs.declared.meanings.Operand.{Operand}
-use Rattle.wf_types_rules.specs.Meanings.{all_of, there, constant_number, place_of}
+use Rattle.wf_types_rules.specs.Meanings.{all_of, constant_number, place_of}
 use Rattle.wf_types_rules.specs.Meanings as meant
 use Rattle.wf_types_rules.specs.Operands.{not_taken, not_fitting, not_shifted, not_of_one_width, common_width, left_width, are_taken, given, number_in, meaning_of_operator}
 use Rattle.wf_types_rules.specs.ExprTypes.{operand_at, meaning}
 use Rattle.wf_types_rules.specs.declared.settings.Role.TheVariants as roles
 use Rattle.wf_types_rules.specs.DeclaredTypes.{declared, for_types}
 use Rattle.wf_types_rules.specs.Parts.{expr_parts, end_parts, letters_parts, via_parts, condition_parts, target_parts, value_parts, assigned, returned, yielded}
-use Rattle.wf_types_rules.specs.Judgements.{fails, both_fail, has_room, target_meaning, type_in, target_type, target_place, wrong_assigned, unfit_assigned, updated, wrong_update, unfit_update, wrong_result, is_wrong_return, wrong_return, unfit_return, yielded_outside, wrong_yield, is_suspension_text, wrong_letter}
+use Rattle.wf_types_rules.specs.Judgements.{fails, both_fail, target_meaning, type_in, target_type, target_place, wrong_assigned, updated, wrong_update, unfit_update, wrong_result, is_wrong_return, wrong_return, yielded_outside, wrong_yield, is_suspension_text, wrong_letter}
 use Rattle.wf_types_rules.specs.Judgements as judged
 use Rattle.wf_types_rules.specs.TypeRules as rules
 use Rattle.wf_typed_tree.specs.ElaboratedExprs.{type_meant, number_or, expr_tree}
-use Rattle.wf_typed_tree.specs.ElaboratedStmts.{written_to, target_tree, update_tree, assign_tree, returned_tree, status_in, letter_trees, axiom_tree, loop_meant}
+use Rattle.wf_typed_tree.specs.ElaboratedStmts.{unrefined, type_of_update, written_to, target_tree, update_tree, assign_tree, returned_tree, status_in, letter_trees, axiom_tree, loop_meant}
 use Rattle.wf_typed_tree.specs.ElaboratedPackage.{seen_text, type_declared, typed_package}
 use Rattle.wf_typed_tree.specs.Grammar.{by_grammar, end_by_grammar, target_by_grammar, gives_number, updates, letters_by_grammar, via_by_grammar}
 use Rattle.wf_typed_tree.specs.MeaningTrees.{IsNumber, HasMeaning}
@@ -46,7 +46,7 @@ use Rattle.wf_typed_tree.proofs.AllOperators.{shift-parts, shift-means, whole-tr
 use Rattle.wf_typed_tree.proofs.KnownMeanings.{HasValue, then-known, map-known, front-known}
 use Rattle.wf_typed_tree.proofs.Agreement.{PackageIs, MethodIs, typed-statuses}
 use Rattle.wf_typed_tree.proofs.DeclarationLaws.{declared-is}
-use Rattle.wf_typed_tree.proofs.ValueLaws.{fits-value, Accepts}
+use Rattle.wf_typed_tree.proofs.ValueLaws.{goes-into, fits-value, Accepts}
 use Rattle.wf_typed_tree.proofs.BodyLaws.{around, names, context, ValueOf, value-of, condition-keeps, TargetIs}
 use Rattle.wf_typed_tree.proofs.ArgLaws.{value-is}
 use Rattle.wf_typed_tree.proofs.CallStmtLaws.{target-is}
@@ -90,15 +90,15 @@ update-means c sign op o q t u m h k l = by_shift (is_shift op) refl
 update-well : (c : Context) (target : Target) (at sign : Place) (op : Arith) (ty : Ty) (q : Operand) (t u : ValueTree)
     → not_taken (arithmetic op) (operand_at at (meanings.Typed ty) ∷ q ∷ []) ≡ None → not_fitting (arithmetic op) (operand_at at (meanings.Typed ty) ∷ q ∷ []) ≡ None
     → HasMeaning c (meanings.Typed ty) t → HasMeaning c q.of u → Accepts c ty target
-    → (well_assigned c target (chain_of sign (sign ∷ []) ty (arithmetic op) (t ∷ u ∷ [])) && is_operator op (chain_of sign (sign ∷ []) ty (arithmetic op) (t ∷ u ∷ []))) ≡ true
+    → (well_assigned c target (chain_of sign (sign ∷ []) (unrefined ty) (arithmetic op) (t ∷ u ∷ [])) && is_operator op (chain_of sign (sign ∷ []) (unrefined ty) (arithmetic op) (t ∷ u ∷ []))) ≡ true
 update-well c target at sign op (types.Num width lo hi) q t u taken fitting left right accepts =
     let o : Operand = operand_at at (meanings.Typed (types.Num width lo hi)) in
     let means = operator-is (arithmetic op) (o ∷ q ∷ []) (meanings.Typed (all_of width)) taken fitting (given-number op at width lo hi q) in
     let tree : IsNumber c (bits_of width) (numeric (link sign sign op (bits_of width) false (num_in t) (num_in u))) = update-means c sign op o q t u (meanings.Typed (all_of width)) means left right in
     let same : link sign sign op (bits_of width) false (num_in t) (num_in u) ≡ tree.tree = cc tree.is in
-    let F : NumTree → Type 0 = λ z. (fits (bits_of width) z && well_num c z) ≡ true in
+    let F : NumTree → Type 0 = λ z. (may_go_into (bits_of width) z && well_num c z) ≡ true in
     let fit = subst F (sym same)
-    (and-true (fits (bits_of width) tree.tree) (well_num c tree.tree) (width-fits tree.tree (bits_of width) tree.width)
+    (and-true (may_go_into (bits_of width) tree.tree) (well_num c tree.tree) (goes-into (bits_of width) tree.tree (width-fits tree.tree (bits_of width) tree.width))
     (and-true (is_whole_number tree.tree) (well_part c tree.tree) (varies-whole tree.tree tree.varies) tree.well)) in
     and-true (well_assigned c target (numeric (link sign sign op (bits_of width) false (num_in t) (num_in u)))) (same_arith op op)
     (accepts.assigned (numeric (link sign sign op (bits_of width) false (num_in t) (num_in u))) fit) (same-self (arith_number op))
@@ -150,10 +150,8 @@ module _ (p : NamedPackageTree) (n : ℕ) (m : NamedMethodTree) (is : MethodIs p
       let it = value-of p n m is e parts.1 ge ke in
       let taken = both-hold judged.takes (target_type (around p n m is) t) (meaning (around p n m is) e) to.ty it.of (target-typed t to) it.means
       (at-none _ (target_place t) (h.0 T2 wrong_assigned (λ at w. rules.other_type at w))) in
-      let room = both-hold has_room (target_type (around p n m is) t) (meaning (around p n m is) e) to.ty it.of (target-typed t to) it.means
-      (at-none _ (place_of e) (h.0 T5 unfit_assigned (λ at w. rules.unfit_for_target at w))) in
       let of : ValueTree = expr_tree (around p n m is) e in
-      to.accepts.assigned of (fits-value (context p n m is) to.ty it.of of taken room (value-is p n m is it.of of it.tree) it.tree)
+      to.accepts.assigned of (fits-value (context p n m is) to.ty it.of of taken (value-is p n m is it.of of it.tree) it.tree)
 
   updated-value : (loops : List ℕ) (t : NamedTargetTree) (op : Op) (sign : Place) (e : NamedExprTree) → AllFine p (around p n m is) (assigned t (Some op) e ∷ (target_parts t ++ expr_parts e))
       → gives_number (sort_of op) ≡ true → target_by_grammar t ≡ true → by_grammar e ≡ true → named_target (names p n m is) t ≡ true → named_expr (names p n m is) e ≡ true
@@ -177,8 +175,8 @@ module _ (p : NamedPackageTree) (n : ℕ) (m : NamedMethodTree) (is : MethodIs p
       let target : Target = target_tree (around p n m is) t in
       let left : ValueTree = written_to (around p n m is) t in
       let right : ValueTree = expr_tree (around p n m is) e in
-      let Q : Sort → Type 0 = λ s. well_simple (context p n m is) loops (typed.assign target (arith_in s) (chain_of sign (sign ∷ []) (type_meant (target_meaning (around p n m is) t)) s (left ∷ right ∷ []))) ≡ true in
-      let R : Option Meaning → Type 0 = λ x. well_simple (context p n m is) loops (typed.assign target (Some sort.0) (chain_of sign (sign ∷ []) (type_meant x) (arithmetic sort.0) (left ∷ right ∷ []))) ≡ true in
+      let Q : Sort → Type 0 = λ s. well_simple (context p n m is) loops (typed.assign target (arith_in s) (chain_of sign (sign ∷ []) (type_of_update (around p n m is) t) s (left ∷ right ∷ []))) ≡ true in
+      let R : Option Meaning → Type 0 = λ x. well_simple (context p n m is) loops (typed.assign target (Some sort.0) (chain_of sign (sign ∷ []) (unrefined (type_meant x)) (arithmetic sort.0) (left ∷ right ∷ []))) ≡ true in
       subst Q (sym sort.1)
       (subst R (sym to.means)
       (update-well (context p n m is) target (target_place t) sign sort.0 to.ty q left right (subst TS sort.1 taken) (subst US sort.1 fitting) to.value it.tree to.accepts))
@@ -191,27 +189,24 @@ module _ (p : NamedPackageTree) (n : ℕ) (m : NamedMethodTree) (is : MethodIs p
 
   -- Results.
   result-fits : (mark : Mark) (t : NamedTypeTree) (e : NamedExprTree) (it : ValueOf p n m is e)
-      → both_fail judged.takes (declared (for_types p) (roles.Result mark) t) (meaning (around p n m is) e) ≡ false
-      → both_fail has_room (declared (for_types p) (roles.Result mark) t) (meaning (around p n m is) e) ≡ false → HasValue (declared (for_types p) (roles.Result mark) t)
+      → both_fail judged.takes (declared (for_types p) (roles.Result mark) t) (meaning (around p n m is) e) ≡ false → HasValue (declared (for_types p) (roles.Result mark) t)
       → fits_type (context p n m is) (type_declared p (roles.Result mark) t) (expr_tree (around p n m is) e) ≡ true
-  result-fits mark t e it h room ty =
+  result-fits mark t e it h ty =
       let taken = both-hold judged.takes (declared (for_types p) (roles.Result mark) t) (meaning (around p n m is) e) ty.0 it.of ty.1 it.means h in
-      let roomy = both-hold has_room (declared (for_types p) (roles.Result mark) t) (meaning (around p n m is) e) ty.0 it.of ty.1 it.means room in
       let of : ValueTree = expr_tree (around p n m is) e in
       let F : Ty → Type 0 = λ z. fits_type (context p n m is) z of ≡ true in
-      subst F (sym (declared-is p (roles.Result mark) t ty.0 ty.1)) (fits-value (context p n m is) ty.0 it.of of taken roomy (value-is p n m is it.of of it.tree) it.tree)
+      subst F (sym (declared-is p (roles.Result mark) t ty.0 ty.1)) (fits-value (context p n m is) ty.0 it.of of taken (value-is p n m is it.of of it.tree) it.tree)
 
   value-returned : (mark : Mark) (o : Option NamedTypeTree) (e : NamedExprTree) (it : ValueOf p n m is e)
       → (if is_coroutine mark then fails meant.is_status (meaning (around p n m is) e) else wrong_result (option_map (declared (for_types p) (roles.Result mark)) o) (meaning (around p n m is) e)) ≡ false
-      → (not (is_coroutine mark) && both_fail has_room (there (option_map (declared (for_types p) (roles.Result mark)) o)) (meaning (around p n m is) e)) ≡ false
       → ((t : NamedTypeTree) → o ≡ Some t → HasValue (declared (for_types p) (roles.Result mark) t))
       → well_returned (context p n m is) mark (option_map (type_declared p (roles.Result mark)) o) (Some (expr_tree (around p n m is) e)) ≡ true
-  value-returned Coroutine o e it h room all =
+  value-returned Coroutine o e it h all =
       status-returned (context p n m is) (option_map (type_declared p (roles.Result Coroutine)) o) it.of (expr_tree (around p n m is) e) (holds meant.is_status (meaning (around p n m is) e) it.of it.means h) it.tree
-  value-returned Pure None e it h room all = absurd (cc h)
-  value-returned Impure None e it h room all = absurd (cc h)
-  value-returned Pure (Some t) e it h room all = result-fits Pure t e it h room (all t refl)
-  value-returned Impure (Some t) e it h room all = result-fits Impure t e it h room (all t refl)
+  value-returned Pure None e it h all = absurd (cc h)
+  value-returned Impure None e it h all = absurd (cc h)
+  value-returned Pure (Some t) e it h all = result-fits Pure t e it h (all t refl)
+  value-returned Impure (Some t) e it h all = result-fits Impure t e it h (all t refl)
 
   pub return-keeps : (loops : List ℕ) (at : Place) (e : NamedPartTree) → AllFine p (around p n m is) (returned at e ∷ end_parts e) → end_by_grammar e ≡ true → named_part (names p n m is) e ≡ true
       → well_simple (context p n m is) loops (typed.give_back (returned_tree (around p n m is) e)) ≡ true
@@ -219,8 +214,7 @@ module _ (p : NamedPackageTree) (n : ℕ) (m : NamedMethodTree) (is : MethodIs p
       nothing-returned (context p n m is) m.mark (declared (for_types p) (roles.Result m.mark)) (type_declared p (roles.Result m.mark)) m.gives
       (at-none _ at (h.0 T4 wrong_return (λ at w. rules.other_result at w)))
   return-keeps loops at (present e) h g k =
-      value-returned m.mark m.gives e (value-of p n m is e h.1 g k) (at-none _ at (h.0 T4 wrong_return (λ at w. rules.other_result at w)))
-      (at-none _ (place_of e) (h.0 T5 unfit_return (λ at w. rules.unfit_for_result at w))) is.gives
+      value-returned m.mark m.gives e (value-of p n m is e h.1 g k) (at-none _ at (h.0 T4 wrong_return (λ at w. rules.other_result at w))) is.gives
 
   -- Suspensions.
   suspension-seen : (e : NamedExprTree) → is_suspension_text (around p n m is) e ≡ true → is_suspension (slice_get (typed_package p).statuses (status_in e)) ≡ true

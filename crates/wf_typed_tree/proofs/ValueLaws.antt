@@ -5,8 +5,8 @@ use Rattle.wf_base.specs.declared.widths.Width.{Width}
 use Rattle.wf_base.specs.BaseTable.{bits_of}
 use Rattle.wf_ast.specs.declared.types.Ty.{Ty}
 use Rattle.wf_ast.specs.declared.types.Ty.TheVariants as types
-use Rattle.wf_ast.specs.TypedTree.{Path, NumType, NumTree, SliceTree, read, element, ValueTree, numeric, logical, state, elements, Target, to_number, to_element, to_flag, to_status, to_slice}
-use Rattle.wf_ast.specs.WellTyped.{Context, type_at, is_flag, is_status, is_slice, is_pure, is_whole_number, well_part, well_num, well_cond, well_status, well_slice, slice_of, element_type, fits, fits_type, may_write, takes, well_assigned, takes_bits, is_status_target}
+use Rattle.wf_ast.specs.TypedTree.{Path, NumType, NumTree, SliceTree, number, read, element, ValueTree, numeric, logical, state, elements, Target, to_number, to_element, to_flag, to_status, to_slice}
+use Rattle.wf_ast.specs.WellTyped.{Context, type_at, is_flag, is_status, is_slice, is_pure, is_whole_number, well_part, well_num, well_cond, well_status, well_slice, slice_of, element_type, fits, may_go_into, fits_type, may_write, takes, well_assigned, takes_bits, is_status_target}
 use Rattle.wf_types_rules.specs.declared.meanings.Meaning.{Meaning}
 use Rattle.wf_types_rules.specs.declared.meanings.Meaning.TheVariants as meanings
 use Rattle.wf_types_rules.specs.Meanings as meant
@@ -15,9 +15,9 @@ use Rattle.wf_types_rules.specs.Meanings.{all_of, variable, is_value, same_width
 use Rattle.wf_types_rules.specs.Operands.{differs_in}
 use Rattle.wf_types_rules.specs.ExprTypes.{element_of}
 use Rattle.wf_types_rules.specs.Judgements as judged
-use Rattle.wf_types_rules.specs.Judgements.{at_if, fails, both_fail, has_room, wanted, meaning_of_argument, may_be_handed, wrong_argument, unfit_argument, wrong_target, is_no_target, is_no_target_of, target_meaning, type_in, target_type, wrong_condition, is_outside, impure_write}
+use Rattle.wf_types_rules.specs.Judgements.{at_if, fails, both_fail, wanted, meaning_of_argument, may_be_handed, wrong_argument, wrong_target, is_no_target, is_no_target_of, target_meaning, type_in, target_type, wrong_condition, is_outside, impure_write}
 use Rattle.wf_typed_tree.specs.MeaningTrees.{HasMeaning}
-use Rattle.wf_typed_tree.proofs.NumberLemmas.{both, and-true, same-self, same-bits}
+use Rattle.wf_typed_tree.proofs.NumberLemmas.{both, and-true, same-self, same-bits, in-64}
 use Rattle.wf_typed_tree.proofs.OperandLaws.{fits-one, operand-of, condition-of}
 use Rattle.wf_typed_tree.proofs.AllOperators.{status-of}
 
@@ -28,26 +28,34 @@ not-false true h = absurd (cc h)
 pub not-pure : (b : Bool) → b ≡ false → not b ≡ true
 not-pure b h = rw h refl
 
+-- What fits a width may go where numbers of it are wanted.
+pub goes-into : (bits : ℕ) (t : NumTree) → fits bits t ≡ true → may_go_into bits t ≡ true
+goes-into bits (number at n) h = refl
+goes-into bits t h = h
+
 -- A value that a type takes fits it.
-pub fits-value : (c : Context) (ty : Ty) (m : Meaning) (t : ValueTree) → judged.takes ty m ≡ true → has_room ty m ≡ true → is_value m ≡ true → HasMeaning c m t → fits_type c ty t ≡ true
-fits-value c (types.Num width lo hi) m t h room v k =
-    let tests = both (meant.is_number m) (not (differs_in (Some width) (meant.width_of m))) h in
-    let it = operand-of c width m t (fits-one width m tests.0 (not-false (differs_in (Some width) (meant.width_of m)) tests.1) room) k in
+pub fits-value : (c : Context) (ty : Ty) (m : Meaning) (t : ValueTree) → judged.takes ty m ≡ true → is_value m ≡ true → HasMeaning c m t → fits_type c ty t ≡ true
+fits-value c (types.Num width lo hi) (meanings.Constant own n) t h v k =
+    let P : ValueTree → Type 0 = λ u. fits_type c (types.Num width lo hi) u ≡ true in subst P (sym k.is) (in-64 own n k.fits)
+fits-value c (types.Num width lo hi) (meanings.Typed ty) t h v k =
+    let tests = both (meant.is_number (meanings.Typed ty)) (not (differs_in (Some width) (meant.width_of (meanings.Typed ty)))) h in
+    let it = operand-of c width (meanings.Typed ty) t (fits-one width (meanings.Typed ty) tests.0 (not-false (differs_in (Some width) (meant.width_of (meanings.Typed ty))) tests.1) refl) k in
     let P : ValueTree → Type 0 = λ u. fits_type c (types.Num width lo hi) u ≡ true in
-    subst P (sym it.is) (and-true (fits (bits_of width) it.tree) (well_num c it.tree) it.fits (and-true (is_whole_number it.tree) (well_part c it.tree) it.whole it.well))
-fits-value c types.Flag m t h room v k =
+    subst P (sym it.is)
+    (and-true (may_go_into (bits_of width) it.tree) (well_num c it.tree) (goes-into (bits_of width) it.tree it.fits) (and-true (is_whole_number it.tree) (well_part c it.tree) it.whole it.well))
+fits-value c types.Flag m t h v k =
     let it = condition-of c m t h k in let P : ValueTree → Type 0 = λ u. fits_type c types.Flag u ≡ true in subst P (sym it.is) it.well
-fits-value c types.Status m t h room v k =
+fits-value c types.Status m t h v k =
     let it = status-of c m t h k in let P : ValueTree → Type 0 = λ u. fits_type c types.Status u ≡ true in subst P (sym it.is) it.well
-fits-value c (types.Slice width) (meanings.Typed (types.Slice own)) t h room v k =
+fits-value c (types.Slice width) (meanings.Typed (types.Slice own)) t h v k =
     let P : ValueTree → Type 0 = λ u. fits_type c (types.Slice width) u ≡ true in
     let E : ℕ → Type 0 = λ b. nat_eq b (bits_of width) ≡ true in
     let same : bits_of own ≡ (element_type k.tree).bits = sym k.width in
     subst P (sym k.is)
     (and-true (well_slice c k.tree) (nat_eq (element_type k.tree).bits (bits_of width)) k.well (subst E same (subst E (same-bits width own h) (same-self (bits_of width)))))
-fits-value c types.Reader (meanings.Typed types.Reader) t h room v k = absurd (cc v)
-fits-value c types.Writer (meanings.Typed types.Writer) t h room v k = absurd (cc v)
-fits-value c ty m t h room v k = absurd (cc h)
+fits-value c types.Reader (meanings.Typed types.Reader) t h v k = absurd (cc v)
+fits-value c types.Writer (meanings.Typed types.Writer) t h v k = absurd (cc v)
+fits-value c ty m t h v k = absurd (cc h)
 
 -- What a target takes.
 pub record Accepts (c : Context) (ty : Ty) (target : Target) : Type 0 where
@@ -71,7 +79,7 @@ number-accepts c at width lo hi to may well =
   where
     of-value : (v : ValueTree) → fits_type c (types.Num width lo hi) v ≡ true → well_assigned c (to_number at (record { bits = bits_of width; low = lo; high = hi }) to) v ≡ true
     of-value (numeric t) h =
-        and-true (may_write c.method.mark to) _ may (and-true (well_num c (read at (record { bits = bits_of width; low = lo; high = hi }) to)) (fits (bits_of width) t && well_num c t) well h)
+        and-true (may_write c.method.mark to) _ may (and-true (well_num c (read at (record { bits = bits_of width; low = lo; high = hi }) to)) (may_go_into (bits_of width) t && well_num c t) well h)
     of-value v h = absurd (cc h)
 
 pub element-accepts : (c : Context) (at : Place) (width : Width) (lo hi : ℕ) (of : NumType) (cells : SliceTree) (i : NumTree) → not (is_pure c.method.mark) ≡ true → of.bits ≡ bits_of width
@@ -89,8 +97,8 @@ element-accepts c at width lo hi of cells i may same well =
   where
     of-value : (v : ValueTree) → fits_type c (types.Num width lo hi) v ≡ true → well_assigned c (to_element at of cells i) v ≡ true
     of-value (numeric t) h =
-        let F : ℕ → Type 0 = λ b. (fits b t && well_num c t) ≡ true in
-        and-true (not (is_pure c.method.mark)) _ may (and-true (well_num c (element at of cells i)) (fits of.bits t && well_num c t) well (subst F (sym same) h))
+        let F : ℕ → Type 0 = λ b. (may_go_into b t && well_num c t) ≡ true in
+        and-true (not (is_pure c.method.mark)) _ may (and-true (well_num c (element at of cells i)) (may_go_into of.bits t && well_num c t) well (subst F (sym same) h))
     of-value v h = absurd (cc h)
 
 pub flag-accepts : (c : Context) (at : Place) (to : Path) → may_write c.method.mark to ≡ true → is_flag (type_at c to) ≡ true → Accepts c types.Flag (to_flag at to)

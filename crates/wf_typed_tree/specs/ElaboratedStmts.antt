@@ -5,6 +5,8 @@ use Rattle.wf_text.specs.declared.place.Place.{Place}
 use Rattle.wf_base.specs.BaseTable.{row_of}
 use Rattle.wf_ast.specs.declared.operators.Op.{Op}
 use Rattle.wf_ast.specs.declared.parsed.Clause.{Clause}
+use Rattle.wf_ast.specs.declared.types.Ty.{Ty}
+use Rattle.wf_ast.specs.declared.types.Ty.TheVariants as types
 use Rattle.wf_ast.specs.TypedTree.{NumTree, CondTree, ValueTree, Target, to_nothing, Axiom, Simple, invoke, own, sub, break_from, continue_in, give_back, yield, Site, Head, Block, end, plain, choose}
 use Rattle.wf_ast.specs.TypedTree as typed
 use Rattle.wf_ast.specs.TypedTrees.{sort_of, num_in, cond_in, chain_of, answer_of, target_of, arith_in, base_call, no_statement}
@@ -12,6 +14,7 @@ use Rattle.wf_ast.specs.WellTyped.{is_pure}
 use Rattle.wf_named.specs.declared.nodes.NamedCallee.TheVariants as callees
 use Rattle.wf_named.specs.NamedTree.{NamedExprTree, status, index, answer, NamedPartTree, absent, present, NamedCallTree, call, NamedTargetTree, to_path, to_element, NamedClauseTrees, no_clause, more_clauses, LetterTrees, no_letter, more_letters, NamedViaTree, by_itself, via, NamedStmtTree, assign, keep, do_call, branch, loop, leave, again, back, suspend, claim, NamedBlockTree, close, more_stmts, NamedArmTrees, no_else, otherwise, arm}
 use Rattle.wf_types_rules.specs.declared.settings.Setting.{Setting}
+use Rattle.wf_types_rules.specs.Meanings.{all_of}
 use Rattle.wf_types_rules.specs.Judgements.{target_meaning, block_leaves, closing_brace}
 use Rattle.wf_typed_tree.specs.ElaboratedExprs.{path_tree, type_meant, expr_tree, arg_trees}
 
@@ -23,9 +26,18 @@ written_to s (to_element p i at) = expr_tree s (index p i at)
 abbrev pub target_tree : Setting → NamedTargetTree → Target
 target_tree s t = target_of (written_to s t)
 
--- An operator in front of an `=` stands between the target and the value, in the target's width.
+-- All numbers of a type's width.
+abbrev pub unrefined : Ty → Ty
+unrefined (types.Num width lo hi) = all_of width
+unrefined ty = ty
+
+-- The type of what an operator in front of an `=` gives: that of the operator between the target and the value.
+abbrev pub type_of_update : Setting → NamedTargetTree → Ty
+type_of_update s t = unrefined (type_meant (target_meaning s t))
+
+-- It stands between the target and the value.
 abbrev pub update_tree : Setting → NamedTargetTree → Op → (sign : Place) → NamedExprTree → ValueTree
-update_tree s t op sign e = chain_of sign (sign ∷ []) (type_meant (target_meaning s t)) (sort_of op) (written_to s t ∷ expr_tree s e ∷ [])
+update_tree s t op sign e = chain_of sign (sign ∷ []) (type_of_update s t) (sort_of op) (written_to s t ∷ expr_tree s e ∷ [])
 
 -- A call that is a whole statement, or a whole right side.
 abbrev pub call_tree : Setting → Target → (kept : Bool) → NamedCallTree → Simple

@@ -9,6 +9,8 @@ use Rattle.wf_ast.specs.TypedPackage.{package_of}
 use Rattle.wf_named.specs.NamedParts.{NamedParts, named_package}
 use Rattle.wf_types_rules.specs.TypeRules.{Breaks}
 use Rattle.wf_typed_tree.specs.ElaboratedPackage.{typed_package}
+use Rattle.wf_types.specs.Bodies.{without_bodies}
+use Rattle.wf_types.specs.DeclaredNodes.{declared_nodes}
 
 -- A package is refused by what decides of all that it breaks of the rules of types and effects. Want of memory says nothing
 -- of it.
@@ -16,7 +18,9 @@ abbrev pub IsMistyped : NamedParts → PhaseFault → Type 0
 IsMistyped named (phase.Refused refusal) = IsFirst (Breaks (named_package named)) refusal
 IsMistyped named phase.Memory = ⊤
 
--- A package breaks no rule of types and effects, and this is its typed tree.
+-- A package breaks no rule of types and effects, and these are the nodes of its typed tree, with the names, the places and the
+-- types of all that it declares.
 pub record IsElaborated (named : NamedParts) (typed : TypedNodes) : Type 0 where
   pub kept : (refusal : Refusal) → Breaks (named_package named) refusal → ⊥
   pub tree : package_of typed ≡ typed_package (named_package named)
+  pub declared : without_bodies typed ≡ declared_nodes named

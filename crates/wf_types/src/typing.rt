@@ -11,7 +11,8 @@ ghost use Rattle.wf_types_rules.specs.FirstBreak.{deciding};
 ghost use Rattle.wf_typed_tree.specs.ElaboratedPackage.{typed_package};
 ghost use Rattle.wf_typed_tree.specs.Grammar.{package_by_grammar};
 ghost use Rattle.wf_types_decls.specs.Packages.{IsAround, field_types};
-ghost use Rattle.wf_types.specs.Bodies.{AreRightBodies, IsWhole, has_numbers as are_numbered};
+ghost use Rattle.wf_types.specs.Bodies.{AreRightBodies, IsWhole, has_numbers as are_numbered, without_bodies};
+ghost use Rattle.wf_types.specs.DeclaredNodes.{declared_nodes};
 ghost use Rattle.wf_types.specs.Locals.{MethodsHaveNodes, LocalsHaveNodes, AreRightLocals};
 ghost use Rattle.wf_types.specs.Typing.{IsMistyped, IsElaborated};
 
@@ -108,6 +109,7 @@ fn typed(alloc: Global, named: &NamedNodes) -> Result<Typed, NoMemory>
     requires grammar { package_by_grammar (named_package named.now) ≡ true }
     requires placed { stand_in_order (typed_package (named_package named.now)) ≡ true }
     ensures tree { IfOk result (λ typed. package_of typed ≡ typed_package (named_package named.now)) }
+    ensures declared { IfOk result (λ typed. without_bodies typed ≡ declared_nodes named.now) }
     ensures locals { IfOk result (LocalsHaveNodes (named_package named.now)) }
 {
     match typed_nodes(alloc, named) {
@@ -124,8 +126,8 @@ fn typed(alloc: Global, named: &NamedNodes) -> Result<Typed, NoMemory>
 
 /// Gives the types of a package. `Refused` where it breaks rules of types and effects, T1 to T5 and E1 to E5: of all that it
 /// breaks by what has the least place, and of one place by the rule that is named first. `Memory` where memory was refused,
-/// or more is counted than there are numbers for. Beside the expressions in bodies, the typed package has one for each local
-/// of each method: its path, at the place of its name.
+/// or more is counted than there are numbers for. What the typed package declares has the names, the places and the types of the
+/// resolved one. Beside the expressions in bodies, it has one for each local of each method: its path, at the place of its name.
 pub fn type_check(alloc: Global, named: Named) -> Result<Typed, PhaseFault>
     requires grammar { package_by_grammar (named_package named) ≡ true }
     requires placed { stand_in_order (typed_package (named_package named)) ≡ true }

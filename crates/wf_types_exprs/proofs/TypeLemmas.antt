@@ -12,24 +12,25 @@ use Rattle.wf_named.specs.declared.nodes.BaseType.{BaseType}
 use Rattle.wf_named.specs.declared.nodes.BaseType.TheVariants as bases
 use Rattle.wf_named.specs.NamedTree.{NamedExprTree, NamedPartTree, absent, present, NamedTypeTree, slice_of, array_of, base_type, refined}
 use Rattle.wf_named.specs.NamedTrees.{prefixed, all_prefixed}
+use Rattle.wf_types_rules.specs.declared.settings.Form.TheVariants as forms
 use Rattle.wf_types_rules.specs.declared.settings.Role.{Role}
 use Rattle.wf_types_rules.specs.declared.settings.Role.TheVariants as roles
 use Rattle.wf_types_rules.specs.declared.settings.Setting.{Setting}
 use Rattle.wf_types_rules.specs.Meanings.{place_of}
 use Rattle.wf_types_rules.specs.ExprTypes.{plain_width, array_type, number_of, written}
 use Rattle.wf_types_rules.specs.DeclaredTypes.{first_token}
-use Rattle.wf_types_rules.specs.Judgements.{at_if, both_fail, is_no_constant, is_too_high}
+use Rattle.wf_types_rules.specs.Judgements.{at_if, both_fail, is_no_constant, is_too_high, form, with_elements}
 use Rattle.wf_types_rules.specs.FirstBreak.{told}
 use Rattle.wf_types_rules.specs.Parts.{placed_type, type_part, expr_parts, end_parts, type_parts}
 use Rattle.wf_types_exprs.specs.declared.found.Bound.{Bound}
 use Rattle.wf_types_exprs.specs.declared.found.WrittenType.{WrittenType}
 use Rattle.wf_types_exprs.specs.Judged.{judged, bound_of, low_bound, TellsType}
-use Rattle.wf_types_exprs.specs.Found.{slice_type_found, array_type_found, is_unfit_low, low_number_of, crossing, goes_above, refined_found, refined_base, placed_found}
+use Rattle.wf_types_exprs.specs.Found.{slice_type_found, array_type_found, is_unfit_low, low_number_of, crossing, goes_above, refined_found, refined_base, refined_base_form, placed_found}
 use Rattle.wf_types_exprs.proofs.JudgedLaws.{judged-append, judged-last, judged-turned}
 
 -- A type at its place.
 placed_same : (s : Setting) (found : Option Refusal) (role : Role) (t : NamedTypeTree)
-    → placed_found role (written s t) (plain_width t) (first_token t) found ≡ judged s found (placed_type role t ∷ [])
+    → placed_found role (written s t) (form s t) (plain_width t) (first_token t) found ≡ judged s found (placed_type role t ∷ [])
 unfolding judged
 placed_same s found roles.Const t = refl
 placed_same s found roles.Field t = refl
@@ -39,17 +40,17 @@ placed_same s found (roles.Result mark) t = refl
 placed_same s found roles.Conversion t = refl
 
 pub placed_judged : (s : Setting) (found : Option Refusal) (role : Role) (t : NamedTypeTree) (w : WrittenType) → TellsType s found t w
-    → placed_found role w.of w.plain w.at w.found ≡ judged s w.found (placed_type role t ∷ [])
-placed_judged s found role t w h = rw (h.of, h.plain, h.at) (placed_same s w.found role t)
+    → placed_found role w.of w.kind w.plain w.at w.found ≡ judged s w.found (placed_type role t ∷ [])
+placed_judged s found role t w h = rw (h.of, h.kind, h.plain, h.at) (placed_same s w.found role t)
 
 pub declared_found : (s : Setting) (found : Option Refusal) (role : Role) (t : NamedTypeTree) (w : WrittenType) → TellsType s found t w
-    → placed_found role w.of w.plain w.at w.found ≡ judged s found (placed_type role t ∷ type_parts t)
+    → placed_found role w.of w.kind w.plain w.at w.found ≡ judged s found (placed_type role t ∷ type_parts t)
 declared_found s found role t w h =
     placed_judged s found role t w h ∙ ap (λ f. judged s f (placed_type role t ∷ [])) h.found ∙ judged-last s found (placed_type role t) (type_parts t)
 
 -- The same behind an operand.
 pub converted_found : (s : Setting) (found before : Option Refusal) (e : NamedExprTree) (t : NamedTypeTree) (w : WrittenType) → before ≡ judged s found (expr_parts e) → TellsType s before t w
-    → placed_found roles.Conversion w.of w.plain w.at w.found ≡ judged s found (placed_type roles.Conversion t ∷ (expr_parts e ++ type_parts t))
+    → placed_found roles.Conversion w.of w.kind w.plain w.at w.found ≡ judged s found (placed_type roles.Conversion t ∷ (expr_parts e ++ type_parts t))
 converted_found s found before e t w h k =
     placed_judged s before roles.Conversion t w k
     ∙ ap (λ f. judged s f (placed_type roles.Conversion t ∷ [])) (k.found ∙ ap (λ f. judged s f (type_parts t)) h ∙ sym (judged-append s found (expr_parts e) (type_parts t)))
@@ -95,6 +96,16 @@ refined_written s (Some bases.Status) at low high = refl
 refined_written s (Some bases.Reader) at low high = refl
 refined_written s (Some bases.Writer) at low high = refl
 
+refined_kind : (s : Setting) (of : Option BaseType) (at : Place) (low : NamedPartTree) (high : NamedExprTree)
+    → refined_base_form of (low_bound s low) (bound_of s high) ≡ form s (base_type of at (refined low high))
+refined_kind s None at low high = refl
+refined_kind s (Some (bases.Number width)) at absent high = refl
+refined_kind s (Some (bases.Number width)) at (present e) high = refl
+refined_kind s (Some bases.Flag) at low high = refl
+refined_kind s (Some bases.Status) at low high = refl
+refined_kind s (Some bases.Reader) at low high = refl
+refined_kind s (Some bases.Writer) at low high = refl
+
 refined_plain : (of : Option BaseType) (at : Place) (low : NamedPartTree) (high : NamedExprTree) → None ≡ plain_width (base_type of at (refined low high))
 refined_plain None at low high = refl
 refined_plain (Some (bases.Number width)) at low high = refl
@@ -104,44 +115,47 @@ refined_plain (Some bases.Reader) at low high = refl
 refined_plain (Some bases.Writer) at low high = refl
 
 pub refined_tells : (s : Setting) (found before : Option Refusal) (of : Option BaseType) (at : Place) (low : NamedPartTree) (high : NamedExprTree) (m : Option Bound) (n : Bound) (w : WrittenType)
-    → w ≡ record { found = refined_found of m n at before; of = refined_base of m n; plain = None; at = at } → m ≡ low_bound s low → n ≡ bound_of s high
+    → w ≡ record { found = refined_found of m n at before; of = refined_base of m n; kind = refined_base_form of m n; plain = None; at = at } → m ≡ low_bound s low → n ≡ bound_of s high
     → before ≡ judged s found (end_parts low ++ expr_parts high) → TellsType s found (base_type of at (refined low high)) w
 refined_tells s found before of at low high m n w made first last e = rw (made, first, last) (record {
   found = refined_same s before of at low high ∙ ap (λ f. judged s f (type_part (base_type of at (refined low high)) ∷ [])) e
       ∙ judged-last s found (type_part (base_type of at (refined low high))) (end_parts low ++ expr_parts high);
   of = refined_written s of at low high;
+  kind = refined_kind s of at low high;
   plain = refined_plain of at low high;
   at = refl;
 })
 
 -- Prefixes.
 slice_same : (s : Setting) (found : Option Refusal) (t : NamedTypeTree) (at : Place)
-    → slice_type_found (written s t) (plain_width t) at found ≡ judged s found (type_part (slice_of at t) ∷ [])
+    → slice_type_found (form s t) (plain_width t) at found ≡ judged s found (type_part (slice_of at t) ∷ [])
 unfolding judged
 slice_same s found t at = refl
 
 pub slice_tells : (s : Setting) (found : Option Refusal) (t : NamedTypeTree) (at : Place) (w v : WrittenType) → TellsType s found t w
-    → v ≡ record { found = slice_type_found w.of w.plain at w.found; of = option_map types.Slice w.plain; plain = None; at = at } → TellsType s found (slice_of at t) v
+    → v ≡ record { found = slice_type_found w.kind w.plain at w.found; of = option_map types.Slice w.plain; kind = with_elements forms.Slice w.kind; plain = None; at = at } → TellsType s found (slice_of at t) v
 slice_tells s found t at w v h made = rw made (record {
-  found = rw (h.of, h.plain) (slice_same s w.found t at) ∙ ap (λ f. judged s f (type_part (slice_of at t) ∷ [])) h.found ∙ judged-last s found (type_part (slice_of at t)) (type_parts t);
+  found = rw (h.kind, h.plain) (slice_same s w.found t at) ∙ ap (λ f. judged s f (type_part (slice_of at t) ∷ [])) h.found ∙ judged-last s found (type_part (slice_of at t)) (type_parts t);
   of = ap (option_map types.Slice) h.plain;
+  kind = ap (with_elements forms.Slice) h.kind;
   plain = refl;
   at = refl;
 })
 
 array_same : (s : Setting) (found : Option Refusal) (n : NamedExprTree) (t : NamedTypeTree) (at : Place)
-    → array_type_found (bound_of s n) (written s t) (first_token t) at found ≡ judged s found (type_part (array_of n at t) ∷ [])
+    → array_type_found (bound_of s n) (written s t) (form s t) (first_token t) at found ≡ judged s found (type_part (array_of n at t) ∷ [])
 unfolding judged
 array_same s found n t at = refl
 
 pub array_tells : (s : Setting) (found before : Option Refusal) (n : NamedExprTree) (t : NamedTypeTree) (at : Place) (count : Bound) (w v : WrittenType) → TellsType s found t w
-    → v ≡ record { found = array_type_found count w.of w.at at before; of = array_type count.number w.of; plain = None; at = at } → count ≡ bound_of s n
+    → v ≡ record { found = array_type_found count w.of w.kind w.at at before; of = array_type count.number w.of; kind = with_elements forms.Array w.kind; plain = None; at = at } → count ≡ bound_of s n
     → before ≡ judged s w.found (expr_parts n) → TellsType s found (array_of n at t) v
 array_tells s found before n t at count w v h made same e = rw (made, same) (record {
-  found = rw (h.of, h.at) (array_same s before n t at)
+  found = rw (h.of, h.kind, h.at) (array_same s before n t at)
       ∙ ap (λ f. judged s f (type_part (array_of n at t) ∷ [])) (e ∙ ap (λ f. judged s f (expr_parts n)) h.found ∙ judged-turned s found (expr_parts n) (type_parts t))
       ∙ judged-last s found (type_part (array_of n at t)) (expr_parts n ++ type_parts t);
   of = ap (array_type (bound_of s n).number) h.of;
+  kind = ap (with_elements forms.Array) h.kind;
   plain = refl;
   at = refl;
 })

@@ -16,14 +16,15 @@ use Rattle.wf_named.specs.declared.nodes.NamedCallee.{NamedCallee}
 use Rattle.wf_types_rules.specs.declared.meanings.Meaning.{Meaning}
 use Rattle.wf_types_rules.specs.declared.meanings.Meaning.TheVariants as meanings
 use Rattle.wf_types_rules.specs.declared.meanings.Operand.{Operand}
+use Rattle.wf_types_rules.specs.declared.settings.Form.{Form}
 use Rattle.wf_types_rules.specs.declared.settings.Role.{Role}
 use Rattle.wf_types_rules.specs.declared.settings.Role.TheVariants as roles
 use Rattle.wf_types_rules.specs.declared.settings.Setting.{Setting}
 use Rattle.wf_types_rules.specs.Meanings.{is_value, is_number, is_flag}
 use Rattle.wf_types_rules.specs.Operands.{first_of, not_taken, not_fitting, has_no_value}
 use Rattle.wf_types_rules.specs.ExprTypes.{element_of, slice_in, if_number, refined_type}
-use Rattle.wf_types_rules.specs.DeclaredTypes.{is_numeric, may_be, holds_zero, is_zero_kept}
-use Rattle.wf_types_rules.specs.Judgements.{at_if, fails, both_fail, if_both, is_too_high, may_be_handed, takes, has_room, is_impure, is_base, declared_mark}
+use Rattle.wf_types_rules.specs.DeclaredTypes.{is_number_form, may_have, holds_zero, is_zero_kept}
+use Rattle.wf_types_rules.specs.Judgements.{at_if, fails, both_fail, if_both, is_too_high, may_be_handed, takes, refined_form, is_impure, is_base, declared_mark}
 use Rattle.wf_types_rules.specs.FirstBreak.{told}
 use Rattle.wf_types_exprs.specs.declared.found.Bound.{Bound}
 use Rattle.wf_types_exprs.specs.declared.found.Value.{Value}
@@ -75,8 +76,7 @@ conversion_found v width at found = sooner (sooner found (told T1 (no_number v))
 
 -- An argument, where this type is wanted.
 abbrev pub argument_found : Option Ty → Value → Option Refusal → Option Refusal
-argument_found ty v found =
-    sooner (sooner found (told T1 (at_if (fails may_be_handed v.of || both_fail takes ty v.of) v.at))) (told T5 (at_if (both_fail has_room ty v.of) v.at))
+argument_found ty v found = sooner found (told T1 (at_if (fails may_be_handed v.of || both_fail takes ty v.of) v.at))
 
 -- A call, by its mark.
 abbrev pub wrong_inside : (inside : Bool) → NamedCallee → Place → Mark → Option Place
@@ -88,13 +88,13 @@ calling_found s inside callee at mark found =
     sooner (sooner (sooner (sooner found (told E1 (at_if (is_impure mark && is_pure s.mark) at))) (told E2 (at_if (is_coroutine mark && not (is_coroutine s.mark)) at)))
     (told E3 (wrong_inside inside callee at mark))) (told E3 (at_if (fails (same_mark mark) (declared_mark s callee)) at))
 
--- A prefix of a type, in front of elements of this type.
-abbrev pub slice_type_found : (element : Option Ty) → (plain : Option Width) → Place → Option Refusal → Option Refusal
+-- A prefix of a type, in front of elements of this type and form.
+abbrev pub slice_type_found : (element : Option Form) → (plain : Option Width) → Place → Option Refusal → Option Refusal
 slice_type_found element plain at found = sooner found (told T1 (at_if (is_some element && not (is_some plain)) at))
 
-abbrev pub array_type_found : (count : Bound) → (element : Option Ty) → (element_at at : Place) → Option Refusal → Option Refusal
-array_type_found count element element_at at found =
-    sooner (sooner (sooner found (told T1 (at_if (count.unfit || fails is_numeric element) at))) (told T5 (at_if (fails (nat_lt 0) count.number) count.at)))
+abbrev pub array_type_found : (count : Bound) → (element : Option Ty) → (kind : Option Form) → (element_at at : Place) → Option Refusal → Option Refusal
+array_type_found count element kind element_at at found =
+    sooner (sooner (sooner found (told T1 (at_if (count.unfit || fails is_number_form kind) at))) (told T5 (at_if (fails (nat_lt 0) count.number) count.at)))
     (told T5 (at_if (fails holds_zero element) element_at))
 
 -- Bounds of numbers of a width.
@@ -128,11 +128,15 @@ abbrev pub refined_base : Option BaseType → (low : Option Bound) → (high : B
 refined_base (Some (bases.Number width)) low high = refined_type width (low_number_of low) high.number
 refined_base of low high = None
 
--- A type at its place.
-abbrev pub is_misplaced_type : Role → Option Ty → Option Width → Bool
-is_misplaced_type roles.Conversion ty plain = is_some ty && not (is_some plain)
-is_misplaced_type role ty plain = fails (may_be role) ty
+abbrev pub refined_base_form : Option BaseType → (low : Option Bound) → (high : Bound) → Option Form
+refined_base_form (Some (bases.Number width)) low high = refined_form (is_unfit_low low || high.unfit)
+refined_base_form of low high = None
 
-abbrev pub placed_found : Role → Option Ty → Option Width → Place → Option Refusal → Option Refusal
-placed_found role ty plain at found =
-    sooner (sooner found (told T1 (at_if (is_misplaced_type role ty plain) at))) (told T5 (at_if (fails (is_zero_kept role) ty) at))
+-- A type at its place.
+abbrev pub is_misplaced_type : Role → Option Form → Option Width → Bool
+is_misplaced_type roles.Conversion kind plain = is_some kind && not (is_some plain)
+is_misplaced_type role kind plain = fails (may_have role) kind
+
+abbrev pub placed_found : Role → Option Ty → Option Form → Option Width → Place → Option Refusal → Option Refusal
+placed_found role ty kind plain at found =
+    sooner (sooner found (told T1 (at_if (is_misplaced_type role kind plain) at))) (told T5 (at_if (fails (is_zero_kept role) ty) at))

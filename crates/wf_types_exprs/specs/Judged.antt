@@ -12,7 +12,7 @@ use Rattle.wf_types_rules.specs.declared.settings.Setting.{Setting}
 use Rattle.wf_types_rules.specs.Meanings.{place_of}
 use Rattle.wf_types_rules.specs.ExprTypes.{meaning, number_of, plain_width, written}
 use Rattle.wf_types_rules.specs.DeclaredTypes.{first_token}
-use Rattle.wf_types_rules.specs.Judgements.{meaning_of_argument, is_no_constant}
+use Rattle.wf_types_rules.specs.Judgements.{meaning_of_argument, is_no_constant, form}
 use Rattle.wf_types_rules.specs.Parts.{Part, argument, expr_parts, type_parts}
 use Rattle.wf_types_rules.specs.FirstBreak.{refusals_at}
 use Rattle.wf_types_exprs.specs.declared.found.Bound.{Bound}
@@ -22,11 +22,6 @@ use Rattle.wf_types_exprs.specs.declared.found.WrittenType.{WrittenType}
 -- What decides of what was found before and of all that the rules say of parts with this setting round them.
 unfoldable pub judged : Setting → Option Refusal → List Part → Option Refusal
 judged s found parts = soonest found (flat_map (refusals_at s) parts)
-
--- What an expression that may be absent means.
-abbrev pub part_meaning : Setting → NamedPartTree → Option Meaning
-part_meaning s absent = None
-part_meaning s (present e) = meaning s e
 
 -- An expression's meaning with its place.
 abbrev pub value_of : Setting → NamedExprTree → Value
@@ -66,9 +61,10 @@ abbrev pub operands_joined : Option (List Operand) → Option (List Operand) →
 operands_joined (Some os) (Some others) = Some (os ++ others)
 operands_joined os others = None
 
--- What was found at a type and its parts, what type it is, its width where it is a plain number, and its first token.
+-- What was found at a type and its parts, what type it is, its form, its width where it is a plain number, and its first token.
 pub record TellsType (s : Setting) (before : Option Refusal) (t : NamedTypeTree) (w : WrittenType) : Type 0 where
   pub found : w.found ≡ judged s before (type_parts t)
   pub of : w.of ≡ written s t
+  pub kind : w.kind ≡ form s t
   pub plain : w.plain ≡ plain_width t
   pub at : w.at ≡ first_token t

@@ -4,7 +4,7 @@ use wf_ast::{Sequence, Ty};
 use wf_base::Width;
 use wf_text::Place;
 use wf_text::rules::Refusal;
-use wf_types_rules::{Meaning, Operand};
+use wf_types_rules::{Form, Meaning, Operand};
 
 /// An expression: what decides so far, and what it means, if anything.
 #[derive(Clone, Copy, PartialEq, Eq)]
@@ -93,12 +93,13 @@ pub struct JudgedLow {
     pub low: Option<Bound>,
 }
 
-/// A type that is written: what decides so far, what type it is, its width where it is numeric and has no bounds, and
-/// its first token.
-#[derive(Clone, Copy, PartialEq, Eq)]
+/// A type that is written: what decides so far, what type it is, its form (which it may have though it is no type), its
+/// width where it is numeric and has no bounds, and its first token.
+#[derive(Clone, Copy)]
 pub struct WrittenType {
     pub found: Option<Refusal>,
     pub of: Option<Ty>,
+    pub kind: Option<Form>,
     pub plain: Option<Width>,
     pub at: Place,
 }

@@ -8,7 +8,7 @@ ghost use Rattle.wf_types_rules.specs.Meanings.{variable as variable_in, is_flag
 ghost use Rattle.wf_types_rules.specs.Operands.{meaning_of_operator as operator_means};
 ghost use Rattle.wf_types_rules.specs.ExprTypes.{only_where, meaning, element_of, slice_in, if_number as only_for_number, converted as converts, answer_inside};
 ghost use Rattle.wf_ast.specs.WellTyped.{same_mark as same_marks};
-ghost use Rattle.wf_types_rules.specs.Judgements.{fails, both_fail, takes as takes_value, has_room as has_room_for, may_be_handed as may_hand, is_argument as fits_argument, answer_type as type_answered, declared_mark as mark_declared};
+ghost use Rattle.wf_types_rules.specs.Judgements.{fails, both_fail, takes as takes_value, may_be_handed as may_hand, is_argument as fits_argument, answer_type as type_answered, declared_mark as mark_declared};
 ghost use Rattle.wf_types_rules.specs.FirstBreak.{told as told_by};
 ghost use Rattle.wf_text.specs.Precedence.{sooner as sooner_of};
 ghost use Rattle.wf_text.specs.declared.rules.Rule.TheVariants as rules;
@@ -25,7 +25,7 @@ use wf_types_meanings::calls::{answer_type, declared_mark, is_base, pure_answer}
 use wf_types_meanings::marks::{is_coroutine, is_impure, is_pure, same_mark};
 use wf_types_meanings::places::{at_if, first_place, told};
 use wf_types_meanings::values::{
-    as_flag, as_value, conversion, element_of as element, elements, has_room, if_number,
+    as_flag, as_value, conversion, element_of as element, elements, if_number,
     is_argument, may_be_handed, slice_in as slice, slices, takes,
 };
 use wf_types_meanings::variables::{typed, variable};
@@ -250,26 +250,14 @@ fn is_wrong_argument(ty: Option<Ty>, of: Option<Meaning>) -> bool
     }
 }
 
-fn is_unfit_argument(ty: Option<Ty>, of: Option<Meaning>) -> bool
-    ensures { result ≡ both_fail has_room_for ty of }
-{
-    match (ty, of) {
-        (Some(ty), Some(m)) => !has_room(ty, m),
-        (None, Some(_)) => false,
-        (Some(_), None) => false,
-        (None, None) => false,
-    }
-}
-
 /// An argument, by the type that is wanted of it.
 pub fn judged_argument(found: Option<Refusal>, ty: Option<Ty>, v: Value) -> JudgedArgs
     ensures found { result.found ≡ argument_found ty v found }
     ensures fit { result.fit ≡ fits_argument ty v.of }
 {
     let wrong = at_if(is_wrong_argument(ty, v.of), v.at);
-    let unfit = at_if(is_unfit_argument(ty, v.of), v.at);
     JudgedArgs {
-        found: sooner(sooner(found, told(Rule::T1, wrong)), told(Rule::T5, unfit)),
+        found: sooner(found, told(Rule::T1, wrong)),
         fit: is_argument(ty, v.of),
     }
 }

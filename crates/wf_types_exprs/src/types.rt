@@ -3,11 +3,12 @@
 ghost use Rattle.std.specs.Prelude.{◌≡◌, None, Some, ◌||◌, nat_lt, nat_le, option_map};
 ghost use Rattle.wf_ast.specs.declared.types.Ty.TheVariants as types;
 ghost use Rattle.wf_named.specs.NamedTree as tree;
+ghost use Rattle.wf_types_rules.specs.declared.settings.Form.TheVariants as forms;
 ghost use Rattle.wf_types_rules.specs.ExprTypes.{array_type as type_of_array, plain_width};
-ghost use Rattle.wf_types_rules.specs.DeclaredTypes.{is_numeric as numeric, holds_zero as has_zero, may_be as may_stand, is_zero_kept as keeps_zero};
-ghost use Rattle.wf_types_rules.specs.Judgements.{fails, both_fail};
+ghost use Rattle.wf_types_rules.specs.DeclaredTypes.{is_number_form as number_form, holds_zero as has_zero, may_have as may_stand_as, is_zero_kept as keeps_zero};
+ghost use Rattle.wf_types_rules.specs.Judgements.{fails, both_fail, with_elements as form_with_elements};
 ghost use Rattle.wf_types_exprs.specs.Judged.{TellsType};
-ghost use Rattle.wf_types_exprs.specs.Found.{slice_type_found, array_type_found, is_unfit_low as unfit_low, low_number_of, crossing as crossing_at, goes_above as above_width, bounds_found, refined_found, refined_base as refined_to, is_misplaced_type as misplaced, placed_found};
+ghost use Rattle.wf_types_exprs.specs.Found.{slice_type_found, array_type_found, is_unfit_low as unfit_low, low_number_of, crossing as crossing_at, goes_above as above_width, bounds_found, refined_found, refined_base as refined_to, refined_base_form, is_misplaced_type as misplaced, placed_found};
 
 use crate::found::{Bound, WrittenType};
 use wf_ast::Ty;
@@ -18,10 +19,10 @@ use wf_text::rules::{Refusal, Rule};
 use wf_text::{Place, StructId};
 use wf_types_meanings::places::{at_if, told};
 use wf_types_meanings::types::{
-    array_type, base_of, holds_zero, is_numeric, is_zero_kept, may_be, refined_type,
+    array_type, base_form, base_of, holds_zero, is_number_form, is_zero_kept, may_have, refined_type,
 };
 use wf_types_operators::meanings::greatest;
-use wf_types_rules::Role;
+use wf_types_rules::{Form, Role};
 
 fn slices_of(plain: Option<Width>) -> Option<Ty>
     ensures { result ≡ option_map types.Slice plain }
@@ -34,22 +35,32 @@ fn slices_of(plain: Option<Width>) -> Option<Ty>
 
 /// A slice of elements of this type.
 pub fn written_slice(element: WrittenType, at: Place) -> WrittenType
-    ensures { result ≡ record { found = slice_type_found element.of element.plain at element.found; of = option_map types.Slice element.plain; plain = None; at = at } }
+    ensures { result ≡ record { found = slice_type_found element.kind element.plain at element.found; of = option_map types.Slice element.plain; kind = form_with_elements forms.Slice element.kind; plain = None; at = at } }
 {
-    let wrong = at_if(element.of.is_some() && !element.plain.is_some(), at);
+    let wrong = at_if(element.kind.is_some() && !element.plain.is_some(), at);
     WrittenType {
         found: sooner(element.found, told(Rule::T1, wrong)),
         of: slices_of(element.plain),
+        kind: with_elements(Form::Slice, element.kind),
         plain: None,
         at,
     }
 }
 
-fn is_not_numeric(ty: Option<Ty>) -> bool
-    ensures { result ≡ fails numeric ty }
+fn with_elements(whole: Form, element: Option<Form>) -> Option<Form>
+    ensures { result ≡ form_with_elements whole element }
 {
-    match ty {
-        Some(ty) => !is_numeric(ty),
+    match element {
+        Some(_) => Some(whole),
+        None => None,
+    }
+}
+
+fn is_not_numeric(kind: Option<Form>) -> bool
+    ensures { result ≡ fails number_form kind }
+{
+    match kind {
+        Some(kind) => !is_number_form(kind),
         None => false,
     }
 }
@@ -79,9 +90,9 @@ pub fn written_array(
     element: WrittenType,
     at: Place,
 ) -> WrittenType
-    ensures { result ≡ record { found = array_type_found count element.of element.at at found; of = type_of_array count.number element.of; plain = None; at = at } }
+    ensures { result ≡ record { found = array_type_found count element.of element.kind element.at at found; of = type_of_array count.number element.of; kind = form_with_elements forms.Array element.kind; plain = None; at = at } }
 {
-    let wrong = at_if(count.unfit || is_not_numeric(element.of), at);
+    let wrong = at_if(count.unfit || is_not_numeric(element.kind), at);
     let empty = at_if(is_zero(count.number), count.at);
     let above = at_if(lacks_zero(element.of), element.at);
     WrittenType {
@@ -90,6 +101,7 @@ pub fn written_array(
             told(Rule::T5, above),
         ),
         of: array_type(count.number, element.of),
+        kind: with_elements(Form::Array, element.kind),
         plain: None,
         at,
     }
@@ -116,12 +128,14 @@ pub fn written_plain(found: Option<Refusal>, of: Option<BaseType>, at: Place) ->
         Some(of) => WrittenType {
             found,
             of: Some(base_of(of)),
+            kind: Some(base_form(of)),
             plain: plain_of(of),
             at,
         },
         None => WrittenType {
             found: sooner(found, Some(Refusal { rule: Rule::T1, at })),
             of: None,
+            kind: None,
             plain: None,
             at,
         },
@@ -136,6 +150,7 @@ pub fn written_struct(found: Option<Refusal>, of: StructId, at: Place) -> Writte
     WrittenType {
         found,
         of: Some(Ty::Part(of)),
+        kind: Some(Form::Struct),
         plain: None,
         at,
     }
@@ -248,6 +263,25 @@ fn refined_base(of: Option<BaseType>, low: Option<Bound>, high: Bound) -> Option
     }
 }
 
+fn refined_form(of: Option<BaseType>, low: Option<Bound>, high: Bound) -> Option<Form>
+    ensures { result ≡ refined_base_form of low high }
+{
+    match of {
+        Some(BaseType::Number(_)) => {
+            if is_unfit(low, high) {
+                None
+            } else {
+                Some(Form::Number)
+            }
+        }
+        Some(BaseType::Flag) => None,
+        Some(BaseType::Status) => None,
+        Some(BaseType::Reader) => None,
+        Some(BaseType::Writer) => None,
+        None => None,
+    }
+}
+
 /// A type that begins with `base`, with bounds. `found` is what decides so far, the bounds included.
 pub fn written_refined(
     found: Option<Refusal>,
@@ -256,35 +290,36 @@ pub fn written_refined(
     high: Bound,
     at: Place,
 ) -> WrittenType
-    ensures { result ≡ record { found = refined_found of low high at found; of = refined_to of low high; plain = None; at = at } }
+    ensures { result ≡ record { found = refined_found of low high at found; of = refined_to of low high; kind = refined_base_form of low high; plain = None; at = at } }
 {
     WrittenType {
         found: found_in_refined(found, of, low, high, at),
         of: refined_base(of, low, high),
+        kind: refined_form(of, low, high),
         plain: None,
         at,
     }
 }
 
-fn is_refused(role: Role, ty: Option<Ty>) -> bool
-    ensures { result ≡ fails (may_stand role) ty }
+fn is_refused(role: Role, kind: Option<Form>) -> bool
+    ensures { result ≡ fails (may_stand_as role) kind }
 {
-    match ty {
-        Some(ty) => !may_be(role, ty),
+    match kind {
+        Some(kind) => !may_have(role, kind),
         None => false,
     }
 }
 
-fn is_misplaced(role: Role, ty: Option<Ty>, plain: Option<Width>) -> bool
-    ensures { result ≡ misplaced role ty plain }
+fn is_misplaced(role: Role, kind: Option<Form>, plain: Option<Width>) -> bool
+    ensures { result ≡ misplaced role kind plain }
 {
     match role {
-        Role::Conversion => ty.is_some() && !plain.is_some(),
-        Role::Const => is_refused(role, ty),
-        Role::Field => is_refused(role, ty),
-        Role::Arg => is_refused(role, ty),
-        Role::Local => is_refused(role, ty),
-        Role::Result(_) => is_refused(role, ty),
+        Role::Conversion => kind.is_some() && !plain.is_some(),
+        Role::Const => is_refused(role, kind),
+        Role::Field => is_refused(role, kind),
+        Role::Arg => is_refused(role, kind),
+        Role::Local => is_refused(role, kind),
+        Role::Result(_) => is_refused(role, kind),
     }
 }
 
@@ -299,9 +334,9 @@ fn begins_above_zero(role: Role, ty: Option<Ty>) -> bool
 
 /// A type at its place.
 pub fn found_at_place(found: Option<Refusal>, role: Role, of: WrittenType) -> Option<Refusal>
-    ensures { result ≡ placed_found role of.of of.plain of.at found }
+    ensures { result ≡ placed_found role of.of of.kind of.plain of.at found }
 {
-    let misplaced = at_if(is_misplaced(role, of.of, of.plain), of.at);
+    let misplaced = at_if(is_misplaced(role, of.kind, of.plain), of.at);
     let above = at_if(begins_above_zero(role, of.of), of.at);
     sooner(
         sooner(found, told(Rule::T1, misplaced)),

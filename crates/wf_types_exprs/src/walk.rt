@@ -11,7 +11,7 @@ ghost use Rattle.wf_types_rules.specs.declared.settings.Role.TheVariants as role
 ghost use Rattle.wf_types_rules.specs.ExprTypes.{meaning, operands_behind, operands, plain_width};
 ghost use Rattle.wf_types_rules.specs.Judgements.{wanted as type_wanted, meaning_of_argument, is_argument as fits_argument, are_arguments};
 ghost use Rattle.wf_types_rules.specs.Parts.{calling, placed_type, expr_parts, end_parts, links_parts, args_parts, type_parts};
-ghost use Rattle.wf_types_exprs.specs.Judged.{judged, part_meaning, value_of, end_value, bound_of, low_bound, argument_parts, operand_behind as behind, operands_joined, TellsType};
+ghost use Rattle.wf_types_exprs.specs.Judged.{judged, value_of, end_value, bound_of, low_bound, argument_parts, operand_behind as behind, operands_joined, TellsType};
 
 use crate::found::{
     Judged, JudgedArgs, JudgedBound, JudgedConversion, JudgedEnd, JudgedEnds, JudgedLow,
@@ -133,24 +133,6 @@ fn judge_value(
             },
         }),
         Err(fault) => Err(fault),
-    }
-}
-
-/// An expression that may be absent.
-pub fn judge_part(
-    alloc: Global,
-    found: Option<Refusal>,
-    nodes: &NamedNodes,
-    around: &Setting,
-    part: Option<ExprId>,
-) -> Result<Judged, NoMemory>
-    requires { IsBelow (length nodes.now.exprs) part }
-    ensures found { IfOk result (λ j. j.found ≡ judged around.now found (end_parts (part_at (exprs_of nodes.now) part))) }
-    ensures of { IfOk result (λ j. j.of ≡ part_meaning around.now (part_at (exprs_of nodes.now) part)) }
-{
-    match part {
-        Some(e) => judge_expr(alloc, found, nodes, around, e),
-        None => Ok(Judged { found, of: None }),
     }
 }
 

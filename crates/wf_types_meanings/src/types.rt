@@ -3,15 +3,15 @@
 ghost use Rattle.std.specs.Prelude.{◌≡◌, option_and_then};
 ghost use Rattle.wf_types_rules.specs.declared.settings.Role.TheVariants as roles;
 ghost use Rattle.wf_types_rules.specs.ExprTypes.{base_of as type_of_base, refined_type as type_within, array_type as type_of_array};
-ghost use Rattle.wf_types_rules.specs.DeclaredTypes.{is_numeric as numeric, may_be as may_stand, begins_as_zero as begins_with_zero, holds_zero as has_zero, is_zero_kept as keeps_zero, if_allowed as only_if_allowed, constant_in as constant_within, constant_with as constant_of_both};
-ghost use Rattle.wf_types_rules.specs.Judgements.{lies_in as within};
+ghost use Rattle.wf_types_rules.specs.DeclaredTypes.{is_number_form as number_form, is_result_form as result_form, form_of as form_of_type, may_have as may_stand_as, begins_as_zero as begins_with_zero, holds_zero as has_zero, is_zero_kept as keeps_zero, if_allowed as only_if_allowed, constant_in as constant_within, constant_with as constant_of_both};
+ghost use Rattle.wf_types_rules.specs.Judgements.{lies_in as within, base_form as form_of_base};
 
 use crate::marks::is_coroutine;
 use wf_ast::Ty;
-use wf_base::{Mark, Width};
+use wf_base::Width;
 use wf_named::BaseType;
 use wf_types_operators::meanings::{all_of, greatest};
-use wf_types_rules::{Constant, Role};
+use wf_types_rules::{Constant, Form, Role};
 
 /// The type that has a name behind `base.`.
 pub fn base_of(of: BaseType) -> Ty
@@ -63,63 +63,77 @@ pub fn array_type(count: Option<u64>, element: Option<Ty>) -> Option<Ty>
     }
 }
 
-/// Whether it is a type of numbers.
-pub fn is_numeric(ty: Ty) -> bool
-    ensures { result ≡ numeric ty }
+/// The form of a type.
+pub fn form_of(ty: Ty) -> Form
+    ensures { result ≡ form_of_type ty }
 {
     match ty {
-        Ty::Num { .. } => true,
-        _ => false,
+        Ty::Num { .. } => Form::Number,
+        Ty::Flag => Form::Flag,
+        Ty::Status => Form::Status,
+        Ty::Reader => Form::Reader,
+        Ty::Writer => Form::Writer,
+        Ty::Part(_) => Form::Struct,
+        Ty::Slice(_) => Form::Slice,
+        Ty::Array { .. } => Form::Array,
     }
 }
 
-fn may_be_field(ty: Ty) -> bool
-    ensures { result ≡ may_stand roles.Field ty }
+/// The form of the type that has a name behind `base.`.
+pub fn base_form(of: BaseType) -> Form
+    ensures { result ≡ form_of_base of }
 {
-    match ty {
-        Ty::Slice(_) | Ty::Reader | Ty::Writer => false,
-        _ => true,
+    match of {
+        BaseType::Number(_) => Form::Number,
+        BaseType::Flag => Form::Flag,
+        BaseType::Status => Form::Status,
+        BaseType::Reader => Form::Reader,
+        BaseType::Writer => Form::Writer,
     }
 }
 
-fn may_be_arg(ty: Ty) -> bool
-    ensures { result ≡ may_stand roles.Arg ty }
+/// Whether it is the form of numbers.
+pub fn is_number_form(of: Form) -> bool
+    ensures { result ≡ number_form of }
 {
-    match ty {
-        Ty::Status | Ty::Array { .. } | Ty::Part(_) => false,
-        _ => true,
-    }
+    matches!(of, Form::Number)
 }
 
-fn may_be_local(ty: Ty) -> bool
-    ensures { result ≡ may_stand roles.Local ty }
+fn is_result_form(of: Form) -> bool
+    ensures { result ≡ result_form of }
 {
-    match ty {
-        Ty::Reader | Ty::Writer | Ty::Array { .. } | Ty::Part(_) => false,
-        _ => true,
-    }
+    matches!(of, Form::Number | Form::Flag | Form::Status)
 }
 
-fn may_be_result(mark: Mark, ty: Ty) -> bool
-    ensures { result ≡ may_stand (roles.Result mark) ty }
+fn may_field_have(of: Form) -> bool
+    ensures { result ≡ may_stand_as roles.Field of }
 {
-    match ty {
-        Ty::Num { .. } | Ty::Flag | Ty::Status => !is_coroutine(mark),
-        _ => false,
-    }
+    !matches!(of, Form::Slice | Form::Reader | Form::Writer)
 }
 
-/// Whether such a type may stand there.
-pub fn may_be(role: Role, ty: Ty) -> bool
-    ensures { result ≡ may_stand role ty }
+fn may_arg_have(of: Form) -> bool
+    ensures { result ≡ may_stand_as roles.Arg of }
+{
+    !matches!(of, Form::Status | Form::Array | Form::Struct)
+}
+
+fn may_local_have(of: Form) -> bool
+    ensures { result ≡ may_stand_as roles.Local of }
+{
+    !matches!(of, Form::Reader | Form::Writer | Form::Array | Form::Struct)
+}
+
+/// Whether a type of such a form may stand there.
+pub fn may_have(role: Role, of: Form) -> bool
+    ensures { result ≡ may_stand_as role of }
 {
     match role {
-        Role::Const => is_numeric(ty),
-        Role::Field => may_be_field(ty),
-        Role::Arg => may_be_arg(ty),
-        Role::Local => may_be_local(ty),
-        Role::Result(mark) => may_be_result(mark, ty),
-        Role::Conversion => is_numeric(ty),
+        Role::Const => is_number_form(of),
+        Role::Field => may_field_have(of),
+        Role::Arg => may_arg_have(of),
+        Role::Local => may_local_have(of),
+        Role::Result(mark) => !is_coroutine(mark) && is_result_form(of),
+        Role::Conversion => is_number_form(of),
     }
 }
 
@@ -157,7 +171,7 @@ pub fn is_zero_kept(role: Role, ty: Ty) -> bool
 pub fn if_allowed(role: Role, ty: Ty) -> Option<Ty>
     ensures { result ≡ only_if_allowed role ty }
 {
-    if may_be(role, ty) && is_zero_kept(role, ty) {
+    if may_have(role, form_of(ty)) && is_zero_kept(role, ty) {
         Some(ty)
     } else {
         None

@@ -4,11 +4,10 @@ ghost use Rattle.std.specs.Prelude.{◌≡◌, option_and_then, option_map};
 ghost use Rattle.wf_ast.specs.declared.types.Ty.TheVariants as types;
 ghost use Rattle.wf_types_rules.specs.Meanings.{is_value as means_value, is_flag as means_flag, constant_number as number_meant};
 ghost use Rattle.wf_types_rules.specs.ExprTypes.{only_where, element_of as element_in, slice_in as sliced, converted as converts, if_number as only_for_number};
-ghost use Rattle.wf_types_rules.specs.Judgements.{takes as takes_value, has_room as has_room_for, may_be_handed as may_hand, type_in as typed_so, is_argument as fits_argument};
+ghost use Rattle.wf_types_rules.specs.Judgements.{takes as takes_value, may_be_handed as may_hand, type_in as typed_so, is_argument as fits_argument};
 
 use wf_ast::Ty;
 use wf_base::Width;
-use wf_types_operators::fitting::fits_width;
 use wf_types_operators::meanings::{
     all_of, constant_number, differs_in, greatest, is_flag, is_io, is_number, is_status, is_value,
     same_width, width_of,
@@ -166,16 +165,6 @@ fn is_slice(width: Width, m: Meaning) -> bool
     }
 }
 
-/// Whether a constant without a width that the type takes lies in the type's width.
-pub fn has_room(ty: Ty, m: Meaning) -> bool
-    ensures { result ≡ has_room_for ty m }
-{
-    match ty {
-        Ty::Num { width, .. } => fits_width(Some(width), m),
-        _ => true,
-    }
-}
-
 /// Whether it may be handed on: values, readers and writers.
 pub fn may_be_handed(m: Meaning) -> bool
     ensures { result ≡ may_hand m }
@@ -200,7 +189,7 @@ pub fn is_argument(ty: Option<Ty>, m: Option<Meaning>) -> bool
     match ty {
         Some(ty) => {
             match m {
-                Some(m) => takes(ty, m) && has_room(ty, m),
+                Some(m) => takes(ty, m),
                 None => false,
             }
         }

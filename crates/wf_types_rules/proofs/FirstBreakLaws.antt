@@ -12,7 +12,7 @@ use Rattle.wf_text.proofs.PrecedenceLaws.{Among, here, there, Decides-map, Decid
 use Rattle.wf_named.specs.NamedTree.{NamedPackageTree}
 use Rattle.wf_types_rules.specs.declared.settings.Setting.{Setting}
 use Rattle.wf_types_rules.specs.Parts.{Part, Site, sites, IsPart}
-use Rattle.wf_types_rules.specs.Judgements.{wrong_operand, wrong_update, wrong_argument, wrong_letter, wrong_type, misplaced_type, value_no_number, wrong_target, wrong_assigned, no_value_assigned, wrong_condition, wrong_return, reaches_end, node_without_value, unfit_operand, unfit_update, unfit_assigned, unfit_argument, unfit_return, value_outside, crossed_bounds, high_bound, no_elements, element_above_zero, begins_above_zero, wrong_status, impure_call, impure_write, coroutine_call, kept_outside, yielded_outside, call_inside, wrong_mark, not_kept_in_status, keeps_no_coroutine, wrong_yield}
+use Rattle.wf_types_rules.specs.Judgements.{wrong_operand, wrong_update, wrong_argument, wrong_letter, wrong_type, misplaced_type, value_no_number, wrong_target, wrong_assigned, no_value_assigned, wrong_condition, wrong_return, reaches_end, node_without_value, unfit_operand, unfit_update, value_outside, crossed_bounds, high_bound, no_elements, element_above_zero, begins_above_zero, wrong_status, impure_call, impure_write, coroutine_call, kept_outside, yielded_outside, call_inside, wrong_mark, not_kept_in_status, keeps_no_coroutine, wrong_yield}
 use Rattle.wf_types_rules.specs.TypeRules as rules
 use Rattle.wf_types_rules.specs.TypeRules.{refused, IsWrong, Breaks}
 use Rattle.wf_types_rules.specs.FirstBreak.{told, refusals_at, refusals_of, refusals, deciding}
@@ -66,115 +66,7 @@ told-breaks p rule judge x stands build t h = by_judged (judge x.around x.part) 
         let F : Refusal → Type 0 = λ r. Breaks p r in subst F (let same : refused rule at ≡ t = cc k in same) (build at (record { around = x.around; part = x.part; stands = stands; wrong = e }))
 
 site-breaks : (p : NamedPackageTree) (x : Site) → IsPart p x.around x.part → AllBreak p (refusals_of x)
-site-breaks p x i = (
-  told-breaks p T1 wrong_operand x i (λ at w. rules.operand at w),
-  (
-    told-breaks p T1 wrong_update x i (λ at w. rules.update at w),
-    (
-      told-breaks p T1 wrong_argument x i (λ at w. rules.argument at w),
-      (
-        told-breaks p T1 wrong_letter x i (λ at w. rules.letter at w),
-        (
-          told-breaks p T1 wrong_type x i (λ at w. rules.unknown_type at w),
-          (
-            told-breaks p T1 misplaced_type x i (λ at w. rules.misplaced at w),
-            (
-              told-breaks p T1 value_no_number x i (λ at w. rules.constant_no_number at w),
-              (
-                told-breaks p T2 wrong_target x i (λ at w. rules.no_target at w),
-                (
-                  told-breaks p T2 wrong_assigned x i (λ at w. rules.other_type at w),
-                  (
-                    told-breaks p T2 no_value_assigned x i (λ at w. rules.no_value at w),
-                    (
-                      told-breaks p T3 wrong_condition x i (λ at w. rules.no_condition at w),
-                      (
-                        told-breaks p T4 wrong_return x i (λ at w. rules.other_result at w),
-                        (
-                          told-breaks p T4 reaches_end x i (λ at w. rules.no_result at w),
-                          (
-                            told-breaks p T5 node_without_value x i (λ at w. rules.without_value at w),
-                            (
-                              told-breaks p T5 unfit_operand x i (λ at w. rules.unfit_beside at w),
-                              (
-                                told-breaks p T5 unfit_update x i (λ at w. rules.unfit_in_update at w),
-                                (
-                                  told-breaks p T5 unfit_assigned x i (λ at w. rules.unfit_for_target at w),
-                                  (
-                                    told-breaks p T5 unfit_argument x i (λ at w. rules.unfit_for_argument at w),
-                                    (
-                                      told-breaks p T5 unfit_return x i (λ at w. rules.unfit_for_result at w),
-                                      (
-                                        told-breaks p T5 value_outside x i (λ at w. rules.outside at w),
-                                        (
-                                          told-breaks p T5 crossed_bounds x i (λ at w. rules.crossed at w),
-                                          (
-                                            told-breaks p T5 high_bound x i (λ at w. rules.too_high at w),
-                                            (
-                                              told-breaks p T5 no_elements x i (λ at w. rules.empty_array at w),
-                                              (
-                                                told-breaks p T5 element_above_zero x i (λ at w. rules.element_not_zero at w),
-                                                (
-                                                  told-breaks p T5 begins_above_zero x i (λ at w. rules.not_zero at w),
-                                                  (
-                                                    told-breaks p T5 wrong_status x i (λ at w. rules.status_text at w),
-                                                    (
-                                                      told-breaks p E1 impure_call x i (λ at w. rules.impure at w),
-                                                      (
-                                                        told-breaks p E1 impure_write x i (λ at w. rules.written at w),
-                                                        (
-                                                          told-breaks p E2 coroutine_call x i (λ at w. rules.coroutine at w),
-                                                          (
-                                                            told-breaks p E2 kept_outside x i (λ at w. rules.kept at w),
-                                                            (
-                                                              told-breaks p E2 yielded_outside x i (λ at w. rules.yielded at w),
-                                                              (
-                                                                told-breaks p E3 call_inside x i (λ at w. rules.inside at w),
-                                                                (
-                                                                  told-breaks p E3 wrong_mark x i (λ at w. rules.other_mark at w),
-                                                                  (
-                                                                    told-breaks p E4 not_kept_in_status x i (λ at w. rules.no_status at w),
-                                                                    (
-                                                                      told-breaks p E4 keeps_no_coroutine x i (λ at w. rules.no_coroutine at w),
-                                                                      (
-                                                                        told-breaks p E5 wrong_yield x i (λ at w. rules.no_suspension at w),
-                                                                        tt,
-                                                                      ),
-                                                                    ),
-                                                                  ),
-                                                                ),
-                                                              ),
-                                                            ),
-                                                          ),
-                                                        ),
-                                                      ),
-                                                    ),
-                                                  ),
-                                                ),
-                                              ),
-                                            ),
-                                          ),
-                                        ),
-                                      ),
-                                    ),
-                                  ),
-                                ),
-                              ),
-                            ),
-                          ),
-                        ),
-                      ),
-                    ),
-                  ),
-                ),
-              ),
-            ),
-          ),
-        ),
-      ),
-    ),
-  ),
-)
+site-breaks p x i = (told-breaks p T1 wrong_operand x i (λ at w. rules.operand at w), (told-breaks p T1 wrong_update x i (λ at w. rules.update at w), (told-breaks p T1 wrong_argument x i (λ at w. rules.argument at w), (told-breaks p T1 wrong_letter x i (λ at w. rules.letter at w), (told-breaks p T1 wrong_type x i (λ at w. rules.unknown_type at w), (told-breaks p T1 misplaced_type x i (λ at w. rules.misplaced at w), (told-breaks p T1 value_no_number x i (λ at w. rules.constant_no_number at w), (told-breaks p T2 wrong_target x i (λ at w. rules.no_target at w), (told-breaks p T2 wrong_assigned x i (λ at w. rules.other_type at w), (told-breaks p T2 no_value_assigned x i (λ at w. rules.no_value at w), (told-breaks p T3 wrong_condition x i (λ at w. rules.no_condition at w), (told-breaks p T4 wrong_return x i (λ at w. rules.other_result at w), (told-breaks p T4 reaches_end x i (λ at w. rules.no_result at w), (told-breaks p T5 node_without_value x i (λ at w. rules.without_value at w), (told-breaks p T5 unfit_operand x i (λ at w. rules.unfit_beside at w), (told-breaks p T5 unfit_update x i (λ at w. rules.unfit_in_update at w), (told-breaks p T5 value_outside x i (λ at w. rules.outside at w), (told-breaks p T5 crossed_bounds x i (λ at w. rules.crossed at w), (told-breaks p T5 high_bound x i (λ at w. rules.too_high at w), (told-breaks p T5 no_elements x i (λ at w. rules.empty_array at w), (told-breaks p T5 element_above_zero x i (λ at w. rules.element_not_zero at w), (told-breaks p T5 begins_above_zero x i (λ at w. rules.not_zero at w), (told-breaks p T5 wrong_status x i (λ at w. rules.status_text at w), (told-breaks p E1 impure_call x i (λ at w. rules.impure at w), (told-breaks p E1 impure_write x i (λ at w. rules.written at w), (told-breaks p E2 coroutine_call x i (λ at w. rules.coroutine at w), (told-breaks p E2 kept_outside x i (λ at w. rules.kept at w), (told-breaks p E2 yielded_outside x i (λ at w. rules.yielded at w), (told-breaks p E3 call_inside x i (λ at w. rules.inside at w), (told-breaks p E3 wrong_mark x i (λ at w. rules.other_mark at w), (told-breaks p E4 not_kept_in_status x i (λ at w. rules.no_status at w), (told-breaks p E4 keeps_no_coroutine x i (λ at w. rules.no_coroutine at w), (told-breaks p E5 wrong_yield x i (λ at w. rules.no_suspension at w), tt)))))))))))))))))))))))))))))))))
 
 -- Every cause is told.
 somewhere : (p : NamedPackageTree) (rule : Rule) (judge : Setting → Part → Option Place) (k : ℕ) (at : Place)
@@ -200,26 +92,23 @@ told-somewhere p _ (rules.no_result at w) = somewhere p T4 reaches_end 12 at (λ
 told-somewhere p _ (rules.without_value at w) = somewhere p T5 node_without_value 13 at (λ s x. refl) w
 told-somewhere p _ (rules.unfit_beside at w) = somewhere p T5 unfit_operand 14 at (λ s x. refl) w
 told-somewhere p _ (rules.unfit_in_update at w) = somewhere p T5 unfit_update 15 at (λ s x. refl) w
-told-somewhere p _ (rules.unfit_for_target at w) = somewhere p T5 unfit_assigned 16 at (λ s x. refl) w
-told-somewhere p _ (rules.unfit_for_argument at w) = somewhere p T5 unfit_argument 17 at (λ s x. refl) w
-told-somewhere p _ (rules.unfit_for_result at w) = somewhere p T5 unfit_return 18 at (λ s x. refl) w
-told-somewhere p _ (rules.outside at w) = somewhere p T5 value_outside 19 at (λ s x. refl) w
-told-somewhere p _ (rules.crossed at w) = somewhere p T5 crossed_bounds 20 at (λ s x. refl) w
-told-somewhere p _ (rules.too_high at w) = somewhere p T5 high_bound 21 at (λ s x. refl) w
-told-somewhere p _ (rules.empty_array at w) = somewhere p T5 no_elements 22 at (λ s x. refl) w
-told-somewhere p _ (rules.element_not_zero at w) = somewhere p T5 element_above_zero 23 at (λ s x. refl) w
-told-somewhere p _ (rules.not_zero at w) = somewhere p T5 begins_above_zero 24 at (λ s x. refl) w
-told-somewhere p _ (rules.status_text at w) = somewhere p T5 wrong_status 25 at (λ s x. refl) w
-told-somewhere p _ (rules.impure at w) = somewhere p E1 impure_call 26 at (λ s x. refl) w
-told-somewhere p _ (rules.written at w) = somewhere p E1 impure_write 27 at (λ s x. refl) w
-told-somewhere p _ (rules.coroutine at w) = somewhere p E2 coroutine_call 28 at (λ s x. refl) w
-told-somewhere p _ (rules.kept at w) = somewhere p E2 kept_outside 29 at (λ s x. refl) w
-told-somewhere p _ (rules.yielded at w) = somewhere p E2 yielded_outside 30 at (λ s x. refl) w
-told-somewhere p _ (rules.inside at w) = somewhere p E3 call_inside 31 at (λ s x. refl) w
-told-somewhere p _ (rules.other_mark at w) = somewhere p E3 wrong_mark 32 at (λ s x. refl) w
-told-somewhere p _ (rules.no_status at w) = somewhere p E4 not_kept_in_status 33 at (λ s x. refl) w
-told-somewhere p _ (rules.no_coroutine at w) = somewhere p E4 keeps_no_coroutine 34 at (λ s x. refl) w
-told-somewhere p _ (rules.no_suspension at w) = somewhere p E5 wrong_yield 35 at (λ s x. refl) w
+told-somewhere p _ (rules.outside at w) = somewhere p T5 value_outside 16 at (λ s x. refl) w
+told-somewhere p _ (rules.crossed at w) = somewhere p T5 crossed_bounds 17 at (λ s x. refl) w
+told-somewhere p _ (rules.too_high at w) = somewhere p T5 high_bound 18 at (λ s x. refl) w
+told-somewhere p _ (rules.empty_array at w) = somewhere p T5 no_elements 19 at (λ s x. refl) w
+told-somewhere p _ (rules.element_not_zero at w) = somewhere p T5 element_above_zero 20 at (λ s x. refl) w
+told-somewhere p _ (rules.not_zero at w) = somewhere p T5 begins_above_zero 21 at (λ s x. refl) w
+told-somewhere p _ (rules.status_text at w) = somewhere p T5 wrong_status 22 at (λ s x. refl) w
+told-somewhere p _ (rules.impure at w) = somewhere p E1 impure_call 23 at (λ s x. refl) w
+told-somewhere p _ (rules.written at w) = somewhere p E1 impure_write 24 at (λ s x. refl) w
+told-somewhere p _ (rules.coroutine at w) = somewhere p E2 coroutine_call 25 at (λ s x. refl) w
+told-somewhere p _ (rules.kept at w) = somewhere p E2 kept_outside 26 at (λ s x. refl) w
+told-somewhere p _ (rules.yielded at w) = somewhere p E2 yielded_outside 27 at (λ s x. refl) w
+told-somewhere p _ (rules.inside at w) = somewhere p E3 call_inside 28 at (λ s x. refl) w
+told-somewhere p _ (rules.other_mark at w) = somewhere p E3 wrong_mark 29 at (λ s x. refl) w
+told-somewhere p _ (rules.no_status at w) = somewhere p E4 not_kept_in_status 30 at (λ s x. refl) w
+told-somewhere p _ (rules.no_coroutine at w) = somewhere p E4 keeps_no_coroutine 31 at (λ s x. refl) w
+told-somewhere p _ (rules.no_suspension at w) = somewhere p E5 wrong_yield 32 at (λ s x. refl) w
 
 pub deciding-decides : (p : NamedPackageTree) → Decides (Breaks p) (deciding p)
 unfolding deciding

@@ -1,5 +1,5 @@
 -- Which types may be declared where, and the setting of each part of a package.
-use Rattle.std.specs.Prelude.{ℕ, Bool, true, false, ◌&&◌, List, [], ◌∷◌, ◌++◌, map, Option, None, Some, option_map, option_and_then, if◌then◌else◌, nat_eq, nat_le}
+use Rattle.std.specs.Prelude.{ℕ, Bool, true, false, not, ◌&&◌, List, [], ◌∷◌, ◌++◌, map, Option, None, Some, option_map, option_and_then, if◌then◌else◌, nat_eq, nat_le}
 use Rattle.wf_text.specs.declared.place.Place.{Place}
 use Rattle.wf_base.specs.declared.marks.Mark.TheVariants.{Pure}
 use Rattle.wf_ast.specs.declared.types.Ty.{Ty}
@@ -10,36 +10,59 @@ use Rattle.wf_named.specs.NamedTree.{NamedTypeTree, slice_of, array_of, base_typ
 use Rattle.wf_named.specs.WellNamed.{fields_in}
 use Rattle.wf_types_rules.specs.declared.meanings.Constant.{Constant}
 use Rattle.wf_types_rules.specs.declared.meanings.MethodType.{MethodType}
+use Rattle.wf_types_rules.specs.declared.settings.Form.{Form}
+use Rattle.wf_types_rules.specs.declared.settings.Form.TheVariants as forms
 use Rattle.wf_types_rules.specs.declared.settings.Role.{Role}
 use Rattle.wf_types_rules.specs.declared.settings.Role.TheVariants as roles
 use Rattle.wf_types_rules.specs.declared.settings.Setting.{Setting}
 use Rattle.wf_types_rules.specs.ExprTypes.{number_of, written}
 
-abbrev pub is_numeric : Ty → Bool
-is_numeric (types.Num width lo hi) = true
-is_numeric ty = false
+-- The form of a type.
+abbrev pub form_of : Ty → Form
+form_of (types.Num width lo hi) = forms.Number
+form_of types.Flag = forms.Flag
+form_of types.Status = forms.Status
+form_of types.Reader = forms.Reader
+form_of types.Writer = forms.Writer
+form_of (types.Part part) = forms.Struct
+form_of (types.Slice width) = forms.Slice
+form_of (types.Array width lo hi count) = forms.Array
 
--- The kinds of types that may stand there.
+abbrev pub is_number_form : Form → Bool
+is_number_form forms.Number = true
+is_number_form of = false
+
+abbrev pub is_numeric : Ty → Bool
+is_numeric ty = is_number_form (form_of ty)
+
+-- The forms of what a method that is no coroutine may give.
+abbrev pub is_result_form : Form → Bool
+is_result_form forms.Number = true
+is_result_form forms.Flag = true
+is_result_form forms.Status = true
+is_result_form of = false
+
+-- The forms of types that may stand there.
+abbrev pub may_have : Role → Form → Bool
+may_have roles.Const of = is_number_form of
+may_have roles.Field forms.Slice = false
+may_have roles.Field forms.Reader = false
+may_have roles.Field forms.Writer = false
+may_have roles.Field of = true
+may_have roles.Arg forms.Status = false
+may_have roles.Arg forms.Array = false
+may_have roles.Arg forms.Struct = false
+may_have roles.Arg of = true
+may_have roles.Local forms.Reader = false
+may_have roles.Local forms.Writer = false
+may_have roles.Local forms.Array = false
+may_have roles.Local forms.Struct = false
+may_have roles.Local of = true
+may_have (roles.Result mark) of = not (is_coroutine mark) && is_result_form of
+may_have roles.Conversion of = is_number_form of
+
 abbrev pub may_be : Role → Ty → Bool
-may_be roles.Const ty = is_numeric ty
-may_be roles.Field (types.Slice width) = false
-may_be roles.Field types.Reader = false
-may_be roles.Field types.Writer = false
-may_be roles.Field ty = true
-may_be roles.Arg types.Status = false
-may_be roles.Arg (types.Array width lo hi count) = false
-may_be roles.Arg (types.Part part) = false
-may_be roles.Arg ty = true
-may_be roles.Local types.Reader = false
-may_be roles.Local types.Writer = false
-may_be roles.Local (types.Array width lo hi count) = false
-may_be roles.Local (types.Part part) = false
-may_be roles.Local ty = true
-may_be (roles.Result mark) (types.Num width lo hi) = if is_coroutine mark then false else true
-may_be (roles.Result mark) types.Flag = if is_coroutine mark then false else true
-may_be (roles.Result mark) types.Status = if is_coroutine mark then false else true
-may_be (roles.Result mark) ty = false
-may_be roles.Conversion ty = is_numeric ty
+may_be role ty = may_have role (form_of ty)
 
 -- What begins as 0, and what is answered where a call is refused, has a type that holds 0.
 abbrev pub begins_as_zero : Role → Bool

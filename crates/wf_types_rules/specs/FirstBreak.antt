@@ -9,7 +9,7 @@ use Rattle.wf_text.specs.Precedence.{soonest}
 use Rattle.wf_named.specs.NamedTree.{NamedPackageTree}
 use Rattle.wf_types_rules.specs.declared.settings.Setting.{Setting}
 use Rattle.wf_types_rules.specs.Parts.{Part, Site, sites}
-use Rattle.wf_types_rules.specs.Judgements.{wrong_operand, wrong_update, wrong_argument, wrong_letter, wrong_type, misplaced_type, value_no_number, wrong_target, wrong_assigned, no_value_assigned, wrong_condition, wrong_return, reaches_end, node_without_value, unfit_operand, unfit_update, unfit_assigned, unfit_argument, unfit_return, value_outside, crossed_bounds, high_bound, no_elements, element_above_zero, begins_above_zero, wrong_status, impure_call, impure_write, coroutine_call, kept_outside, yielded_outside, call_inside, wrong_mark, not_kept_in_status, keeps_no_coroutine, wrong_yield}
+use Rattle.wf_types_rules.specs.Judgements.{wrong_operand, wrong_update, wrong_argument, wrong_letter, wrong_type, misplaced_type, value_no_number, wrong_target, wrong_assigned, no_value_assigned, wrong_condition, wrong_return, reaches_end, node_without_value, unfit_operand, unfit_update, value_outside, crossed_bounds, high_bound, no_elements, element_above_zero, begins_above_zero, wrong_status, impure_call, impure_write, coroutine_call, kept_outside, yielded_outside, call_inside, wrong_mark, not_kept_in_status, keeps_no_coroutine, wrong_yield}
 use Rattle.wf_types_rules.specs.TypeRules.{refused}
 
 abbrev pub told : Rule → Option Place → Option Refusal
@@ -34,9 +34,6 @@ refusals_at s x =
     ∷ told T5 (node_without_value s x)
     ∷ told T5 (unfit_operand s x)
     ∷ told T5 (unfit_update s x)
-    ∷ told T5 (unfit_assigned s x)
-    ∷ told T5 (unfit_argument s x)
-    ∷ told T5 (unfit_return s x)
     ∷ told T5 (value_outside s x)
     ∷ told T5 (crossed_bounds s x)
     ∷ told T5 (high_bound s x)

@@ -19,23 +19,26 @@ use Rattle.wf_ast.specs.declared.types.Ty.TheVariants as types
 use Rattle.wf_ast.specs.TypedTrees.{sort_of}
 use Rattle.wf_ast.specs.Value.{same_category}
 use Rattle.wf_ast.specs.WellTyped.{is_coroutine, is_pure, is_suspension, same_mark}
+use Rattle.wf_named.specs.declared.nodes.BaseType.{BaseType}
 use Rattle.wf_named.specs.declared.nodes.BaseType.TheVariants as bases
 use Rattle.wf_named.specs.declared.nodes.NamedCallee.{NamedCallee}
 use Rattle.wf_named.specs.declared.nodes.NamedCallee.TheVariants as callees
 use Rattle.wf_named.specs.declared.nodes.Variable.{Variable}
 use Rattle.wf_named.specs.declared.nodes.Variable.TheVariants as variables
-use Rattle.wf_named.specs.NamedTree.{NamedExprTree, status, truth, path, index, slice, answer, chain, convert, negation, NamedPartTree, absent, present, NamedLinkTrees, no_link, link, NamedArgTrees, no_arg, more_args, NamedCallTree, call, NamedTypeTree, slice_of, array_of, base_type, unrefined, refined, NamedTargetTree, to_path, to_element, NamedStmtTree, branch, loop, leave, again, back, NamedBlockTree, close, more_stmts, NamedArmTrees, no_else, otherwise, arm}
+use Rattle.wf_named.specs.NamedTree.{NamedExprTree, status, truth, path, index, slice, answer, chain, convert, negation, NamedPartTree, absent, present, NamedLinkTrees, no_link, link, NamedArgTrees, no_arg, more_args, NamedCallTree, call, NamedTypeTree, slice_of, array_of, base_type, struct_type, unrefined, refined, NamedTargetTree, to_path, to_element, NamedStmtTree, branch, loop, leave, again, back, NamedBlockTree, close, more_stmts, NamedArmTrees, no_else, otherwise, arm}
 use Rattle.wf_types_rules.specs.declared.meanings.Meaning.{Meaning}
 use Rattle.wf_types_rules.specs.declared.meanings.Meaning.TheVariants as meanings
 use Rattle.wf_types_rules.specs.declared.meanings.Operand.{Operand}
 use Rattle.wf_types_rules.specs.declared.meanings.MethodType.{MethodType}
 use Rattle.wf_types_rules.specs.Meanings.{all_of, same_width, there, variable, is_value, is_io, is_number, is_flag, is_status, is_constant, width_of, place_of}
-use Rattle.wf_types_rules.specs.Operands.{first_of, differs_in, not_taken, not_fitting, fits_width, has_no_value}
+use Rattle.wf_types_rules.specs.Operands.{first_of, differs_in, not_taken, not_fitting, has_no_value}
 use Rattle.wf_types_rules.specs.ExprTypes.{element_of, slice_in, given_by_base, plain_width, in_front, operand_at, meaning, operands, number_of, low_number, written}
+use Rattle.wf_types_rules.specs.declared.settings.Form.{Form}
+use Rattle.wf_types_rules.specs.declared.settings.Form.TheVariants as forms
 use Rattle.wf_types_rules.specs.declared.settings.Role.{Role}
 use Rattle.wf_types_rules.specs.declared.settings.Role.TheVariants as roles
 use Rattle.wf_types_rules.specs.declared.settings.Setting.{Setting}
-use Rattle.wf_types_rules.specs.DeclaredTypes.{is_numeric, may_be, holds_zero, is_zero_kept, declared, first_token}
+use Rattle.wf_types_rules.specs.DeclaredTypes.{is_number_form, may_have, holds_zero, is_zero_kept, declared, first_token}
 use Rattle.wf_types_rules.specs.Parts.{Part, expression, calling, argument, placed_type, type_part, constant_declared, status_declared, target, assigned, kept, condition, letter_value, returned, yielded, whole_body}
 
 abbrev pub at_if : Bool → Place → Option Place
@@ -95,7 +98,7 @@ node_without_value s (expression (chain op first links at)) = at_if (fails (λ o
 node_without_value s (expression (convert e t at)) = at_if (fails (λ m. not (leaves_width m t)) (meaning s e)) at
 node_without_value s x = None
 
--- Values that a type takes: numbers of its width, constants without a width, and else those of the very type.
+-- Values that a type takes: numbers of its width, constants without a width, however large, and else those of the very type.
 abbrev pub takes : Ty → Meaning → Bool
 takes (types.Num width lo hi) m = is_number m && not (differs_in (Some width) (width_of m))
 takes types.Flag m = is_flag m
@@ -104,11 +107,6 @@ takes types.Reader (meanings.Typed types.Reader) = true
 takes types.Writer (meanings.Typed types.Writer) = true
 takes (types.Slice width) (meanings.Typed (types.Slice own)) = same_width width own
 takes ty m = false
-
--- A constant without a width that the type takes lies in the type's width.
-abbrev pub has_room : Ty → Meaning → Bool
-has_room (types.Num width lo hi) m = fits_width (Some width) m
-has_room ty m = true
 
 -- Arguments. The type of the argument with the number `n`.
 abbrev pub base_arg : Kind → ArgTy → Ty
@@ -137,11 +135,6 @@ may_be_handed m = is_value m || is_io m
 abbrev pub wrong_argument : Setting → Part → Option Place
 wrong_argument s (argument callee n e) = at_if (fails may_be_handed (meaning_of_argument s e) || both_fail takes (wanted s callee n) (meaning_of_argument s e)) (place_of e)
 wrong_argument s x = None
-
--- A constant argument that doesn't fit the width of its type.
-abbrev pub unfit_argument : Setting → Part → Option Place
-unfit_argument s (argument callee n e) = at_if (both_fail has_room (wanted s callee n) (meaning_of_argument s e)) (place_of e)
-unfit_argument s x = None
 
 -- What is given for a letter of an axiom and is no number.
 abbrev pub wrong_letter : Setting → Part → Option Place
@@ -175,6 +168,30 @@ abbrev pub is_no_low_bound : Setting → NamedPartTree → Bool
 is_no_low_bound s absent = false
 is_no_low_bound s (present e) = is_no_constant s e
 
+-- The form of a type that is written, whatever its bounds and its length break. A name that is no type has none, nor have
+-- bounds of what is no number, or that are no constant numbers, nor what has elements without a form.
+abbrev pub base_form : BaseType → Form
+base_form (bases.Number width) = forms.Number
+base_form bases.Flag = forms.Flag
+base_form bases.Status = forms.Status
+base_form bases.Reader = forms.Reader
+base_form bases.Writer = forms.Writer
+
+abbrev pub refined_form : (unfit : Bool) → Option Form
+refined_form unfit = if unfit then None else Some forms.Number
+
+abbrev pub with_elements : (whole : Form) → (element : Option Form) → Option Form
+with_elements whole element = option_map (λ inner. whole) element
+
+abbrev pub form : Setting → NamedTypeTree → Option Form
+form s (slice_of at element) = with_elements forms.Slice (form s element)
+form s (array_of length at element) = with_elements forms.Array (form s element)
+form s (base_type None at bounds) = None
+form s (base_type (Some of) at unrefined) = Some (base_form of)
+form s (base_type (Some (bases.Number width)) at (refined low high)) = refined_form (is_no_low_bound s low || is_no_constant s high)
+form s (base_type (Some of) at (refined low high)) = None
+form s (struct_type n at) = Some forms.Struct
+
 -- A type that the language doesn't have: of an unknown name, with bounds where it is no number, with a bound or a length
 -- that is no constant number, or with elements of another type than such a type has.
 abbrev pub wrong_type : Setting → Part → Option Place
@@ -182,14 +199,14 @@ wrong_type s (type_part (base_type None at bounds)) = Some at
 wrong_type s (type_part (base_type (Some of) at unrefined)) = None
 wrong_type s (type_part (base_type (Some (bases.Number width)) at (refined low high))) = at_if (is_no_low_bound s low || is_no_constant s high) at
 wrong_type s (type_part (base_type (Some of) at (refined low high))) = Some at
-wrong_type s (type_part (slice_of at element)) = at_if (is_some (written s element) && not (is_some (plain_width element))) at
-wrong_type s (type_part (array_of length at element)) = at_if (is_no_constant s length || fails is_numeric (written s element)) at
+wrong_type s (type_part (slice_of at element)) = at_if (is_some (form s element) && not (is_some (plain_width element))) at
+wrong_type s (type_part (array_of length at element)) = at_if (is_no_constant s length || fails is_number_form (form s element)) at
 wrong_type s x = None
 
--- A type that may not stand where it does. Behind `as` it has no bounds.
+-- A type that by its form may not stand where it does. Behind `as` it has no bounds.
 abbrev pub is_misplaced : Setting → Role → NamedTypeTree → Bool
-is_misplaced s roles.Conversion t = is_some (written s t) && not (is_some (plain_width t))
-is_misplaced s role t = fails (may_be role) (written s t)
+is_misplaced s roles.Conversion t = is_some (form s t) && not (is_some (plain_width t))
+is_misplaced s role t = fails (may_have role) (form s t)
 
 abbrev pub misplaced_type : Setting → Part → Option Place
 misplaced_type s (placed_type role t) = at_if (is_misplaced s role t) (first_token t)
@@ -299,7 +316,7 @@ gives_no_value s callee = fails (λ m. is_some (result_of m)) (method_at s calle
 
 -- Every argument means something that its type takes.
 abbrev pub is_argument : Option Ty → Option Meaning → Bool
-is_argument (Some ty) (Some m) = takes ty m && has_room ty m
+is_argument (Some ty) (Some m) = takes ty m
 is_argument ty m = false
 
 abbrev pub are_arguments : Setting → NamedCallee → (n : ℕ) → NamedArgTrees → Bool
@@ -325,10 +342,6 @@ wrong_assigned s x = None
 abbrev pub no_value_assigned : Setting → Part → Option Place
 no_value_assigned s (assigned t None (answer (call callee at mark args))) = at_if (gives_no_value s callee) (target_place t)
 no_value_assigned s x = None
-
-abbrev pub unfit_assigned : Setting → Part → Option Place
-unfit_assigned s (assigned t None e) = at_if (both_fail has_room (target_type s t) (value_of s e)) (place_of e)
-unfit_assigned s x = None
 
 -- An operator with `=` has the target as its first operand.
 abbrev pub updated : Setting → NamedTargetTree → NamedExprTree → Option (List Operand)
@@ -359,10 +372,6 @@ is_wrong_return s (present e) = if is_coroutine s.mark then fails is_status (mea
 abbrev pub wrong_return : Setting → Part → Option Place
 wrong_return s (returned at e) = at_if (is_wrong_return s e) at
 wrong_return s x = None
-
-abbrev pub unfit_return : Setting → Part → Option Place
-unfit_return s (returned at (present e)) = at_if (not (is_coroutine s.mark) && both_fail has_room (there s.gives) (meaning s e)) (place_of e)
-unfit_return s x = None
 
 -- A jump leaves the loop that stands so many loops outwards from a block.
 abbrev mutual

@@ -7,7 +7,7 @@ use Rattle.wf_text.specs.declared.rules.Rule.TheVariants.{T1, T2, T3, T4, T5, E1
 use Rattle.wf_named.specs.NamedTree.{NamedPackageTree}
 use Rattle.wf_types_rules.specs.declared.settings.Setting.{Setting}
 use Rattle.wf_types_rules.specs.Parts.{Part, IsPart}
-use Rattle.wf_types_rules.specs.Judgements.{wrong_operand, unfit_operand, node_without_value, wrong_argument, unfit_argument, wrong_letter, wrong_type, misplaced_type, crossed_bounds, high_bound, no_elements, element_above_zero, begins_above_zero, value_no_number, value_outside, wrong_status, wrong_target, wrong_assigned, no_value_assigned, unfit_assigned, wrong_update, unfit_update, wrong_condition, wrong_return, unfit_return, reaches_end, impure_call, impure_write, coroutine_call, kept_outside, yielded_outside, call_inside, wrong_mark, not_kept_in_status, keeps_no_coroutine, wrong_yield}
+use Rattle.wf_types_rules.specs.Judgements.{wrong_operand, unfit_operand, node_without_value, wrong_argument, wrong_letter, wrong_type, misplaced_type, crossed_bounds, high_bound, no_elements, element_above_zero, begins_above_zero, value_no_number, value_outside, wrong_status, wrong_target, wrong_assigned, no_value_assigned, wrong_update, unfit_update, wrong_condition, wrong_return, reaches_end, impure_call, impure_write, coroutine_call, kept_outside, yielded_outside, call_inside, wrong_mark, not_kept_in_status, keeps_no_coroutine, wrong_yield}
 
 abbrev pub refused : Rule → Place → Refusal
 refused rule at = record { rule = rule; at = at }
@@ -31,7 +31,7 @@ pub data Breaks (p : NamedPackageTree) : Refusal → Type 0 where
   letter : (at : Place) → IsWrong p wrong_letter at → Breaks p (refused T1 at)
   -- T1: a type that the language doesn't have, at its first token
   unknown_type : (at : Place) → IsWrong p wrong_type at → Breaks p (refused T1 at)
-  -- T1: a type that may not stand where it does, at its first token
+  -- T1: a type whose form may not stand where it does, at its first token
   misplaced : (at : Place) → IsWrong p misplaced_type at → Breaks p (refused T1 at)
   -- T1: the value of a constant is no number
   constant_no_number : (at : Place) → IsWrong p value_no_number at → Breaks p (refused T1 at)
@@ -49,12 +49,10 @@ pub data Breaks (p : NamedPackageTree) : Refusal → Type 0 where
   no_result : (at : Place) → IsWrong p reaches_end at → Breaks p (refused T4 at)
   -- T5: a node of a constant expression that has no value
   without_value : (at : Place) → IsWrong p node_without_value at → Breaks p (refused T5 at)
-  -- T5: a constant that doesn't fit the width of an operand beside it, of its target, of its argument or of the result
+  -- T5: a constant that doesn't fit the width of an operand beside it. One that doesn't fit the target, the argument or the
+  -- result that takes it breaks no rule of types
   unfit_beside : (at : Place) → IsWrong p unfit_operand at → Breaks p (refused T5 at)
   unfit_in_update : (at : Place) → IsWrong p unfit_update at → Breaks p (refused T5 at)
-  unfit_for_target : (at : Place) → IsWrong p unfit_assigned at → Breaks p (refused T5 at)
-  unfit_for_argument : (at : Place) → IsWrong p unfit_argument at → Breaks p (refused T5 at)
-  unfit_for_result : (at : Place) → IsWrong p unfit_return at → Breaks p (refused T5 at)
   -- T5: a constant outside its type, at its value
   outside : (at : Place) → IsWrong p value_outside at → Breaks p (refused T5 at)
   -- T5: a lower bound above the upper one, at the lower one

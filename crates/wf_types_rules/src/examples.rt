@@ -4,9 +4,10 @@
 ghost use Rattle.std.specs.Prelude.{◌≡◌, Some, None, true};
 ghost use Rattle.wf_text.specs.declared.rules.Rule.TheVariants.{T1, T2, T3, T4, T5, E1, E2, E3, E4, E5};
 ghost use Rattle.wf_base.specs.declared.marks.Mark.TheVariants.{Pure, Impure, Coroutine};
+ghost use Rattle.wf_base.specs.declared.widths.Width.TheVariants.{W8};
 ghost use Rattle.wf_ast.specs.declared.operators.Op.TheVariants as ops;
 ghost use Rattle.wf_named.specs.declared.nodes.BaseType.TheVariants as bases;
-ghost use Rattle.wf_named.specs.NamedTree.{number, status, truth, path, index, answer, chain, convert, absent, present, no_link, link, no_arg, more_args, base_type, unrefined, to_path, to_element, assign, keep, do_call, branch, leave, back, suspend, close, more_stmts, no_else, otherwise, arm};
+ghost use Rattle.wf_named.specs.NamedTree.{number, status, truth, path, index, answer, chain, convert, absent, present, no_link, link, no_arg, more_args, slice_of, array_of, base_type, unrefined, to_path, to_element, assign, keep, do_call, branch, leave, back, suspend, close, more_stmts, no_else, otherwise, arm};
 ghost use Rattle.wf_named.specs.Examples.{at, local, field, arg};
 ghost use Rattle.wf_types_rules.specs.TypeRules.{refused};
 ghost use Rattle.wf_types_rules.specs.FirstBreak.{deciding};
@@ -31,6 +32,9 @@ pub fn constants_by_the_rules_of_types()
     ensures crossed { deciding (constant_package (refined_byte (present (number 9 (at 1 24))) 5) (number 5 (at 1 40))) ≡ Some (refused T5 (at 1 24)) }
     ensures too_high { deciding (constant_package (refined_byte absent 256) (number 5 (at 1 40))) ≡ Some (refused T5 (at 1 28)) }
     ensures outside_its_bounds { deciding (constant_package (refined_byte (present (number 2 (at 1 24))) 5) (number 1 (at 1 40))) ≡ Some (refused T5 (at 1 40)) }
+    ensures an_empty_array { deciding (constant_package (array_of (number 0 (at 1 21)) (at 1 15) (base_type (Some (bases.Number W8)) (at 1 24) unrefined)) (number 1 (at 1 40))) ≡ Some (refused T1 (at 1 15)) }
+    ensures a_slice_out_of_bounds { deciding (constant_package (slice_of (at 1 9) (refined_byte absent 256)) (number 1 (at 1 40))) ≡ Some (refused T1 (at 1 9)) }
+    ensures a_slice_of_no_type { deciding (constant_package (slice_of (at 1 9) (base_type None (at 1 15) unrefined)) (number 1 (at 1 40))) ≡ Some (refused T1 (at 1 15)) }
     ensures within_its_bounds { deciding (constant_package (refined_byte (present (number 2 (at 1 24))) 5) (number 5 (at 1 40))) ≡ None }
 {}
 
@@ -52,7 +56,7 @@ pub fn operands_by_the_rules_of_types()
     ensures added_to_a_byte { deciding (doing Impure (assign x_path (Some ops.Add) (here 8) (number 256 (here 12)) (here 5))) ≡ Some (refused T5 (at 9 12)) }
 {}
 
-/// Targets: a local, an argument, a whole array, an element; a bool, a constant that doesn't fit, and calls with
+/// Targets: a local, an argument, a whole array, an element; a bool, a constant that bounds will refuse, and calls with
 /// and without a value for a byte.
 pub fn targets_by_the_rules_of_types()
     ensures an_argument { deciding (doing Impure (assigning (to_path (arg 0 (here 5))) (number 1 (here 10)))) ≡ Some (refused T2 (at 9 5)) }
@@ -60,13 +64,13 @@ pub fn targets_by_the_rules_of_types()
     ensures an_element { deciding (doing Impure (assigning (to_element (field 2 (here 5)) (number 1 (here 12)) (here 11)) (number 1 (here 15)))) ≡ None }
     ensures of_another_type { deciding (doing Impure (assigning x_path (truth true (here 10)))) ≡ Some (refused T2 (at 9 5)) }
     ensures of_another_width { deciding (doing Impure (assigning x_path (path (local 1 (here 10))))) ≡ Some (refused T2 (at 9 5)) }
-    ensures unfit { deciding (doing Impure (assigning x_path (number 256 (here 10)))) ≡ Some (refused T5 (at 9 10)) }
+    ensures a_number_of_any_size { deciding (doing Impure (assigning x_path (number 256 (here 10)))) ≡ None }
     ensures no_value { deciding (doing Coroutine (assigning x_path (answer (calls_own 2 Coroutine no_arg)))) ≡ Some (refused T2 (at 9 5)) }
     ensures a_byte_that_is_read { deciding (doing Coroutine (assigning x_path (answer (reads Coroutine)))) ≡ None }
     ensures an_answer_of_another_width { deciding (doing Impure (assigning x_path (answer (calls_own 1 Pure (more_args (number 1 (here 30)) no_arg))))) ≡ Some (refused T2 (at 9 5)) }
     ensures an_answer { deciding (doing Impure (assigning (to_path (field 0 (here 5))) (answer (calls_own 1 Pure (more_args (number 1 (here 30)) no_arg))))) ≡ None }
     ensures a_wrong_argument { deciding (doing Impure (assigning (to_path (field 0 (here 5))) (answer (calls_own 1 Pure (more_args (x_at 30) no_arg))))) ≡ Some (refused T1 (at 9 30)) }
-    ensures an_unfit_argument { deciding (doing Impure (assigning (to_path (field 0 (here 5))) (answer (calls_own 1 Pure (more_args (number 4294967296 (here 30)) no_arg))))) ≡ Some (refused T5 (at 9 30)) }
+    ensures an_argument_of_any_size { deciding (doing Impure (assigning (to_path (field 0 (here 5))) (answer (calls_own 1 Pure (more_args (number 4294967296 (here 30)) no_arg))))) ≡ None }
     ensures both_wrong { deciding (doing Impure (assigning x_path (answer (calls_own 1 Pure (more_args (x_at 30) no_arg))))) ≡ Some (refused T1 (at 9 30)) }
 {}
 
@@ -78,7 +82,7 @@ pub fn conditions_and_results_by_the_rules_of_types()
     ensures a_result { deciding (giving (more_stmts (back (present (x_at 12)) (here 5)) (close (at 10 1)))) ≡ None }
     ensures nothing { deciding (giving (more_stmts (back absent (here 5)) (close (at 10 1)))) ≡ Some (refused T4 (at 9 5)) }
     ensures another_type { deciding (giving (more_stmts (back (present (truth true (here 12))) (here 5)) (close (at 10 1)))) ≡ Some (refused T4 (at 9 5)) }
-    ensures unfit_result { deciding (giving (more_stmts (back (present (number 256 (here 12))) (here 5)) (close (at 10 1)))) ≡ Some (refused T5 (at 9 12)) }
+    ensures a_result_of_any_size { deciding (giving (more_stmts (back (present (number 256 (here 12))) (here 5)) (close (at 10 1)))) ≡ None }
     ensures the_end { deciding (giving (close (at 10 1))) ≡ Some (refused T4 (at 10 1)) }
     ensures a_loop_without_end { deciding (giving (more_stmts (looping (truth true (here 11)) (close (at 9 40))) (close (at 10 1)))) ≡ None }
     ensures a_loop_that_is_left { deciding (giving (more_stmts (looping (truth true (here 11)) (more_stmts (leave 0 (here 20)) (close (at 9 40)))) (close (at 10 1)))) ≡ Some (refused T4 (at 10 1)) }

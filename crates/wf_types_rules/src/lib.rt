@@ -8,4 +8,4 @@ pub mod meanings;
 pub mod settings;
 
 pub use meanings::{Constant, Meaning, MethodType, Operand};
-pub use settings::{Role, Setting};
+pub use settings::{Form, Role, Setting};

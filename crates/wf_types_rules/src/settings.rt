@@ -33,6 +33,19 @@ impl Drop for Setting {
     }
 }
 
+/// The form of a type that is written: what kind of type it is, whatever its bounds, its length and its elements are.
+#[derive(Clone, Copy)]
+pub enum Form {
+    Number,
+    Flag,
+    Status,
+    Reader,
+    Writer,
+    Struct,
+    Slice,
+    Array,
+}
+
 /// Where a type is written.
 #[derive(Clone, Copy, PartialEq, Eq)]
 pub enum Role {

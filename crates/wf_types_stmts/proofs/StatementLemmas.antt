@@ -2,7 +2,7 @@
 use Rattle.std.proofs.Common.{◌≡◌, ◌∙◌, refl, sym, ap, ℕ, ◌+◌, ◌<◌, Bool, true, false, List, [], ◌∷◌, ◌++◌, length, drop, slice_index_or, Option, Some, None}
 use Rattle.wf_text.specs.declared.place.Place.{Place}
 use Rattle.wf_text.specs.declared.rules.Refusal.{Refusal}
-use Rattle.wf_text.specs.declared.rules.Rule.TheVariants.{T2, T5}
+use Rattle.wf_text.specs.declared.rules.Rule.TheVariants.{T2}
 use Rattle.wf_text.specs.Precedence.{sooner}
 use Rattle.wf_base.specs.declared.marks.Mark.{Mark}
 use Rattle.wf_ast.specs.declared.operators.Op.{Op}
@@ -16,7 +16,7 @@ use Rattle.wf_types_rules.specs.declared.meanings.Meaning.{Meaning}
 use Rattle.wf_types_rules.specs.declared.settings.Setting.{Setting}
 use Rattle.wf_types_rules.specs.Meanings.{place_of}
 use Rattle.wf_types_rules.specs.ExprTypes.{meaning}
-use Rattle.wf_types_rules.specs.Judgements.{at_if, both_fail, takes, has_room, is_no_target_of, is_field, target_place, target_meaning, target_type, value_of as value_assigned, no_value_assigned, is_suspension_text, block_stops, closing_brace}
+use Rattle.wf_types_rules.specs.Judgements.{at_if, both_fail, takes, is_no_target_of, is_field, target_place, target_meaning, target_type, value_of as value_assigned, no_value_assigned, is_suspension_text, block_stops, closing_brace}
 use Rattle.wf_types_rules.specs.Parts.{Part, target, assigned, kept, condition, letter_value, returned, yielded, whole_body, expr_parts, end_parts, target_parts, value_parts, whole_call_parts, condition_parts, clauses_parts, letters_parts}
 use Rattle.wf_types_rules.specs.FirstBreak.{told}
 use Rattle.wf_types_exprs.specs.declared.found.Value.{Value}
@@ -69,8 +69,7 @@ assigned_alone : (s : Setting) (found : Option Refusal) (t : NamedTargetTree) (e
     → assigned_found (target_value s t) (right_value s e) (lacks_value s e) found ≡ judged s found (assigned t None e ∷ [])
 unfolding judged
 assigned_alone s found t e =
-    ap (λ w. sooner (sooner (sooner found (told T2 (at_if (both_fail takes (target_type s t) (value_assigned s e)) (target_place t)))) (told T2 w))
-    (told T5 (at_if (both_fail has_room (target_type s t) (value_assigned s e)) (place_of e)))) (lacking s t e)
+    ap (λ w. sooner (sooner found (told T2 (at_if (both_fail takes (target_type s t) (value_assigned s e)) (target_place t)))) (told T2 w)) (lacking s t e)
 
 pub assigned_judged : (s : Setting) (found to before : Option Refusal) (t : NamedTargetTree) (e : NamedExprTree) (a v : Value) (lacks : Bool) → a ≡ target_value s t → v ≡ right_value s e → lacks ≡ lacks_value s e
     → to ≡ judged s found (target_parts t) → before ≡ judged s to (value_parts None e)

@@ -12,10 +12,10 @@ use Rattle.wf_named.specs.declared.nodes.NamedCallee.{NamedCallee}
 use Rattle.wf_types_rules.specs.declared.meanings.Meaning.{Meaning}
 use Rattle.wf_types_rules.specs.declared.meanings.Operand.{Operand}
 use Rattle.wf_types_rules.specs.declared.settings.Setting.{Setting}
-use Rattle.wf_types_rules.specs.Meanings.{there, is_number, is_flag, is_status}
+use Rattle.wf_types_rules.specs.Meanings.{is_number, is_flag, is_status}
 use Rattle.wf_types_rules.specs.Operands.{not_taken, not_fitting}
 use Rattle.wf_types_rules.specs.ExprTypes.{in_front, operand_at}
-use Rattle.wf_types_rules.specs.Judgements.{at_if, fails, both_fail, takes, has_room, type_in, wrong_result, is_coroutine_called}
+use Rattle.wf_types_rules.specs.Judgements.{at_if, fails, both_fail, takes, type_in, wrong_result, is_coroutine_called}
 use Rattle.wf_types_rules.specs.FirstBreak.{told}
 use Rattle.wf_types_exprs.specs.declared.found.Value.{Value}
 
@@ -23,14 +23,13 @@ use Rattle.wf_types_exprs.specs.declared.found.Value.{Value}
 abbrev pub target_found : Setting → (wrong outside : Bool) → Place → Option Refusal → Option Refusal
 target_found s wrong outside at found = sooner (sooner found (told T2 (at_if wrong at))) (told E1 (at_if (outside && is_pure s.mark) at))
 
--- `=`: the type of a target takes the value, which is there, and has room for it.
+-- `=`: the type of a target takes the value, which is there.
 abbrev pub type_of : Value → Option Ty
 type_of t = option_and_then type_in t.of
 
 abbrev pub assigned_found : (t v : Value) → (lacks : Bool) → Option Refusal → Option Refusal
 assigned_found t v lacks found =
-    sooner (sooner (sooner found (told T2 (at_if (both_fail takes (type_of t) v.of) t.at))) (told T2 (at_if lacks t.at)))
-    (told T5 (at_if (both_fail has_room (type_of t) v.of) v.at))
+    sooner (sooner found (told T2 (at_if (both_fail takes (type_of t) v.of) t.at))) (told T2 (at_if lacks t.at))
 
 -- An operator with `=`: the target is its first operand.
 abbrev pub two_operands : (t v : Value) → Option (List Operand)
@@ -57,12 +56,8 @@ abbrev pub is_wrong_result : Setting → Option Value → Bool
 is_wrong_result s None = is_coroutine s.mark || is_some s.gives
 is_wrong_result s (Some v) = if is_coroutine s.mark then fails is_status v.of else wrong_result s.gives v.of
 
-abbrev pub unfit_result : Setting → Option Value → Option Place
-unfit_result s None = None
-unfit_result s (Some v) = at_if (not (is_coroutine s.mark) && both_fail has_room (there s.gives) v.of) v.at
-
 abbrev pub return_found : Setting → Option Value → Place → Option Refusal → Option Refusal
-return_found s v at found = sooner (sooner found (told T4 (at_if (is_wrong_result s v) at))) (told T5 (unfit_result s v))
+return_found s v at found = sooner found (told T4 (at_if (is_wrong_result s v) at))
 
 -- `yield?`, of a suspension's text or of anything else, which stands at `place`.
 abbrev pub yield_found : Setting → (suspends : Bool) → (place at : Place) → Option Refusal → Option Refusal

@@ -3,7 +3,7 @@
 ghost use Rattle.std.specs.Prelude.{◌≡◌, ◌<◌, ◌∷◌, ◌++◌, [], None, Some, length, IfOk, IfSome, IfNone, option_and_then};
 ghost use Rattle.wf_named.specs.NamedParts.{exprs_of, ArgsBelow, NamedTargetBelow};
 ghost use Rattle.wf_named.specs.NamedTrees.{expr_at, call_at, target_at};
-ghost use Rattle.wf_types_rules.specs.Judgements.{type_in as typed_so, both_fail, fails, takes as takes_value, has_room as has_room_for};
+ghost use Rattle.wf_types_rules.specs.Judgements.{type_in as typed_so, both_fail, fails, takes as takes_value};
 ghost use Rattle.wf_types_rules.specs.Meanings.{is_status as means_status};
 ghost use Rattle.wf_types_rules.specs.Parts.{assigned, kept, target_parts, value_parts, whole_call_parts};
 ghost use Rattle.wf_types_exprs.specs.Judged.{judged, value_of};
@@ -24,7 +24,7 @@ use wf_types_exprs::whole::judge_whole_call;
 use wf_types_meanings::calls::{gives_no_value, is_coroutine_called};
 use wf_types_meanings::marks::is_coroutine;
 use wf_types_meanings::places::{at_if, told};
-use wf_types_meanings::values::{has_room, takes, type_in};
+use wf_types_meanings::values::{takes, type_in};
 use wf_types_operators::fitting::not_fitting;
 use wf_types_operators::meanings::is_status;
 use wf_types_operators::taken::not_taken;
@@ -60,18 +60,6 @@ pub fn is_not_taken(ty: Option<Ty>, of: Option<Meaning>) -> bool
     }
 }
 
-/// Whether a type has no room for a value, where both are known.
-pub fn has_no_room(ty: Option<Ty>, of: Option<Meaning>) -> bool
-    ensures { result ≡ both_fail has_room_for ty of }
-{
-    match (ty, of) {
-        (Some(ty), Some(m)) => !has_room(ty, m),
-        (None, Some(_)) => false,
-        (Some(_), None) => false,
-        (None, None) => false,
-    }
-}
-
 /// Whether it means something that is no status.
 pub fn is_no_status(of: Option<Meaning>) -> bool
     ensures { result ≡ fails means_status of }
@@ -93,10 +81,8 @@ pub fn judged_assigned(
 {
     let ty = type_of(target.of);
     let wrong = at_if(is_not_taken(ty, value.of), target.at);
-    let unfit = at_if(has_no_room(ty, value.of), value.at);
     let taken = sooner(found, told(Rule::T2, wrong));
-    let given = sooner(taken, told(Rule::T2, at_if(lacks, target.at)));
-    sooner(given, told(Rule::T5, unfit))
+    sooner(taken, told(Rule::T2, at_if(lacks, target.at)))
 }
 
 fn operands_judged(found: Option<Refusal>, op: Op, os: &[Operand]) -> Option<Refusal>

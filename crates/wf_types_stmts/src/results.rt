@@ -7,12 +7,12 @@ ghost use Rattle.wf_ast.specs.WellTyped.{is_suspension};
 ghost use Rattle.wf_named.specs.NamedParts.{exprs_of, LettersBelow, AxiomBelow};
 ghost use Rattle.wf_named.specs.NamedTrees.{expr_at, part_at, clauses_at, letters_at, via_at};
 ghost use Rattle.wf_types_rules.specs.Judgements.{fails, wrong_result, is_suspension_text};
-ghost use Rattle.wf_types_rules.specs.Meanings.{there, is_flag as means_flag, is_number as means_number};
+ghost use Rattle.wf_types_rules.specs.Meanings.{is_flag as means_flag, is_number as means_number};
 ghost use Rattle.wf_types_rules.specs.Parts.{letter_value, returned, yielded, end_parts, expr_parts, condition_parts, clauses_parts, letters_parts, via_parts};
 ghost use Rattle.wf_types_exprs.specs.Judged.{judged, end_value};
-ghost use Rattle.wf_types_stmts.specs.Statements.{condition_found, letter_found, is_wrong_result as wrong_result_in, unfit_result as result_without_room, return_found, yield_found};
+ghost use Rattle.wf_types_stmts.specs.Statements.{condition_found, letter_found, is_wrong_result as wrong_result_in, return_found, yield_found};
 
-use crate::assignments::{has_no_room, is_no_status, is_not_taken};
+use crate::assignments::{is_no_status, is_not_taken};
 use crate::targets::judge_value;
 use std::alloc::Global;
 use wf_ast::parsed::{Given, LoopClause, Via};
@@ -87,27 +87,6 @@ fn is_wrong_result(around: &Setting, value: Option<Value>) -> bool
     }
 }
 
-fn type_given(gives: Option<Option<Ty>>) -> Option<Ty>
-    ensures { result ≡ there gives }
-{
-    match gives {
-        Some(ty) => ty,
-        None => None,
-    }
-}
-
-fn unfit_result(around: &Setting, value: Option<Value>) -> Option<Place>
-    ensures { result ≡ result_without_room around.now value }
-{
-    match value {
-        Some(v) => {
-            let unfit = has_no_room(type_given(around.gives), v.of);
-            at_if(!is_coroutine(around.mark) && unfit, v.at)
-        }
-        None => None,
-    }
-}
-
 /// What a `return` breaks, whose value may be absent.
 pub fn judged_return(
     found: Option<Refusal>,
@@ -118,10 +97,7 @@ pub fn judged_return(
     ensures { result ≡ return_found around.now value at found }
 {
     let wrong = at_if(is_wrong_result(around, value), at);
-    sooner(
-        sooner(found, told(Rule::T4, wrong)),
-        told(Rule::T5, unfit_result(around, value)),
-    )
+    sooner(found, told(Rule::T4, wrong))
 }
 
 /// What a `yield?` breaks. `suspends` tells whether a suspension's text stands there, at `place`.

@@ -3,7 +3,7 @@ use Rattle.wf_ast.specs.declared.typed_nodes.TypedNodes.{TypedNodes}
 use Rattle.wf_ast.specs.TypedPackage.{package_of}
 use Rattle.wf_named.specs.NamedParts.{named_package}
 use Rattle.wf_typed_stmts.proofs.RightLaws.{body_is_right}
-use Rattle.wf_types.specs.Bodies.{has_numbers}
+use Rattle.wf_types.specs.Bodies.{has_numbers, without_bodies}
 use Rattle.wf_types.specs.Locals.{LocalsHaveNodes}
 use Rattle.wf_types.proofs.LocalLemmas.{locals_are_right, locals_placed_so}
 use Rattle.wf_types.proofs.PackageLaws.{package_same}
@@ -23,6 +23,9 @@ new-requires c =
 
 pub returns-then-has_numbers-clause-tree : goal.returns-then-has_numbers-clause-tree
 returns-then-has_numbers-clause-tree c = ap package_of c.new.ensures ∙ package_same c.args.named.now c.in-Ok.nodes c.in-Ok.ensures.whole.declared c.in-Ok.ensures.whole.bodies
+
+pub returns-then-has_numbers-clause-declared : goal.returns-then-has_numbers-clause-declared
+returns-then-has_numbers-clause-declared c = ap without_bodies c.new.ensures ∙ c.in-Ok.ensures.whole.declared
 
 pub returns-then-has_numbers-clause-locals : goal.returns-then-has_numbers-clause-locals
 returns-then-has_numbers-clause-locals c =

@@ -1,10 +1,10 @@
-use Rattle.std.proofs.Common.{◌≡◌, ◌∙◌, ◌-◌, ◌++◌, [], Some, length, drop, sym, ap, arith}
+use Rattle.std.proofs.Common.{◌≡◌, ◌∙◌, ℕ, ◌-◌, ◌++◌, [], Some, length, drop, sym, ap, subst, arith}
 use Rattle.std.proofs.lemmas.List.{drop_all}
 use Rattle.wf_ast.specs.ParsedParts.{LinksBelow}
 use Rattle.wf_named.specs.NamedTrees.{expr_trees, expr_at, part_at, links_at, args_at, type_at, all_prefixed}
 use Rattle.wf_types_rules.specs.Parts.{expr_parts, end_parts, links_parts, args_parts}
 use Rattle.wf_types_exprs.specs.declared.found.JudgedOperands.{JudgedOperands}
-use Rattle.wf_types_exprs.specs.Judged.{judged, value_of, operand_behind}
+use Rattle.wf_types_exprs.specs.Judged.{judged, value_of, operand_behind, TellsType}
 use Rattle.wf_types_exprs.proofs.AboveLemmas.{args_above, links_above, type_above, args_more, links_more, type_more, arg_at_place, link_at_place, prefix_at_place}
 use Rattle.wf_types_exprs.proofs.JudgedLaws.{judged-append, judged-none}
 use Rattle.wf_types_exprs.proofs.ListLemmas.{operands_begun, link_found, link_joined, arg_found, args_fit}
@@ -230,3 +230,10 @@ judge_prefixes-loop-left-preserved t c =
           prefix_next c.args.around.now es c.args.prefixes.now l.left _ before of c.in-Ok.next c.loop-left-test.true l.invariant.0
           (c.in-Ok.ensures before (all_prefixed es (drop l.left c.args.prefixes.now) of) (l.invariant.1 before of h)),
     )
+
+pub judge_prefixes-returns : goal.judge_prefixes-returns
+judge_prefixes-returns t c = λ before of h.
+    let es = expr_trees c.args.nodes.now.exprs in
+    let none : c.loop-left.left ≡ 0 = omega (arith, c.loop-left-test.false) in
+    let T : ℕ → Type 0 = λ n. TellsType c.args.around.now before (all_prefixed es (drop n c.args.prefixes.now) of) c.loop-left.written in
+    subst T none (c.loop-left.invariant.1 before of h)

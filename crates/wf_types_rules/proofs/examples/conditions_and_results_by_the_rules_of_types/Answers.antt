@@ -24,9 +24,9 @@ pub returns-clause-another_type : goal.returns-clause-another_type
 unfolding deciding sites is_before
 returns-clause-another_type c = refl
 
-pub returns-clause-unfit_result : goal.returns-clause-unfit_result
+pub returns-clause-a_result_of_any_size : goal.returns-clause-a_result_of_any_size
 unfolding deciding sites is_before
-returns-clause-unfit_result c = refl
+returns-clause-a_result_of_any_size c = refl
 
 pub returns-clause-the_end : goal.returns-clause-the_end
 unfolding deciding sites is_before

@@ -67,3 +67,15 @@ returns-clause-outside_its_bounds c = refl
 pub returns-clause-within_its_bounds : goal.returns-clause-within_its_bounds
 unfolding deciding sites is_before
 returns-clause-within_its_bounds c = refl
+
+pub returns-clause-an_empty_array : goal.returns-clause-an_empty_array
+unfolding deciding sites is_before
+returns-clause-an_empty_array c = refl
+
+pub returns-clause-a_slice_out_of_bounds : goal.returns-clause-a_slice_out_of_bounds
+unfolding deciding sites is_before
+returns-clause-a_slice_out_of_bounds c = refl
+
+pub returns-clause-a_slice_of_no_type : goal.returns-clause-a_slice_of_no_type
+unfolding deciding sites is_before
+returns-clause-a_slice_of_no_type c = refl

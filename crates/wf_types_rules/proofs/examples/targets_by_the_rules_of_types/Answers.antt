@@ -24,9 +24,9 @@ pub returns-clause-of_another_width : goal.returns-clause-of_another_width
 unfolding deciding sites is_before
 returns-clause-of_another_width c = refl
 
-pub returns-clause-unfit : goal.returns-clause-unfit
+pub returns-clause-a_number_of_any_size : goal.returns-clause-a_number_of_any_size
 unfolding deciding sites is_before
-returns-clause-unfit c = refl
+returns-clause-a_number_of_any_size c = refl
 
 pub returns-clause-no_value : goal.returns-clause-no_value
 unfolding deciding sites is_before
@@ -48,9 +48,9 @@ pub returns-clause-a_wrong_argument : goal.returns-clause-a_wrong_argument
 unfolding deciding sites is_before
 returns-clause-a_wrong_argument c = refl
 
-pub returns-clause-an_unfit_argument : goal.returns-clause-an_unfit_argument
+pub returns-clause-an_argument_of_any_size : goal.returns-clause-an_argument_of_any_size
 unfolding deciding sites is_before
-returns-clause-an_unfit_argument c = refl
+returns-clause-an_argument_of_any_size c = refl
 
 pub returns-clause-both_wrong : goal.returns-clause-both_wrong
 unfolding deciding sites is_before
