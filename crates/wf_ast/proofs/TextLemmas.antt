@@ -1,29 +1,112 @@
--- Texts in a table without repeats differ.
-use Rattle.std.proofs.Common.{◌≡◌, ◌∙◌, ℕ, zero, suc, true, false, Some, List, [], ◌∷◌, map, refl, sym, ap}
-use Rattle.std.specs.List.{AllByRecursion, IsDistinct, slice_get}
+-- A table of texts, and a map that has the number of each.
+use Rattle.std.proofs.Common.{◌≡◌, ◌≢◌, ◌∙◌, ◌+◌, ◌<◌, ℕ, zero, suc, Bool, true, false, Option, Some, None, List, [], ◌∷◌, ◌++◌, length, map, refl, sym, ap, subst, arith, ◌⊎◌, inl, inr}
+use Rattle.std.specs.List.{slice_get}
 use Rattle.std.specs.Str.{bytes_eq}
+use Rattle.std.specs.Bool.{nat_eq}
+use Rattle.std.specs.Ordering.{is_eq, nat_cmp, eq_by_cmp}
+use Rattle.std.specs.Cmp.Lexicographic.{slice_cmp, pointwise, nat_list_cmp_total, texts_ties}
+use Rattle.std.specs.BTreeMap.{BTreeMap, get_by, is_at, UpdatesBy}
+use Rattle.std.specs.Map.{lookup, IsKeyTest, AreApart, KeepsOthers}
+use Rattle.std.proofs.lemmas.Bool.{cases_Bool}
+use Rattle.std.proofs.lemmas.Cmp.{eq_by_cmp_equiv}
+use Rattle.std.proofs.lemmas.Option.{slice_get_within}
 use Rattle.std.proofs.lemmas.Slice.Eq.{bytes_eq-Decides}
-use Rattle.std.proofs.lemmas.Map.Keys.{IsDistinct-head, IsDistinct-tail}
-use Rattle.wf_ast.specs.ParsedParts.{AreDistinct}
+use Rattle.wf_ast.specs.ParsedParts.{AreDistinct, JoinsText}
+use Rattle.wf_ast.specs.TextNumbers.{Numbers}
+use Rattle.wf_ast.proofs.TreeLemmas.{slice_get-front, slice_get-seam}
 
--- A text that differs from all others stands at none of their places.
-texts-differ : {K : Type 0} (items : K → List ℕ) (k : K) (ks : List K) → AllByRecursion (λ y. bytes_eq (items k) (items y) ≡ false) ks
-    → (j : ℕ) (text : List ℕ) → items k ≡ text → slice_get (map items ks) j ≡ Some text → ⊥
-texts-differ items k [] a j text e g = absurd (cc g)
-texts-differ items k (y ∷ ys) a zero text e g =
-    let h : items y ≡ text = cc g in
-    let same : bytes_eq (items k) (items y) ≡ true = (bytes_eq-Decides (items k) (items y)).1 (e ∙ sym h) in
-    absurd (cc (same, a.0))
-texts-differ items k (y ∷ ys) a (suc j) text e g = texts-differ items k ys a.1 j text e g
+-- Texts that a look-up tells apart are without repeats.
+pub distinct-texts : (number : List ℕ → Option ℕ) (texts : List (List ℕ)) → Numbers number texts → AreDistinct texts
+distinct-texts number texts n i j text g h =
+    let a = n.known i text g in
+    let b = n.known j text h in
+    let same : Some i ≡ Some j = sym a ∙ b in
+    cc
 
-pub distinct-texts : {K : Type 0} (items : K → List ℕ) (ks : List K) → IsDistinct (λ x y. bytes_eq (items x) (items y)) ks → AreDistinct (map items ks)
-distinct-texts items [] d i j text g h = absurd (cc g)
-distinct-texts items (k ∷ ks) d zero zero text g h = refl
-distinct-texts items (k ∷ ks) d zero (suc j) text g h =
-    let e : items k ≡ text = cc g in
-    absurd (texts-differ items k ks (IsDistinct-head (λ x y. bytes_eq (items x) (items y)) k ks d) j text e h)
-distinct-texts items (k ∷ ks) d (suc i) zero text g h =
-    let e : items k ≡ text = cc h in
-    absurd (texts-differ items k ks (IsDistinct-head (λ x y. bytes_eq (items x) (items y)) k ks d) i text e g)
-distinct-texts items (k ∷ ks) d (suc i) (suc j) text g h =
-    ap suc (distinct-texts items ks (IsDistinct-tail (λ x y. bytes_eq (items x) (items y)) k ks d) i j text g h)
+-- No text has a number in an empty table.
+pub no-texts : (number : List ℕ → Option ℕ) → ((text : List ℕ) → number text ≡ None) → Numbers number []
+no-texts number none = record {
+  known = λ i text g. absurd (cc g);
+  stands = λ i text g. let h = none text in absurd (cc (g, h));
+}
+
+-- What stands in a list with one text more.
+joined-at : (texts : List (List ℕ)) (text other : List ℕ) (i : ℕ) → slice_get (texts ++ text ∷ []) i ≡ Some other
+    → (slice_get texts i ≡ Some other) ⊎ ((i ≡ length texts) × (text ≡ other))
+joined-at [] text other zero g = inr (refl, cc g)
+joined-at [] text other (suc i) g = absurd (cc g)
+joined-at (x ∷ xs) text other zero g = inl g
+joined-at (x ∷ xs) text other (suc i) g = elim (joined-at xs text other i g) [ inl a ↦ inl a | inr b ↦ inr (ap suc b.0, b.1) ]
+
+-- A text without a number joins the table at its end, and gets the next number.
+pub joined-texts : (old new : List ℕ → Option ℕ) (texts : List (List ℕ)) (text : List ℕ) → Numbers old texts → old text ≡ None
+    → new text ≡ Some (length texts) → ((other : List ℕ) → bytes_eq text other ≡ false → new other ≡ old other) → Numbers new (texts ++ text ∷ [])
+joined-texts old new texts text n none here others = record {
+  known = λ i other g. elim (joined-at texts text other i g) [
+    | inl a ↦ (let was : old other ≡ Some i = n.known i other a in
+        elim (cases_Bool (bytes_eq text other)) [
+          | inl y ↦ (let e : text ≡ other = (bytes_eq-Decides text other).0 y in absurd (cc (none, e, was)))
+          | inr f ↦ others other f ∙ was
+        ])
+    | inr b ↦ cc (here, b.0, b.1)
+  ];
+  stands = λ i other g. elim (cases_Bool (bytes_eq text other)) [
+    | inl y ↦ (let e : text ≡ other = (bytes_eq-Decides text other).0 y in
+        let last = slice_get-seam texts text [] in
+        cc (last, e, g, here))
+    | inr f ↦ (let stood : slice_get texts i ≡ Some other = n.stands i other (sym (others other f) ∙ g) in
+        slice_get-front texts (text ∷ []) i (slice_get_within texts i other stood) ∙ stood)
+  ];
+}
+
+-- The other queries after a change of a map at one key.
+other_entries : {K X : Type 0} (eq : K → K → Bool) (test : K → Bool) (old new : List (K × X)) → KeepsOthers eq test old new
+    → (other : K → Bool) → IsKeyTest eq other → AreApart test other → lookup other new ≡ lookup other old
+unfolding KeepsOthers
+other_entries eq test old new h = h
+
+apart : (bs cs ks : List ℕ) → bytes_eq bs cs ≡ false → is_eq (slice_cmp nat_cmp bs ks) ≡ true → is_eq (slice_cmp nat_cmp cs ks) ≡ false
+apart bs cs ks n y = elim (cases_Bool (is_eq (slice_cmp nat_cmp cs ks))) [
+  | inl t ↦ (let p : bytes_eq cs ks ≡ true = texts_ties cs ks ∙ t in
+      let q : bytes_eq bs ks ≡ true = texts_ties bs ks ∙ y in
+      let e : bs ≡ cs = (bytes_eq-Decides bs ks).0 q ∙ sym ((bytes_eq-Decides cs ks).0 p) in
+      let same : bytes_eq bs cs ≡ true = (bytes_eq-Decides bs cs).1 e in
+      absurd (cc (n, same)))
+  | inr f ↦ f
+]
+
+-- A change of a map at the key `key`, whose keys are texts, changes what is found for no other text.
+pub other-texts : {K X : Type 0} (items : K → List ℕ) (text : List ℕ) (old new : BTreeMap K X) (w : Option X)
+    → UpdatesBy (λ x y. slice_cmp nat_cmp (items x) (items y)) (λ k. slice_cmp nat_cmp text (items k)) old new w
+    → (other : List ℕ) → bytes_eq text other ≡ false → get_by (λ k. slice_cmp nat_cmp other (items k)) new ≡ get_by (λ k. slice_cmp nat_cmp other (items k)) old
+other-texts items text old new w h other e = other_entries _ _ _ _ h.3 _ (λ x y. (eq_by_cmp_equiv nat_list_cmp_total).congr other (items x) (items y)) (λ k. apart text other (items k) e)
+
+map-joined : {T : Type 0} (bytes : T → List ℕ) (texts : List T) (text : T) → map bytes (texts ++ text ∷ []) ≡ map bytes texts ++ bytes text ∷ []
+map-joined bytes [] text = refl
+map-joined bytes (x ∷ xs) text = ap (λ ts. bytes x ∷ ts) (map-joined bytes xs text)
+
+length-bytes : {T : Type 0} (bytes : T → List ℕ) (texts : List T) → length (map bytes texts) ≡ length texts
+length-bytes bytes [] = refl
+length-bytes bytes (x ∷ xs) = ap suc (length-bytes bytes xs)
+
+not-known : (number : List ℕ → Option ℕ) (texts : List (List ℕ)) (text : List ℕ) → Numbers number texts → ((i : ℕ) → slice_get texts i ≢ Some text)
+    → (o : Option ℕ) → number text ≡ o → o ≡ None
+not-known number texts text n absent None e = refl
+not-known number texts text n absent (Some i) e = absurd (absent i (n.stands i text e))
+
+-- The map and the list after a new text has joined both.
+pub both-joined : {K T : Type 0} (items : K → List ℕ) (bytes : T → List ℕ) (old new : BTreeMap K ℕ) (texts later : List T) (text : List ℕ) (owned : T) (n : ℕ)
+    → Numbers (λ other. get_by (λ k. slice_cmp nat_cmp other (items k)) old) (map bytes texts)
+    → ((i : ℕ) → slice_get (map bytes texts) i ≢ Some text)
+    → UpdatesBy (λ x y. slice_cmp nat_cmp (items x) (items y)) (λ k. slice_cmp nat_cmp text (items k)) old new (Some n)
+    → n ≡ length texts → bytes owned ≡ text → later ≡ texts ++ owned ∷ []
+    → Numbers (λ other. get_by (λ k. slice_cmp nat_cmp other (items k)) new) (map bytes later)
+both-joined items bytes old new texts later text owned n h absent u number same e =
+    let before : List ℕ → Option ℕ = λ other. get_by (λ k. slice_cmp nat_cmp other (items k)) old in
+    let after : List ℕ → Option ℕ = λ other. get_by (λ k. slice_cmp nat_cmp other (items k)) new in
+    let last : length (map bytes texts) ≡ n = length-bytes bytes texts ∙ sym number in
+    let here : after text ≡ Some (length (map bytes texts)) = u.1 ∙ ap Some (sym last) in
+    let made : Numbers after (map bytes texts ++ text ∷ []) =
+    joined-texts before after (map bytes texts) text h (not-known before (map bytes texts) text h absent (before text) refl) here (other-texts items text old new (Some n) u) in
+    let whole : map bytes later ≡ map bytes texts ++ text ∷ [] = ap (map bytes) e ∙ map-joined bytes texts owned ∙ ap (λ t. map bytes texts ++ t ∷ []) same in
+    subst (λ ts. Numbers after ts) (sym whole) made

@@ -8,6 +8,7 @@ pub mod Places
 pub mod Same
 pub mod SameNodes
 pub mod StatementOrder
+pub mod TextNumbers
 pub mod TypedInvariant
 pub mod TypedPackage
 pub mod TypedTree

@@ -1,26 +1,45 @@
-// The texts of a package, each once, in the order in which they are first seen.
+// The texts of a package, each once, in the order in which they are first seen. A text is looked up in an ordered map,
+// so that a look-up takes few comparisons whatever the texts are.
 
-ghost use Rattle.std.specs.Prelude.{◌≡◌, ◌<◌, ◌^◌, Some, List, [], ℕ, map, length, slice_get, IfOk, OnOk, OnErr};
+ghost use Rattle.std.specs.Prelude.{◌≡◌, ◌≢◌, ◌<◌, ◌^◌, ◌++◌, ◌∷◌, Some, [], ℕ, length, slice_get, IfSome, IfNone, IfOk, OnOk, OnErr};
 ghost use Rattle.wf_ast.specs.ParsedParts.{JoinsText, AreDistinct};
 
 use crate::numbers::TextId;
-use indexmap::IndexSet;
 use std::alloc::{AllocError, Global};
+use std::collections::BTreeMap;
 use std::marker::Model;
 
 /// A table of texts without repeats.
-#[derive(Drop)]
 pub struct Texts {
     alloc: Global,
-    set: IndexSet<Vec<u8>>,
+    /// The texts, each at its number.
+    texts: Vec<Vec<u8>>,
+    /// The number of each text.
+    numbers: BTreeMap<Vec<u8>, u32>,
+}
+
+impl Drop for Texts {
+    fn drop(self) {
+        let Texts {
+            alloc: _,
+            texts: _,
+            numbers: _,
+        } = self;
+    }
 }
 
 impl Model for Texts {
+    ghost use Rattle.std.specs.Prelude.{map, List, ℕ};
+    ghost use Rattle.std.specs.Ordering.{nat_cmp};
+    ghost use Rattle.std.specs.BTreeMap.{get_by};
+    ghost use Rattle.std.specs.Cmp.Lexicographic.{slice_cmp};
+    ghost use Rattle.wf_ast.specs.TextNumbers.{Numbers};
+
     ghost Value = { List (List ℕ) };
 
-    ghost view = { λ t. map (λ text. text.items) t.set.keys };
+    ghost view = { λ t. map (λ text. text.items) t.texts.items };
 
-    ghost invariant = { λ t. AreDistinct (map (λ text. text.items) t.set.keys) };
+    ghost invariant = { λ t. Numbers (λ text. get_by (λ key. slice_cmp nat_cmp text key.items) t.numbers) (map (λ text. text.items) t.texts.items) };
 }
 
 impl Texts {
@@ -30,7 +49,8 @@ impl Texts {
     {
         Texts {
             alloc,
-            set: IndexSet::new(alloc),
+            texts: Vec::new(alloc),
+            numbers: BTreeMap::new(alloc),
         }
     }
 
@@ -43,10 +63,46 @@ impl Texts {
         ensures unique { AreDistinct self.new }
         ensures err { OnErr result (self.new ≡ self.old) }
     {
+        match self.find(text) {
+            Some(number) => Ok(number),
+            None => {
+                let joined = self.join(text);
+                // The table is still without repeats.
+                let _count = self.len();
+                joined
+            }
+        }
+    }
+
+    /// The number of `text`, if it is in the table.
+    fn find(&self, text: &[u8]) -> Option<TextId>
+        ensures found { IfSome result (λ t. slice_get self.now t.0 ≡ Some text.now) }
+        ensures none { IfNone result ((i : ℕ) → slice_get self.now i ≢ Some text.now) }
+        ensures unique { AreDistinct self.now }
+    {
+        let found = self.numbers.get(text).copied();
+        match found {
+            Some(number) => Some(TextId(number)),
+            None => None,
+        }
+    }
+
+    /// A text that isn't in the table joins it at its end. On `Err` the table is as it was.
+    fn join(&mut self, text: &[u8]) -> Result<TextId, AllocError>
+        requires few { length self.old < 2 ^ 32 }
+        requires new { (i : ℕ) → slice_get self.old i ≢ Some text.now }
+        ensures number { IfOk result (λ t. t.0 ≡ length self.old) }
+        ensures ok { OnOk result (self.new ≡ self.old ++ text.now ∷ []) }
+        ensures err { OnErr result (self.new ≡ self.old) }
+    {
+        let number = self.texts.len() as u32;
         let owned = Vec::from_slice(self.alloc, text)?;
-        match self.set.insert_full(owned) {
-            Ok((index, _)) => return Ok(TextId(index as u32)),
-            Err(_) => return Err(AllocError),
+        let key = Vec::from_slice(self.alloc, text)?;
+        self.texts.reserve(1)?;
+        self.numbers.insert(key, number)?;
+        match self.texts.push(owned) {
+            Ok(()) => Ok(TextId(number)),
+            Err(_) => unreachable!(),
         }
     }
 
@@ -55,10 +111,7 @@ impl Texts {
         requires { number.0 < length self.now }
         ensures { slice_get self.now number.0 ≡ Some result.now }
     {
-        match self.set.get_index(number.0 as usize) {
-            Some(text) => text.as_slice(),
-            None => unreachable!(),
-        }
+        self.texts[number.0 as usize].as_slice()
     }
 
     /// How many texts the table has.
@@ -66,6 +119,6 @@ impl Texts {
         ensures count { result ≡ length self.now }
         ensures unique { AreDistinct self.now }
     {
-        self.set.len()
+        self.texts.len()
     }
 }

@@ -1,5 +1,5 @@
--- The table of symbols: every symbol is in it, the longer ones first.
-use Rattle.std.proofs.Common.{◌≡◌, ℕ, Bool, true, not, ◌&&◌, Option, Some, None, List, length, drop, refl, sym, nat_eq, slice_get, IfSome, IfNone}
+-- The symbols by their first bytes: each stands among those of its own, the longer ones first.
+use Rattle.std.proofs.Common.{◌≡◌, ◌∙◌, ◌++◌, [], ◌∷◌, ap, subst, ℕ, Bool, true, not, ◌&&◌, Option, Some, None, List, length, drop, refl, sym, nat_eq, slice_get, IfSome, IfNone}
 use Rattle.std.specs.List.{find, starts_with}
 use Rattle.std.proofs.lemmas.Slice.Eq.{starts_is}
 use Rattle.std.proofs.lemmas.Bool.Decides.{Decides-eqb}
@@ -7,71 +7,80 @@ use Rattle.wf_tokens.specs.declared.symbols.Operator.TheVariants as operator
 use Rattle.wf_tokens.specs.declared.symbols.Comparison.TheVariants as comparison
 use Rattle.wf_tokens.specs.declared.symbols.Symbol.{Symbol}
 use Rattle.wf_tokens.specs.declared.symbols.Symbol.TheVariants as symbol
-use Rattle.wf_tokens.specs.declared.symbols.TheConstants.{SYMBOLS}
-use Rattle.wf_tokens.specs.Symbols.{symbol_text, BeginsWith, IsLongestSymbol, BeginsNoSymbol}
-use Rattle.wf_tokens.specs.Runs.{begins, is_run, is_quote}
-use Rattle.wf_tokens.proofs.Tables.{found-passes, none-passes, found-largest}
+use Rattle.wf_tokens.specs.Symbols.{symbol_text, symbols_from, BeginsWith, IsLongestSymbol, BeginsNoSymbol}
+use Rattle.wf_tokens.specs.Runs.{begins, first_byte, is_run, is_quote}
+use Rattle.wf_tokens.proofs.Tables.{found-passes, none-passes, found-largest, is_descending}
 
--- Where a symbol stands in the table.
+-- Where a symbol stands among those that begin with its first byte.
 pub record Listed (symbol : Symbol) : Type 0 where
   pub index : ℕ
-  pub there : slice_get SYMBOLS index ≡ Some symbol
+  pub there : slice_get (symbols_from (first_byte (symbol_text symbol))) index ≡ Some symbol
+  pub first : begins (nat_eq (first_byte (symbol_text symbol))) (symbol_text symbol) ≡ true
+  pub falls : is_descending (λ (s : Symbol). length (symbol_text s)) (symbols_from (first_byte (symbol_text symbol))) ≡ true
 
 pub listed : (symbol : Symbol) → Listed symbol
-listed (symbol.Assign operator.ModShiftLeft) = record { index = 0; there = refl }
-listed (symbol.Operator operator.ModShiftLeft) = record { index = 1; there = refl }
-listed (symbol.Assign operator.ModAdd) = record { index = 2; there = refl }
-listed (symbol.Assign operator.ModSub) = record { index = 3; there = refl }
-listed (symbol.Assign operator.ModMul) = record { index = 4; there = refl }
-listed (symbol.Assign operator.SatAdd) = record { index = 5; there = refl }
-listed (symbol.Assign operator.SatSub) = record { index = 6; there = refl }
-listed (symbol.Operator operator.ModAdd) = record { index = 7; there = refl }
-listed (symbol.Operator operator.ModSub) = record { index = 8; there = refl }
-listed (symbol.Operator operator.ModMul) = record { index = 9; there = refl }
-listed (symbol.Operator operator.SatAdd) = record { index = 10; there = refl }
-listed (symbol.Operator operator.SatSub) = record { index = 11; there = refl }
-listed symbol.DotDotEquals = record { index = 12; there = refl }
-listed (symbol.Assign operator.ShiftLeft) = record { index = 13; there = refl }
-listed (symbol.Assign operator.ShiftRight) = record { index = 14; there = refl }
-listed symbol.EqualsQuestion = record { index = 15; there = refl }
-listed symbol.DotDot = record { index = 16; there = refl }
-listed (symbol.Compare comparison.Equal) = record { index = 17; there = refl }
-listed (symbol.Compare comparison.NotEqual) = record { index = 18; there = refl }
-listed (symbol.Compare comparison.LessOrEqual) = record { index = 19; there = refl }
-listed (symbol.Compare comparison.GreaterOrEqual) = record { index = 20; there = refl }
-listed (symbol.Operator operator.ShiftLeft) = record { index = 21; there = refl }
-listed (symbol.Operator operator.ShiftRight) = record { index = 22; there = refl }
-listed (symbol.Assign operator.Add) = record { index = 23; there = refl }
-listed (symbol.Assign operator.Sub) = record { index = 24; there = refl }
-listed (symbol.Assign operator.Mul) = record { index = 25; there = refl }
-listed (symbol.Assign operator.Div) = record { index = 26; there = refl }
-listed (symbol.Assign operator.Rem) = record { index = 27; there = refl }
-listed (symbol.Assign operator.BitAnd) = record { index = 28; there = refl }
-listed (symbol.Assign operator.BitOr) = record { index = 29; there = refl }
-listed (symbol.Assign operator.BitXor) = record { index = 30; there = refl }
-listed symbol.OpenParen = record { index = 31; there = refl }
-listed symbol.CloseParen = record { index = 32; there = refl }
-listed symbol.OpenBracket = record { index = 33; there = refl }
-listed symbol.CloseBracket = record { index = 34; there = refl }
-listed symbol.OpenBrace = record { index = 35; there = refl }
-listed symbol.CloseBrace = record { index = 36; there = refl }
-listed symbol.Comma = record { index = 37; there = refl }
-listed symbol.Dot = record { index = 38; there = refl }
-listed symbol.Colon = record { index = 39; there = refl }
-listed symbol.Semicolon = record { index = 40; there = refl }
-listed symbol.Question = record { index = 41; there = refl }
-listed symbol.Exclamation = record { index = 42; there = refl }
-listed symbol.Equals = record { index = 43; there = refl }
-listed (symbol.Compare comparison.Less) = record { index = 44; there = refl }
-listed (symbol.Compare comparison.Greater) = record { index = 45; there = refl }
-listed (symbol.Operator operator.Add) = record { index = 46; there = refl }
-listed (symbol.Operator operator.Sub) = record { index = 47; there = refl }
-listed (symbol.Operator operator.Mul) = record { index = 48; there = refl }
-listed (symbol.Operator operator.Div) = record { index = 49; there = refl }
-listed (symbol.Operator operator.Rem) = record { index = 50; there = refl }
-listed (symbol.Operator operator.BitAnd) = record { index = 51; there = refl }
-listed (symbol.Operator operator.BitOr) = record { index = 52; there = refl }
-listed (symbol.Operator operator.BitXor) = record { index = 53; there = refl }
+listed (symbol.Assign operator.ModShiftLeft) = record { index = 0; there = refl; first = refl; falls = refl }
+listed (symbol.Operator operator.ModShiftLeft) = record { index = 1; there = refl; first = refl; falls = refl }
+listed (symbol.Assign operator.ModAdd) = record { index = 2; there = refl; first = refl; falls = refl }
+listed (symbol.Assign operator.ModSub) = record { index = 3; there = refl; first = refl; falls = refl }
+listed (symbol.Assign operator.ModMul) = record { index = 4; there = refl; first = refl; falls = refl }
+listed (symbol.Assign operator.SatAdd) = record { index = 5; there = refl; first = refl; falls = refl }
+listed (symbol.Assign operator.SatSub) = record { index = 6; there = refl; first = refl; falls = refl }
+listed (symbol.Operator operator.ModAdd) = record { index = 7; there = refl; first = refl; falls = refl }
+listed (symbol.Operator operator.ModSub) = record { index = 8; there = refl; first = refl; falls = refl }
+listed (symbol.Operator operator.ModMul) = record { index = 9; there = refl; first = refl; falls = refl }
+listed (symbol.Operator operator.SatAdd) = record { index = 10; there = refl; first = refl; falls = refl }
+listed (symbol.Operator operator.SatSub) = record { index = 11; there = refl; first = refl; falls = refl }
+listed symbol.DotDotEquals = record { index = 0; there = refl; first = refl; falls = refl }
+listed (symbol.Assign operator.ShiftLeft) = record { index = 0; there = refl; first = refl; falls = refl }
+listed (symbol.Assign operator.ShiftRight) = record { index = 0; there = refl; first = refl; falls = refl }
+listed symbol.EqualsQuestion = record { index = 0; there = refl; first = refl; falls = refl }
+listed symbol.DotDot = record { index = 1; there = refl; first = refl; falls = refl }
+listed (symbol.Compare comparison.Equal) = record { index = 1; there = refl; first = refl; falls = refl }
+listed (symbol.Compare comparison.NotEqual) = record { index = 1; there = refl; first = refl; falls = refl }
+listed (symbol.Compare comparison.LessOrEqual) = record { index = 2; there = refl; first = refl; falls = refl }
+listed (symbol.Compare comparison.GreaterOrEqual) = record { index = 1; there = refl; first = refl; falls = refl }
+listed (symbol.Operator operator.ShiftLeft) = record { index = 3; there = refl; first = refl; falls = refl }
+listed (symbol.Operator operator.ShiftRight) = record { index = 2; there = refl; first = refl; falls = refl }
+listed (symbol.Assign operator.Add) = record { index = 0; there = refl; first = refl; falls = refl }
+listed (symbol.Assign operator.Sub) = record { index = 0; there = refl; first = refl; falls = refl }
+listed (symbol.Assign operator.Mul) = record { index = 0; there = refl; first = refl; falls = refl }
+listed (symbol.Assign operator.Div) = record { index = 0; there = refl; first = refl; falls = refl }
+listed (symbol.Assign operator.Rem) = record { index = 0; there = refl; first = refl; falls = refl }
+listed (symbol.Assign operator.BitAnd) = record { index = 0; there = refl; first = refl; falls = refl }
+listed (symbol.Assign operator.BitOr) = record { index = 0; there = refl; first = refl; falls = refl }
+listed (symbol.Assign operator.BitXor) = record { index = 0; there = refl; first = refl; falls = refl }
+listed symbol.OpenParen = record { index = 0; there = refl; first = refl; falls = refl }
+listed symbol.CloseParen = record { index = 0; there = refl; first = refl; falls = refl }
+listed symbol.OpenBracket = record { index = 0; there = refl; first = refl; falls = refl }
+listed symbol.CloseBracket = record { index = 0; there = refl; first = refl; falls = refl }
+listed symbol.OpenBrace = record { index = 0; there = refl; first = refl; falls = refl }
+listed symbol.CloseBrace = record { index = 0; there = refl; first = refl; falls = refl }
+listed symbol.Comma = record { index = 0; there = refl; first = refl; falls = refl }
+listed symbol.Dot = record { index = 2; there = refl; first = refl; falls = refl }
+listed symbol.Colon = record { index = 0; there = refl; first = refl; falls = refl }
+listed symbol.Semicolon = record { index = 0; there = refl; first = refl; falls = refl }
+listed symbol.Question = record { index = 0; there = refl; first = refl; falls = refl }
+listed symbol.Exclamation = record { index = 0; there = refl; first = refl; falls = refl }
+listed symbol.Equals = record { index = 2; there = refl; first = refl; falls = refl }
+listed (symbol.Compare comparison.Less) = record { index = 4; there = refl; first = refl; falls = refl }
+listed (symbol.Compare comparison.Greater) = record { index = 3; there = refl; first = refl; falls = refl }
+listed (symbol.Operator operator.Add) = record { index = 1; there = refl; first = refl; falls = refl }
+listed (symbol.Operator operator.Sub) = record { index = 1; there = refl; first = refl; falls = refl }
+listed (symbol.Operator operator.Mul) = record { index = 1; there = refl; first = refl; falls = refl }
+listed (symbol.Operator operator.Div) = record { index = 1; there = refl; first = refl; falls = refl }
+listed (symbol.Operator operator.Rem) = record { index = 1; there = refl; first = refl; falls = refl }
+listed (symbol.Operator operator.BitAnd) = record { index = 1; there = refl; first = refl; falls = refl }
+listed (symbol.Operator operator.BitOr) = record { index = 1; there = refl; first = refl; falls = refl }
+listed (symbol.Operator operator.BitXor) = record { index = 1; there = refl; first = refl; falls = refl }
+
+first-joined : (xs ys : List ℕ) → begins (nat_eq (first_byte xs)) xs ≡ true → first_byte (xs ++ ys) ≡ first_byte xs
+first-joined [] ys h = absurd (cc h)
+first-joined (x ∷ xs) ys h = refl
+
+-- Bytes that begin with a symbol have its first byte.
+first-of : (bytes : List ℕ) (symbol : Symbol) → BeginsWith symbol bytes → first_byte bytes ≡ first_byte (symbol_text symbol)
+first-of bytes symbol b = ap first_byte b.is ∙ first-joined (symbol_text symbol) b.rest (listed symbol).first
 
 pub begins_with : (bytes : List ℕ) (symbol : Symbol) → starts_with nat_eq bytes (symbol_text symbol) ≡ true → BeginsWith symbol bytes
 begins_with bytes symbol h = record { rest = drop (length (symbol_text symbol)) bytes; is = (starts_is Decides-eqb bytes (symbol_text symbol) (starts_with nat_eq bytes (symbol_text symbol)) refl).0 h }
@@ -80,17 +89,23 @@ pub starts : (bytes : List ℕ) (symbol : Symbol) → BeginsWith symbol bytes �
 starts bytes symbol b = (starts_is Decides-eqb bytes (symbol_text symbol) (starts_with nat_eq bytes (symbol_text symbol)) refl).1 b.rest b.is
 
 abbrev pub found : List ℕ → Option Symbol
-found bytes = find (λ symbol. starts_with nat_eq bytes (symbol_text symbol)) SYMBOLS
+found bytes = find (λ symbol. starts_with nat_eq bytes (symbol_text symbol)) (symbols_from (first_byte bytes))
 
 -- What the search finds is the longest.
 pub longest_found : (bytes : List ℕ) (symbol : Symbol) → found bytes ≡ Some symbol → IsLongestSymbol symbol bytes
 longest_found bytes symbol h = record {
-  begins = begins_with bytes symbol (found-passes (λ (s : Symbol). starts_with nat_eq bytes (symbol_text s)) SYMBOLS symbol h);
-  longest = λ other b. found-largest (λ (s : Symbol). starts_with nat_eq bytes (symbol_text s)) (λ (s : Symbol). length (symbol_text s)) SYMBOLS symbol (listed other).index other refl h (listed other).there (starts bytes other b);
+  begins = begins_with bytes symbol (found-passes (λ (s : Symbol). starts_with nat_eq bytes (symbol_text s)) (symbols_from (first_byte bytes)) symbol h);
+  longest = λ other b.
+      let first = first-of bytes other b in
+      let falls = subst (λ (byte : ℕ). is_descending (λ (s : Symbol). length (symbol_text s)) (symbols_from byte) ≡ true) (sym first) (listed other).falls in
+      let there = subst (λ (byte : ℕ). slice_get (symbols_from byte) (listed other).index ≡ Some other) (sym first) (listed other).there in
+      found-largest (λ (s : Symbol). starts_with nat_eq bytes (symbol_text s)) (λ (s : Symbol). length (symbol_text s)) (symbols_from (first_byte bytes)) symbol (listed other).index other falls h there (starts bytes other b);
 }
 
 pub none_found : (bytes : List ℕ) → found bytes ≡ None → BeginsNoSymbol bytes
-none_found bytes h symbol b = none-passes (λ (s : Symbol). starts_with nat_eq bytes (symbol_text s)) SYMBOLS (listed symbol).index symbol h (listed symbol).there (starts bytes symbol b)
+none_found bytes h symbol b =
+    let there = subst (λ (byte : ℕ). slice_get (symbols_from byte) (listed symbol).index ≡ Some symbol) (sym (first-of bytes symbol b)) (listed symbol).there in
+    none-passes (λ (s : Symbol). starts_with nat_eq bytes (symbol_text s)) (symbols_from (first_byte bytes)) (listed symbol).index symbol h there (starts bytes symbol b)
 
 pub if_found : (bytes : List ℕ) (o : Option Symbol) → o ≡ found bytes → IfSome o (λ symbol. IsLongestSymbol symbol bytes)
 if_found bytes None h = tt

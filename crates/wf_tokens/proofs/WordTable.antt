@@ -1,20 +1,19 @@
--- The table of words: every word is in it.
-use Rattle.std.proofs.Common.{◌≡◌, ℕ, Bool, true, ◌&&◌, Option, Some, None, List, refl, sym, nat_eq, IfSome}
+-- The words by their first bytes: every word is found.
+use Rattle.std.proofs.Common.{◌≡◌, ◌≢◌, ◌∙◌, ap, ℕ, Bool, true, ◌&&◌, Option, Some, None, List, refl, sym, nat_eq, IfSome, IfNone}
 use Rattle.std.specs.List.{find, list_all}
 use Rattle.std.specs.Cmp.Lexicographic.{pointwise, same_text}
 use Rattle.wf_tokens.specs.declared.words.Word.{Word}
 use Rattle.wf_tokens.specs.declared.words.Word.TheVariants as word
-use Rattle.wf_tokens.specs.declared.words.TheConstants.{WORDS}
-use Rattle.wf_tokens.specs.Words.{word_text}
-use Rattle.wf_tokens.specs.Runs.{begins, is_letter, is_run}
+use Rattle.wf_tokens.specs.Words.{word_text, words_from}
+use Rattle.wf_tokens.specs.Runs.{begins, first_byte, is_letter, is_run}
 use Rattle.wf_tokens.proofs.Tables.{found-passes}
 
 abbrev pub found : List ℕ → Option Word
-found text = find (λ word. pointwise nat_eq (word_text word) text) WORDS
+found text = find (λ word. pointwise nat_eq (word_text word) text) (words_from (first_byte text))
 
 pub if_found : (text : List ℕ) (o : Option Word) → o ≡ found text → IfSome o (λ word. text ≡ word_text word)
 if_found text None h = tt
-if_found text (Some word) h = sym (same_text (word_text word) text (sym (found-passes (λ (w : Word). pointwise nat_eq (word_text w) text) WORDS word (sym h))))
+if_found text (Some word) h = sym (same_text (word_text word) text (sym (found-passes (λ (w : Word). pointwise nat_eq (word_text w) text) (words_from (first_byte text)) word (sym h))))
 
 -- Two words that are written alike are one.
 pub word_back : (word : Word) → found (word_text word) ≡ Some word
@@ -51,6 +50,11 @@ word_back word.Var = refl
 word_back word.Via = refl
 word_back word.While = refl
 word_back word.Yield = refl
+
+-- Where no word is found, the text is none.
+pub if_none : (text : List ℕ) (o : Option Word) → o ≡ found text → IfNone o ((word : Word) → text ≢ word_text word)
+if_none text None h = λ word e. let back : found text ≡ Some word = ap found e ∙ word_back word in absurd (cc (h, back))
+if_none text (Some word) h = tt
 
 -- A word is a run that begins with a letter.
 abbrev pub is_word_run : List ℕ → Bool

@@ -27,6 +27,11 @@ abbrev pub begins : (ℕ → Bool) → List ℕ → Bool
 begins test [] = false
 begins test (byte ∷ _) = test byte
 
+-- The first of some bytes, and 0 where there is none.
+abbrev pub first_byte : List ℕ → ℕ
+first_byte [] = 0
+first_byte (byte ∷ bytes) = byte
+
 -- The bytes up to the first one that fails the test.
 abbrev pub front : (ℕ → Bool) → List ℕ → List ℕ
 front test [] = []

@@ -1,5 +1,5 @@
 -- The words of the language, as they are written.
-use Rattle.std.specs.Prelude.{ℕ, List, codes}
+use Rattle.std.specs.Prelude.{ℕ, List, [], ◌∷◌, if◌then◌else◌, nat_eq, codes}
 use Rattle.wf_tokens.specs.declared.words.Word.{Word}
 use Rattle.wf_tokens.specs.declared.words.Word.TheVariants as word
 
@@ -37,3 +37,23 @@ word_text word.Var = codes "var"
 word_text word.Via = codes "via"
 word_text word.While = codes "while"
 word_text word.Yield = codes "yield"
+
+-- The words that begin with a byte.
+abbrev pub words_from : ℕ → List Word
+words_from byte =
+    if nat_eq byte 97 then word.And ∷ word.Args ∷ word.Array ∷ word.As ∷ word.Assert ∷ [] else
+    if nat_eq byte 98 then word.Base ∷ word.Break ∷ [] else
+    if nat_eq byte 99 then word.Const ∷ word.Continue ∷ [] else
+    if nat_eq byte 101 then word.Else ∷ word.Endwhile ∷ [] else
+    if nat_eq byte 102 then word.False ∷ word.Func ∷ [] else
+    if nat_eq byte 105 then word.If ∷ word.Inv ∷ [] else
+    if nat_eq byte 110 then word.Not ∷ word.Nothing ∷ [] else
+    if nat_eq byte 111 then word.Ok ∷ word.Or ∷ [] else
+    if nat_eq byte 112 then word.Post ∷ word.Pre ∷ word.Pri ∷ word.Pub ∷ [] else
+    if nat_eq byte 114 then word.Return ∷ [] else
+    if nat_eq byte 115 then word.Slice ∷ word.Status ∷ word.Struct ∷ [] else
+    if nat_eq byte 116 then word.This ∷ word.True ∷ [] else
+    if nat_eq byte 118 then word.Var ∷ word.Via ∷ [] else
+    if nat_eq byte 119 then word.While ∷ [] else
+    if nat_eq byte 121 then word.Yield ∷ [] else
+    []

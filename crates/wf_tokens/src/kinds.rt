@@ -4,7 +4,7 @@ use crate::symbols::Symbol;
 use crate::words::Word;
 
 /// The kind of a token, with the value of a number.
-#[derive(Clone, Copy, PartialEq, Eq)]
+#[derive(Clone, Copy)]
 pub enum TokenKind {
     /// A letter or `_`, then letters, digits and `_`; and no word of the language.
     Name,

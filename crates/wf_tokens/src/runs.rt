@@ -2,7 +2,7 @@
 
 ghost use Rattle.std.specs.Prelude.{◌≡◌, ◌≤◌, length, take, drop, true, false};
 ghost use Rattle.std.specs.List.{list_all};
-ghost use Rattle.wf_tokens.specs.Runs.{is_letter, is_digit, is_run, is_quote, is_text_byte, begins};
+ghost use Rattle.wf_tokens.specs.Runs.{is_letter, is_digit, is_run, is_quote, is_text_byte, begins, first_byte};
 
 /// A letter of ASCII, or `_`.
 pub fn is_letter(byte: u8) -> bool
@@ -30,6 +30,16 @@ pub fn is_text_byte(byte: u8) -> bool
     ensures { result ≡ is_text_byte byte }
 {
     matches!(byte, b' '..=b'~') && byte != b'"' && byte != b'\\'
+}
+
+/// The first of the bytes, and 0 where there is none.
+pub(crate) fn first_byte(bytes: &[u8]) -> u8
+    ensures { result ≡ first_byte bytes.now }
+{
+    match bytes.first() {
+        Some(byte) => *byte,
+        None => 0,
+    }
 }
 
 /// Whether a quote stands in front.

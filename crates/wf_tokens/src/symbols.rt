@@ -2,11 +2,14 @@
 
 ghost use Rattle.std.specs.Prelude.{ℕ, ◌≡◌, ◌≤◌, ◌++◌, List, length, nat_eq, IfSome, IfNone, find};
 ghost use Rattle.std.specs.List.{starts_with};
-ghost use Rattle.wf_tokens.specs.Symbols.{operator_text, assign_text, comparison_text, symbol_text, IsLongestSymbol, BeginsNoSymbol};
+ghost use Rattle.wf_tokens.specs.Runs.{first_byte};
+ghost use Rattle.wf_tokens.specs.Symbols.{operator_text, assign_text, comparison_text, symbol_text, symbols_from, IsLongestSymbol, BeginsNoSymbol};
+
+use crate::runs::first_byte;
 
 /// An operator that takes two numbers and gives a number. Each can stand directly in front of `=`, which
 /// makes an assignment of it.
-#[derive(Clone, Copy, PartialEq, Eq)]
+#[derive(Clone, Copy)]
 pub enum Operator {
     /// `+`
     Add,
@@ -43,7 +46,7 @@ pub enum Operator {
 }
 
 /// A comparison of two numbers; the first two also compare statuses.
-#[derive(Clone, Copy, PartialEq, Eq)]
+#[derive(Clone, Copy)]
 pub enum Comparison {
     /// `==`
     Equal,
@@ -60,7 +63,7 @@ pub enum Comparison {
 }
 
 /// A symbol of the language.
-#[derive(Clone, Copy, PartialEq, Eq)]
+#[derive(Clone, Copy)]
 pub enum Symbol {
     /// `(`
     OpenParen,
@@ -101,64 +104,6 @@ pub enum Symbol {
     /// An operator directly followed by `=`.
     Assign(Operator),
 }
-
-/// Every symbol, once, the longer ones first.
-const SYMBOLS: [Symbol; 54] = [
-    Symbol::Assign(Operator::ModShiftLeft),
-    Symbol::Operator(Operator::ModShiftLeft),
-    Symbol::Assign(Operator::ModAdd),
-    Symbol::Assign(Operator::ModSub),
-    Symbol::Assign(Operator::ModMul),
-    Symbol::Assign(Operator::SatAdd),
-    Symbol::Assign(Operator::SatSub),
-    Symbol::Operator(Operator::ModAdd),
-    Symbol::Operator(Operator::ModSub),
-    Symbol::Operator(Operator::ModMul),
-    Symbol::Operator(Operator::SatAdd),
-    Symbol::Operator(Operator::SatSub),
-    Symbol::DotDotEquals,
-    Symbol::Assign(Operator::ShiftLeft),
-    Symbol::Assign(Operator::ShiftRight),
-    Symbol::EqualsQuestion,
-    Symbol::DotDot,
-    Symbol::Compare(Comparison::Equal),
-    Symbol::Compare(Comparison::NotEqual),
-    Symbol::Compare(Comparison::LessOrEqual),
-    Symbol::Compare(Comparison::GreaterOrEqual),
-    Symbol::Operator(Operator::ShiftLeft),
-    Symbol::Operator(Operator::ShiftRight),
-    Symbol::Assign(Operator::Add),
-    Symbol::Assign(Operator::Sub),
-    Symbol::Assign(Operator::Mul),
-    Symbol::Assign(Operator::Div),
-    Symbol::Assign(Operator::Rem),
-    Symbol::Assign(Operator::BitAnd),
-    Symbol::Assign(Operator::BitOr),
-    Symbol::Assign(Operator::BitXor),
-    Symbol::OpenParen,
-    Symbol::CloseParen,
-    Symbol::OpenBracket,
-    Symbol::CloseBracket,
-    Symbol::OpenBrace,
-    Symbol::CloseBrace,
-    Symbol::Comma,
-    Symbol::Dot,
-    Symbol::Colon,
-    Symbol::Semicolon,
-    Symbol::Question,
-    Symbol::Exclamation,
-    Symbol::Equals,
-    Symbol::Compare(Comparison::Less),
-    Symbol::Compare(Comparison::Greater),
-    Symbol::Operator(Operator::Add),
-    Symbol::Operator(Operator::Sub),
-    Symbol::Operator(Operator::Mul),
-    Symbol::Operator(Operator::Div),
-    Symbol::Operator(Operator::Rem),
-    Symbol::Operator(Operator::BitAnd),
-    Symbol::Operator(Operator::BitOr),
-    Symbol::Operator(Operator::BitXor),
-];
 
 /// The operator as it is written, in ASCII.
 pub fn text_of_operator(operator: Operator) -> &'static str
@@ -249,11 +194,98 @@ pub fn text_of_symbol(symbol: Symbol) -> &'static str
     }
 }
 
-/// The first entry of the table with which the bytes begin.
-fn find_symbol(bytes: &[u8]) -> Option<Symbol>
-    ensures { result ≡ find (λ symbol. starts_with nat_eq bytes.now (symbol_text symbol)) SYMBOLS }
+/// The symbols that begin with this byte, the longer ones first.
+fn symbols_from(byte: u8) -> &'static [Symbol]
+    ensures { result.now ≡ symbols_from byte }
 {
-    SYMBOLS.iter().copied().find(|symbol| bytes.starts_with(text_of_symbol(*symbol).as_bytes()))
+    match byte {
+        b'!' => &[Symbol::Exclamation],
+        b'%' => &[
+            Symbol::Assign(Operator::Rem),
+            Symbol::Operator(Operator::Rem),
+        ],
+        b'&' => &[
+            Symbol::Assign(Operator::BitAnd),
+            Symbol::Operator(Operator::BitAnd),
+        ],
+        b'(' => &[Symbol::OpenParen],
+        b')' => &[Symbol::CloseParen],
+        b'*' => &[
+            Symbol::Assign(Operator::Mul),
+            Symbol::Operator(Operator::Mul),
+        ],
+        b'+' => &[
+            Symbol::Assign(Operator::Add),
+            Symbol::Operator(Operator::Add),
+        ],
+        b',' => &[Symbol::Comma],
+        b'-' => &[
+            Symbol::Assign(Operator::Sub),
+            Symbol::Operator(Operator::Sub),
+        ],
+        b'.' => &[Symbol::DotDotEquals, Symbol::DotDot, Symbol::Dot],
+        b'/' => &[
+            Symbol::Assign(Operator::Div),
+            Symbol::Operator(Operator::Div),
+        ],
+        b':' => &[Symbol::Colon],
+        b';' => &[Symbol::Semicolon],
+        b'<' => &[
+            Symbol::Assign(Operator::ShiftLeft),
+            Symbol::Compare(Comparison::NotEqual),
+            Symbol::Compare(Comparison::LessOrEqual),
+            Symbol::Operator(Operator::ShiftLeft),
+            Symbol::Compare(Comparison::Less),
+        ],
+        b'=' => &[
+            Symbol::EqualsQuestion,
+            Symbol::Compare(Comparison::Equal),
+            Symbol::Equals,
+        ],
+        b'>' => &[
+            Symbol::Assign(Operator::ShiftRight),
+            Symbol::Compare(Comparison::GreaterOrEqual),
+            Symbol::Operator(Operator::ShiftRight),
+            Symbol::Compare(Comparison::Greater),
+        ],
+        b'?' => &[Symbol::Question],
+        b'[' => &[Symbol::OpenBracket],
+        b']' => &[Symbol::CloseBracket],
+        b'^' => &[
+            Symbol::Assign(Operator::BitXor),
+            Symbol::Operator(Operator::BitXor),
+        ],
+        b'{' => &[Symbol::OpenBrace],
+        b'|' => &[
+            Symbol::Assign(Operator::BitOr),
+            Symbol::Operator(Operator::BitOr),
+        ],
+        b'}' => &[Symbol::CloseBrace],
+        b'~' => &[
+            Symbol::Assign(Operator::ModShiftLeft),
+            Symbol::Operator(Operator::ModShiftLeft),
+            Symbol::Assign(Operator::ModAdd),
+            Symbol::Assign(Operator::ModSub),
+            Symbol::Assign(Operator::ModMul),
+            Symbol::Assign(Operator::SatAdd),
+            Symbol::Assign(Operator::SatSub),
+            Symbol::Operator(Operator::ModAdd),
+            Symbol::Operator(Operator::ModSub),
+            Symbol::Operator(Operator::ModMul),
+            Symbol::Operator(Operator::SatAdd),
+            Symbol::Operator(Operator::SatSub),
+        ],
+        _ => &[],
+    }
+}
+
+/// The first symbol with which the bytes begin of those that begin with their first byte.
+fn find_symbol(bytes: &[u8]) -> Option<Symbol>
+    ensures { result ≡ find (λ symbol. starts_with nat_eq bytes.now (symbol_text symbol)) (symbols_from (first_byte bytes.now)) }
+{
+    symbols_from(first_byte(bytes)).iter().copied().find(|symbol| bytes.starts_with(text_of_symbol(
+        *symbol,
+    ).as_bytes()))
 }
 
 /// The longest symbol with which the bytes begin, if they begin with one.

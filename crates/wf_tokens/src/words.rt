@@ -2,10 +2,13 @@
 
 ghost use Rattle.std.specs.Prelude.{ℕ, ◌≡◌, ◌≢◌, nat_eq, IfSome, IfNone, find};
 ghost use Rattle.std.specs.Cmp.Lexicographic.{pointwise};
-ghost use Rattle.wf_tokens.specs.Words.{word_text};
+ghost use Rattle.wf_tokens.specs.Runs.{first_byte};
+ghost use Rattle.wf_tokens.specs.Words.{word_text, words_from};
+
+use crate::runs::first_byte;
 
 /// A word of the language.
-#[derive(Clone, Copy, PartialEq, Eq)]
+#[derive(Clone, Copy)]
 pub enum Word {
     And,
     Args,
@@ -41,43 +44,6 @@ pub enum Word {
     While,
     Yield,
 }
-
-/// Every word, once.
-const WORDS: [Word; 33] = [
-    Word::And,
-    Word::Args,
-    Word::Array,
-    Word::As,
-    Word::Assert,
-    Word::Base,
-    Word::Break,
-    Word::Const,
-    Word::Continue,
-    Word::Else,
-    Word::Endwhile,
-    Word::False,
-    Word::Func,
-    Word::If,
-    Word::Inv,
-    Word::Not,
-    Word::Nothing,
-    Word::Ok,
-    Word::Or,
-    Word::Post,
-    Word::Pre,
-    Word::Pri,
-    Word::Pub,
-    Word::Return,
-    Word::Slice,
-    Word::Status,
-    Word::Struct,
-    Word::This,
-    Word::True,
-    Word::Var,
-    Word::Via,
-    Word::While,
-    Word::Yield,
-];
 
 /// The word as it is written, in ASCII.
 pub fn text_of_word(word: Word) -> &'static str
@@ -120,11 +86,35 @@ pub fn text_of_word(word: Word) -> &'static str
     }
 }
 
-/// The first entry of the table that is written so.
-fn find_word(text: &[u8]) -> Option<Word>
-    ensures { result ≡ find (λ word. pointwise nat_eq (word_text word) text.now) WORDS }
+/// The words that begin with this byte.
+fn words_from(byte: u8) -> &'static [Word]
+    ensures { result.now ≡ words_from byte }
 {
-    WORDS
+    match byte {
+        b'a' => &[Word::And, Word::Args, Word::Array, Word::As, Word::Assert],
+        b'b' => &[Word::Base, Word::Break],
+        b'c' => &[Word::Const, Word::Continue],
+        b'e' => &[Word::Else, Word::Endwhile],
+        b'f' => &[Word::False, Word::Func],
+        b'i' => &[Word::If, Word::Inv],
+        b'n' => &[Word::Not, Word::Nothing],
+        b'o' => &[Word::Ok, Word::Or],
+        b'p' => &[Word::Post, Word::Pre, Word::Pri, Word::Pub],
+        b'r' => &[Word::Return],
+        b's' => &[Word::Slice, Word::Status, Word::Struct],
+        b't' => &[Word::This, Word::True],
+        b'v' => &[Word::Var, Word::Via],
+        b'w' => &[Word::While],
+        b'y' => &[Word::Yield],
+        _ => &[],
+    }
+}
+
+/// The word that is written so, looked for among those that begin with the first byte.
+fn find_word(text: &[u8]) -> Option<Word>
+    ensures { result ≡ find (λ word. pointwise nat_eq (word_text word) text.now) (words_from (first_byte text.now)) }
+{
+    words_from(first_byte(text))
         .iter()
         .copied()
         .find(|word| text_of_word(*word).as_bytes() == text)
