@@ -331,8 +331,23 @@ if ( ( q && r ) ) { ; } else { return ; } a : while ( q ) { x = ( q << 1u ) ; } 
  
 ";
 
-/// Whether each text of parts is read, and the other's is printed for it.
-fn all_print(alloc: Global, rows: &[(&[&[u8]], &[&[u8]])]) -> bool {
+/// The parts of a text, and those of what is printed for it.
+type Printed = (&'static [&'static [u8]], &'static [&'static [u8]]);
+
+const ALL: &[&[u8]] = &[ITEMS, EXPRESSIONS, STATEMENTS, LOOKS];
+
+const PRINTED: &[Printed] = &[
+    (ALL, ALL),
+    (&[LOOKS], &[LOOKS]),
+    (&[LAID], &[LAID]),
+    (&[TIGHT], &[LAID]),
+    (&[LOOSE], &[LAID]),
+    (&[], &[]),
+    (&[b" \n "], &[]),
+];
+
+/// Whether each text is read, and the other is printed for it.
+fn all_print(alloc: Global, rows: &[Printed]) -> bool {
     for (parts, expected) in rows {
         if !prints(alloc, *parts, *expected) {
             return false;
@@ -343,22 +358,8 @@ fn all_print(alloc: Global, rows: &[(&[&[u8]], &[&[u8]])]) -> bool {
 
 #[test]
 fn every_alternative_comes_back(rt: HostRuntime) {
-    let all = [ITEMS, EXPRESSIONS, STATEMENTS, LOOKS];
-    assert!(rt;
-        all_print(
-            rt.alloc(),
-            &[
-                (&all, &all),
-                (&[LOOKS], &[LOOKS]),
-                (&[LAID], &[LAID]),
-                (&[TIGHT], &[LAID]),
-                (&[LOOSE], &[LAID]),
-                (&[], &[]),
-                (&[b" \n "], &[]),
-            ]
-        )
-    );
-    assert!(rt; comes_back(rt.alloc(), &all) && comes_back(rt.alloc(), &[LOOKS]));
+    assert!(rt; all_print(rt.alloc(), PRINTED));
+    assert!(rt; comes_back(rt.alloc(), ALL));
 }
 
 // The fronts of a text that don't end too early, in two tables by their lengths, the least and the greatest: those that
