@@ -165,6 +165,7 @@ PACKAGES = [
     ("a long array before a jump", "pub struct s( | a : array[65537] base.u8, | ) | pub func s.f() { | break | }", "L7 2:1"),
     ("a jump before a long array", "pub struct s() | pub func s.f() { | break | } | pub struct t( | a : array[65537] base.u8, | )", "N5 3:1"),
     ("an unknown name before recursion", "pub struct s( | x : t, | ) | pub func s.f?() { | this.f?() | }", "N1 2:5"),
+    ("an unknown method before a doubled struct", "pub struct p?( | x : base.u8, | ) | pub func p.f!() { | this.g!() | } | pub struct p?( | x : base.u8, | )", "N1 5:6"),
     ("a long array by a constant", "pri const K : base.u32 = 32768 | pub struct s( | a : array[(K * 2) + 1] base.u8, | )", "L7 3:1"),
     ("a megabyte and eight bytes", "pub struct s(" + "".join(f" | a{i} : array[65536] base.u64," for i in range(2)) + " | b : base.u64, | )", "L7 4:1"),
     ("a megabyte", "pub struct s(" + "".join(f" | a{i} : array[65536] base.u64," for i in range(2)) + " | )", "later"),

@@ -129,7 +129,7 @@ class Trial:
                 shutil.copy(edit, folder)
             ran = subprocess.run(["rt", "must-fail", crate], cwd=self.clone, stdin=subprocess.DEVNULL, stdout=subprocess.PIPE,
                                  stderr=subprocess.STDOUT, text=True, errors="replace")
-            found = {match[2]: (match[3], match[4].lstrip(",: ")) for match in TOLD.finditer(ran.stdout) if match[1] == crate}
+            found = {match[2]: (match[3], match[4].removeprefix(", as it must be").lstrip(": ")) for match in TOLD.finditer(ran.stdout) if match[1] == crate}
             for edit in new:
                 came = found.get(edit.name, ("NOT TRIED", ran.stdout[-300:]))
                 told[edit.name] = came

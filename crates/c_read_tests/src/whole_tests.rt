@@ -331,34 +331,27 @@ if ( ( q && r ) ) { ; } else { return ; } a : while ( q ) { x = ( q << 1u ) ; } 
  
 ";
 
-/// Whether each text of parts is read, and the other's is printed for it.
-fn all_print(alloc: Global, rows: &[(&[&[u8]], &[&[u8]])]) -> bool {
-    for (parts, expected) in rows {
-        if !prints(alloc, *parts, *expected) {
-            return false;
-        }
-    }
-    true
+/// Whether all alternatives are read, printed alike, and read again.
+fn all_alternatives_come_back(alloc: Global) -> bool {
+    prints(
+        alloc,
+        &[ITEMS, EXPRESSIONS, STATEMENTS, LOOKS],
+        &[ITEMS, EXPRESSIONS, STATEMENTS, LOOKS],
+    ) && comes_back(alloc, &[ITEMS, EXPRESSIONS, STATEMENTS, LOOKS])
+}
+
+/// Whether layout makes no difference.
+fn layouts_print_alike(alloc: Global) -> bool {
+    prints(alloc, &[LAID], &[LAID])
+        && prints(alloc, &[TIGHT], &[LAID])
+        && prints(alloc, &[LOOSE], &[LAID])
+        && prints(alloc, &[], &[])
+        && prints(alloc, &[b" \n "], &[])
 }
 
 #[test]
 fn every_alternative_comes_back(rt: HostRuntime) {
-    let all = [ITEMS, EXPRESSIONS, STATEMENTS, LOOKS];
-    assert!(rt;
-        all_print(
-            rt.alloc(),
-            &[
-                (&all, &all),
-                (&[LOOKS], &[LOOKS]),
-                (&[LAID], &[LAID]),
-                (&[TIGHT], &[LAID]),
-                (&[LOOSE], &[LAID]),
-                (&[], &[]),
-                (&[b" \n "], &[]),
-            ]
-        )
-    );
-    assert!(rt; comes_back(rt.alloc(), &all) && comes_back(rt.alloc(), &[LOOKS]));
+    assert!(rt; all_alternatives_come_back(rt.alloc()) && layouts_print_alike(rt.alloc()));
 }
 
 // The fronts of a text that don't end too early, in two tables by their lengths, the least and the greatest: those that

@@ -6,7 +6,9 @@ use wf_num::{CTy, c_add, c_div, c_mul, c_rem, c_shl, c_shr, c_sub};
 type Answers = (Option<u64>, Option<u64>, Option<u64>);
 
 /// Two operands, and the answers for int, unsigned int and unsigned long long.
-const C_SUMS: [(u64, u64, Answers); 10] = [
+type Row = (u64, u64, Answers);
+
+const SUMS: &[Row] = &[
     (0, 0, (Some(0), Some(0), Some(0))),
     (0, 1, (Some(1), Some(1), Some(1))),
     (2147483647, 1, (None, Some(2147483648), Some(2147483648))),
@@ -39,8 +41,7 @@ const C_SUMS: [(u64, u64, Answers); 10] = [
     ),
 ];
 
-/// Two operands, and the answers for int, unsigned int and unsigned long long.
-const C_DIFFERENCES: [(u64, u64, Answers); 10] = [
+const DIFFERENCES: &[Row] = &[
     (0, 0, (Some(0), Some(0), Some(0))),
     (
         0,
@@ -93,8 +94,7 @@ const C_DIFFERENCES: [(u64, u64, Answers); 10] = [
     ),
 ];
 
-/// Two operands, and the answers for int, unsigned int and unsigned long long.
-const C_PRODUCTS: [(u64, u64, Answers); 10] = [
+const PRODUCTS: &[Row] = &[
     (0, 2147483648, (Some(0), Some(0), Some(0))),
     (
         1,
@@ -131,8 +131,7 @@ const C_PRODUCTS: [(u64, u64, Answers); 10] = [
     ),
 ];
 
-/// Two operands, and the answers for int, unsigned int and unsigned long long.
-const C_QUOTIENTS: [(u64, u64, Answers); 10] = [
+const QUOTIENTS: &[Row] = &[
     (0, 0, (None, None, None)),
     (1, 0, (None, None, None)),
     (0, 1, (Some(0), Some(0), Some(0))),
@@ -157,8 +156,7 @@ const C_QUOTIENTS: [(u64, u64, Answers); 10] = [
     ),
 ];
 
-/// Two operands, and the answers for int, unsigned int and unsigned long long.
-const C_REMAINDERS: [(u64, u64, Answers); 10] = [
+const REMAINDERS: &[Row] = &[
     (0, 0, (None, None, None)),
     (1, 0, (None, None, None)),
     (0, 1, (Some(0), Some(0), Some(0))),
@@ -179,8 +177,7 @@ const C_REMAINDERS: [(u64, u64, Answers); 10] = [
     ),
 ];
 
-/// Two operands, and the answers for int, unsigned int and unsigned long long.
-const C_LEFT_SHIFTS: [(u64, u64, Answers); 12] = [
+const LEFT_SHIFTS: &[Row] = &[
     (0, 0, (Some(0), Some(0), Some(0))),
     (
         1,
@@ -199,8 +196,7 @@ const C_LEFT_SHIFTS: [(u64, u64, Answers); 12] = [
     (1, 18446744073709551615, (None, None, None)),
 ];
 
-/// Two operands, and the answers for int, unsigned int and unsigned long long.
-const C_RIGHT_SHIFTS: [(u64, u64, Answers); 12] = [
+const RIGHT_SHIFTS: &[Row] = &[
     (0, 31, (Some(0), Some(0), Some(0))),
     (1, 1, (Some(0), Some(0), Some(0))),
     (2147483647, 30, (Some(1), Some(1), Some(1))),
@@ -231,98 +227,54 @@ const C_RIGHT_SHIFTS: [(u64, u64, Answers); 12] = [
     (1, 18446744073709551615, (None, None, None)),
 ];
 
-fn sums_hold() -> bool {
-    for (a, b, expected) in C_SUMS {
-        if c_add(CTy::Int, a, b) != expected.0
-            || c_add(CTy::U32, a, b) != expected.1
-            || c_add(CTy::U64, a, b) != expected.2
-        {
+#[derive(Clone, Copy)]
+enum Op {
+    Add,
+    Sub,
+    Mul,
+    Div,
+    Rem,
+    Shl,
+    Shr,
+}
+
+fn answer(op: Op, ty: CTy, a: u64, b: u64) -> Option<u64> {
+    match op {
+        Op::Add => c_add(ty, a, b),
+        Op::Sub => c_sub(ty, a, b),
+        Op::Mul => c_mul(ty, a, b),
+        Op::Div => c_div(ty, a, b),
+        Op::Rem => c_rem(ty, a, b),
+        Op::Shl => c_shl(ty, a, b),
+        Op::Shr => c_shr(ty, a, b),
+    }
+}
+
+fn hold(op: Op, rows: &[Row]) -> bool {
+    for (a, b, expected) in rows {
+        let came = (
+            answer(op, CTy::Int, *a, *b),
+            answer(op, CTy::U32, *a, *b),
+            answer(op, CTy::U64, *a, *b),
+        );
+        if came != *expected {
             return false;
         }
     }
     true
 }
 
-fn differences_hold() -> bool {
-    for (a, b, expected) in C_DIFFERENCES {
-        if c_sub(CTy::Int, a, b) != expected.0
-            || c_sub(CTy::U32, a, b) != expected.1
-            || c_sub(CTy::U64, a, b) != expected.2
-        {
-            return false;
-        }
-    }
-    true
-}
-
-fn products_hold() -> bool {
-    for (a, b, expected) in C_PRODUCTS {
-        if c_mul(CTy::Int, a, b) != expected.0
-            || c_mul(CTy::U32, a, b) != expected.1
-            || c_mul(CTy::U64, a, b) != expected.2
-        {
-            return false;
-        }
-    }
-    true
-}
-
-fn quotients_hold() -> bool {
-    for (a, b, expected) in C_QUOTIENTS {
-        if c_div(CTy::Int, a, b) != expected.0
-            || c_div(CTy::U32, a, b) != expected.1
-            || c_div(CTy::U64, a, b) != expected.2
-        {
-            return false;
-        }
-    }
-    true
-}
-
-fn remainders_hold() -> bool {
-    for (a, b, expected) in C_REMAINDERS {
-        if c_rem(CTy::Int, a, b) != expected.0
-            || c_rem(CTy::U32, a, b) != expected.1
-            || c_rem(CTy::U64, a, b) != expected.2
-        {
-            return false;
-        }
-    }
-    true
-}
-
-fn left_shifts_hold() -> bool {
-    for (a, b, expected) in C_LEFT_SHIFTS {
-        if c_shl(CTy::Int, a, b) != expected.0
-            || c_shl(CTy::U32, a, b) != expected.1
-            || c_shl(CTy::U64, a, b) != expected.2
-        {
-            return false;
-        }
-    }
-    true
-}
-
-fn right_shifts_hold() -> bool {
-    for (a, b, expected) in C_RIGHT_SHIFTS {
-        if c_shr(CTy::Int, a, b) != expected.0
-            || c_shr(CTy::U32, a, b) != expected.1
-            || c_shr(CTy::U64, a, b) != expected.2
-        {
-            return false;
-        }
-    }
-    true
+fn operators_hold() -> bool {
+    hold(Op::Add, SUMS)
+        && hold(Op::Sub, DIFFERENCES)
+        && hold(Op::Mul, PRODUCTS)
+        && hold(Op::Div, QUOTIENTS)
+        && hold(Op::Rem, REMAINDERS)
+        && hold(Op::Shl, LEFT_SHIFTS)
+        && hold(Op::Shr, RIGHT_SHIFTS)
 }
 
 #[test]
 fn arithmetic_of_c(rt: HostRuntime) {
-    assert!(rt;
-        sums_hold()
-            && differences_hold()
-            && products_hold()
-            && quotients_hold()
-            && remainders_hold()
-    );
-    assert!(rt; left_shifts_hold() && right_shifts_hold());
+    assert!(rt; operators_hold());
 }

@@ -53,6 +53,7 @@ fn pure_inputs_hold(alloc: Global) -> Result<bool, AllocError> {
     let mut into = Vec::new(alloc);
     let absent = inputs.take("five", &mut into, 3);
     let none = into.is_empty();
+    into.clear();
     let cut = inputs.take("three", &mut into, 2);
     Ok(
         absent == Ok(())

@@ -11,7 +11,9 @@ use wf_num::trials::Bitwise;
 type Ends = (u64, u64);
 
 /// Left and right operand, and the range of the operation.
-const SUMS: [(Ends, Ends, (i128, u128)); 9] = [
+type Row = (Ends, Ends, (i128, u128));
+
+const SUMS: &[Row] = &[
     ((0, 1), (2147483647, 2147483648), (2147483647, 2147483649)),
     (
         (1, 2147483647),
@@ -47,8 +49,7 @@ const SUMS: [(Ends, Ends, (i128, u128)); 9] = [
     ((0, 1), (5, 2), (1, 0)),
 ];
 
-/// Left and right operand, and the range of the operation.
-const DIFFERENCES: [(Ends, Ends, (i128, u128)); 10] = [
+const DIFFERENCES: &[Row] = &[
     ((0, 1), (2147483647, 2147483648), (-2147483648, 0)),
     ((1, 2147483647), (2147483648, 4294967295), (-4294967294, 0)),
     (
@@ -81,8 +82,7 @@ const DIFFERENCES: [(Ends, Ends, (i128, u128)); 10] = [
     ((0, 1), (5, 2), (1, 0)),
 ];
 
-/// Left and right operand, and the range of the operation.
-const PRODUCTS: [(Ends, Ends, (i128, u128)); 10] = [
+const PRODUCTS: &[Row] = &[
     ((0, 1), (2147483647, 2147483648), (0, 2147483648)),
     (
         (1, 2147483647),
@@ -126,8 +126,7 @@ const PRODUCTS: [(Ends, Ends, (i128, u128)); 10] = [
     ((0, 1), (5, 2), (1, 0)),
 ];
 
-/// Left and right operand, and the range of the operation.
-const QUOTIENTS: [(Ends, Ends, (i128, u128)); 9] = [
+const QUOTIENTS: &[Row] = &[
     ((0, 1), (2147483647, 2147483648), (0, 0)),
     ((1, 2147483647), (2147483648, 4294967295), (0, 0)),
     (
@@ -159,8 +158,7 @@ const QUOTIENTS: [(Ends, Ends, (i128, u128)); 9] = [
     ((0, 1), (5, 2), (1, 0)),
 ];
 
-/// Left and right operand, and the range of the operation.
-const REMAINDERS: [(Ends, Ends, (i128, u128)); 9] = [
+const REMAINDERS: &[Row] = &[
     ((0, 1), (2147483647, 2147483648), (0, 1)),
     ((1, 2147483647), (2147483648, 4294967295), (0, 2147483647)),
     (
@@ -184,8 +182,7 @@ const REMAINDERS: [(Ends, Ends, (i128, u128)); 9] = [
     ((0, 1), (5, 2), (1, 0)),
 ];
 
-/// Left and right operand, and the range of the operation.
-const LEFT_SHIFTS: [(Ends, Ends, (i128, u128)); 10] = [
+const LEFT_SHIFTS: &[Row] = &[
     ((0, 1), (31, 32), (0, 4294967296)),
     (
         (1, 2147483647),
@@ -229,8 +226,7 @@ const LEFT_SHIFTS: [(Ends, Ends, (i128, u128)); 10] = [
     ((0, 1), (5, 2), (1, 0)),
 ];
 
-/// Left and right operand, and the range of the operation.
-const RIGHT_SHIFTS: [(Ends, Ends, (i128, u128)); 9] = [
+const RIGHT_SHIFTS: &[Row] = &[
     ((0, 1), (31, 32), (0, 0)),
     ((1, 2147483647), (32, 63), (0, 0)),
     ((2147483647, 2147483648), (63, 63), (0, 0)),
@@ -250,8 +246,7 @@ const RIGHT_SHIFTS: [(Ends, Ends, (i128, u128)); 9] = [
     ((0, 1), (5, 2), (1, 0)),
 ];
 
-/// Left and right operand, and the range of the operation.
-const ANDS: [(Ends, Ends, (i128, u128)); 13] = [
+const ANDS: &[Row] = &[
     ((4, 5), (4, 5), (4, 5)),
     ((5, 6), (3, 3), (1, 2)),
     ((1, 2), (4, 4), (0, 0)),
@@ -283,8 +278,7 @@ const ANDS: [(Ends, Ends, (i128, u128)); 13] = [
     ((0, 1), (5, 2), (1, 0)),
 ];
 
-/// Left and right operand, and the range of the operation.
-const ORS: [(Ends, Ends, (i128, u128)); 13] = [
+const ORS: &[Row] = &[
     ((4, 5), (4, 5), (4, 5)),
     ((5, 6), (3, 3), (7, 7)),
     ((1, 2), (4, 4), (5, 6)),
@@ -328,8 +322,7 @@ const ORS: [(Ends, Ends, (i128, u128)); 13] = [
     ((0, 1), (5, 2), (1, 0)),
 ];
 
-/// Left and right operand, and the range of the operation.
-const XORS: [(Ends, Ends, (i128, u128)); 9] = [
+const XORS: &[Row] = &[
     ((0, 1), (2147483647, 2147483648), (0, 4294967295)),
     ((1, 2147483647), (2147483648, 4294967295), (0, 4294967295)),
     (
@@ -361,6 +354,20 @@ const XORS: [(Ends, Ends, (i128, u128)); 9] = [
     ((0, 1), (5, 2), (1, 0)),
 ];
 
+#[derive(Clone, Copy)]
+enum Op {
+    Add,
+    Sub,
+    Mul,
+    Div,
+    Rem,
+    Shl,
+    Shr,
+    And,
+    Or,
+    Xor,
+}
+
 fn between(ends: Ends) -> Range
     ensures { result ≡ range (pos ends.0) ends.1 }
 {
@@ -370,102 +377,43 @@ fn between(ends: Ends) -> Range
     }
 }
 
+// The range of an operator; None where the right operand may be 0 in a division, or shifts by more than 63.
+fn of_operator(op: Op, left: Ends, right: Ends) -> Option<Range> {
+    let (a, b) = (between(left), between(right));
+    match op {
+        Op::Add => Some(a.add(b)),
+        Op::Sub => Some(a.sub(b)),
+        Op::Mul => Some(a.mul(b)),
+        Op::Div if right.0 > 0 => Some(a.div(b)),
+        Op::Rem if right.0 > 0 => Some(a.rem(b)),
+        Op::Shl if right.1 < 64 => Some(a.shl(b)),
+        Op::Shr if right.1 < 64 => Some(a.shr(b)),
+        Op::And => Some(a.and(b)),
+        Op::Or => Some(a.or(b)),
+        Op::Xor => Some(a.xor(b)),
+        _ => None,
+    }
+}
+
+fn hold(op: Op, rows: &[Row]) -> bool {
+    for (left, right, expected) in rows {
+        let is = Range {
+            lo: expected.0,
+            hi: expected.1,
+        };
+        if of_operator(op, *left, *right) != Some(is) {
+            return false;
+        }
+    }
+    true
+}
+
 fn is(range: Range, ends: (i128, u128)) -> bool {
     range
         == Range {
             lo: ends.0,
             hi: ends.1,
         }
-}
-
-fn sums_hold() -> bool {
-    for (left, right, expected) in SUMS {
-        if !is(between(left).add(between(right)), expected) {
-            return false;
-        }
-    }
-    true
-}
-
-fn differences_hold() -> bool {
-    for (left, right, expected) in DIFFERENCES {
-        if !is(between(left).sub(between(right)), expected) {
-            return false;
-        }
-    }
-    true
-}
-
-fn products_hold() -> bool {
-    for (left, right, expected) in PRODUCTS {
-        if !is(between(left).mul(between(right)), expected) {
-            return false;
-        }
-    }
-    true
-}
-
-fn quotients_hold() -> bool {
-    for (left, right, expected) in QUOTIENTS {
-        if right.0 == 0 || !is(between(left).div(between(right)), expected) {
-            return false;
-        }
-    }
-    true
-}
-
-fn remainders_hold() -> bool {
-    for (left, right, expected) in REMAINDERS {
-        if right.0 == 0 || !is(between(left).rem(between(right)), expected) {
-            return false;
-        }
-    }
-    true
-}
-
-fn left_shifts_hold() -> bool {
-    for (left, right, expected) in LEFT_SHIFTS {
-        if right.1 > 63 || !is(between(left).shl(between(right)), expected) {
-            return false;
-        }
-    }
-    true
-}
-
-fn right_shifts_hold() -> bool {
-    for (left, right, expected) in RIGHT_SHIFTS {
-        if right.1 > 63 || !is(between(left).shr(between(right)), expected) {
-            return false;
-        }
-    }
-    true
-}
-
-fn ands_hold() -> bool {
-    for (left, right, expected) in ANDS {
-        if !is(between(left).and(between(right)), expected) {
-            return false;
-        }
-    }
-    true
-}
-
-fn ors_hold() -> bool {
-    for (left, right, expected) in ORS {
-        if !is(between(left).or(between(right)), expected) {
-            return false;
-        }
-    }
-    true
-}
-
-fn xors_hold() -> bool {
-    for (left, right, expected) in XORS {
-        if !is(between(left).xor(between(right)), expected) {
-            return false;
-        }
-    }
-    true
 }
 
 /// The range from n / 16 to n % 16: each pair of ends below 16 for one n, empty ranges among them.
@@ -548,17 +496,21 @@ fn meets_hold() -> bool {
         && Range::exactly(48).meet(digits) == Range { lo: 48, hi: 48 }
 }
 
-fn sums_and_products_hold() -> bool {
-    sums_hold() && differences_hold() && products_hold() && quotients_hold() && remainders_hold()
-}
-
-fn bits_hold() -> bool {
-    left_shifts_hold() && right_shifts_hold() && ands_hold() && ors_hold() && xors_hold()
+fn operators_hold() -> bool {
+    hold(Op::Add, SUMS)
+        && hold(Op::Sub, DIFFERENCES)
+        && hold(Op::Mul, PRODUCTS)
+        && hold(Op::Div, QUOTIENTS)
+        && hold(Op::Rem, REMAINDERS)
+        && hold(Op::Shl, LEFT_SHIFTS)
+        && hold(Op::Shr, RIGHT_SHIFTS)
+        && hold(Op::And, ANDS)
+        && hold(Op::Or, ORS)
+        && hold(Op::Xor, XORS)
 }
 
 #[test]
 fn ranges(rt: HostRuntime) {
-    assert!(rt; sums_and_products_hold() && bits_hold());
+    assert!(rt; operators_hold() && all_agree());
     assert!(rt; widths_hold() && edges_of_fits_hold() && meets_hold());
-    assert!(rt; all_agree());
 }

@@ -8,7 +8,7 @@ ghost use Rattle.wf_typed_tree.specs.ElaboratedPackage.{typed_package};
 ghost use Rattle.wf_typed_tree.specs.Grammar.{package_by_grammar};
 
 use std::alloc::Global;
-use wf_ast::{Callee, Expr, LocalId, Package, Stmt, StmtId, Ty, Typed, Var};
+use wf_ast::{Callee, Expr, LocalId, Package, Stmt, StmtId, Thing, Ty, Typed, Var, mentions, same};
 use wf_base::{Mark, Width};
 use wf_named::Named;
 use wf_names::resolving::resolve;
@@ -208,6 +208,69 @@ fn has_call(typed: &Typed) -> bool {
     s == StmtId(3) && kept && *method == MethodId(2) && given
 }
 
+// Sums of two locals, one of them twice, and an element of a slice.
+const SUMS: &str =
+    "pub struct s()\npub func s.f() {\nvar x : base.u8\nvar y : base.u8\nvar l : slice base.u8\nx = x + y\nx = x + y\nx = l[0]\n}\n";
+
+// Two places, and whether the expressions that stand there are the same.
+const SAME: &[((u32, u32), (u32, u32), bool)] = &[
+    ((6, 7), (7, 7), true),
+    ((6, 5), (7, 5), true),
+    ((6, 5), (6, 9), false),
+    ((6, 7), (6, 5), false),
+    ((8, 6), (8, 6), true),
+    ((8, 6), (6, 7), false),
+];
+
+// A place, and whether the expression that stands there mentions a thing.
+const MENTIONED: &[((u32, u32), Thing, bool)] = &[
+    ((6, 7), Thing::Local(LocalId(0)), true),
+    ((6, 7), Thing::Local(LocalId(1)), true),
+    ((6, 7), Thing::Local(LocalId(2)), false),
+    ((6, 7), Thing::Element, false),
+    ((6, 7), Thing::This, false),
+    ((8, 6), Thing::Element, true),
+    ((8, 6), Thing::SliceLocals, true),
+    ((8, 6), Thing::Args, false),
+    ((8, 5), Thing::SliceLocals, true),
+    ((8, 5), Thing::Element, false),
+];
+
+fn are_same(typed: &Typed, a: (u32, u32), b: (u32, u32)) -> Option<bool> {
+    match (
+        typed.expr_at(place(a.0, a.1)),
+        typed.expr_at(place(b.0, b.1)),
+    ) {
+        (Some(a), Some(b)) => Some(same(typed, a, b)),
+        _ => None,
+    }
+}
+
+fn is_mentioned(typed: &Typed, at: (u32, u32), thing: Thing) -> Option<bool> {
+    match typed.expr_at(place(at.0, at.1)) {
+        Some(e) => Some(mentions(typed, e, thing)),
+        None => None,
+    }
+}
+
+fn all_are_told(typed: &Typed) -> bool {
+    for (a, b, wanted) in SAME {
+        if are_same(typed, *a, *b) != Some(*wanted) {
+            return false;
+        }
+    }
+    for (at, thing, wanted) in MENTIONED {
+        if is_mentioned(typed, *at, *thing) != Some(*wanted) {
+            return false;
+        }
+    }
+    true
+}
+
+fn sums_are_told(alloc: Global) -> Result<bool, PhaseFault> {
+    Ok(all_are_told(&typed(alloc, SUMS)?))
+}
+
 // Whether the package has its declarations, its statements and its expressions as they should be.
 fn is_typed(alloc: Global) -> Result<bool, PhaseFault> {
     let typed = typed(alloc, DECLARED)?;
@@ -219,4 +282,5 @@ fn is_typed(alloc: Global) -> Result<bool, PhaseFault> {
 #[test]
 fn a_package_gets_its_typed_tree(rt: HostRuntime) {
     assert!(rt; is_typed(rt.alloc()) == Ok(true));
+    assert!(rt; sums_are_told(rt.alloc()) == Ok(true));
 }
