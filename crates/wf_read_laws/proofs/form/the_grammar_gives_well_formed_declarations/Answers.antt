@@ -1,7 +1,7 @@
 use Rattle.wf_read_laws.proofs.DeclForms.{forms_are_well_formed}
 use Rattle.wf_read_laws.proofs.ReadPackages.{packages_are_well_formed}
 use Rattle.wf_read_laws.proofs.SpeltTokens.{tokens_are_formed}
-use Rattle.wf_read_laws.proofs.laws.the_grammar_gives_well_formed_declarations.Goals as goal
+use Rattle.wf_read_laws.proofs.form.the_grammar_gives_well_formed_declarations.Goals as goal
 
 pub returns-clause-tokens : goal.returns-clause-tokens
 returns-clause-tokens c = tokens_are_formed

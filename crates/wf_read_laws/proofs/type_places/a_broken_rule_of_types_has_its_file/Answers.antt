@@ -1,5 +1,5 @@
 use Rattle.wf_read_laws.proofs.ReadPlaces.{breaks_have_files, packages_break_in_files}
-use Rattle.wf_read_laws.proofs.laws.a_broken_rule_of_types_has_its_file.Goals as goal
+use Rattle.wf_read_laws.proofs.type_places.a_broken_rule_of_types_has_its_file.Goals as goal
 
 pub returns-clause-declarations : goal.returns-clause-declarations
 returns-clause-declarations c = breaks_have_files
