@@ -262,6 +262,7 @@ module _ (s : Setting) (nodes : TypedNodes) where
       let es = h.head ∷ h.others in
       let made : MakesExpr s (chain op first links at) nodes (record { node = record { expr = exprs.Chain op es; at = at; signs = signs_in links }; of = option_and_then (meaning_of_operator (sort_of op)) (operands s first links) }) =
       record {
+        placed = refl;
         means = refl;
         below = (let here : nat_lt h.head.0 (length nodes.exprs) ≡ true = let l = h.stands.there in grind (arith, nat_tests, l) in
             and-true (nat_lt h.head.0 (length nodes.exprs)) _ here (links-below links h.others h.stand));

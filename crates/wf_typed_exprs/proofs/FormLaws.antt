@@ -240,11 +240,12 @@ converted-made nodes at width (meanings.Typed from) m t e h ty is =
 
 module _ (s : Setting) (nodes : TypedNodes) where
   pub path-makes : (p : NamedPath) → IsRightPath s (length nodes.statuses) p
-      → Makes (path_tree s p) (variable s p.of) nodes (record { node = record { expr = naming p.of; at = p.at; signs = [] }; of = variable s p.of })
+      → Makes p.at (path_tree s p) (variable s p.of) nodes (record { node = record { expr = naming p.of; at = p.at; signs = [] }; of = variable s p.of })
   path-makes p right =
       let F : Option Meaning → Type 0 = λ o. node_fits nodes (type_meant o) (number_meant o) (naming p.of) ≡ true in
       let T : Option Meaning → Type 0 = λ o. made_or_number (tree_of nodes) p.at [] (type_meant o) (number_meant o) (naming p.of) ≡ variable_tree p.at p.of o in
       record {
+        placed = refl;
         means = refl;
         below = naming-below (length nodes.exprs) p.of;
         fits = subst F (sym right.means) (variable-fits s nodes right.around p.of right.of right.means right.whole);
@@ -265,16 +266,17 @@ module _ (s : Setting) (nodes : TypedNodes) where
       let made = path-makes p (value-right (length nodes.statuses) p right) in
       let F : Option Meaning → Type 0 = λ o. node_fits nodes (type_meant o) (number_meant o) (naming p.of) ≡ true in
       let T : Option Meaning → Type 0 = λ o. made_or_number (tree_of nodes) p.at [] (type_meant o) (number_meant o) (naming p.of) ≡ path_tree s p in
-      record { means = refl; below = made.below; fits = subst F same made.fits; tree_is = subst T same made.tree_is }
+      record { placed = refl; means = refl; below = made.below; fits = subst F same made.fits; tree_is = subst T same made.tree_is }
 
   -- Literals.
   pub number-makes : (v : ℕ) (at : Place) → IsRight s (length nodes.statuses) (number v at)
       → MakesExpr s (number v at) nodes (record { node = record { expr = exprs.Number v; at = at; signs = [] }; of = Some (meanings.Constant None v) })
-  number-makes v at right = record { means = refl; below = refl; fits = constant-fits nodes None v (exprs.Number v) right.grammar; tree_is = refl }
+  number-makes v at right = record { placed = refl; means = refl; below = refl; fits = constant-fits nodes None v (exprs.Number v) right.grammar; tree_is = refl }
 
   pub status-makes : (n : StatusId) (at : Place) → IsRight s (length nodes.statuses) (status n.0 at)
       → MakesExpr s (status n.0 at) nodes (record { node = record { expr = exprs.Status n; at = at; signs = [] }; of = Some (meanings.Typed types.Status) })
   status-makes n at right = record {
+    placed = refl;
     means = refl;
     below = refl;
     fits = let P : ℕ → Type 0 = λ k. nat_lt n.0 k ≡ true in subst P (sym right.around.told) right.named;
@@ -282,7 +284,7 @@ module _ (s : Setting) (nodes : TypedNodes) where
   }
 
   pub truth-makes : (b : Bool) (at : Place) → MakesExpr s (truth b at) nodes (record { node = record { expr = exprs.Truth b; at = at; signs = [] }; of = Some (meanings.Typed types.Flag) })
-  truth-makes b at = record { means = refl; below = refl; fits = refl; tree_is = refl }
+  truth-makes b at = record { placed = refl; means = refl; below = refl; fits = refl; tree_is = refl }
 
   -- An element.
   pub index-right : (k : ℕ) (p : NamedPath) (t : NamedExprTree) (at : Place) → IsRight s k (index p t at) → IsRightPath s k p × IsRight s k t
@@ -307,6 +309,7 @@ module _ (s : Setting) (nodes : TypedNodes) where
       let F : Option Meaning → Type 0 = λ o. node_fits nodes (type_meant o) (number_meant o) (exprs.Index b e) ≡ true in
       let T : Option Meaning → Type 0 = λ o. made_or_number (tree_of nodes) at [] (type_meant o) (number_meant o) (exprs.Index b e) ≡ numeric (element at (num_type (type_meant o)) (slice_in (path_tree s p)) (num_in (expr_tree s t))) in
       record {
+        placed = refl;
         means = refl;
         below = and-true (nat_lt b.0 (length nodes.exprs)) _ (lower b.0 (length nodes.exprs) base.there) (and-true (nat_lt e.0 (length nodes.exprs)) true (lower e.0 (length nodes.exprs) inside.there) refl);
         fits = subst F (sym is) (and-true (is_numeric whole.of) _ (element-numeric array.of whole.of array.gives) (and-true (is_list (type_of_node nodes b.0)) (is_numeric (type_of_node nodes e.0)) cells counts));
@@ -342,6 +345,7 @@ module _ (s : Setting) (nodes : TypedNodes) where
       let F : Option Meaning → Type 0 = λ o. node_fits nodes (type_meant o) (number_meant o) (exprs.Not e) ≡ true in
       let T : Option Meaning → Type 0 = λ o. made_or_number (tree_of nodes) at [] (type_meant o) (number_meant o) (exprs.Not e) ≡ logical (typed.negation at (cond_in (expr_tree s t))) in
       record {
+        placed = refl;
         means = refl;
         below = and-true (nat_lt e.0 (length nodes.exprs)) true (lower e.0 (length nodes.exprs) inside.there) refl;
         fits = subst F (sym right.means) (rw none (and-true (is_logical (type_meant (Some right.of))) (is_logical (type_of_node nodes e.0)) logical_of inner));
@@ -420,6 +424,7 @@ module _ (s : Setting) (nodes : TypedNodes) where
       let F : Option Meaning → Type 0 = λ o. node_fits nodes (type_meant o) (number_meant o) x ≡ true in
       let T : Option Meaning → Type 0 = λ o. made_or_number (tree_of nodes) at [] (type_meant o) (number_meant o) x ≡ elements (cut at (slice_in (path_tree s p)) (end_tree s from) (end_tree s to)) in
       record {
+        placed = refl;
         means = ap (option_map meanings.Typed) (end-means from (end_kept z cells) a first ∙ ap (if_end s from) (end-means to cells z last));
         below = cut-below b a z base.there (end-below from a first) (end-below to z last);
         fits =
@@ -459,6 +464,7 @@ module _ (s : Setting) (nodes : TypedNodes) where
       let T : Option Meaning → Type 0 = λ o. made_or_number (tree_of nodes) at [] (type_meant o) (number_meant o) (exprs.Base b sig) ≡ answer_of at sig (path_tree s on) in
       let has : has_kind (row_of sig).on (type_of_node nodes b.0) ≡ true = rw (base.typed, it.is) (kind-typed (row_of sig).on it.of kind) in
       record {
+        placed = refl;
         means = refl;
         below = and-true (nat_lt b.0 (length nodes.exprs)) true (lower b.0 (length nodes.exprs) base.there) refl;
         fits = subst F (sym is) (and-true (same_mark (row_of sig).mark Pure) _ (pure-mark (row_of sig).mark pure.pure) (and-true (has_kind (row_of sig).on (type_of_node nodes b.0)) (is_given (row_of sig).gives pure.of) has (gives-given (row_of sig).gives pure.of pure.gives)));
@@ -477,6 +483,7 @@ module _ (s : Setting) (nodes : TypedNodes) where
       let T : Option Meaning → Type 0 = λ o. made_or_number (tree_of nodes) at [] (type_meant o) (number_meant o) (exprs.Convert e width)
       ≡ number_or at (number_meant o) (numeric (typed.convert at at (num_type (type_meant o)).bits (num_in (expr_tree s t)))) in
       record {
+        placed = refl;
         means = same;
         below = and-true (nat_lt e.0 (length nodes.exprs)) true (lower e.0 (length nodes.exprs) inside.there) refl;
         fits = subst F (sym right.means) made.0;

@@ -1,6 +1,7 @@
 -- Growing step by step, and what keeps while it does.
 use Rattle.std.proofs.Common.{◌≡◌, ℕ, ◌≤◌, true, List, [], ◌∷◌, Option, Some, None, Result, Ok, Err, IfOk, OnOk, length, refl, sym, ap, ◌∙◌, subst, arith}
 use Rattle.std.specs.Prelude.{unwrap_or}
+use Rattle.wf_text.specs.declared.place.Place.{Place}
 use Rattle.wf_ast.specs.declared.numbers.ExprId.{ExprId}
 use Rattle.wf_ast.specs.declared.typed_nodes.TypedNodes.{TypedNodes}
 use Rattle.wf_ast.specs.declared.types.Ty.TheVariants as types
@@ -59,12 +60,12 @@ links_kept s no_link p q (e ∷ es) g h = absurd h
 links_kept s (link sign t others) p q [] g h = absurd h
 
 -- A node that makes a tree may be added, and stands for it then.
-pub makes_fits : (t : ValueTree) (of : Option Meaning) (p : TypedNodes) (n : MadeNode) → Makes t of p n → node_fits p (type_meant n.of) (number_meant n.of) n.node.expr ≡ true
-makes_fits t of p n h = let P : Option Meaning → Type 0 = λ o. node_fits p (type_meant o) (number_meant o) n.node.expr ≡ true in subst P (sym h.means) h.fits
+pub makes_fits : (at : Place) (t : ValueTree) (of : Option Meaning) (p : TypedNodes) (n : MadeNode) → Makes at t of p n → node_fits p (type_meant n.of) (number_meant n.of) n.node.expr ≡ true
+makes_fits at t of p n h = let P : Option Meaning → Type 0 = λ o. node_fits p (type_meant o) (number_meant o) n.node.expr ≡ true in subst P (sym h.means) h.fits
 
-pub makes_stands : (t : ValueTree) (of : Option Meaning) (p q : TypedNodes) (n : MadeNode) (e : ExprId) → Makes t of p n
+pub makes_stands : (at : Place) (t : ValueTree) (of : Option Meaning) (p q : TypedNodes) (n : MadeNode) (e : ExprId) → Makes at t of p n
     → Stands (made_or_number (tree_of p) n.node.at n.node.signs (type_meant n.of) (number_meant n.of) n.node.expr) n.of q e → Stands t of q e
-makes_stands t of p q n e h k =
+makes_stands at t of p q n e h k =
     let T : Option Meaning → Type 0 = λ o. made_or_number (tree_of p) n.node.at n.node.signs (type_meant o) (number_meant o) n.node.expr ≡ t in
     record {
       there = k.there;

@@ -1,5 +1,6 @@
 pub mod AroundLaws
 pub mod ChainLaws
+pub mod EntryLemmas
 pub mod FormLaws
 pub mod GrowthLemmas
 pub mod PushLemmas

@@ -1,8 +1,9 @@
 -- How the nodes of a typed package grow while expressions are added.
-use Rattle.std.specs.Prelude.{◌≡◌, ◌<◌, ◌≤◌, ◌^◌, ℕ, true, List, [], length, map, slice_get}
+use Rattle.std.specs.Prelude.{◌≡◌, ◌<◌, ◌≤◌, ◌^◌, ℕ, true, List, [], ◌++◌, length, map, slice_get}
 use Rattle.wf_ast.specs.declared.typed_nodes.TypedNodes.{TypedNodes}
 use Rattle.wf_ast.specs.TypedTrees.{expr_trees, type_of_node, constant_of_node}
 use Rattle.wf_ast.specs.TypedInvariant.{parts_below, each_numbered, node_fits}
+use Rattle.wf_typed_tree.specs.Entries.{Entry, entries}
 use Rattle.wf_typed_exprs.specs.declared.typed_exprs.TypedExpr.{TypedExpr}
 
 -- A package with these expressions, and one with none.
@@ -32,3 +33,11 @@ pub record Grows (old new : TypedNodes) : Type 0 where
   pub same_types : Keeps (length old.exprs) old.types new.types
   pub same_constants : Keeps (length old.exprs) old.constants new.constants
   pub rest : without_exprs new ≡ without_exprs old
+
+-- These expressions are added, in this order.
+pub record AddsEntries (old new : TypedNodes) (es : List Entry) : Type 0 where
+  pub is : entries new ≡ entries old ++ es
+
+-- What is known of an expression that is added.
+abbrev pub entry_made : TypedExpr → Entry
+entry_made x = record { at = x.node.at; ty = x.ty; constant = x.constant }

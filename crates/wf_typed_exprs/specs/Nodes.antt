@@ -1,5 +1,6 @@
 -- Which nodes stand for which expressions.
 use Rattle.std.specs.Prelude.{◌≡◌, ◌<◌, ℕ, ⊤, true, Option, None, Some, length, option_and_then}
+use Rattle.wf_text.specs.declared.place.Place.{Place}
 use Rattle.wf_ast.specs.declared.numbers.ExprId.{ExprId}
 use Rattle.wf_ast.specs.declared.typed_nodes.TypedNodes.{TypedNodes}
 use Rattle.wf_ast.specs.TypedTree.{ValueTree}
@@ -9,7 +10,7 @@ use Rattle.wf_named.specs.declared.nodes.NamedPath.{NamedPath}
 use Rattle.wf_named.specs.NamedTree.{NamedExprTree, NamedPartTree, absent, present}
 use Rattle.wf_types_rules.specs.declared.meanings.Meaning.{Meaning}
 use Rattle.wf_types_rules.specs.declared.settings.Setting.{Setting}
-use Rattle.wf_types_rules.specs.Meanings.{constant_number, variable}
+use Rattle.wf_types_rules.specs.Meanings.{constant_number, variable, place_of}
 use Rattle.wf_types_rules.specs.ExprTypes.{meaning}
 use Rattle.wf_typed_tree.specs.ElaboratedExprs.{type_meant, path_tree, expr_tree}
 use Rattle.wf_types_exprs.specs.Judged.{value_of}
@@ -38,12 +39,13 @@ StandsForEnd s absent nodes None = ⊤
 StandsForEnd s (present t) nodes (Some e) = StandsForExpr s t nodes e.node × (e.value ≡ value_of s t)
 StandsForEnd s t nodes e = ⊥
 
--- A node that may be added and makes this tree.
-pub record Makes (tree : ValueTree) (of : Option Meaning) (nodes : TypedNodes) (n : MadeNode) : Type 0 where
+-- A node that may be added at this place and makes this tree.
+pub record Makes (at : Place) (tree : ValueTree) (of : Option Meaning) (nodes : TypedNodes) (n : MadeNode) : Type 0 where
+  pub placed : n.node.at ≡ at
   pub means : n.of ≡ of
   pub below : parts_below (length nodes.exprs) n.node.expr ≡ true
   pub fits : node_fits nodes (type_meant of) (number_meant of) n.node.expr ≡ true
   pub tree_is : made_or_number (tree_of nodes) n.node.at n.node.signs (type_meant of) (number_meant of) n.node.expr ≡ tree
 
 abbrev pub MakesExpr : Setting → NamedExprTree → TypedNodes → MadeNode → Type 0
-MakesExpr s t nodes n = Makes (expr_tree s t) (meaning s t) nodes n
+MakesExpr s t nodes n = Makes (place_of t) (expr_tree s t) (meaning s t) nodes n

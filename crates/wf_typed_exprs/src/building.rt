@@ -3,7 +3,7 @@
 ghost use Rattle.std.specs.Prelude.{◌≡◌, ◌<◌, ◌++◌, [], ◌∷◌, true, length, IfOk, OnOk, OnErr};
 ghost use Rattle.wf_ast.specs.TypedTrees.{tree_of, made_or_number, type_of_node, constant_of_node};
 ghost use Rattle.wf_ast.specs.TypedInvariant.{parts_below, node_fits};
-ghost use Rattle.wf_typed_exprs.specs.Growth.{Grows, IsBuilt};
+ghost use Rattle.wf_typed_exprs.specs.Growth.{Grows, IsBuilt, AddsEntries, entry_made};
 
 use crate::finishing::taken_apart;
 use crate::typed_exprs::TypedExpr;
@@ -52,6 +52,7 @@ impl Building {
         ensures number { IfOk result (λ e. e.0 ≡ length self.old.exprs) }
         ensures ok { OnOk result (self.new ≡ record self.old { exprs = self.old.exprs ++ one.node ∷ []; types = self.old.types ++ one.ty ∷ []; constants = self.old.constants ++ one.constant ∷ [] }) }
         ensures grows { OnOk result (Grows self.old self.new) }
+        ensures adds { OnOk result (AddsEntries self.old self.new (entry_made one ∷ [])) }
         ensures made { IfOk result (λ e. tree_of self.new e ≡ made_or_number (tree_of self.old) one.node.at one.node.signs one.ty one.constant one.node.expr) }
         ensures there { IfOk result (λ e. e.0 < length self.new.exprs) }
         ensures typed { IfOk result (λ e. type_of_node self.new e.0 ≡ one.ty) }

@@ -10,7 +10,8 @@ ghost use Rattle.wf_named.specs.NamedTree as tree;
 ghost use Rattle.wf_types_rules.specs.Meanings.{variable as variable_in};
 ghost use Rattle.wf_types_exprs.specs.Judged.{value_of};
 ghost use Rattle.wf_typed_tree.specs.ElaboratedExprs.{type_meant as type_of_meaning};
-ghost use Rattle.wf_typed_exprs.specs.Growth.{Grows};
+ghost use Rattle.wf_typed_tree.specs.Entries.{path_entry, expr_entries, part_entries, end_entries, link_entries, callee_entries};
+ghost use Rattle.wf_typed_exprs.specs.Growth.{Grows, AddsEntries};
 ghost use Rattle.wf_typed_exprs.specs.Nodes.{number_meant, Stands, StandsForExpr, StandsForPath, StandsForEnd, MakesExpr};
 ghost use Rattle.wf_typed_exprs.specs.Chains.{AddsOperand, AddsLinks, AreOperands};
 ghost use Rattle.wf_typed_exprs.specs.Right.{IsRight, IsRightPath, IsRightAnswer, IsRightEnd, AreRight};
@@ -40,6 +41,7 @@ fn put(nodes: &mut Building, made: MadeNode, at: Place) -> Result<Elaborated, No
     requires below { parts_below (length nodes.old.exprs) made.node.expr ≡ true }
     requires fits { node_fits nodes.old (type_of_meaning made.of) (number_meant made.of) made.node.expr ≡ true }
     ensures grows { OnOk result (Grows nodes.old nodes.new) }
+    ensures entries { OnOk result (AddsEntries nodes.old nodes.new (record { at = made.node.at; ty = type_of_meaning made.of; constant = number_meant made.of } ∷ [])) }
     ensures stands { IfOk result (λ r. Stands (made_or_number (tree_of nodes.old) made.node.at made.node.signs (type_of_meaning made.of) (number_meant made.of) made.node.expr) made.of nodes.new r.node) }
     ensures value { IfOk result (λ r. r.value ≡ record { of = made.of; at = at }) }
 {
@@ -67,6 +69,7 @@ pub fn elaborate_path(
 ) -> Result<Elaborated, NoMemory>
     requires { IsRightPath around.now (length nodes.old.statuses) path }
     ensures grows { OnOk result (Grows nodes.old nodes.new) }
+    ensures entries { OnOk result (AddsEntries nodes.old nodes.new (path_entry around.now path ∷ [])) }
     ensures stands { IfOk result (λ r. StandsForPath around.now path nodes.new r.node) }
     ensures value { IfOk result (λ r. r.value ≡ record { of = variable_in around.now path.of; at = path.at }) }
 {
@@ -89,6 +92,7 @@ pub fn elaborate_expr(
     requires there { e.0 < length named.now.exprs }
     requires right { IsRight around.now (length nodes.old.statuses) (expr_at (exprs_of named.now) e) }
     ensures grows { OnOk result (Grows nodes.old nodes.new) }
+    ensures entries { OnOk result (AddsEntries nodes.old nodes.new (expr_entries around.now (expr_at (exprs_of named.now) e))) }
     ensures stands { IfOk result (λ r. StandsForExpr around.now (expr_at (exprs_of named.now) e) nodes.new r.node) }
     ensures value { IfOk result (λ r. r.value ≡ value_of around.now (expr_at (exprs_of named.now) e)) }
 {
@@ -112,6 +116,7 @@ pub fn elaborate_element(
     requires there { index.0 < length named.now.exprs }
     requires right { IsRight around.now (length nodes.old.statuses) (tree.index base (expr_at (exprs_of named.now) index) at) }
     ensures grows { OnOk result (Grows nodes.old nodes.new) }
+    ensures entries { OnOk result (AddsEntries nodes.old nodes.new (expr_entries around.now (tree.index base (expr_at (exprs_of named.now) index) at))) }
     ensures stands { IfOk result (λ r. StandsForExpr around.now (tree.index base (expr_at (exprs_of named.now) index) at) nodes.new r.node) }
     ensures value { IfOk result (λ r. r.value ≡ value_of around.now (tree.index base (expr_at (exprs_of named.now) index) at)) }
 {
@@ -133,6 +138,7 @@ fn elaborate_node(
     requires there { e.0 < length named.now.exprs }
     requires right { IsRight around.now (length nodes.old.statuses) (expr_at (exprs_of named.now) e) }
     ensures grows { OnOk result (Grows nodes.old nodes.new) }
+    ensures entries { OnOk result (AddsEntries nodes.old nodes.new (part_entries around.now (expr_at (exprs_of named.now) e))) }
     ensures made { IfOk result (λ n. MakesExpr around.now (expr_at (exprs_of named.now) e) nodes.new n) }
 {
     let node = named.expr(e);
@@ -199,6 +205,7 @@ fn elaborate_index(
     requires there { index.0 < length named.now.exprs }
     requires right { IsRight around.now (length nodes.old.statuses) (tree.index base (expr_at (exprs_of named.now) index) at) }
     ensures grows { OnOk result (Grows nodes.old nodes.new) }
+    ensures entries { OnOk result (AddsEntries nodes.old nodes.new (part_entries around.now (tree.index base (expr_at (exprs_of named.now) index) at))) }
     ensures made { IfOk result (λ n. MakesExpr around.now (tree.index base (expr_at (exprs_of named.now) index) at) nodes.new n) }
 {
     match elaborate_path(alloc, nodes, around, base) {
@@ -238,6 +245,7 @@ fn elaborate_slice(
     requires to { IsBelow (length named.now.exprs) to }
     requires right { IsRight around.now (length nodes.old.statuses) (tree.slice base (part_at (exprs_of named.now) from) (part_at (exprs_of named.now) to) at) }
     ensures grows { OnOk result (Grows nodes.old nodes.new) }
+    ensures entries { OnOk result (AddsEntries nodes.old nodes.new (part_entries around.now (tree.slice base (part_at (exprs_of named.now) from) (part_at (exprs_of named.now) to) at))) }
     ensures made { IfOk result (λ n. MakesExpr around.now (tree.slice base (part_at (exprs_of named.now) from) (part_at (exprs_of named.now) to) at) nodes.new n) }
 {
     match elaborate_path(alloc, nodes, around, base) {
@@ -277,6 +285,7 @@ fn elaborate_ends(
     requires from_right { IsRightEnd around.now (length nodes.old.statuses) (part_at (exprs_of named.now) from) }
     requires to_right { IsRightEnd around.now (length nodes.old.statuses) (part_at (exprs_of named.now) to) }
     ensures grows { OnOk result (Grows nodes.old nodes.new) }
+    ensures entries { OnOk result (AddsEntries nodes.old nodes.new (end_entries around.now (part_at (exprs_of named.now) from) ++ end_entries around.now (part_at (exprs_of named.now) to))) }
     ensures from { IfOk result (λ r. StandsForEnd around.now (part_at (exprs_of named.now) from) nodes.new r.0) }
     ensures to { IfOk result (λ r. StandsForEnd around.now (part_at (exprs_of named.now) to) nodes.new r.1) }
 {
@@ -303,6 +312,7 @@ fn elaborate_end(
     requires there { IsBelow (length named.now.exprs) end }
     requires right { IsRightEnd around.now (length nodes.old.statuses) (part_at (exprs_of named.now) end) }
     ensures grows { OnOk result (Grows nodes.old nodes.new) }
+    ensures entries { OnOk result (AddsEntries nodes.old nodes.new (end_entries around.now (part_at (exprs_of named.now) end))) }
     ensures stands { IfOk result (λ r. StandsForEnd around.now (part_at (exprs_of named.now) end) nodes.new r) }
 {
     match end {
@@ -325,6 +335,7 @@ fn elaborate_answer(
 ) -> Result<MadeNode, NoMemory>
     requires { IsRightAnswer around.now (length nodes.old.statuses) call.now }
     ensures grows { OnOk result (Grows nodes.old nodes.new) }
+    ensures entries { OnOk result (AddsEntries nodes.old nodes.new (callee_entries around.now call.now.callee)) }
     ensures made { IfOk result (λ n. (args : _) → MakesExpr around.now (tree.answer (tree.call call.now.callee call.now.at call.now.mark args)) nodes.new n) }
 {
     match call.callee {
@@ -365,6 +376,7 @@ fn elaborate_chain(
     requires links { LinksBelow (length named.now.exprs) links.now }
     requires right { IsRight around.now (length nodes.old.statuses) (tree.chain op (expr_at (exprs_of named.now) first) (links_at (exprs_of named.now) links.now) at) }
     ensures grows { OnOk result (Grows nodes.old nodes.new) }
+    ensures entries { OnOk result (AddsEntries nodes.old nodes.new (part_entries around.now (tree.chain op (expr_at (exprs_of named.now) first) (links_at (exprs_of named.now) links.now) at))) }
     ensures made { IfOk result (λ n. MakesExpr around.now (tree.chain op (expr_at (exprs_of named.now) first) (links_at (exprs_of named.now) links.now) at) nodes.new n) }
 {
     match elaborate_operands(alloc, nodes, named, around, first, links) {
@@ -398,6 +410,7 @@ fn elaborate_operands(
     requires first_right { IsRight around.now (length nodes.old.statuses) (expr_at (exprs_of named.now) first) }
     requires right { AreRight around.now (length nodes.old.statuses) (links_at (exprs_of named.now) links.now) }
     ensures grows { OnOk result (Grows nodes.old nodes.new) }
+    ensures entries { OnOk result (AddsEntries nodes.old nodes.new (expr_entries around.now (expr_at (exprs_of named.now) first) ++ link_entries around.now (links_at (exprs_of named.now) links.now))) }
     ensures all { IfOk result (λ all. AreOperands around.now (expr_at (exprs_of named.now) first) (links_at (exprs_of named.now) links.now) nodes.new all) }
 {
     match elaborate_operand(alloc, no_operand(alloc), nodes, named, around, first) {
@@ -424,6 +437,7 @@ fn elaborate_operand(
     requires there { e.0 < length named.now.exprs }
     requires right { IsRight around.now (length nodes.old.statuses) (expr_at (exprs_of named.now) e) }
     ensures grows { OnOk result (Grows nodes.old nodes.new) }
+    ensures entries { OnOk result (AddsEntries nodes.old nodes.new (expr_entries around.now (expr_at (exprs_of named.now) e))) }
     ensures adds { IfOk result (λ all. AddsOperand around.now (expr_at (exprs_of named.now) e) nodes.new before all) }
 {
     match elaborate_expr(alloc, nodes, named, around, e) {
@@ -445,6 +459,7 @@ fn elaborate_links(
     requires there { LinksBelow (length named.now.exprs) links.now }
     requires right { AreRight around.now (length nodes.old.statuses) (links_at (exprs_of named.now) links.now) }
     ensures grows { OnOk result (Grows nodes.old nodes.new) }
+    ensures entries { OnOk result (AddsEntries nodes.old nodes.new (link_entries around.now (links_at (exprs_of named.now) links.now))) }
     ensures adds { IfOk result (λ all. AddsLinks around.now (links_at (exprs_of named.now) links.now) nodes.new before all) }
 {
     let mut all = before;
@@ -470,6 +485,7 @@ fn elaborate_link(
     requires there { link.operand.0 < length named.now.exprs }
     requires right { IsRight around.now (length nodes.old.statuses) (expr_at (exprs_of named.now) link.operand) }
     ensures grows { OnOk result (Grows nodes.old nodes.new) }
+    ensures entries { OnOk result (AddsEntries nodes.old nodes.new (expr_entries around.now (expr_at (exprs_of named.now) link.operand))) }
     ensures adds { IfOk result (λ all. AddsOperand around.now (expr_at (exprs_of named.now) link.operand) nodes.new (record before { signs = before.signs ++ link.sign ∷ [] }) all) }
 {
     match with_sign(before, link.sign) {
@@ -492,6 +508,7 @@ fn elaborate_convert(
     requires there { of.0 < length named.now.exprs }
     requires right { IsRight around.now (length nodes.old.statuses) (tree.convert (expr_at (exprs_of named.now) of) (type_at (exprs_of named.now) to.now) at) }
     ensures grows { OnOk result (Grows nodes.old nodes.new) }
+    ensures entries { OnOk result (AddsEntries nodes.old nodes.new (part_entries around.now (tree.convert (expr_at (exprs_of named.now) of) (type_at (exprs_of named.now) to.now) at))) }
     ensures made { IfOk result (λ n. MakesExpr around.now (tree.convert (expr_at (exprs_of named.now) of) (type_at (exprs_of named.now) to.now) at) nodes.new n) }
 {
     match plain_width(to) {
@@ -528,6 +545,7 @@ fn elaborate_negation(
     requires there { of.0 < length named.now.exprs }
     requires right { IsRight around.now (length nodes.old.statuses) (tree.negation (expr_at (exprs_of named.now) of) at) }
     ensures grows { OnOk result (Grows nodes.old nodes.new) }
+    ensures entries { OnOk result (AddsEntries nodes.old nodes.new (part_entries around.now (tree.negation (expr_at (exprs_of named.now) of) at))) }
     ensures made { IfOk result (λ n. MakesExpr around.now (tree.negation (expr_at (exprs_of named.now) of) at) nodes.new n) }
 {
     match elaborate_expr(alloc, nodes, named, around, of) {

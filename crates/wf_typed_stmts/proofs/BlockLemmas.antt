@@ -22,10 +22,13 @@ use Rattle.wf_typed_tree.specs.ElaboratedExprs.{expr_tree}
 use Rattle.wf_typed_tree.specs.ElaboratedStmts.{count_stmt, count_block, count_arms, stmt_tree, block_tree, arms_tree}
 use Rattle.wf_typed_tree.specs.Grammar.{has_condition}
 use Rattle.wf_typed_tree.proofs.NumberLemmas.{and-true}
+use Rattle.wf_typed_tree.specs.Entries.{expr_entries, stmt_entries, block_entries, arms_entries}
+use Rattle.wf_typed_exprs.specs.Growth.{AddsEntries}
 use Rattle.wf_typed_exprs.specs.Right.{IsRight}
 use Rattle.wf_typed_stmts.specs.Blocks.{arms_onto, arm_exists, StandsForArm, StandForArms, else_made}
 use Rattle.wf_typed_stmts.specs.Right.{Known, IsRightStmt, IsRightBlock, AreRightArms}
 use Rattle.wf_typed_stmts.specs.StmtGrowth.{GrowsStmts, Adds, IsBegun, StandsForStmt, StandsForBlock}
+use Rattle.wf_typed_stmts.proofs.EntryLemmas.{EntriesTo, entries_to_next, entries_to_end}
 use Rattle.wf_typed_stmts.proofs.GrowthLemmas.{below, less, all_more, expr_more, tree_kept, maker_kept, adds_self, adds_more}
 use Rattle.wf_typed_stmts.proofs.ListLemmas.{all_push}
 
@@ -96,13 +99,14 @@ pub record StmtsMade (s : Setting) (k : Known) (loops : List ℕ) (named : Named
   pub count : length q.stmts + count_block (items_at ts (drop i items) at) ≡ length p.stmts + count_block (items_at ts items at)
   pub trees : onto_all (onto (stmt_makers q)) made (block_tree s loops (length q.stmts) (items_at ts (drop i items) at)) ≡ block_tree s loops (length p.stmts) (items_at ts items at)
   pub right : IsRightBlock s k (length loops) (items_at ts (drop i items) at)
+  pub entries : EntriesTo p q (block_entries s (items_at ts (drop i items) at)) (block_entries s (items_at ts items at))
 
 module _ (s : Setting) (k : Known) (loops : List ℕ) (named : NamedParts) (ts : List NamedStmtTree) (at : Place) where
   pub stmts_start : (items : List StmtId) (p : TypedNodes) (made : List StmtId) → made ≡ [] → IsBegun named p → IsRightBlock s k (length loops) (items_at ts items at)
       → StmtsMade s k loops named ts at items 0 p p made
   stmts_start items p made e b r =
       let P : List StmtId → Type 0 = λ m. StmtsMade s k loops named ts at items 0 p p m in
-      let none : StmtsMade s k loops named ts at items 0 p p [] = record { adds = adds_self loops p; begun = b; there = refl; count = refl; trees = refl; right = r } in
+      let none : StmtsMade s k loops named ts at items 0 p p [] = record { adds = adds_self loops p; begun = b; there = refl; count = refl; trees = refl; right = r; entries = λ after h. h } in
       subst P (sym e) none
 
   pub stmt_right : (items : List StmtId) (i : ℕ) (d : StmtId) → i < length items → IsRightBlock s k (length loops) (items_at ts (drop i items) at)
@@ -110,8 +114,9 @@ module _ (s : Setting) (k : Known) (loops : List ℕ) (named : NamedParts) (ts :
   stmt_right items i d h r = let P : List StmtId → Type 0 = λ xs. IsRightBlock s k (length loops) (items_at ts xs at) in subst P (drop-one items i d h) r
 
   pub stmts_added : (items : List StmtId) (i : ℕ) (p q r : TypedNodes) (made : List StmtId) (d id : StmtId) → i < length items → StmtsMade s k loops named ts at items i p q made
-      → Adds loops q r → IsBegun named r → StandsForStmt s loops (length q.stmts) (stmt_at ts (slice_index_or items i d)) r id → StmtsMade s k loops named ts at items (i + 1) p r (made ++ id ∷ [])
-  stmts_added items i p q r made d id h m g b is =
+      → Adds loops q r → IsBegun named r → StandsForStmt s loops (length q.stmts) (stmt_at ts (slice_index_or items i d)) r id → AddsEntries q r (stmt_entries s (stmt_at ts (slice_index_or items i d)))
+      → StmtsMade s k loops named ts at items (i + 1) p r (made ++ id ∷ [])
+  stmts_added items i p q r made d id h m g b is one =
       let x = stmt_at ts (slice_index_or items i d) in
       let others = items_at ts (drop (i + 1) items) at in
       let Q = onto (stmt_makers q) in
@@ -133,7 +138,15 @@ module _ (s : Setting) (k : Known) (loops : List ℕ) (named : NamedParts) (ts :
         count = omega (arith, is.count, m.count, split);
         trees = trees;
         right = (stmt_right items i d h m.right).1;
+        entries =
+            entries_to_next p q r (stmt_entries s x) (block_entries s others) (block_entries s (items_at ts (drop i items) at)) (block_entries s (items_at ts items at)) m.entries
+            (ap (λ xs. block_entries s (items_at ts xs at)) (drop-one items i d h)) one;
       }
+
+  pub stmts_entries : (items : List StmtId) (i : ℕ) (p q : TypedNodes) (made : List StmtId) → drop i items ≡ [] → StmtsMade s k loops named ts at items i p q made
+      → AddsEntries p q (block_entries s (items_at ts items at))
+  stmts_entries items i p q made over m =
+      entries_to_end p q (block_entries s (items_at ts (drop i items) at)) (block_entries s (items_at ts items at)) m.entries (ap (λ xs. block_entries s (items_at ts xs at)) over)
 
   pub stmts_all_made : (items : List StmtId) (i : ℕ) (p q : TypedNodes) (made : List StmtId) → drop i items ≡ [] → StmtsMade s k loops named ts at items i p q made
       → StandsForBlock s loops (length p.stmts) (items_at ts items at) q (record { items = made })
@@ -179,6 +192,7 @@ pub record ArmsMade (s : Setting) (k : Known) (loops : List ℕ) (named : NamedP
       → arms_onto (tree_of q) (onto (stmt_makers q)) of chained made (λ behind more. arms_tree s loops (length q.stmts) of behind (arms_at es ts (drop i arms) last) more) rest
       ≡ arms_tree s loops (length p.stmts) of chained (arms_at es ts arms last) rest
   pub right : AreRightArms s k (length loops) (arms_at es ts (drop i arms) no_else)
+  pub entries : EntriesTo p q (arms_entries s (arms_at es ts (drop i arms) no_else)) (arms_entries s (arms_at es ts arms no_else))
   pub long : length made ≡ i
 
 module _ (s : Setting) (k : Known) (loops : List ℕ) (named : NamedParts) (es : List NamedExprTree) (ts : List NamedStmtTree) where
@@ -187,7 +201,7 @@ module _ (s : Setting) (k : Known) (loops : List ℕ) (named : NamedParts) (es :
   arms_start arms p made e b r =
       let P : List Arm → Type 0 = λ m. ArmsMade s k loops named es ts arms 0 p p m in
       let none : ArmsMade s k loops named es ts arms 0 p p [] =
-      record { adds = adds_self loops p; begun = b; there = refl; count = λ last. refl; makes = λ of chained last rest. refl; right = r; long = refl } in
+      record { adds = adds_self loops p; begun = b; there = refl; count = λ last. refl; makes = λ of chained last rest. refl; right = r; entries = λ after h. h; long = refl } in
       subst P (sym e) none
 
   module _ (arms : List parsed.Arm) (i : ℕ) (x : parsed.Arm) (item : x ≡ slice_index_or arms i x) (h : i < length arms) where
@@ -199,8 +213,9 @@ module _ (s : Setting) (k : Known) (loops : List ℕ) (named : NamedParts) (es :
     arm_right r = let P : List parsed.Arm → Type 0 = λ xs. AreRightArms s k (length loops) (arms_at es ts xs no_else) in subst P split r
 
     pub arms_added : (p q r : TypedNodes) (made : List Arm) (a : Arm) → ArmsMade s k loops named es ts arms i p q made → Adds loops q r → IsBegun named r
-        → StandsForArm s loops (length q.stmts) (expr_at es x.condition) (block_at ts x.body) r a → ArmsMade s k loops named es ts arms (i + 1) p r (made ++ a ∷ [])
-    arms_added p q r made a m g b is =
+        → StandsForArm s loops (length q.stmts) (expr_at es x.condition) (block_at ts x.body) r a
+        → AddsEntries q r (expr_entries s (expr_at es x.condition) ++ block_entries s (block_at ts x.body)) → ArmsMade s k loops named es ts arms (i + 1) p r (made ++ a ∷ [])
+    arms_added p q r made a m g b is added =
         let Q = onto (stmt_makers q) in
         let R = onto (stmt_makers r) in
         let here : (last : NamedArmTrees) → count_arms (arms_at es ts (drop i arms) last) ≡ count_block (block_at ts x.body) + count_arms (arms_at es ts (drop (i + 1) arms) last) =
@@ -229,8 +244,16 @@ module _ (s : Setting) (k : Known) (loops : List ℕ) (named : NamedParts) (es :
           count = λ last. let e = m.count last in let f = here last in omega (arith, e, f, is.count);
           makes = makes;
           right = (arm_right m.right).1.1;
+          entries =
+              entries_to_next p q r (expr_entries s (expr_at es x.condition) ++ block_entries s (block_at ts x.body)) (arms_entries s (arms_at es ts (drop (i + 1) arms) no_else))
+              (arms_entries s (arms_at es ts (drop i arms) no_else)) (arms_entries s (arms_at es ts arms no_else)) m.entries (ap (λ xs. arms_entries s (arms_at es ts xs no_else)) split) added;
           long = omega (arith, m.long, length-append made (a ∷ []));
         }
+
+  pub arms_entries_made : (arms : List parsed.Arm) (i : ℕ) (p q : TypedNodes) (made : List Arm) → drop i arms ≡ [] → ArmsMade s k loops named es ts arms i p q made
+      → AddsEntries p q (arms_entries s (arms_at es ts arms no_else))
+  arms_entries_made arms i p q made over m =
+      entries_to_end p q (arms_entries s (arms_at es ts (drop i arms) no_else)) (arms_entries s (arms_at es ts arms no_else)) m.entries (ap (λ xs. arms_entries s (arms_at es ts xs no_else)) over)
 
   pub arms_all_made : (arms : List parsed.Arm) (i : ℕ) (p q : TypedNodes) (made : List Arm) → drop i arms ≡ [] → i ≡ length arms → ArmsMade s k loops named es ts arms i p q made
       → StandForArms s loops (length p.stmts) es ts arms q made

@@ -1,4 +1,5 @@
 pub mod BlockLemmas
+pub mod EntryLemmas
 pub mod GrowthLemmas
 pub mod HeadLemmas
 pub mod ListLemmas

@@ -21,10 +21,13 @@ use Rattle.wf_types_exprs.proofs.ListLemmas.{drop-one}
 use Rattle.wf_typed_tree.specs.ElaboratedExprs.{expr_tree, arg_trees}
 use Rattle.wf_typed_tree.specs.ElaboratedStmts.{clause_trees, letter_trees}
 use Rattle.wf_typed_tree.proofs.NumberLemmas.{and-true}
+use Rattle.wf_typed_tree.specs.Entries.{expr_entries, handed_entries, arg_entries, clause_entries, letter_entries}
+use Rattle.wf_typed_exprs.specs.Growth.{AddsEntries}
 use Rattle.wf_typed_exprs.specs.Right.{IsRight}
 use Rattle.wf_typed_stmts.specs.Parts.{HasTree, StandForArgs, conditions_made, StandForClauses, letter_exists, letters_made, StandForLetters}
 use Rattle.wf_typed_stmts.specs.Right.{Known, IsRightArg, AreRightArgs, AreRightClauses, AreRightLetters}
 use Rattle.wf_typed_stmts.specs.StmtGrowth.{GrowsExprs, IsBegun}
+use Rattle.wf_typed_stmts.proofs.EntryLemmas.{EntriesTo, entries_to_next, entries_to_end}
 use Rattle.wf_typed_stmts.proofs.GrowthLemmas.{less, exprs_self, exprs_more_still, exprs_more, conditions_more, letters_more, stmts_of_exprs, tree_kept}
 
 -- Items in front of others.
@@ -47,12 +50,13 @@ pub record ArgsMade (s : Setting) (k : Known) (named : NamedParts) (es : List Na
   pub there : list_all (is_expr q) made ≡ true
   pub trees : map (tree_of q) made ++ arg_trees s (args_at es (drop i args)) ≡ arg_trees s (args_at es args)
   pub right : AreRightArgs s k (args_at es (drop i args))
+  pub entries : EntriesTo p q (arg_entries s (args_at es (drop i args))) (arg_entries s (args_at es args))
 
 module _ (s : Setting) (k : Known) (named : NamedParts) (es : List NamedExprTree) where
   pub args_start : (args : List ExprId) (p : TypedNodes) (made : List ExprId) → made ≡ [] → IsBegun named p → AreRightArgs s k (args_at es args) → ArgsMade s k named es args 0 p p made
   args_start args p made e b r =
       let P : List ExprId → Type 0 = λ m. ArgsMade s k named es args 0 p p m in
-      let none : ArgsMade s k named es args 0 p p [] = record { grows = exprs_self p; begun = b; there = refl; trees = refl; right = r } in
+      let none : ArgsMade s k named es args 0 p p [] = record { grows = exprs_self p; begun = b; there = refl; trees = refl; right = r; entries = λ after h. h } in
       subst P (sym e) none
 
   pub arg_right : (args : List ExprId) (i : ℕ) (d : ExprId) → i < length args → AreRightArgs s k (args_at es (drop i args))
@@ -60,8 +64,8 @@ module _ (s : Setting) (k : Known) (named : NamedParts) (es : List NamedExprTree
   arg_right args i d h r = let P : List ExprId → Type 0 = λ xs. AreRightArgs s k (args_at es xs) in subst P (drop-one args i d h) r
 
   pub args_added : (args : List ExprId) (i : ℕ) (p q r : TypedNodes) (made : List ExprId) (d e : ExprId) → i < length args → ArgsMade s k named es args i p q made → GrowsExprs q r → IsBegun named r
-      → HasTree (expr_tree s (expr_at es (slice_index_or args i d))) r e → ArgsMade s k named es args (i + 1) p r (made ++ e ∷ [])
-  args_added args i p q r made d e h m g b is =
+      → HasTree (expr_tree s (expr_at es (slice_index_or args i d))) r e → AddsEntries q r (handed_entries s (expr_at es (slice_index_or args i d))) → ArgsMade s k named es args (i + 1) p r (made ++ e ∷ [])
+  args_added args i p q r made d e h m g b is one =
       let x = expr_at es (slice_index_or args i d) in
       let rest = arg_trees s (args_at es (drop (i + 1) args)) in
       let grown = stmts_of_exprs q r g in
@@ -75,7 +79,14 @@ module _ (s : Setting) (k : Known) (named : NamedParts) (es : List NamedExprTree
         trees =
             ap (λ ts. ts ++ rest) (map-append (tree_of r) made (e ∷ [])) ∙ chained (map (tree_of r) made) (map (tree_of q) made) (tree_of r e) (expr_tree s x) rest (arg_trees s (args_at es args)) old is.is here;
         right = (arg_right args i d h m.right).1;
+        entries =
+            entries_to_next p q r (handed_entries s x) (arg_entries s (args_at es (drop (i + 1) args))) (arg_entries s (args_at es (drop i args))) (arg_entries s (args_at es args)) m.entries
+            (ap (λ xs. arg_entries s (args_at es xs)) (drop-one args i d h)) one;
       }
+
+  pub args_entries : (args : List ExprId) (i : ℕ) (p q : TypedNodes) (made : List ExprId) → drop i args ≡ [] → ArgsMade s k named es args i p q made → AddsEntries p q (arg_entries s (args_at es args))
+  args_entries args i p q made over m =
+      entries_to_end p q (arg_entries s (args_at es (drop i args))) (arg_entries s (args_at es args)) m.entries (ap (λ xs. arg_entries s (args_at es xs)) over)
 
   pub args_made : (args : List ExprId) (i : ℕ) (p q : TypedNodes) (made : List ExprId) → drop i args ≡ [] → ArgsMade s k named es args i p q made → StandForArgs s (args_at es args) q made
   args_made args i p q made over m = record {
@@ -90,13 +101,14 @@ pub record ClausesMade (s : Setting) (k : Known) (named : NamedParts) (es : List
   pub there : list_all (λ c. is_expr q c.1) made ≡ true
   pub trees : conditions_made (tree_of q) made ++ clause_trees s (clauses_at es (drop i clauses)) ≡ clause_trees s (clauses_at es clauses)
   pub right : AreRightClauses s k (clauses_at es (drop i clauses))
+  pub entries : EntriesTo p q (clause_entries s (clauses_at es (drop i clauses))) (clause_entries s (clauses_at es clauses))
 
 module _ (s : Setting) (k : Known) (named : NamedParts) (es : List NamedExprTree) where
   pub clauses_start : (clauses : List LoopClause) (p : TypedNodes) (made : List (Clause × ExprId)) → made ≡ [] → IsBegun named p → AreRightClauses s k (clauses_at es clauses)
       → ClausesMade s k named es clauses 0 p p made
   clauses_start clauses p made e b r =
       let P : List (Clause × ExprId) → Type 0 = λ m. ClausesMade s k named es clauses 0 p p m in
-      let none : ClausesMade s k named es clauses 0 p p [] = record { grows = exprs_self p; begun = b; there = refl; trees = refl; right = r } in
+      let none : ClausesMade s k named es clauses 0 p p [] = record { grows = exprs_self p; begun = b; there = refl; trees = refl; right = r; entries = λ after h. h } in
       subst P (sym e) none
 
   pub clause_right : (clauses : List LoopClause) (i : ℕ) (d : LoopClause) → i < length clauses → AreRightClauses s k (clauses_at es (drop i clauses))
@@ -105,8 +117,9 @@ module _ (s : Setting) (k : Known) (named : NamedParts) (es : List NamedExprTree
 
   pub clauses_added : (clauses : List LoopClause) (i : ℕ) (p q r : TypedNodes) (made : List (Clause × ExprId)) (d : LoopClause) (e : ExprId) → i < length clauses
       → ClausesMade s k named es clauses i p q made → GrowsExprs q r → IsBegun named r
-      → HasTree (expr_tree s (expr_at es (slice_index_or clauses i d).condition)) r e → ClausesMade s k named es clauses (i + 1) p r (made ++ ((slice_index_or clauses i d).kind, e) ∷ [])
-  clauses_added clauses i p q r made d e h m g b is =
+      → HasTree (expr_tree s (expr_at es (slice_index_or clauses i d).condition)) r e → AddsEntries q r (expr_entries s (expr_at es (slice_index_or clauses i d).condition))
+      → ClausesMade s k named es clauses (i + 1) p r (made ++ ((slice_index_or clauses i d).kind, e) ∷ [])
+  clauses_added clauses i p q r made d e h m g b is added =
       let x = slice_index_or clauses i d in
       let one : Clause × ExprId = (x.kind, e) in
       let C : (ExprId → ValueTree) → Clause × ExprId → Clause × CondTree = λ look c. (c.0, cond_in (look c.1)) in
@@ -125,7 +138,15 @@ module _ (s : Setting) (k : Known) (named : NamedParts) (es : List NamedExprTree
             ap (λ ts. ts ++ rest) (map-append (C (tree_of r)) made (one ∷ []))
             ∙ chained (conditions_made (tree_of r) made) (conditions_made (tree_of q) made) (C (tree_of r) one) (C (λ z. expr_tree s (expr_at es x.condition)) one) rest (clause_trees s (clauses_at es clauses)) old new here;
         right = (clause_right clauses i d h m.right).1;
+        entries =
+            entries_to_next p q r (expr_entries s (expr_at es x.condition)) (clause_entries s (clauses_at es (drop (i + 1) clauses))) (clause_entries s (clauses_at es (drop i clauses)))
+            (clause_entries s (clauses_at es clauses)) m.entries (ap (λ xs. clause_entries s (clauses_at es xs)) (drop-one clauses i d h)) added;
       }
+
+  pub clauses_entries : (clauses : List LoopClause) (i : ℕ) (p q : TypedNodes) (made : List (Clause × ExprId)) → drop i clauses ≡ [] → ClausesMade s k named es clauses i p q made
+      → AddsEntries p q (clause_entries s (clauses_at es clauses))
+  clauses_entries clauses i p q made over m =
+      entries_to_end p q (clause_entries s (clauses_at es (drop i clauses))) (clause_entries s (clauses_at es clauses)) m.entries (ap (λ xs. clause_entries s (clauses_at es xs)) over)
 
   pub clauses_made : (clauses : List LoopClause) (i : ℕ) (p q : TypedNodes) (made : List (Clause × ExprId)) → drop i clauses ≡ [] → ClausesMade s k named es clauses i p q made
       → StandForClauses s (clauses_at es clauses) q made
@@ -151,13 +172,14 @@ pub record LettersMade (s : Setting) (k : Known) (named : NamedParts) (es : List
   pub there : list_all (letter_exists q) made ≡ true
   pub trees : letters_made q (tree_of q) made ++ letter_trees s (letters_at named.texts es (drop i given)) ≡ letter_trees s (letters_at named.texts es given)
   pub right : AreRightLetters s k (letters_at named.texts es (drop i given))
+  pub entries : EntriesTo p q (letter_entries s (letters_at named.texts es (drop i given))) (letter_entries s (letters_at named.texts es given))
 
 module _ (s : Setting) (k : Known) (named : NamedParts) (es : List NamedExprTree) where
   pub letters_start : (given : List Given) (p : TypedNodes) (made : List (TextId × ExprId)) → made ≡ [] → IsBegun named p → AreRightLetters s k (letters_at named.texts es given)
       → LettersMade s k named es given 0 p p made
   letters_start given p made e b r =
       let P : List (TextId × ExprId) → Type 0 = λ m. LettersMade s k named es given 0 p p m in
-      let none : LettersMade s k named es given 0 p p [] = record { grows = exprs_self p; begun = b; there = refl; trees = refl; right = r } in
+      let none : LettersMade s k named es given 0 p p [] = record { grows = exprs_self p; begun = b; there = refl; trees = refl; right = r; entries = λ after h. h } in
       subst P (sym e) none
 
   pub letter_right : (given : List Given) (i : ℕ) (d : Given) → i < length given → AreRightLetters s k (letters_at named.texts es (drop i given))
@@ -166,8 +188,9 @@ module _ (s : Setting) (k : Known) (named : NamedParts) (es : List NamedExprTree
 
   pub letters_added : (given : List Given) (i : ℕ) (p q r : TypedNodes) (made : List (TextId × ExprId)) (d : Given) (e : ExprId) → i < length given
       → (slice_index_or given i d).name.text.0 < length named.texts → LettersMade s k named es given i p q made → GrowsExprs q r → IsBegun named r
-      → HasTree (expr_tree s (expr_at es (slice_index_or given i d).value)) r e → LettersMade s k named es given (i + 1) p r (made ++ ((slice_index_or given i d).name.text, e) ∷ [])
-  letters_added given i p q r made d e h low m g b is =
+      → HasTree (expr_tree s (expr_at es (slice_index_or given i d).value)) r e → AddsEntries q r (expr_entries s (expr_at es (slice_index_or given i d).value))
+      → LettersMade s k named es given (i + 1) p r (made ++ ((slice_index_or given i d).name.text, e) ∷ [])
+  letters_added given i p q r made d e h low m g b is added =
       let x = slice_index_or given i d in
       let one : TextId × ExprId = (x.name.text, e) in
       let L : TypedNodes → TextId × ExprId → List ℕ × NumTree = λ nodes c. (text_of nodes c.0, num_in (tree_of nodes c.1)) in
@@ -191,7 +214,16 @@ module _ (s : Setting) (k : Known) (named : NamedParts) (es : List NamedExprTree
         there = all_push (letter_exists r) made one (letters_more q r g.exprs.exprs methods texts statuses made m.there) (and-true (nat_lt x.name.text.0 (length r.texts)) (is_expr r e) low_there is.there);
         trees = ap (λ ts. ts ++ rest) (map-append (L r) made (one ∷ [])) ∙ chained (letters_made r (tree_of r) made) (letters_made q (tree_of q) made) (L r one) Y rest (letter_trees s (letters_at named.texts es given)) old new here;
         right = (letter_right given i d h m.right).1;
+        entries =
+            entries_to_next p q r (expr_entries s (expr_at es x.value)) (letter_entries s (letters_at named.texts es (drop (i + 1) given))) (letter_entries s (letters_at named.texts es (drop i given)))
+            (letter_entries s (letters_at named.texts es given)) m.entries (ap (λ xs. letter_entries s (letters_at named.texts es xs)) (drop-one given i d h)) added;
       }
+
+  pub letters_entries : (given : List Given) (i : ℕ) (p q : TypedNodes) (made : List (TextId × ExprId)) → drop i given ≡ [] → LettersMade s k named es given i p q made
+      → AddsEntries p q (letter_entries s (letters_at named.texts es given))
+  letters_entries given i p q made over m =
+      entries_to_end p q (letter_entries s (letters_at named.texts es (drop i given))) (letter_entries s (letters_at named.texts es given)) m.entries
+      (ap (λ xs. letter_entries s (letters_at named.texts es xs)) over)
 
   pub letters_all_made : (given : List Given) (i : ℕ) (p q : TypedNodes) (made : List (TextId × ExprId)) → drop i given ≡ [] → LettersMade s k named es given i p q made
       → StandForLetters s (letters_at named.texts es given) q made

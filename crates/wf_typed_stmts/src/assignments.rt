@@ -1,6 +1,6 @@
 // Assignments: `=`, operators with `=`, and `=?`.
 
-ghost use Rattle.std.specs.Prelude.{◌≡◌, ◌<◌, true, None, Some, length, IfOk, OnOk};
+ghost use Rattle.std.specs.Prelude.{◌≡◌, ◌<◌, true, None, Some, length, IfOk, OnOk, ◌++◌, ◌∷◌, []};
 ghost use Rattle.wf_named.specs.NamedParts.{exprs_of, named_package, ArgsBelow, NamedTargetBelow};
 ghost use Rattle.wf_named.specs.NamedTrees.{expr_at, call_at, target_at};
 ghost use Rattle.wf_ast.specs.TypedTree as typed;
@@ -8,6 +8,8 @@ ghost use Rattle.wf_ast.specs.TypedTrees.{target_of, tree_of};
 ghost use Rattle.wf_ast.specs.TypedInvariant.{is_expr};
 ghost use Rattle.wf_typed_tree.specs.ElaboratedExprs.{expr_tree};
 ghost use Rattle.wf_typed_tree.specs.ElaboratedStmts.{target_tree, call_tree, assign_tree};
+ghost use Rattle.wf_typed_tree.specs.Entries.{expr_entries, target_entries, call_entries, assigned_entries, update_entry, assign_entries};
+ghost use Rattle.wf_typed_exprs.specs.Growth.{AddsEntries};
 ghost use Rattle.wf_typed_stmts.specs.Parts.{value_assigned, MakesSimple};
 ghost use Rattle.wf_typed_stmts.specs.Right.{known_in, is_answer as is_pure_answer, IsRightCall, IsRightValue, IsRightTarget, IsRightUpdate, IsRightSide};
 ghost use Rattle.wf_typed_stmts.specs.StmtGrowth.{IsBegun, GrowsExprs};
@@ -52,6 +54,7 @@ fn add_assigned(
     requires begun { IsBegun named.now nodes.old }
     requires right { IsRight around.now (known_in (named_package named.now)).statuses (expr_at (exprs_of named.now) e) }
     ensures grows { OnOk result (GrowsExprs nodes.old nodes.new) }
+    ensures entries { OnOk result (AddsEntries nodes.old nodes.new (expr_entries around.now (expr_at (exprs_of named.now) e))) }
     ensures begun { OnOk result (IsBegun named.now nodes.new) }
     ensures made { IfOk result (λ n. MakesSimple (typed.assign (target_of (tree_of nodes.old target)) None (expr_tree around.now (expr_at (exprs_of named.now) e))) at nodes.new n) }
 {
@@ -84,6 +87,7 @@ fn add_right(
     requires begun { IsBegun named.now nodes.old }
     requires right { IsRightValue around.now (known_in (named_package named.now)) (expr_at (exprs_of named.now) e) }
     ensures grows { OnOk result (GrowsExprs nodes.old nodes.new) }
+    ensures entries { OnOk result (AddsEntries nodes.old nodes.new (assigned_entries around.now (expr_at (exprs_of named.now) e))) }
     ensures begun { OnOk result (IsBegun named.now nodes.new) }
     ensures made { IfOk result (λ n. MakesSimple (value_assigned around.now (target_of (tree_of nodes.old target)) (expr_at (exprs_of named.now) e)) at nodes.new n) }
 {
@@ -115,6 +119,7 @@ fn add_equal(
     requires target_right { IsRightTarget around.now (known_in (named_package named.now)) (target_at (exprs_of named.now) target) }
     requires right { IsRightValue around.now (known_in (named_package named.now)) (expr_at (exprs_of named.now) e) }
     ensures grows { OnOk result (GrowsExprs nodes.old nodes.new) }
+    ensures entries { OnOk result (AddsEntries nodes.old nodes.new (target_entries around.now (target_at (exprs_of named.now) target) ++ assigned_entries around.now (expr_at (exprs_of named.now) e))) }
     ensures begun { OnOk result (IsBegun named.now nodes.new) }
     ensures made { IfOk result (λ n. MakesSimple (value_assigned around.now (target_tree around.now (target_at (exprs_of named.now) target)) (expr_at (exprs_of named.now) e)) at nodes.new n) }
 {
@@ -142,6 +147,7 @@ fn add_update(
     requires target_right { IsRightTarget around.now (known_in (named_package named.now)) (target_at (exprs_of named.now) target) }
     requires right { IsRightUpdate around.now (known_in (named_package named.now)) (target_at (exprs_of named.now) target) op (expr_at (exprs_of named.now) e) }
     ensures grows { OnOk result (GrowsExprs nodes.old nodes.new) }
+    ensures entries { OnOk result (AddsEntries nodes.old nodes.new (target_entries around.now (target_at (exprs_of named.now) target) ++ (expr_entries around.now (expr_at (exprs_of named.now) e) ++ update_entry around.now (target_at (exprs_of named.now) target) sign ∷ []))) }
     ensures begun { OnOk result (IsBegun named.now nodes.new) }
     ensures made { IfOk result (λ n. MakesSimple (assign_tree around.now (target_at (exprs_of named.now) target) (Some op) sign (expr_at (exprs_of named.now) e)) at nodes.new n) }
 {
@@ -189,6 +195,7 @@ pub fn add_assign(
     requires target_right { IsRightTarget around.now (known_in (named_package named.now)) (target_at (exprs_of named.now) target) }
     requires right { IsRightSide around.now (known_in (named_package named.now)) (target_at (exprs_of named.now) target) op (expr_at (exprs_of named.now) e) }
     ensures grows { OnOk result (GrowsExprs nodes.old nodes.new) }
+    ensures entries { OnOk result (AddsEntries nodes.old nodes.new (assign_entries around.now (target_at (exprs_of named.now) target) op sign (expr_at (exprs_of named.now) e))) }
     ensures begun { OnOk result (IsBegun named.now nodes.new) }
     ensures made { IfOk result (λ n. MakesSimple (assign_tree around.now (target_at (exprs_of named.now) target) op sign (expr_at (exprs_of named.now) e)) at nodes.new n) }
 {
@@ -214,6 +221,7 @@ pub fn add_keep(
     requires target_right { IsRightTarget around.now (known_in (named_package named.now)) (target_at (exprs_of named.now) target) }
     requires right { IsRightCall around.now (known_in (named_package named.now)) (call_at (exprs_of named.now) call.now) }
     ensures grows { OnOk result (GrowsExprs nodes.old nodes.new) }
+    ensures entries { OnOk result (AddsEntries nodes.old nodes.new (target_entries around.now (target_at (exprs_of named.now) target) ++ call_entries around.now (call_at (exprs_of named.now) call.now))) }
     ensures begun { OnOk result (IsBegun named.now nodes.new) }
     ensures made { IfOk result (λ n. MakesSimple (call_tree around.now (target_tree around.now (target_at (exprs_of named.now) target)) true (call_at (exprs_of named.now) call.now)) at nodes.new n) }
 {

@@ -1,12 +1,14 @@
 // The walk over the statements of a body: it makes the nodes of each, parts in front of their whole.
 
-ghost use Rattle.std.specs.Prelude.{◌≡◌, ◌<◌, ◌+◌, ◌^◌, suc, [], ◌∷◌, length, IfOk, OnOk};
+ghost use Rattle.std.specs.Prelude.{◌≡◌, ◌<◌, ◌+◌, ◌^◌, suc, [], ◌∷◌, length, IfOk, OnOk, ◌++◌};
 ghost use Rattle.std.specs.List.{AllByRecursion};
 ghost use Rattle.wf_ast.specs.ParsedParts.{BlockBelow, ElseBelow};
 ghost use Rattle.wf_named.specs.NamedParts.{exprs_of, stmts_of, named_package};
 ghost use Rattle.wf_named.specs.NamedTree as tree;
 ghost use Rattle.wf_named.specs.NamedTrees.{expr_at, stmt_at, clauses_at, block_at, else_at, arms_at};
 ghost use Rattle.wf_typed_tree.specs.ElaboratedStmts.{count_block as stmts_in_block};
+ghost use Rattle.wf_typed_tree.specs.Entries.{expr_entries, clause_entries, stmt_entries, block_entries, arms_entries};
+ghost use Rattle.wf_typed_exprs.specs.Growth.{AddsEntries};
 ghost use Rattle.wf_typed_stmts.specs.Blocks.{StandsForArm, StandForArms, StandsForElse};
 ghost use Rattle.wf_typed_stmts.specs.Right.{known_in, IsRightStmt, IsRightBlock, AreRightArms};
 ghost use Rattle.wf_typed_stmts.specs.StmtGrowth.{Adds, AddsParts, IsBegun, MakesStmt, StandsForStmt, StandsForBlock};
@@ -55,6 +57,7 @@ fn elaborate_stmt(
     requires begun { IsBegun named.now nodes.old }
     requires right { IsRightStmt around.now (known_in (named_package named.now)) (length loops.now) (stmt_at (stmts_of named.now) s) }
     ensures adds { OnOk result (Adds loops.now nodes.old nodes.new) }
+    ensures entries { OnOk result (AddsEntries nodes.old nodes.new (stmt_entries around.now (stmt_at (stmts_of named.now) s))) }
     ensures begun { OnOk result (IsBegun named.now nodes.new) }
     ensures stands { IfOk result (λ r. StandsForStmt around.now loops.now (length nodes.old.stmts) (stmt_at (stmts_of named.now) s) nodes.new r) }
 {
@@ -83,6 +86,7 @@ fn elaborate_node(
     requires begun { IsBegun named.now nodes.old }
     requires right { IsRightStmt around.now (known_in (named_package named.now)) (length loops.now) (stmt_at (stmts_of named.now) s) }
     ensures adds { OnOk result (AddsParts loops.now nodes.old nodes.new) }
+    ensures entries { OnOk result (AddsEntries nodes.old nodes.new (stmt_entries around.now (stmt_at (stmts_of named.now) s))) }
     ensures begun { OnOk result (IsBegun named.now nodes.new) }
     ensures made { IfOk result (λ n. MakesStmt around.now loops.now (length nodes.old.stmts) (stmt_at (stmts_of named.now) s) nodes.new n) }
 {
@@ -135,6 +139,7 @@ fn elaborate_block(
     requires begun { IsBegun named.now nodes.old }
     requires right { IsRightBlock around.now (known_in (named_package named.now)) (length loops.now) (block_at (stmts_of named.now) block.now) }
     ensures adds { OnOk result (Adds loops.now nodes.old nodes.new) }
+    ensures entries { OnOk result (AddsEntries nodes.old nodes.new (block_entries around.now (block_at (stmts_of named.now) block.now))) }
     ensures begun { OnOk result (IsBegun named.now nodes.new) }
     ensures stands { IfOk result (λ b. StandsForBlock around.now loops.now (length nodes.old.stmts) (block_at (stmts_of named.now) block.now) nodes.new b) }
 {
@@ -169,6 +174,7 @@ fn elaborate_arm(
     requires condition_right { IsRight around.now (known_in (named_package named.now)).statuses (expr_at (exprs_of named.now) arm.now.condition) }
     requires right { IsRightBlock around.now (known_in (named_package named.now)) (length loops.now) (block_at (stmts_of named.now) arm.now.body) }
     ensures adds { OnOk result (Adds loops.now nodes.old nodes.new) }
+    ensures entries { OnOk result (AddsEntries nodes.old nodes.new (expr_entries around.now (expr_at (exprs_of named.now) arm.now.condition) ++ block_entries around.now (block_at (stmts_of named.now) arm.now.body))) }
     ensures begun { OnOk result (IsBegun named.now nodes.new) }
     ensures stands { IfOk result (λ a. StandsForArm around.now loops.now (length nodes.old.stmts) (expr_at (exprs_of named.now) arm.now.condition) (block_at (stmts_of named.now) arm.now.body) nodes.new a) }
 {
@@ -197,6 +203,7 @@ fn elaborate_arms(
     requires begun { IsBegun named.now nodes.old }
     requires right { AreRightArms around.now (known_in (named_package named.now)) (length loops.now) (arms_at (exprs_of named.now) (stmts_of named.now) arms.now tree.no_else) }
     ensures adds { OnOk result (Adds loops.now nodes.old nodes.new) }
+    ensures entries { OnOk result (AddsEntries nodes.old nodes.new (arms_entries around.now (arms_at (exprs_of named.now) (stmts_of named.now) arms.now tree.no_else))) }
     ensures begun { OnOk result (IsBegun named.now nodes.new) }
     ensures stand { IfOk result (λ r. StandForArms around.now loops.now (length nodes.old.stmts) (exprs_of named.now) (stmts_of named.now) arms.now nodes.new r) }
 {
@@ -229,6 +236,7 @@ fn elaborate_else(
     requires begun { IsBegun named.now nodes.old }
     requires right { AreRightArms around.now (known_in (named_package named.now)) (length loops.now) (else_at (stmts_of named.now) otherwise.now) }
     ensures adds { OnOk result (Adds loops.now nodes.old nodes.new) }
+    ensures entries { OnOk result (AddsEntries nodes.old nodes.new (arms_entries around.now (else_at (stmts_of named.now) otherwise.now))) }
     ensures begun { OnOk result (IsBegun named.now nodes.new) }
     ensures stands { IfOk result (λ r. StandsForElse around.now loops.now (length nodes.old.stmts) (else_at (stmts_of named.now) otherwise.now) nodes.new r) }
 {
@@ -260,6 +268,7 @@ fn elaborate_if(
     requires begun { IsBegun named.now nodes.old }
     requires right { IsRightStmt around.now (known_in (named_package named.now)) (length loops.now) (tree.branch (arms_at (exprs_of named.now) (stmts_of named.now) arms.now (else_at (stmts_of named.now) otherwise.now)) at) }
     ensures adds { OnOk result (AddsParts loops.now nodes.old nodes.new) }
+    ensures entries { OnOk result (AddsEntries nodes.old nodes.new (arms_entries around.now (arms_at (exprs_of named.now) (stmts_of named.now) arms.now (else_at (stmts_of named.now) otherwise.now)))) }
     ensures begun { OnOk result (IsBegun named.now nodes.new) }
     ensures made { IfOk result (λ n. MakesStmt around.now loops.now (length nodes.old.stmts) (tree.branch (arms_at (exprs_of named.now) (stmts_of named.now) arms.now (else_at (stmts_of named.now) otherwise.now)) at) nodes.new n) }
 {
@@ -292,6 +301,7 @@ fn elaborate_inside(
     requires begun { IsBegun named.now nodes.old }
     requires right { IsRightBlock around.now (known_in (named_package named.now)) (suc (length loops.now)) (block_at (stmts_of named.now) body.now) }
     ensures adds { OnOk result (Adds ((length nodes.old.stmts + stmts_in_block (block_at (stmts_of named.now) body.now)) ∷ loops.now) nodes.old nodes.new) }
+    ensures entries { OnOk result (AddsEntries nodes.old nodes.new (block_entries around.now (block_at (stmts_of named.now) body.now))) }
     ensures begun { OnOk result (IsBegun named.now nodes.new) }
     ensures stands { IfOk result (λ b. StandsForBlock around.now ((length nodes.old.stmts + stmts_in_block (block_at (stmts_of named.now) body.now)) ∷ loops.now) (length nodes.old.stmts) (block_at (stmts_of named.now) body.now) nodes.new b) }
 {
@@ -327,6 +337,7 @@ fn elaborate_loop(
     requires begun { IsBegun named.now nodes.old }
     requires right { IsRightStmt around.now (known_in (named_package named.now)) (length loops.now) (tree.loop (expr_at (exprs_of named.now) condition) (clauses_at (exprs_of named.now) clauses.now) (block_at (stmts_of named.now) body.now) at) }
     ensures adds { OnOk result (AddsParts loops.now nodes.old nodes.new) }
+    ensures entries { OnOk result (AddsEntries nodes.old nodes.new (block_entries around.now (block_at (stmts_of named.now) body.now) ++ (expr_entries around.now (expr_at (exprs_of named.now) condition) ++ clause_entries around.now (clauses_at (exprs_of named.now) clauses.now)))) }
     ensures begun { OnOk result (IsBegun named.now nodes.new) }
     ensures made { IfOk result (λ n. MakesStmt around.now loops.now (length nodes.old.stmts) (tree.loop (expr_at (exprs_of named.now) condition) (clauses_at (exprs_of named.now) clauses.now) (block_at (stmts_of named.now) body.now) at) nodes.new n) }
 {
@@ -358,6 +369,7 @@ pub fn elaborate_body(
     requires begun { IsBegun named.now nodes.old }
     requires right { IsRightBlock around.now (known_in (named_package named.now)) 0 (block_at (stmts_of named.now) body.now) }
     ensures adds { OnOk result (Adds [] nodes.old nodes.new) }
+    ensures entries { OnOk result (AddsEntries nodes.old nodes.new (block_entries around.now (block_at (stmts_of named.now) body.now))) }
     ensures begun { OnOk result (IsBegun named.now nodes.new) }
     ensures stands { IfOk result (λ b. StandsForBlock around.now [] (length nodes.old.stmts) (block_at (stmts_of named.now) body.now) nodes.new b) }
 {

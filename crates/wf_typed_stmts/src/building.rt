@@ -1,7 +1,7 @@
 // The nodes of a typed package with its statements, as they are built. A statement's parts stand in front of it, but for the
 // loop that a jump tells.
 
-ghost use Rattle.std.specs.Prelude.{◌≡◌, ◌<◌, ◌++◌, [], ◌∷◌, true, length, IfOk, OnOk};
+ghost use Rattle.std.specs.Prelude.{◌≡◌, ◌<◌, ◌++◌, [], ◌∷◌, true, length, IfOk, OnOk, None};
 ghost use Rattle.wf_ast.specs.declared.resolved.Expr.TheVariants as exprs;
 ghost use Rattle.wf_ast.specs.TypedTrees.{sort_of, chain_of, tree_of, stmt_made, stmt_makers, onto};
 ghost use Rattle.wf_ast.specs.TypedInvariant.{chain_fits};
@@ -10,9 +10,10 @@ ghost use Rattle.wf_named.specs.NamedTrees.{expr_at};
 ghost use Rattle.wf_named.specs.NamedTree as tree;
 ghost use Rattle.wf_types_rules.specs.Meanings.{variable as variable_in};
 ghost use Rattle.wf_types_exprs.specs.Judged.{value_of};
-ghost use Rattle.wf_typed_exprs.specs.Growth.{IsBuilt};
+ghost use Rattle.wf_typed_exprs.specs.Growth.{IsBuilt, AddsEntries};
 ghost use Rattle.wf_typed_exprs.specs.Nodes.{StandsForExpr, StandsForPath};
 ghost use Rattle.wf_typed_exprs.specs.Right.{IsRight, IsRightPath};
+ghost use Rattle.wf_typed_tree.specs.Entries.{path_entry, expr_entries};
 ghost use Rattle.wf_typed_stmts.specs.Right.{known_in};
 ghost use Rattle.wf_typed_stmts.specs.StmtGrowth.{AreStmtsBuilt, IsBegun, GrowsExprs, GrowsStmts, stmt_there};
 
@@ -96,6 +97,7 @@ impl BodyBuilding {
         requires begun { IsBegun named.now self.old }
         requires right { IsRightPath around.now (known_in (named_package named.now)).statuses path }
         ensures grows { OnOk result (GrowsExprs self.old self.new) }
+        ensures entries { OnOk result (AddsEntries self.old self.new (path_entry around.now path ∷ [])) }
         ensures begun { OnOk result (IsBegun named.now self.new) }
         ensures stands { IfOk result (λ r. StandsForPath around.now path self.new r.node) }
         ensures value { IfOk result (λ r. r.value ≡ record { of = variable_in around.now path.of; at = path.at }) }
@@ -115,6 +117,7 @@ impl BodyBuilding {
         requires begun { IsBegun named.now self.old }
         requires right { IsRight around.now (known_in (named_package named.now)).statuses (expr_at (exprs_of named.now) e) }
         ensures grows { OnOk result (GrowsExprs self.old self.new) }
+        ensures entries { OnOk result (AddsEntries self.old self.new (expr_entries around.now (expr_at (exprs_of named.now) e))) }
         ensures begun { OnOk result (IsBegun named.now self.new) }
         ensures stands { IfOk result (λ r. StandsForExpr around.now (expr_at (exprs_of named.now) e) self.new r.node) }
         ensures value { IfOk result (λ r. r.value ≡ value_of around.now (expr_at (exprs_of named.now) e)) }
@@ -136,6 +139,7 @@ impl BodyBuilding {
         requires begun { IsBegun named.now self.old }
         requires right { IsRight around.now (known_in (named_package named.now)).statuses (tree.index base (expr_at (exprs_of named.now) index) at) }
         ensures grows { OnOk result (GrowsExprs self.old self.new) }
+        ensures entries { OnOk result (AddsEntries self.old self.new (expr_entries around.now (tree.index base (expr_at (exprs_of named.now) index) at))) }
         ensures begun { OnOk result (IsBegun named.now self.new) }
         ensures stands { IfOk result (λ r. StandsForExpr around.now (tree.index base (expr_at (exprs_of named.now) index) at) self.new r.node) }
         ensures value { IfOk result (λ r. r.value ≡ value_of around.now (tree.index base (expr_at (exprs_of named.now) index) at)) }
@@ -159,6 +163,7 @@ impl BodyBuilding {
         requires right { right.0 < length self.old.exprs }
         requires fits { chain_fits self.old (sort_of op) (left ∷ right ∷ []) ty ≡ true }
         ensures grows { OnOk result (GrowsExprs self.old self.new) }
+        ensures entries { OnOk result (AddsEntries self.old self.new (record { at = sign; ty = ty; constant = None } ∷ [])) }
         ensures begun { OnOk result (IsBegun named.now self.new) }
         ensures there { IfOk result (λ e. e.0 < length self.new.exprs) }
         ensures made { IfOk result (λ e. tree_of self.new e ≡ chain_of sign (sign ∷ []) ty (sort_of op) (tree_of self.old left ∷ tree_of self.old right ∷ [])) }
@@ -187,6 +192,7 @@ impl BodyBuilding {
         ensures ok { OnOk result (self.new ≡ record self.old { stmts = self.old.stmts ++ node ∷ [] }) }
         ensures number { IfOk result (λ s. s.0 ≡ length self.old.stmts) }
         ensures grows { OnOk result (GrowsStmts self.old self.new) }
+        ensures entries { OnOk result (AddsEntries self.old self.new ([])) }
         ensures built { OnOk result (AreStmtsBuilt self.new) }
         ensures made { IfOk result (λ s. (rest : _) → onto (stmt_makers self.new) s rest ≡ stmt_made self.old (tree_of self.old) (onto (stmt_makers self.old)) (length self.old.stmts) node rest) }
     {

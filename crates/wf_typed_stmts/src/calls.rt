@@ -7,6 +7,8 @@ ghost use Rattle.wf_named.specs.NamedParts.{exprs_of, named_package, ArgsBelow};
 ghost use Rattle.wf_named.specs.NamedTrees.{expr_at, args_at, call_at};
 ghost use Rattle.wf_typed_tree.specs.ElaboratedExprs.{expr_tree};
 ghost use Rattle.wf_typed_tree.specs.ElaboratedStmts.{call_tree};
+ghost use Rattle.wf_typed_tree.specs.Entries.{handed_entries, arg_entries, callee_entries, call_entries};
+ghost use Rattle.wf_typed_exprs.specs.Growth.{AddsEntries};
 ghost use Rattle.wf_typed_stmts.specs.Parts.{HasTree, StandForArgs, StandsForCallee, MakesSimple};
 ghost use Rattle.wf_typed_stmts.specs.Right.{known_in, IsRightArg, AreRightArgs, IsRightCallee, IsRightCall};
 ghost use Rattle.wf_typed_stmts.specs.StmtGrowth.{IsBegun, GrowsExprs};
@@ -33,6 +35,7 @@ fn add_arg(
     requires begun { IsBegun named.now nodes.old }
     requires right { IsRightArg around.now (known_in (named_package named.now)) (expr_at (exprs_of named.now) e) }
     ensures grows { OnOk result (GrowsExprs nodes.old nodes.new) }
+    ensures entries { OnOk result (AddsEntries nodes.old nodes.new (handed_entries around.now (expr_at (exprs_of named.now) e))) }
     ensures begun { OnOk result (IsBegun named.now nodes.new) }
     ensures made { IfOk result (λ r. HasTree (expr_tree around.now (expr_at (exprs_of named.now) e)) nodes.new r) }
 {
@@ -64,6 +67,7 @@ fn add_args(
     requires begun { IsBegun named.now nodes.old }
     requires right { AreRightArgs around.now (known_in (named_package named.now)) (args_at (exprs_of named.now) args.now) }
     ensures grows { OnOk result (GrowsExprs nodes.old nodes.new) }
+    ensures entries { OnOk result (AddsEntries nodes.old nodes.new (arg_entries around.now (args_at (exprs_of named.now) args.now))) }
     ensures begun { OnOk result (IsBegun named.now nodes.new) }
     ensures made { IfOk result (λ r. StandForArgs around.now (args_at (exprs_of named.now) args.now) nodes.new r) }
 {
@@ -94,6 +98,7 @@ fn add_callee(
     requires begun { IsBegun named.now nodes.old }
     requires right { IsRightCallee around.now (known_in (named_package named.now)) callee mark }
     ensures grows { OnOk result (GrowsExprs nodes.old nodes.new) }
+    ensures entries { OnOk result (AddsEntries nodes.old nodes.new (callee_entries around.now callee)) }
     ensures begun { OnOk result (IsBegun named.now nodes.new) }
     ensures made { IfOk result (λ c. StandsForCallee around.now callee mark nodes.new c) }
 {
@@ -126,6 +131,7 @@ pub fn add_call(
     requires begun { IsBegun named.now nodes.old }
     requires right { IsRightCall around.now (known_in (named_package named.now)) (call_at (exprs_of named.now) call.now) }
     ensures grows { OnOk result (GrowsExprs nodes.old nodes.new) }
+    ensures entries { OnOk result (AddsEntries nodes.old nodes.new (call_entries around.now (call_at (exprs_of named.now) call.now))) }
     ensures begun { OnOk result (IsBegun named.now nodes.new) }
     ensures made { IfOk result (λ n. MakesSimple (call_tree around.now (optional_target (tree_of nodes.old) target) keep (call_at (exprs_of named.now) call.now)) at nodes.new n) }
 {

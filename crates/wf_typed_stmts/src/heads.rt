@@ -1,12 +1,14 @@
 // Conditions: the promises of a loop, and what is given for the letters of an axiom.
 
-ghost use Rattle.std.specs.Prelude.{◌≡◌, ◌<◌, length, IfOk, OnOk};
+ghost use Rattle.std.specs.Prelude.{◌≡◌, ◌<◌, length, IfOk, OnOk, ◌++◌};
 ghost use Rattle.std.specs.List.{AllByRecursion};
 ghost use Rattle.wf_ast.specs.ParsedParts.{BlockBelow};
 ghost use Rattle.wf_named.specs.NamedParts.{exprs_of, stmts_of, named_package, LettersBelow, AxiomBelow};
 ghost use Rattle.wf_named.specs.NamedTrees.{expr_at, clauses_at, letters_at, via_at, block_at};
 ghost use Rattle.wf_typed_tree.specs.ElaboratedExprs.{expr_tree};
 ghost use Rattle.wf_typed_exprs.specs.Right.{IsRight};
+ghost use Rattle.wf_typed_tree.specs.Entries.{expr_entries, clause_entries, letter_entries, via_entries};
+ghost use Rattle.wf_typed_exprs.specs.Growth.{AddsEntries};
 ghost use Rattle.wf_typed_stmts.specs.Parts.{HasTree, StandForClauses, StandForLetters, StandsForVia, StandsForHead};
 ghost use Rattle.wf_typed_stmts.specs.Right.{known_in, AreRightClauses, AreRightLetters, IsRightVia};
 ghost use Rattle.wf_typed_stmts.specs.StmtGrowth.{IsBegun, GrowsExprs};
@@ -32,6 +34,7 @@ pub fn add_tree(
     requires begun { IsBegun named.now nodes.old }
     requires right { IsRight around.now (known_in (named_package named.now)).statuses (expr_at (exprs_of named.now) e) }
     ensures grows { OnOk result (GrowsExprs nodes.old nodes.new) }
+    ensures entries { OnOk result (AddsEntries nodes.old nodes.new (expr_entries around.now (expr_at (exprs_of named.now) e))) }
     ensures begun { OnOk result (IsBegun named.now nodes.new) }
     ensures made { IfOk result (λ r. HasTree (expr_tree around.now (expr_at (exprs_of named.now) e)) nodes.new r) }
 {
@@ -53,6 +56,7 @@ fn add_clauses(
     requires begun { IsBegun named.now nodes.old }
     requires right { AreRightClauses around.now (known_in (named_package named.now)) (clauses_at (exprs_of named.now) clauses.now) }
     ensures grows { OnOk result (GrowsExprs nodes.old nodes.new) }
+    ensures entries { OnOk result (AddsEntries nodes.old nodes.new (clause_entries around.now (clauses_at (exprs_of named.now) clauses.now))) }
     ensures begun { OnOk result (IsBegun named.now nodes.new) }
     ensures made { IfOk result (λ r. StandForClauses around.now (clauses_at (exprs_of named.now) clauses.now) nodes.new r) }
 {
@@ -88,6 +92,7 @@ pub fn add_head(
     requires right { IsRight around.now (known_in (named_package named.now)).statuses (expr_at (exprs_of named.now) condition) }
     requires clauses_right { AreRightClauses around.now (known_in (named_package named.now)) (clauses_at (exprs_of named.now) clauses.now) }
     ensures grows { OnOk result (GrowsExprs nodes.old nodes.new) }
+    ensures entries { OnOk result (AddsEntries nodes.old nodes.new (expr_entries around.now (expr_at (exprs_of named.now) condition) ++ clause_entries around.now (clauses_at (exprs_of named.now) clauses.now))) }
     ensures begun { OnOk result (IsBegun named.now nodes.new) }
     ensures made { IfOk result (λ r. StandsForHead around.now (expr_at (exprs_of named.now) condition) (clauses_at (exprs_of named.now) clauses.now) (block_at (stmts_of named.now) body.now) body.now.close nodes.new r) }
 {
@@ -118,6 +123,7 @@ fn add_letters(
     requires begun { IsBegun named.now nodes.old }
     requires right { AreRightLetters around.now (known_in (named_package named.now)) (letters_at named.now.texts (exprs_of named.now) given.now) }
     ensures grows { OnOk result (GrowsExprs nodes.old nodes.new) }
+    ensures entries { OnOk result (AddsEntries nodes.old nodes.new (letter_entries around.now (letters_at named.now.texts (exprs_of named.now) given.now))) }
     ensures begun { OnOk result (IsBegun named.now nodes.new) }
     ensures made { IfOk result (λ r. StandForLetters around.now (letters_at named.now.texts (exprs_of named.now) given.now) nodes.new r) }
 {
@@ -148,6 +154,7 @@ pub fn add_via(
     requires begun { IsBegun named.now nodes.old }
     requires right { IsRightVia around.now (known_in (named_package named.now)) (via_at named.now.texts (exprs_of named.now) via.now) }
     ensures grows { OnOk result (GrowsExprs nodes.old nodes.new) }
+    ensures entries { OnOk result (AddsEntries nodes.old nodes.new (via_entries around.now (via_at named.now.texts (exprs_of named.now) via.now))) }
     ensures begun { OnOk result (IsBegun named.now nodes.new) }
     ensures made { IfOk result (λ r. StandsForVia around.now (via_at named.now.texts (exprs_of named.now) via.now) nodes.new r) }
 {

@@ -3,6 +3,8 @@
 ghost use Rattle.std.specs.Prelude.{◌≡◌, true, length, IfOk, OnOk};
 ghost use Rattle.wf_named.specs.NamedParts.{exprs_of, stmts_of, named_package, NamedStmtParts};
 ghost use Rattle.wf_named.specs.NamedTrees.{stmt_made};
+ghost use Rattle.wf_typed_tree.specs.Entries.{stmt_entries};
+ghost use Rattle.wf_typed_exprs.specs.Growth.{AddsEntries};
 ghost use Rattle.wf_typed_stmts.specs.Blocks.{is_simple};
 ghost use Rattle.wf_typed_stmts.specs.Right.{known_in, IsRightStmt};
 ghost use Rattle.wf_typed_stmts.specs.StmtGrowth.{IsBegun, GrowsExprs, MakesStmt};
@@ -33,6 +35,7 @@ pub fn add_simple(
     requires begun { IsBegun named.now nodes.old }
     requires right { IsRightStmt around.now (known_in (named_package named.now)) (length loops.now) (stmt_made named.now.texts (exprs_of named.now) (stmts_of named.now) stmt.now at) }
     ensures grows { OnOk result (GrowsExprs nodes.old nodes.new) }
+    ensures entries { OnOk result (AddsEntries nodes.old nodes.new (stmt_entries around.now (stmt_made named.now.texts (exprs_of named.now) (stmts_of named.now) stmt.now at))) }
     ensures begun { OnOk result (IsBegun named.now nodes.new) }
     ensures made { IfOk result (λ n. MakesStmt around.now loops.now (length nodes.old.stmts) (stmt_made named.now.texts (exprs_of named.now) (stmts_of named.now) stmt.now at) nodes.new n) }
 {

@@ -1,6 +1,6 @@
 // Statements without a block, other than assignments.
 
-ghost use Rattle.std.specs.Prelude.{◌≡◌, ◌<◌, true, false, length, nat_lt, IfOk, OnOk};
+ghost use Rattle.std.specs.Prelude.{◌≡◌, ◌<◌, true, false, length, nat_lt, IfOk, OnOk, ◌++◌};
 ghost use Rattle.wf_ast.specs.ParsedParts.{IsBelow};
 ghost use Rattle.wf_ast.specs.TypedTree as typed;
 ghost use Rattle.wf_ast.specs.TypedTrees.{cond_in};
@@ -9,6 +9,8 @@ ghost use Rattle.wf_named.specs.NamedTrees.{expr_at, part_at, call_at, via_at};
 ghost use Rattle.wf_typed_tree.specs.ElaboratedExprs.{expr_tree};
 ghost use Rattle.wf_typed_tree.specs.ElaboratedStmts.{call_tree, returned_tree, status_in, axiom_tree, loop_meant};
 ghost use Rattle.wf_typed_exprs.specs.Right.{IsRight, IsRightEnd};
+ghost use Rattle.wf_typed_tree.specs.Entries.{expr_entries, end_entries, call_entries, via_entries};
+ghost use Rattle.wf_typed_exprs.specs.Growth.{AddsEntries};
 ghost use Rattle.wf_typed_stmts.specs.Parts.{StandsForPart, MakesSimple};
 ghost use Rattle.wf_typed_stmts.specs.Right.{known_in, IsRightCall, IsRightVia};
 ghost use Rattle.wf_typed_stmts.specs.StmtGrowth.{IsBegun, GrowsExprs};
@@ -37,6 +39,7 @@ pub fn add_do_call(
     requires begun { IsBegun named.now nodes.old }
     requires right { IsRightCall around.now (known_in (named_package named.now)) (call_at (exprs_of named.now) call.now) }
     ensures grows { OnOk result (GrowsExprs nodes.old nodes.new) }
+    ensures entries { OnOk result (AddsEntries nodes.old nodes.new (call_entries around.now (call_at (exprs_of named.now) call.now))) }
     ensures begun { OnOk result (IsBegun named.now nodes.new) }
     ensures made { IfOk result (λ n. MakesSimple (call_tree around.now typed.to_nothing false (call_at (exprs_of named.now) call.now)) at nodes.new n) }
 {
@@ -70,6 +73,7 @@ fn add_part(
     requires begun { IsBegun named.now nodes.old }
     requires right { IsRightEnd around.now (known_in (named_package named.now)).statuses (part_at (exprs_of named.now) part) }
     ensures grows { OnOk result (GrowsExprs nodes.old nodes.new) }
+    ensures entries { OnOk result (AddsEntries nodes.old nodes.new (end_entries around.now (part_at (exprs_of named.now) part))) }
     ensures begun { OnOk result (IsBegun named.now nodes.new) }
     ensures made { IfOk result (λ r. StandsForPart around.now (part_at (exprs_of named.now) part) nodes.new r) }
 {
@@ -97,6 +101,7 @@ pub fn add_return(
     requires begun { IsBegun named.now nodes.old }
     requires right { IsRightEnd around.now (known_in (named_package named.now)).statuses (part_at (exprs_of named.now) value) }
     ensures grows { OnOk result (GrowsExprs nodes.old nodes.new) }
+    ensures entries { OnOk result (AddsEntries nodes.old nodes.new (end_entries around.now (part_at (exprs_of named.now) value))) }
     ensures begun { OnOk result (IsBegun named.now nodes.new) }
     ensures made { IfOk result (λ n. MakesSimple (typed.give_back (returned_tree around.now (part_at (exprs_of named.now) value))) at nodes.new n) }
 {
@@ -160,6 +165,7 @@ pub fn add_claim(
     requires right { IsRight around.now (known_in (named_package named.now)).statuses (expr_at (exprs_of named.now) goal) }
     requires via_right { IsRightVia around.now (known_in (named_package named.now)) (via_at named.now.texts (exprs_of named.now) via.now) }
     ensures grows { OnOk result (GrowsExprs nodes.old nodes.new) }
+    ensures entries { OnOk result (AddsEntries nodes.old nodes.new (expr_entries around.now (expr_at (exprs_of named.now) goal) ++ via_entries around.now (via_at named.now.texts (exprs_of named.now) via.now))) }
     ensures begun { OnOk result (IsBegun named.now nodes.new) }
     ensures made { IfOk result (λ n. MakesSimple (typed.claim (cond_in (expr_tree around.now (expr_at (exprs_of named.now) goal))) (axiom_tree around.now (via_at named.now.texts (exprs_of named.now) via.now))) at nodes.new n) }
 {

@@ -4,6 +4,8 @@ ghost use Rattle.std.specs.Prelude.{◌≡◌, length, IfOk, OnOk};
 ghost use Rattle.wf_named.specs.NamedParts.{exprs_of, named_package, NamedTargetBelow};
 ghost use Rattle.wf_named.specs.NamedTrees.{target_at};
 ghost use Rattle.wf_types_rules.specs.Judgements.{target_meaning};
+ghost use Rattle.wf_typed_tree.specs.Entries.{target_entries};
+ghost use Rattle.wf_typed_exprs.specs.Growth.{AddsEntries};
 ghost use Rattle.wf_typed_stmts.specs.Parts.{StandsForTarget};
 ghost use Rattle.wf_typed_stmts.specs.Right.{known_in, IsRightTarget};
 ghost use Rattle.wf_typed_stmts.specs.StmtGrowth.{IsBegun, GrowsExprs};
@@ -27,6 +29,7 @@ pub fn add_target(
     requires begun { IsBegun named.now nodes.old }
     requires right { IsRightTarget around.now (known_in (named_package named.now)) (target_at (exprs_of named.now) target) }
     ensures grows { OnOk result (GrowsExprs nodes.old nodes.new) }
+    ensures entries { OnOk result (AddsEntries nodes.old nodes.new (target_entries around.now (target_at (exprs_of named.now) target))) }
     ensures begun { OnOk result (IsBegun named.now nodes.new) }
     ensures stands { IfOk result (λ r. StandsForTarget around.now (target_at (exprs_of named.now) target) nodes.new r.node) }
     ensures means { IfOk result (λ r. r.value.of ≡ target_meaning around.now (target_at (exprs_of named.now) target)) }

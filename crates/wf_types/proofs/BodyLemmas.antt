@@ -23,10 +23,13 @@ use Rattle.wf_named.specs.NamedTrees.{word_at, method_made}
 use Rattle.wf_types_rules.specs.DeclaredTypes.{in_method}
 use Rattle.wf_typed_tree.specs.ElaboratedPackage.{seen_text}
 use Rattle.wf_typed_tree.specs.ElaboratedStmts.{count_block}
+use Rattle.wf_typed_tree.specs.Entries.{entries, method_entries}
+use Rattle.wf_typed_exprs.specs.Growth.{AddsEntries}
 use Rattle.wf_typed_stmts.specs.StmtGrowth.{jump_below, jumps_below, GrowsStmts, Adds, IsBegun, StandsForBlock}
 use Rattle.wf_types.specs.Bodies.{IsBody, AreBodies, count_methods, BodiesMade}
 use Rattle.wf_types.specs.DeclaredNodes.{declared_method, declared_nodes}
 use Rattle.wf_types.specs.Locals.{places_of, HaveNodes, MethodsHaveNodes}
+use Rattle.wf_types.proofs.EntryLemmas.{entries_more}
 use Rattle.wf_types.proofs.LocalLemmas.{methods_with}
 
 and_true : (a b : Bool) → a ≡ true → b ≡ true → (a && b) ≡ true
@@ -89,8 +92,10 @@ count_more [] m = omega arith
 count_more (l ∷ ms) m = let e = count_more ms m in omega (arith, e)
 
 pub bodies_next : (q : NamedParts) (done : List NamedMethodTree) (old new : TypedNodes) (bs : List resolved.Block) (m : NamedMethodTree) (b : resolved.Block) → BodiesMade q done old bs
-    → Adds [] old new → IsBegun q new → StandsForBlock (in_method (named_package q) m) [] (length old.stmts) m.body new b → BodiesMade q (done ++ m ∷ []) new (bs ++ b ∷ [])
-bodies_next q done old new bs m b made adds begun stands = record {
+    → Adds [] old new → AddsEntries old new (method_entries (named_package q) m) → IsBegun q new → StandsForBlock (in_method (named_package q) m) [] (length old.stmts) m.body new b
+    → BodiesMade q (done ++ m ∷ []) new (bs ++ b ∷ [])
+bodies_next q done old new bs m b made adds more begun stands = record {
+  entries = entries_more (named_package q) done m old new made.entries more;
   declared = adds.grows.rest ∙ made.declared;
   begun = begun;
   jumps = adds.jumps (length new.stmts) refl (omega arith) (jumps_wider (length old.stmts) (length new.stmts) old.stmts adds.grows.stmts made.jumps);
@@ -125,8 +130,8 @@ unfolding declared_nodes
 begun q = record { texts = texts_declared q; statuses = statuses_declared q; marks = marks_declared q; stmts = record { ordered = refl; few = omega arith } }
 
 none_made : (q : NamedParts) → BodiesMade q [] (declared_nodes q) []
-unfolding declared_nodes
-none_made q = record { declared = refl; begun = begun q; jumps = refl; count = refl; bodies = tt }
+unfolding declared_nodes entries
+none_made q = record { entries = refl; declared = refl; begun = begun q; jumps = refl; count = refl; bodies = tt }
 
 pub bodies_begun : (q : NamedParts) (nodes : TypedNodes) → nodes ≡ declared_nodes q → BodiesMade q [] nodes []
 bodies_begun q nodes h = let P : TypedNodes → Type 0 = λ x. BodiesMade q [] x [] in subst P (sym h) (none_made q)
@@ -141,14 +146,14 @@ methods_more made xs i x low is =
     ap (map made) (take_more xs i x low ∙ ap (λ y. take i xs ++ y ∷ []) (sym is)) ∙ map-append made (take i xs) (x ∷ [])
 
 pub bodies_with : (q : NamedParts) (i : ℕ) (m : NamedMethod) → i < length q.methods → m ≡ get_or q.methods i m → (old new : TypedNodes) (bs cs : List resolved.Block) (b : resolved.Block)
-    → BodiesMade q (map (method_made q.texts (exprs_of q) (stmts_of q)) (take i q.methods)) old bs → Adds [] old new → IsBegun q new
+    → BodiesMade q (map (method_made q.texts (exprs_of q) (stmts_of q)) (take i q.methods)) old bs → Adds [] old new → AddsEntries old new (method_entries (named_package q) (method_made q.texts (exprs_of q) (stmts_of q) m)) → IsBegun q new
     → StandsForBlock (in_method (named_package q) (method_made q.texts (exprs_of q) (stmts_of q) m)) [] (length old.stmts) (method_made q.texts (exprs_of q) (stmts_of q) m).body new b
     → cs ≡ bs ++ b ∷ [] → BodiesMade q (map (method_made q.texts (exprs_of q) (stmts_of q)) (take (i + 1) q.methods)) new cs
-bodies_with q i m low is old new bs cs b made adds begun stands e =
+bodies_with q i m low is old new bs cs b made adds more begun stands e =
     let of = method_made q.texts (exprs_of q) (stmts_of q) in
     let P : List NamedMethodTree → Type 0 = λ ms. BodiesMade q ms new cs in
     let R : List resolved.Block → Type 0 = λ xs. BodiesMade q (map of (take i q.methods) ++ of m ∷ []) new xs in
-    subst P (sym (methods_more of q.methods i m low is)) (subst R (sym e) (bodies_next q (map of (take i q.methods)) old new bs (of m) b made adds begun stands))
+    subst P (sym (methods_more of q.methods i m low is)) (subst R (sym e) (bodies_next q (map of (take i q.methods)) old new bs (of m) b made adds more begun stands))
 
 pub bodies_over : (q : NamedParts) (i : ℕ) (nodes : TypedNodes) (bs : List resolved.Block) → length q.methods ≤ i
     → BodiesMade q (map (method_made q.texts (exprs_of q) (stmts_of q)) (take i q.methods)) nodes bs → BodiesMade q (named_package q).methods nodes bs

@@ -66,7 +66,7 @@ place_at xs n x low =
     let P : NamedVar → Place = λ y. y.name.at in
     slice_get-map P xs n ∙ ap (option_map P) (slice_get-get_or xs n x low)
 
-below_length : {X : Type 0} (xs : List X) (i : ℕ) (x : X) → slice_get xs i ≡ Some x → i < length xs
+pub below_length : {X : Type 0} (xs : List X) (i : ℕ) (x : X) → slice_get xs i ≡ Some x → i < length xs
 below_length [] zero x e = absurd (cc e)
 below_length [] (suc i) x e = absurd (cc e)
 below_length (y ∷ ys) zero x e = omega arith

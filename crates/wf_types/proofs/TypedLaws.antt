@@ -37,6 +37,7 @@ use Rattle.wf_typed_exprs.specs.Growth.{IsBuilt}
 use Rattle.wf_typed_stmts.specs.StmtGrowth.{without_nodes, stmt_there, jump_below, jumps_below}
 use Rattle.wf_types.specs.Bodies.{without_bodies, AreBodies, BodiesMade, IsWhole, has_numbers}
 use Rattle.wf_types.specs.DeclaredNodes.{declared_method, seen_statuses, declared_nodes}
+use Rattle.wf_types.proofs.EntryLemmas.{entries_with}
 use Rattle.wf_types.proofs.PackageLaws.{package_same}
 
 -- Status texts that break no rule begin with the byte of their kind, also as a caller sees them.
@@ -134,6 +135,7 @@ whole_made : (q : NamedParts) (nodes : TypedNodes) (bs : List resolved.Block) �
 whole_made q nodes bs made built = record {
   declared = ap without_bodies made.declared ∙ declared_alone q;
   bodies = bodies_placed (named_package q) nodes bs 0 (named_package q).methods bs made.bodies;
+  entries = entries_with nodes bs ∙ made.entries;
   exprs = record { ordered = built.ordered; kinds = built.kinds; typed = built.typed; counted = built.counted; few = built.few };
   stmts = record { ordered = made.begun.stmts.ordered; few = made.begun.stmts.few };
   jumps = made.jumps;

@@ -8,6 +8,8 @@ use Rattle.wf_named.specs.NamedParts.{NamedParts, named_package}
 use Rattle.wf_named.specs.NamedTree.{NamedMethodTree, NamedPackageTree}
 use Rattle.wf_types_rules.specs.DeclaredTypes.{in_method}
 use Rattle.wf_typed_tree.specs.ElaboratedStmts.{count_block, block_tree}
+use Rattle.wf_typed_tree.specs.Entries as known
+use Rattle.wf_typed_tree.specs.Entries.{methods_entries}
 use Rattle.wf_typed_exprs.specs.Growth.{IsBuilt}
 use Rattle.wf_typed_stmts.specs.Right.{known_in, IsRightBlock}
 use Rattle.wf_typed_stmts.specs.StmtGrowth.{without_nodes, jumps_below, AreStmtsBuilt, IsBegun}
@@ -40,11 +42,13 @@ pub record BodiesMade (q : NamedParts) (done : List NamedMethodTree) (nodes : Ty
   pub jumps : jumps_below (length nodes.stmts) nodes.stmts ≡ true
   pub count : length nodes.stmts ≡ count_methods done
   pub bodies : AreBodies (named_package q) nodes 0 done made
+  pub entries : known.entries nodes ≡ methods_entries (named_package q) done
 
 -- The nodes of a package with all its bodies. Each jump tells a statement.
 pub record IsWhole (q : NamedParts) (nodes : TypedNodes) : Type 0 where
   pub declared : without_bodies nodes ≡ declared_nodes q
   pub bodies : AreBodies (named_package q) nodes 0 (named_package q).methods nodes.bodies
+  pub entries : known.entries nodes ≡ methods_entries (named_package q) (named_package q).methods
   pub exprs : IsBuilt nodes
   pub stmts : AreStmtsBuilt nodes
   pub jumps : jumps_below (length nodes.stmts) nodes.stmts ≡ true

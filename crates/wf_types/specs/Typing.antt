@@ -9,6 +9,8 @@ use Rattle.wf_ast.specs.TypedPackage.{package_of}
 use Rattle.wf_named.specs.NamedParts.{NamedParts, named_package}
 use Rattle.wf_types_rules.specs.TypeRules.{Breaks}
 use Rattle.wf_typed_tree.specs.ElaboratedPackage.{typed_package}
+use Rattle.wf_typed_tree.specs.Entries as known
+use Rattle.wf_typed_tree.specs.Entries.{package_entries}
 use Rattle.wf_types.specs.Bodies.{without_bodies}
 use Rattle.wf_types.specs.DeclaredNodes.{declared_nodes}
 
@@ -19,8 +21,10 @@ IsMistyped named (phase.Refused refusal) = IsFirst (Breaks (named_package named)
 IsMistyped named phase.Memory = ⊤
 
 -- A package breaks no rule of types and effects, and these are the nodes of its typed tree, with the names, the places and the
--- types of all that it declares.
+-- types of all that it declares. Of its expressions it has those of the package, each at its place and with its type and its
+-- number, and no other.
 pub record IsElaborated (named : NamedParts) (typed : TypedNodes) : Type 0 where
   pub kept : (refusal : Refusal) → Breaks (named_package named) refusal → ⊥
   pub tree : package_of typed ≡ typed_package (named_package named)
   pub declared : without_bodies typed ≡ declared_nodes named
+  pub entries : known.entries typed ≡ package_entries (named_package named)

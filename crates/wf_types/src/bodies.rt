@@ -5,6 +5,8 @@ ghost use Rattle.wf_named.specs.NamedParts.{exprs_of, stmts_of, named_package, N
 ghost use Rattle.wf_named.specs.NamedTrees.{method_made};
 ghost use Rattle.wf_types_rules.specs.DeclaredTypes.{for_types, in_method};
 ghost use Rattle.wf_types_decls.specs.Packages.{IsAround, field_types};
+ghost use Rattle.wf_typed_tree.specs.Entries.{method_entries};
+ghost use Rattle.wf_typed_exprs.specs.Growth.{AddsEntries};
 ghost use Rattle.wf_typed_stmts.specs.Right.{known_in, IsRightBlock};
 ghost use Rattle.wf_typed_stmts.specs.StmtGrowth.{Adds, IsBegun, StandsForBlock};
 ghost use Rattle.wf_types.specs.Bodies.{AreRightBodies, BodiesMade};
@@ -45,6 +47,7 @@ fn elaborate_method(
     requires right { IsRightBlock (in_method (named_package named.now) (method_made named.now.texts (exprs_of named.now) (stmts_of named.now) method.now)) (known_in (named_package named.now)) 0 (method_made named.now.texts (exprs_of named.now) (stmts_of named.now) method.now).body }
     requires paths { AreRightPaths (in_method (named_package named.now) (method_made named.now.texts (exprs_of named.now) (stmts_of named.now) method.now)) (known_in (named_package named.now)).statuses (places_of (method_made named.now.texts (exprs_of named.now) (stmts_of named.now) method.now).locals) }
     ensures adds { OnOk result (Adds [] nodes.old nodes.new) }
+    ensures entries { OnOk result (AddsEntries nodes.old nodes.new (method_entries (named_package named.now) (method_made named.now.texts (exprs_of named.now) (stmts_of named.now) method.now))) }
     ensures begun { OnOk result (IsBegun named.now nodes.new) }
     ensures stands { IfOk result (λ made. StandsForBlock (in_method (named_package named.now) (method_made named.now.texts (exprs_of named.now) (stmts_of named.now) method.now)) [] (length nodes.old.stmts) (method_made named.now.texts (exprs_of named.now) (stmts_of named.now) method.now).body nodes.new made.body) }
     ensures locals { OnOk result (HaveNodes (in_method (named_package named.now) (method_made named.now.texts (exprs_of named.now) (stmts_of named.now) method.now)) nodes.new (places_of (method_made named.now.texts (exprs_of named.now) (stmts_of named.now) method.now).locals)) }

@@ -3,6 +3,8 @@
 
 ghost use Rattle.std.specs.Prelude.{OnOk};
 ghost use Rattle.wf_named.specs.NamedParts.{named_package};
+ghost use Rattle.wf_typed_tree.specs.Entries.{local_entries};
+ghost use Rattle.wf_typed_exprs.specs.Growth.{AddsEntries};
 ghost use Rattle.wf_typed_stmts.specs.Right.{known_in};
 ghost use Rattle.wf_typed_stmts.specs.StmtGrowth.{GrowsExprs, IsBegun};
 ghost use Rattle.wf_types.specs.Locals.{places_named, AreRightPaths, HaveNodes};
@@ -29,6 +31,7 @@ pub fn elaborate_locals(
     requires begun { IsBegun named.now nodes.old }
     requires right { AreRightPaths around.now (known_in (named_package named.now)).statuses (places_named locals.now) }
     ensures grows { OnOk result (GrowsExprs nodes.old nodes.new) }
+    ensures entries { OnOk result (AddsEntries nodes.old nodes.new (local_entries around.now 0 (places_named locals.now))) }
     ensures begun { OnOk result (IsBegun named.now nodes.new) }
     ensures stand { OnOk result (HaveNodes around.now nodes.new (places_named locals.now)) }
 {

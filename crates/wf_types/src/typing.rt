@@ -13,6 +13,8 @@ ghost use Rattle.wf_typed_tree.specs.Grammar.{package_by_grammar};
 ghost use Rattle.wf_types_decls.specs.Packages.{IsAround, field_types};
 ghost use Rattle.wf_types.specs.Bodies.{AreRightBodies, IsWhole, has_numbers as are_numbered, without_bodies};
 ghost use Rattle.wf_types.specs.DeclaredNodes.{declared_nodes};
+ghost use Rattle.wf_typed_tree.specs.Entries as known;
+ghost use Rattle.wf_typed_tree.specs.Entries.{package_entries};
 ghost use Rattle.wf_types.specs.Locals.{MethodsHaveNodes, LocalsHaveNodes, AreRightLocals};
 ghost use Rattle.wf_types.specs.Typing.{IsMistyped, IsElaborated};
 
@@ -110,6 +112,7 @@ fn typed(alloc: Global, named: &NamedNodes) -> Result<Typed, NoMemory>
     requires placed { stand_in_order (typed_package (named_package named.now)) ≡ true }
     ensures tree { IfOk result (λ typed. package_of typed ≡ typed_package (named_package named.now)) }
     ensures declared { IfOk result (λ typed. without_bodies typed ≡ declared_nodes named.now) }
+    ensures entries { IfOk result (λ typed. known.entries typed ≡ package_entries (named_package named.now)) }
     ensures locals { IfOk result (LocalsHaveNodes (named_package named.now)) }
 {
     match typed_nodes(alloc, named) {

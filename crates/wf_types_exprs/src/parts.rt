@@ -25,8 +25,8 @@ use wf_types_meanings::calls::{answer_type, declared_mark, is_base, pure_answer}
 use wf_types_meanings::marks::{is_coroutine, is_impure, is_pure, same_mark};
 use wf_types_meanings::places::{at_if, first_place, told};
 use wf_types_meanings::values::{
-    as_flag, as_value, conversion, element_of as element, elements, if_number,
-    is_argument, may_be_handed, slice_in as slice, slices, takes,
+    as_flag, as_value, conversion, element_of as element, elements, if_number, is_argument,
+    may_be_handed, slice_in as slice, slices, takes,
 };
 use wf_types_meanings::variables::{typed, variable};
 use wf_types_operators::fitting::not_fitting;

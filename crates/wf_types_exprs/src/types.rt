@@ -19,7 +19,8 @@ use wf_text::rules::{Refusal, Rule};
 use wf_text::{Place, StructId};
 use wf_types_meanings::places::{at_if, told};
 use wf_types_meanings::types::{
-    array_type, base_form, base_of, holds_zero, is_number_form, is_zero_kept, may_have, refined_type,
+    array_type, base_form, base_of, holds_zero, is_number_form, is_zero_kept, may_have,
+    refined_type,
 };
 use wf_types_operators::meanings::greatest;
 use wf_types_rules::{Form, Role};

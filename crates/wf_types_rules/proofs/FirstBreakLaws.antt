@@ -66,7 +66,106 @@ told-breaks p rule judge x stands build t h = by_judged (judge x.around x.part) 
         let F : Refusal → Type 0 = λ r. Breaks p r in subst F (let same : refused rule at ≡ t = cc k in same) (build at (record { around = x.around; part = x.part; stands = stands; wrong = e }))
 
 site-breaks : (p : NamedPackageTree) (x : Site) → IsPart p x.around x.part → AllBreak p (refusals_of x)
-site-breaks p x i = (told-breaks p T1 wrong_operand x i (λ at w. rules.operand at w), (told-breaks p T1 wrong_update x i (λ at w. rules.update at w), (told-breaks p T1 wrong_argument x i (λ at w. rules.argument at w), (told-breaks p T1 wrong_letter x i (λ at w. rules.letter at w), (told-breaks p T1 wrong_type x i (λ at w. rules.unknown_type at w), (told-breaks p T1 misplaced_type x i (λ at w. rules.misplaced at w), (told-breaks p T1 value_no_number x i (λ at w. rules.constant_no_number at w), (told-breaks p T2 wrong_target x i (λ at w. rules.no_target at w), (told-breaks p T2 wrong_assigned x i (λ at w. rules.other_type at w), (told-breaks p T2 no_value_assigned x i (λ at w. rules.no_value at w), (told-breaks p T3 wrong_condition x i (λ at w. rules.no_condition at w), (told-breaks p T4 wrong_return x i (λ at w. rules.other_result at w), (told-breaks p T4 reaches_end x i (λ at w. rules.no_result at w), (told-breaks p T5 node_without_value x i (λ at w. rules.without_value at w), (told-breaks p T5 unfit_operand x i (λ at w. rules.unfit_beside at w), (told-breaks p T5 unfit_update x i (λ at w. rules.unfit_in_update at w), (told-breaks p T5 value_outside x i (λ at w. rules.outside at w), (told-breaks p T5 crossed_bounds x i (λ at w. rules.crossed at w), (told-breaks p T5 high_bound x i (λ at w. rules.too_high at w), (told-breaks p T5 no_elements x i (λ at w. rules.empty_array at w), (told-breaks p T5 element_above_zero x i (λ at w. rules.element_not_zero at w), (told-breaks p T5 begins_above_zero x i (λ at w. rules.not_zero at w), (told-breaks p T5 wrong_status x i (λ at w. rules.status_text at w), (told-breaks p E1 impure_call x i (λ at w. rules.impure at w), (told-breaks p E1 impure_write x i (λ at w. rules.written at w), (told-breaks p E2 coroutine_call x i (λ at w. rules.coroutine at w), (told-breaks p E2 kept_outside x i (λ at w. rules.kept at w), (told-breaks p E2 yielded_outside x i (λ at w. rules.yielded at w), (told-breaks p E3 call_inside x i (λ at w. rules.inside at w), (told-breaks p E3 wrong_mark x i (λ at w. rules.other_mark at w), (told-breaks p E4 not_kept_in_status x i (λ at w. rules.no_status at w), (told-breaks p E4 keeps_no_coroutine x i (λ at w. rules.no_coroutine at w), (told-breaks p E5 wrong_yield x i (λ at w. rules.no_suspension at w), tt)))))))))))))))))))))))))))))))))
+site-breaks p x i = (
+  told-breaks p T1 wrong_operand x i (λ at w. rules.operand at w),
+  (
+    told-breaks p T1 wrong_update x i (λ at w. rules.update at w),
+    (
+      told-breaks p T1 wrong_argument x i (λ at w. rules.argument at w),
+      (
+        told-breaks p T1 wrong_letter x i (λ at w. rules.letter at w),
+        (
+          told-breaks p T1 wrong_type x i (λ at w. rules.unknown_type at w),
+          (
+            told-breaks p T1 misplaced_type x i (λ at w. rules.misplaced at w),
+            (
+              told-breaks p T1 value_no_number x i (λ at w. rules.constant_no_number at w),
+              (
+                told-breaks p T2 wrong_target x i (λ at w. rules.no_target at w),
+                (
+                  told-breaks p T2 wrong_assigned x i (λ at w. rules.other_type at w),
+                  (
+                    told-breaks p T2 no_value_assigned x i (λ at w. rules.no_value at w),
+                    (
+                      told-breaks p T3 wrong_condition x i (λ at w. rules.no_condition at w),
+                      (
+                        told-breaks p T4 wrong_return x i (λ at w. rules.other_result at w),
+                        (
+                          told-breaks p T4 reaches_end x i (λ at w. rules.no_result at w),
+                          (
+                            told-breaks p T5 node_without_value x i (λ at w. rules.without_value at w),
+                            (
+                              told-breaks p T5 unfit_operand x i (λ at w. rules.unfit_beside at w),
+                              (
+                                told-breaks p T5 unfit_update x i (λ at w. rules.unfit_in_update at w),
+                                (
+                                  told-breaks p T5 value_outside x i (λ at w. rules.outside at w),
+                                  (
+                                    told-breaks p T5 crossed_bounds x i (λ at w. rules.crossed at w),
+                                    (
+                                      told-breaks p T5 high_bound x i (λ at w. rules.too_high at w),
+                                      (
+                                        told-breaks p T5 no_elements x i (λ at w. rules.empty_array at w),
+                                        (
+                                          told-breaks p T5 element_above_zero x i (λ at w. rules.element_not_zero at w),
+                                          (
+                                            told-breaks p T5 begins_above_zero x i (λ at w. rules.not_zero at w),
+                                            (
+                                              told-breaks p T5 wrong_status x i (λ at w. rules.status_text at w),
+                                              (
+                                                told-breaks p E1 impure_call x i (λ at w. rules.impure at w),
+                                                (
+                                                  told-breaks p E1 impure_write x i (λ at w. rules.written at w),
+                                                  (
+                                                    told-breaks p E2 coroutine_call x i (λ at w. rules.coroutine at w),
+                                                    (
+                                                      told-breaks p E2 kept_outside x i (λ at w. rules.kept at w),
+                                                      (
+                                                        told-breaks p E2 yielded_outside x i (λ at w. rules.yielded at w),
+                                                        (
+                                                          told-breaks p E3 call_inside x i (λ at w. rules.inside at w),
+                                                          (
+                                                            told-breaks p E3 wrong_mark x i (λ at w. rules.other_mark at w),
+                                                            (
+                                                              told-breaks p E4 not_kept_in_status x i (λ at w. rules.no_status at w),
+                                                              (
+                                                                told-breaks p E4 keeps_no_coroutine x i (λ at w. rules.no_coroutine at w),
+                                                                (
+                                                                  told-breaks p E5 wrong_yield x i (λ at w. rules.no_suspension at w),
+                                                                  tt,
+                                                                ),
+                                                              ),
+                                                            ),
+                                                          ),
+                                                        ),
+                                                      ),
+                                                    ),
+                                                  ),
+                                                ),
+                                              ),
+                                            ),
+                                          ),
+                                        ),
+                                      ),
+                                    ),
+                                  ),
+                                ),
+                              ),
+                            ),
+                          ),
+                        ),
+                      ),
+                    ),
+                  ),
+                ),
+              ),
+            ),
+          ),
+        ),
+      ),
+    ),
+  ),
+)
 
 -- Every cause is told.
 somewhere : (p : NamedPackageTree) (rule : Rule) (judge : Setting → Part → Option Place) (k : ℕ) (at : Place)

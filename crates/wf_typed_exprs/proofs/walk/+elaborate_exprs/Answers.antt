@@ -1,4 +1,4 @@
-use Rattle.std.proofs.Common.{◌≡◌, ◌∙◌, length, sym, ap, arith}
+use Rattle.std.proofs.Common.{◌≡◌, ◌∙◌, ◌∷◌, ◌++◌, [], length, sym, ap, arith}
 use Rattle.wf_ast.specs.ParsedParts.{LinksBelow}
 use Rattle.wf_named.specs.NamedTree.{index, slice, chain}
 use Rattle.wf_named.specs.NamedTrees.{expr_trees, expr_at, part_at, links_at, args_at, type_at}
@@ -7,8 +7,10 @@ use Rattle.wf_types_rules.specs.ExprTypes.{meaning}
 use Rattle.wf_types_exprs.specs.declared.found.Value.{Value}
 use Rattle.wf_types_exprs.proofs.AboveLemmas.{links_above, links_more, link_at_place}
 use Rattle.wf_typed_tree.specs.ElaboratedExprs.{path_tree}
+use Rattle.wf_typed_tree.specs.Entries.{path_entry, end_entries, expr_entries}
 use Rattle.wf_typed_exprs.proofs.FormLaws.{value-makes, index-right, index-makes, slice-right, slice-makes, convert-right, convert-width, negation-right}
 use Rattle.wf_typed_exprs.proofs.ChainLaws.{chain-right, chain-makes}
+use Rattle.wf_typed_exprs.proofs.EntryLemmas.{adds_then, made_adds, entries_next}
 use Rattle.wf_typed_exprs.proofs.GrowthLemmas.{grows_more, stands_kept}
 use Rattle.wf_typed_exprs.proofs.WalkLemmas.{right_kept, end_right_kept, link_right, left_next}
 use Rattle.wf_typed_exprs.proofs.walk.+elaborate_exprs.Goals as goal
@@ -80,7 +82,10 @@ elaborate_links-loop-link-preserved t c =
     let l = c.loop-link in
     let after = c.elaborate_link.new.nodes in (
       grows_more c.args.nodes.now l.nodes after l.invariant.0 c.in-Ok.ensures.grows,
-      left_next s es c.args.links.now l.link-index _ l.nodes after c.args.before l.all c.in-Ok.next c.loop-link-test.true l.invariant.1 c.in-Ok.ensures.grows c.in-Ok.ensures.adds,
+      (
+        left_next s es c.args.links.now l.link-index _ l.nodes after c.args.before l.all c.in-Ok.next c.loop-link-test.true l.invariant.1.0 c.in-Ok.ensures.grows c.in-Ok.ensures.adds,
+        entries_next s es c.args.links.now l.link-index _ c.args.nodes.now l.nodes after c.loop-link-test.true l.invariant.1.1 c.in-Ok.ensures.entries,
+      ),
     )
 
 pub elaborate_negation-elaborate_expr-requires : goal.elaborate_negation-elaborate_expr-requires
@@ -135,3 +140,20 @@ elaborate_slice-returns-in-Ok-elaborate_ends-clause-made t c =
     rw (c.unsigned.ensures, c.slice_meant.ensures, c.node_of.ensures, c.node_of-in-Ok-elaborate_ends.ensures, cells)
     (slice-makes s after p (part_at es c.args.from) (part_at es c.args.to) c.args.at c.in-Ok.cells.node ends.from ends.to
     (right_kept s c.args.nodes.now after all (slice p (part_at es c.args.from) (part_at es c.args.to) c.args.at) c.requires.right) base ends.ensures.from ends.ensures.to)
+
+pub elaborate_expr-returns-in-Ok-clause-entries : goal.elaborate_expr-returns-in-Ok-clause-entries
+elaborate_expr-returns-in-Ok-clause-entries t c =
+    made_adds c.args.around.now (expr_at (expr_trees c.args.named.now.exprs) c.args.e) c.args.nodes.now c.elaborate_node.new.nodes c.put.new.nodes c.in-Ok.made c.put.result c.in-Ok.ensures.entries c.in-Ok.ensures.made c.put.ensures.entries
+
+pub elaborate_index-returns-in-Ok-elaborate_expr-clause-entries : goal.elaborate_index-returns-in-Ok-elaborate_expr-clause-entries
+elaborate_index-returns-in-Ok-elaborate_expr-clause-entries t c =
+    let s = c.args.around.now in
+    let i = expr_at (expr_trees c.args.named.now.exprs) c.args.index in
+    adds_then c.args.nodes.now c.elaborate_path.new.nodes c.elaborate_expr.new.nodes (path_entry s c.args.base ∷ []) (expr_entries s i) c.in-Ok.ensures.entries c.in-Ok-elaborate_expr.ensures.entries
+
+pub elaborate_slice-returns-in-Ok-elaborate_ends-clause-entries : goal.elaborate_slice-returns-in-Ok-elaborate_ends-clause-entries
+elaborate_slice-returns-in-Ok-elaborate_ends-clause-entries t c =
+    let s = c.args.around.now in
+    let es = expr_trees c.args.named.now.exprs in
+    adds_then c.args.nodes.now c.elaborate_path.new.nodes c.elaborate_ends.new.nodes (path_entry s c.args.base ∷ []) (end_entries s (part_at es c.args.from) ++ end_entries s (part_at es c.args.to))
+    c.in-Ok.ensures.entries c.in-Ok-elaborate_ends.ensures.entries

@@ -2,6 +2,7 @@ use Rattle.std.proofs.Common.{◌+◌, ◌*◌, max, drop}
 use Rattle.wf_named.specs.NamedTrees.{expr_trees}
 use Rattle.wf_types_exprs.specs.Above.{above_part, above_links}
 use Rattle.wf_typed_exprs.specs.Growth.{Grows}
+use Rattle.wf_typed_exprs.proofs.EntryLemmas.{EntriesLeft}
 use Rattle.wf_typed_exprs.proofs.WalkLemmas.{LeftToAdd}
 use Rattle.wf_typed_exprs.proofs.walk.+elaborate_exprs.Given as goal
 
@@ -46,4 +47,5 @@ decreases-elaborate_negation l = 16 * l.of.0 + 17
 
 abbrev pub invariant-elaborate_links-loop-link : goal.invariant-elaborate_links-loop-link
 invariant-elaborate_links-loop-link l =
-    Grows l.fn.nodes l.nodes × LeftToAdd l.around (expr_trees l.named.exprs) l.links (drop l.link-index l.links) l.nodes l.fn.before l.all
+    Grows l.fn.nodes l.nodes × (LeftToAdd l.around (expr_trees l.named.exprs) l.links (drop l.link-index l.links) l.nodes l.fn.before l.all
+    × EntriesLeft l.around (expr_trees l.named.exprs) l.links (drop l.link-index l.links) l.fn.nodes l.nodes)

@@ -22,3 +22,6 @@ returns-in-Ok-clause-made c = λ args.
     answer-makes s nodes c.in-Base.on c.in-Base.sig c.args.call.now.at c.args.call.now.mark c.requires.args c.in-Ok.asked.node
     (right_kept s c.args.nodes.now nodes c.in-Ok.ensures.grows (answer (call _ c.args.call.now.at c.args.call.now.mark c.requires.args)) right) c.in-Ok.ensures.stands in
     rw (c.in-Base.is, c.unsigned.ensures, inner) made
+
+pub returns-in-Ok-clause-entries : goal.returns-in-Ok-clause-entries
+returns-in-Ok-clause-entries c = rw c.in-Base.is c.in-Ok.ensures.entries

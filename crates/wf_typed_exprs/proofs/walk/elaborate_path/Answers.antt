@@ -12,5 +12,8 @@ pub returns-in-Ok-clause-stands : goal.returns-in-Ok-clause-stands
 returns-in-Ok-clause-stands c =
     let s = c.args.around.now in
     let p = c.args.path in
-    let made : Makes (path_tree s p) (variable s p.of) c.args.nodes.now c.path_node.result = rw c.path_node.ensures (path-makes s c.args.nodes.now p c.requires) in
-    makes_stands (path_tree s p) (variable s p.of) c.args.nodes.now c.put.new.nodes c.path_node.result c.in-Ok.made.node made c.in-Ok.ensures.stands
+    let made : Makes p.at (path_tree s p) (variable s p.of) c.args.nodes.now c.path_node.result = rw c.path_node.ensures (path-makes s c.args.nodes.now p c.requires) in
+    makes_stands p.at (path_tree s p) (variable s p.of) c.args.nodes.now c.put.new.nodes c.path_node.result c.in-Ok.made.node made c.in-Ok.ensures.stands
+
+pub returns-in-Ok-clause-entries : goal.returns-in-Ok-clause-entries
+returns-in-Ok-clause-entries c = rw c.path_node.ensures at c.in-Ok.ensures.entries

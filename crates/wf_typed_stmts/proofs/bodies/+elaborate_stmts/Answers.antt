@@ -5,11 +5,15 @@ use Rattle.wf_ast.specs.declared.numbers.StmtId.{StmtId}
 use Rattle.wf_ast.specs.declared.parsed.Arm.{Arm}
 use Rattle.wf_ast.specs.ParsedParts.{BlockBelow}
 use Rattle.wf_named.specs.NamedParts.{named_package}
-use Rattle.wf_named.specs.NamedTrees.{expr_trees, stmt_trees, else_at}
+use Rattle.wf_named.specs.NamedTree.{no_else}
+use Rattle.wf_named.specs.NamedTrees.{expr_trees, stmt_trees, arms_at, else_at}
 use Rattle.wf_types_stmts.specs.Above.{above_stmts}
 use Rattle.wf_types_stmts.proofs.AboveLemmas.{block_above, else_above, arms_above, block_more, else_more, arms_more, stmt_at_place, arm_at_place}
+use Rattle.wf_typed_tree.specs.Entries.{arms_entries}
+use Rattle.wf_typed_exprs.proofs.EntryLemmas.{adds_then}
 use Rattle.wf_typed_stmts.specs.Right.{known_in}
-use Rattle.wf_typed_stmts.proofs.BlockLemmas.{stmt_right, stmts_added, stmts_all_made, arm_right, arms_added, arms_all_made}
+use Rattle.wf_typed_stmts.proofs.BlockLemmas.{stmt_right, stmts_added, stmts_all_made, stmts_entries, arm_right, arms_added, arms_all_made, arms_entries_made}
+use Rattle.wf_typed_stmts.proofs.EntryLemmas.{arms_joined}
 use Rattle.wf_typed_stmts.proofs.StepLemmas.{right_arms, if_made_so}
 use Rattle.wf_typed_stmts.proofs.bodies.+elaborate_stmts.Goals as goal
 
@@ -62,7 +66,7 @@ elaborate_block-loop-s-preserved t c =
     let one = rw c.as_slice-s-items.ensures at c.in-Ok.ensures.stands in
     rw c.in-Ok-push.ensures.ok
     (stmts_added c.args.around.now (known_in (named_package c.args.named.now)) c.args.loops.now c.args.named.now ts c.args.block.now.close c.args.block.now.items l.s-index c.args.nodes.now l.nodes c.elaborate_stmt.new.nodes l.items
-    (record { 0 = 0 }) c.in-Ok.id inside l.invariant c.in-Ok.ensures.adds c.in-Ok.ensures.begun one)
+    (record { 0 = 0 }) c.in-Ok.id inside l.invariant c.in-Ok.ensures.adds c.in-Ok.ensures.begun one (rw c.as_slice-s-items.ensures at c.in-Ok.ensures.entries))
 
 pub elaborate_block-returns-clause-stands : goal.elaborate_block-returns-clause-stands
 elaborate_block-returns-clause-stands t c =
@@ -89,7 +93,7 @@ elaborate_arms-loop-arm-preserved t c =
     let ts = stmt_trees c.args.named.now.texts c.args.named.now.exprs c.args.named.now.stmts in
     rw c.in-Ok-push.ensures.ok
     (arms_added c.args.around.now (known_in (named_package c.args.named.now)) c.args.loops.now c.args.named.now es ts c.args.arms.now l.arm-index c.arm-item.result c.arm-item.is c.loop-arm-test.true c.args.nodes.now l.nodes
-    c.elaborate_arm.new.nodes l.made c.in-Ok.one l.invariant c.in-Ok.ensures.adds c.in-Ok.ensures.begun c.in-Ok.ensures.stands)
+    c.elaborate_arm.new.nodes l.made c.in-Ok.one l.invariant c.in-Ok.ensures.adds c.in-Ok.ensures.begun c.in-Ok.ensures.stands c.in-Ok.ensures.entries)
 
 pub elaborate_arms-returns-clause-stand : goal.elaborate_arms-returns-clause-stand
 elaborate_arms-returns-clause-stand t c =
@@ -121,3 +125,28 @@ elaborate_if-returns-in-Ok-elaborate_else-clause-made t c =
     let ts = stmt_trees c.args.named.now.texts c.args.named.now.exprs c.args.named.now.stmts in
     if_made_so c.args.around.now c.args.loops.now c.args.nodes.now c.elaborate_arms.new.nodes c.elaborate_else.new.nodes es ts c.args.arms.now c.args.otherwise.now c.args.at c.in-Ok.arms c.in-Ok-elaborate_else.otherwise
     c.requires.right.0 c.in-Ok.ensures.stand c.in-Ok-elaborate_else.ensures.adds.grows c.in-Ok-elaborate_else.ensures.stands
+
+pub elaborate_block-returns-clause-entries : goal.elaborate_block-returns-clause-entries
+elaborate_block-returns-clause-entries t c =
+    let l = c.loop-s in
+    let ts = stmt_trees c.args.named.now.texts c.args.named.now.exprs c.args.named.now.stmts in
+    let items = c.args.block.now.items in
+    let over : drop l.s-index items ≡ [] = drop_all l.s-index items (omega (arith, c.loop-s-test.false, ap length c.as_slice-s-items.ensures)) in
+    stmts_entries c.args.around.now (known_in (named_package c.args.named.now)) c.args.loops.now c.args.named.now ts c.args.block.now.close items l.s-index c.args.nodes.now l.nodes l.items over l.invariant
+
+pub elaborate_arms-returns-clause-entries : goal.elaborate_arms-returns-clause-entries
+elaborate_arms-returns-clause-entries t c =
+    let l = c.loop-arm in
+    let es = expr_trees c.args.named.now.exprs in
+    let ts = stmt_trees c.args.named.now.texts c.args.named.now.exprs c.args.named.now.stmts in
+    let arms = c.args.arms.now in
+    let over : drop l.arm-index arms ≡ [] = drop_all l.arm-index arms (omega (arith, c.loop-arm-test.false)) in
+    arms_entries_made c.args.around.now (known_in (named_package c.args.named.now)) c.args.loops.now c.args.named.now es ts arms l.arm-index c.args.nodes.now l.nodes l.made over l.invariant
+
+pub elaborate_if-returns-in-Ok-elaborate_else-clause-entries : goal.elaborate_if-returns-in-Ok-elaborate_else-clause-entries
+elaborate_if-returns-in-Ok-elaborate_else-clause-entries t c =
+    let es = expr_trees c.args.named.now.exprs in
+    let ts = stmt_trees c.args.named.now.texts c.args.named.now.exprs c.args.named.now.stmts in
+    rw (arms_joined c.args.around.now es ts c.args.arms.now (else_at ts c.args.otherwise.now))
+    (adds_then c.args.nodes.now c.elaborate_arms.new.nodes c.elaborate_else.new.nodes (arms_entries c.args.around.now (arms_at es ts c.args.arms.now no_else)) (arms_entries c.args.around.now (else_at ts c.args.otherwise.now))
+    c.in-Ok.ensures.entries c.in-Ok-elaborate_else.ensures.entries)

@@ -9,4 +9,4 @@ loop-clause-preserved c =
     let l = c.loop-clause in
     rw c.in-Ok-push.ensures.ok
     (clauses_added c.args.around.now (known_in (named_package c.args.named.now)) c.args.named.now (expr_trees c.args.named.now.exprs) c.args.clauses.now l.clause-index c.args.nodes.now l.nodes c.add_tree.new.nodes l.made _
-    c.in-Ok.e c.loop-clause-test.true l.invariant c.in-Ok.ensures.grows c.in-Ok.ensures.begun c.in-Ok.ensures.made)
+    c.in-Ok.e c.loop-clause-test.true l.invariant c.in-Ok.ensures.grows c.in-Ok.ensures.begun c.in-Ok.ensures.made c.in-Ok.ensures.entries)

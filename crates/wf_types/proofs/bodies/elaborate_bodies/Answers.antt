@@ -39,7 +39,7 @@ loop-method-preserved c =
     let is : m ≡ get_or q.methods i m = rw c.methods-method-items.ensures.all at c.method-item.is in (
       c.in-Ok.ensures.around,
       (
-        bodies_with q i m low is c.loop-method.nodes c.elaborate_method.new.nodes c.loop-method.all c.push.new.self c.in-Ok.made.body c.loop-method.invariant.1.0 c.in-Ok.ensures.adds c.in-Ok.ensures.begun c.in-Ok.ensures.stands c.in-Ok-push.ensures.ok,
+        bodies_with q i m low is c.loop-method.nodes c.elaborate_method.new.nodes c.loop-method.all c.push.new.self c.in-Ok.made.body c.loop-method.invariant.1.0 c.in-Ok.ensures.adds c.in-Ok.ensures.entries c.in-Ok.ensures.begun c.in-Ok.ensures.stands c.in-Ok-push.ensures.ok,
         locals_with q i m low is c.loop-method.nodes c.elaborate_method.new.nodes c.loop-method.invariant.1.1 c.in-Ok.ensures.adds c.in-Ok.ensures.locals,
       ),
     )

@@ -2,6 +2,7 @@ use Rattle.wf_named.specs.NamedParts.{exprs_of, stmts_of, named_package}
 use Rattle.wf_named.specs.NamedTrees.{block_at, method_made}
 use Rattle.wf_types_rules.specs.DeclaredTypes.{in_method}
 use Rattle.wf_typed_stmts.specs.Right.{known_in}
+use Rattle.wf_types.proofs.EntryLemmas.{method_adds}
 use Rattle.wf_types.proofs.LocalLemmas.{paths_inside, nodes_inside, block_inside}
 use Rattle.wf_types.proofs.bodies.elaborate_method.Goals as goal
 
@@ -25,3 +26,11 @@ returns-in-Ok-elaborate_body-clause-locals c =
     let m = c.args.method.now in
     let s = in_method (named_package q) (method_made q.texts (exprs_of q) (stmts_of q) m) in
     nodes_inside q.texts (exprs_of q) m.locals c.as_slice.result.now c.as_slice.ensures c.in-Ok-round_body.inside s c.in-Ok-round_body.ensures c.elaborate_locals.new.nodes c.elaborate_body.new.nodes c.in-Ok-elaborate_body.ensures.adds.grows c.in-Ok-elaborate_locals.ensures.stand
+
+pub returns-in-Ok-elaborate_body-clause-entries : goal.returns-in-Ok-elaborate_body-clause-entries
+returns-in-Ok-elaborate_body-clause-entries c =
+    let q = c.args.named.now in
+    let m = c.args.method.now in
+    let s = in_method (named_package q) (method_made q.texts (exprs_of q) (stmts_of q) m) in
+    method_adds q.texts (exprs_of q) m.locals c.as_slice.result.now (block_at (stmts_of q) m.body) c.as_slice.ensures c.in-Ok-round_body.inside s c.in-Ok-round_body.ensures c.args.nodes.now c.elaborate_locals.new.nodes
+    c.elaborate_body.new.nodes c.in-Ok-elaborate_locals.ensures.entries c.in-Ok-elaborate_body.ensures.entries

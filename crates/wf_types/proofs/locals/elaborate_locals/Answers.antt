@@ -4,6 +4,7 @@ use Rattle.wf_named.specs.declared.declarations.NamedVar.{NamedVar}
 use Rattle.wf_text.specs.declared.place.Place.{Place}
 use Rattle.wf_typed_stmts.proofs.GrowthLemmas.{exprs_more_still}
 use Rattle.wf_types.specs.Locals.{places_named}
+use Rattle.wf_types.proofs.EntryLemmas.{local_next, locals_end}
 use Rattle.wf_types.proofs.LocalLemmas.{first_more, place_at, first_all}
 use Rattle.wf_types.proofs.locals.elaborate_locals.Goals as goal
 
@@ -18,7 +19,10 @@ loop-number-preserved c =
       exprs_more_still c.args.nodes.now old new made.0 c.in-Ok.ensures.grows,
       (
         c.in-Ok.ensures.begun,
-        first_more c.args.around.now old new (places_named xs) n (get_or xs n x).name.at c.in-Ok.field-0.node c.in-Ok.ensures.grows (place_at xs n x c.loop-number-test.true) c.in-Ok.ensures.stands made.1.1,
+        (
+          first_more c.args.around.now old new (places_named xs) n (get_or xs n x).name.at c.in-Ok.field-0.node c.in-Ok.ensures.grows (place_at xs n x c.loop-number-test.true) c.in-Ok.ensures.stands made.1.1.0,
+          local_next c.args.around.now c.args.nodes.now old new (places_named xs) n (get_or xs n x).name.at (place_at xs n x c.loop-number-test.true) made.1.1.1 c.in-Ok.ensures.entries,
+        ),
       ),
     )
 
@@ -28,4 +32,12 @@ returns-clause-stand c =
     let P : NamedVar → Place = λ y. y.name.at in
     let long = length-map xs P in
     let past : length (places_named xs) ≤ c.loop-number.number = omega (arith, long, c.loop-number-test.false) in
-    first_all c.args.around.now c.loop-number.nodes c.loop-number.number (places_named xs) past c.loop-number.invariant.1.1
+    first_all c.args.around.now c.loop-number.nodes c.loop-number.number (places_named xs) past c.loop-number.invariant.1.1.0
+
+pub returns-clause-entries : goal.returns-clause-entries
+returns-clause-entries c =
+    let xs = c.args.locals.now in
+    let P : NamedVar → Place = λ y. y.name.at in
+    let long = length-map xs P in
+    let past : length (places_named xs) ≤ c.loop-number.number = omega (arith, long, c.loop-number-test.false) in
+    locals_end c.args.around.now c.args.nodes.now c.loop-number.nodes (places_named xs) c.loop-number.number past c.loop-number.invariant.1.1.1

@@ -2,6 +2,7 @@ use Rattle.std.proofs.Common.{◌≡◌, ◌∙◌, ap, sym, subst, true}
 use Rattle.wf_ast.specs.declared.typed_nodes.TypedNodes.{TypedNodes}
 use Rattle.wf_ast.specs.TypedPackage.{package_of}
 use Rattle.wf_named.specs.NamedParts.{named_package}
+use Rattle.wf_typed_tree.specs.Entries.{entries, package_entries}
 use Rattle.wf_typed_stmts.proofs.RightLaws.{body_is_right}
 use Rattle.wf_types.specs.Bodies.{has_numbers, without_bodies}
 use Rattle.wf_types.specs.Locals.{LocalsHaveNodes}
@@ -32,3 +33,7 @@ returns-then-has_numbers-clause-locals c =
     let q = c.args.named.now in
     let P : TypedNodes → Type 0 = λ x. LocalsHaveNodes (named_package q) x in
     subst P (sym c.new.ensures) (locals_placed_so (named_package q) c.in-Ok.nodes c.requires.kept c.requires.names c.in-Ok.ensures.whole.exprs c.in-Ok.ensures.locals)
+
+pub returns-then-has_numbers-clause-entries : goal.returns-then-has_numbers-clause-entries
+unfolding package_entries
+returns-then-has_numbers-clause-entries c = ap entries c.new.ensures ∙ c.in-Ok.ensures.whole.entries

@@ -1,4 +1,5 @@
 use Rattle.std.proofs.Common.{arith}
+use Rattle.wf_typed_exprs.proofs.EntryLemmas.{pushed_adds}
 use Rattle.wf_typed_exprs.proofs.PushLemmas.{pushed_is, pushed_grows, pushed_made, pushed_typed, pushed_counted, pushed_built}
 use Rattle.wf_typed_exprs.proofs.building.Building.push_expr.Goals as goal
 
@@ -25,3 +26,6 @@ returns-in-Ok-clause-typed c =
 pub returns-in-Ok-clause-counted : goal.returns-in-Ok-clause-counted
 returns-in-Ok-clause-counted c =
     pushed_counted c.self.inside.rest c.self.inside.exprs.items c.push.new.self.items c.args.one c.self.invariant (record { 0 = c.len-number.result }) (omega (arith, c.len-number.ensures)) c.in-Ok.ensures.items
+
+pub returns-in-Ok-clause-adds : goal.returns-in-Ok-clause-adds
+returns-in-Ok-clause-adds c = rw (← c.self.view_is) (pushed_adds c.self.inside.rest c.self.inside.exprs.items c.push.new.self.items c.args.one c.in-Ok.ensures.items)

@@ -4,6 +4,7 @@ use Rattle.wf_ast.specs.declared.typed_nodes.TypedNodes.{TypedNodes}
 use Rattle.wf_ast.specs.TypedTree.{Block}
 use Rattle.wf_ast.specs.TypedTrees.{tree_of, stmt_made, stmt_makers, onto}
 use Rattle.wf_typed_stmts.specs.StmtGrowth.{with_stmts}
+use Rattle.wf_typed_stmts.proofs.EntryLemmas.{stmts_alone}
 use Rattle.wf_typed_stmts.proofs.PushLemmas.{pushed_grows, pushed_made, pushed_built}
 use Rattle.wf_typed_stmts.proofs.building.BodyBuilding.push_stmt.Goals as goal
 
@@ -25,3 +26,6 @@ returns-in-Ok-clause-made c =
     subst P c.self.view_is
     (pushed_made c.self.inside.building c.self.inside.stmts.items c.push.new.self.items c.args.node (rw (← c.self.view_is) at c.requires.built) (rw (← c.self.view_is) at c.requires.there) c.in-Ok.ensures.items s
     (omega (arith, c.len-number.ensures)))
+
+pub returns-in-Ok-clause-entries : goal.returns-in-Ok-clause-entries
+returns-in-Ok-clause-entries c = rw (← c.self.view_is) (stmts_alone (with_stmts c.self.inside.building c.self.inside.stmts.items) c.push.new.self.items)

@@ -2,6 +2,8 @@ use Rattle.wf_named.specs.NamedParts.{exprs_of}
 use Rattle.wf_named.specs.NamedTrees.{expr_at}
 use Rattle.wf_types_rules.specs.ExprTypes.{meaning}
 use Rattle.wf_typed_tree.specs.ElaboratedExprs.{expr_tree}
+use Rattle.wf_typed_tree.specs.Entries.{expr_entries}
+use Rattle.wf_typed_stmts.proofs.EntryLemmas.{lifted_adds}
 use Rattle.wf_typed_stmts.proofs.GrowthLemmas.{step_grows, step_begun, step_stands, ok_so, on_so}
 use Rattle.wf_typed_stmts.proofs.building.BodyBuilding.push_value.Goals as goal
 
@@ -19,3 +21,8 @@ returns-clause-begun c =
 pub returns-clause-stands : goal.returns-clause-stands
 returns-clause-stands c =
     ok_so c.elaborate_expr.result _ _ (λ r h. step_stands (expr_tree c.args.around.now (expr_at (exprs_of c.args.named.now) c.args.e)) (meaning c.args.around.now (expr_at (exprs_of c.args.named.now) c.args.e)) c.elaborate_expr.new.nodes c.self.inside.stmts.items r.node h) c.elaborate_expr.ensures.stands
+
+pub returns-clause-entries : goal.returns-clause-entries
+returns-clause-entries c =
+    rw (← c.self.view_is)
+    (on_so c.elaborate_expr.result _ _ (λ g. lifted_adds c.self.inside.building c.elaborate_expr.new.nodes c.self.inside.stmts.items (expr_entries c.args.around.now (expr_at (exprs_of c.args.named.now) c.args.e)) g) c.elaborate_expr.ensures.entries)

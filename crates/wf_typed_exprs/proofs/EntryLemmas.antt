@@ -1,0 +1,63 @@
+-- Which entries are added, step by step.
+use Rattle.std.proofs.Common.{◌≡◌, ◌∙◌, ℕ, ◌+◌, ◌<◌, length, drop, slice_index_or, List, [], ◌∷◌, ◌++◌, Option, Some, None, Result, Ok, Err, OnOk, map, refl, sym, ap, subst}
+use Rattle.std.proofs.lemmas.List.{append_assoc, append-nil}
+use Rattle.wf_text.specs.declared.place.Place.{Place}
+use Rattle.wf_ast.specs.declared.parsed.Link.{Link}
+use Rattle.wf_ast.specs.declared.typed_nodes.TypedNodes.{TypedNodes}
+use Rattle.wf_named.specs.NamedTree.{NamedExprTree}
+use Rattle.wf_named.specs.NamedTrees.{expr_at, links_at}
+use Rattle.wf_types_rules.specs.declared.meanings.Meaning.{Meaning}
+use Rattle.wf_types_rules.specs.declared.settings.Setting.{Setting}
+use Rattle.wf_types_rules.specs.Meanings.{place_of}
+use Rattle.wf_types_rules.specs.ExprTypes.{meaning}
+use Rattle.wf_types_exprs.proofs.ListLemmas.{drop-one}
+use Rattle.wf_typed_tree.specs.ElaboratedExprs.{type_meant}
+use Rattle.wf_typed_tree.specs.Entries.{Entry, entries_in, entries, entry_of, part_entries, link_entries, expr_entries}
+use Rattle.wf_typed_exprs.specs.declared.elaborated.MadeNode.{MadeNode}
+use Rattle.wf_typed_exprs.specs.declared.typed_exprs.TypedExpr.{TypedExpr}
+use Rattle.wf_typed_exprs.specs.Growth.{with_exprs, AddsEntries, entry_made}
+use Rattle.wf_typed_exprs.specs.Nodes.{number_meant, MakesExpr}
+
+pub adds_nothing : (p : TypedNodes) → AddsEntries p p []
+adds_nothing p = record { is = sym (append-nil (entries p)) }
+
+pub adds_then : (p q r : TypedNodes) (xs ys : List Entry) → AddsEntries p q xs → AddsEntries q r ys → AddsEntries p r (xs ++ ys)
+adds_then p q r xs ys g h = record { is = h.is ∙ ap (λ l. l ++ ys) g.is ∙ append_assoc (entries p) xs ys }
+
+-- The last of several.
+pub ok_adds : {X E : Type 0} (p q r : TypedNodes) (xs ys : List Entry) (result : Result X E) → AddsEntries p q xs → OnOk result (AddsEntries q r ys) → OnOk result (AddsEntries p r (xs ++ ys))
+ok_adds p q r xs ys (Ok x) g h = adds_then p q r xs ys g h
+ok_adds p q r xs ys (Err e) g h = tt
+
+-- An expression whose parts are added.
+pub made_adds : {X E : Type 0} (s : Setting) (t : NamedExprTree) (p q r : TypedNodes) (n : MadeNode) (result : Result X E) → AddsEntries p q (part_entries s t) → MakesExpr s t q n
+    → OnOk result (AddsEntries q r (record { at = n.node.at; ty = type_meant n.of; constant = number_meant n.of } ∷ [])) → OnOk result (AddsEntries p r (expr_entries s t))
+made_adds s t p q r n result g made h =
+    let one : record { at = n.node.at; ty = type_meant n.of; constant = number_meant n.of } ≡ entry_of (place_of t) (meaning s t) =
+    ap (λ at. entry_of at n.of) made.placed ∙ ap (entry_of (place_of t)) made.means in
+    let A : Entry → Type 0 = λ x. OnOk result (AddsEntries q r (x ∷ [])) in
+    ok_adds p q r (part_entries s t) (entry_of (place_of t) (meaning s t) ∷ []) result g (subst A one h)
+
+-- One expression that is pushed.
+entries_mapped : (es : List TypedExpr) → entries_in (map (λ x. x.node) es) (map (λ x. x.ty) es) (map (λ x. x.constant) es) ≡ map entry_made es
+entries_mapped [] = refl
+entries_mapped (x ∷ es) = ap (λ l. entry_made x ∷ l) (entries_mapped es)
+
+mapped_more : (es : List TypedExpr) (x : TypedExpr) → map entry_made (es ++ x ∷ []) ≡ map entry_made es ++ entry_made x ∷ []
+mapped_more [] x = refl
+mapped_more (y ∷ es) x = ap (λ l. entry_made y ∷ l) (mapped_more es x)
+
+pub pushed_adds : (rest : TypedNodes) (es new : List TypedExpr) (x : TypedExpr) → new ≡ es ++ x ∷ [] → AddsEntries (with_exprs rest es) (with_exprs rest new) (entry_made x ∷ [])
+unfolding entries
+pushed_adds rest es new x e = record { is = entries_mapped new ∙ ap (map entry_made) e ∙ mapped_more es x ∙ ap (λ l. l ++ entry_made x ∷ []) (sym (entries_mapped es)) }
+
+-- The operands of a chain, one by one: what is left to add, from here, comes to all.
+abbrev pub EntriesLeft : Setting → List NamedExprTree → (ls left : List Link) → (old nodes : TypedNodes) → Type 0
+EntriesLeft s ts ls left old nodes = (after : TypedNodes) → AddsEntries nodes after (link_entries s (links_at ts left)) → AddsEntries old after (link_entries s (links_at ts ls))
+
+pub entries_next : (s : Setting) (ts : List NamedExprTree) (ls : List Link) (i : ℕ) (d : Link) (old p q : TypedNodes) → i < length ls → EntriesLeft s ts ls (drop i ls) old p
+    → AddsEntries p q (expr_entries s (expr_at ts (slice_index_or ls i d).operand)) → EntriesLeft s ts ls (drop (i + 1) ls) old q
+entries_next s ts ls i d old p q h left one after rest =
+    let l = slice_index_or ls i d in
+    let more = adds_then p q after (expr_entries s (expr_at ts l.operand)) (link_entries s (links_at ts (drop (i + 1) ls))) one rest in
+    left after (subst (λ xs. AddsEntries p after (link_entries s (links_at ts xs))) (sym (drop-one ls i d h)) more)
