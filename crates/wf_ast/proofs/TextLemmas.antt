@@ -12,7 +12,7 @@ use Rattle.std.proofs.lemmas.Cmp.{eq_by_cmp_equiv}
 use Rattle.std.proofs.lemmas.Option.{slice_get_within}
 use Rattle.std.proofs.lemmas.Slice.Eq.{bytes_eq-Decides}
 use Rattle.wf_ast.specs.ParsedParts.{AreDistinct, JoinsText}
-use Rattle.wf_ast.specs.TextNumbers.{Numbers}
+use Rattle.wf_ast.specs.TextNumbers.{Numbers, keyed}
 use Rattle.wf_ast.proofs.TreeLemmas.{slice_get-front, slice_get-seam}
 
 -- Texts that a look-up tells apart are without repeats.
@@ -94,19 +94,36 @@ not-known : (number : List ℕ → Option ℕ) (texts : List (List ℕ)) (text :
 not-known number texts text n absent None e = refl
 not-known number texts text n absent (Some i) e = absurd (absent i (n.stands i text e))
 
+-- What a map has at a query that is a text's.
+pub by-text : {K : Type 0} (items : K → List ℕ) (numbers : BTreeMap K ℕ) (query text : List ℕ) (o : Option ℕ) → query ≡ keyed text
+    → o ≡ get_by (λ k. slice_cmp nat_cmp query (items k)) numbers → get_by (λ k. slice_cmp nat_cmp (keyed text) (items k)) numbers ≡ o
+by-text items numbers query text o same e = subst (λ q. get_by (λ k. slice_cmp nat_cmp q (items k)) numbers ≡ o) same (sym e)
+
+apart-keyed : (text other : List ℕ) → bytes_eq text other ≡ false → bytes_eq (keyed text) (keyed other) ≡ false
+apart-keyed text other e = elim (cases_Bool (bytes_eq (keyed text) (keyed other))) [
+  | inl y ↦ (let whole : keyed text ≡ keyed other = (bytes_eq-Decides (keyed text) (keyed other)).0 y in
+      let tails : text ≡ other = cc whole in
+      let same : bytes_eq text other ≡ true = (bytes_eq-Decides text other).1 tails in
+      absurd (cc (e, same)))
+  | inr f ↦ f
+]
+
 -- The map and the list after a new text has joined both.
-pub both-joined : {K T : Type 0} (items : K → List ℕ) (bytes : T → List ℕ) (old new : BTreeMap K ℕ) (texts later : List T) (text : List ℕ) (owned : T) (n : ℕ)
-    → Numbers (λ other. get_by (λ k. slice_cmp nat_cmp other (items k)) old) (map bytes texts)
+pub both-joined : {K T : Type 0} (items : K → List ℕ) (bytes : T → List ℕ) (old new : BTreeMap K ℕ) (texts later : List T) (query text : List ℕ) (owned : T) (n : ℕ)
+    → Numbers (λ other. get_by (λ k. slice_cmp nat_cmp (keyed other) (items k)) old) (map bytes texts)
     → ((i : ℕ) → slice_get (map bytes texts) i ≢ Some text)
-    → UpdatesBy (λ x y. slice_cmp nat_cmp (items x) (items y)) (λ k. slice_cmp nat_cmp text (items k)) old new (Some n)
-    → n ≡ length texts → bytes owned ≡ text → later ≡ texts ++ owned ∷ []
-    → Numbers (λ other. get_by (λ k. slice_cmp nat_cmp other (items k)) new) (map bytes later)
-both-joined items bytes old new texts later text owned n h absent u number same e =
-    let before : List ℕ → Option ℕ = λ other. get_by (λ k. slice_cmp nat_cmp other (items k)) old in
-    let after : List ℕ → Option ℕ = λ other. get_by (λ k. slice_cmp nat_cmp other (items k)) new in
+    → UpdatesBy (λ x y. slice_cmp nat_cmp (items x) (items y)) (λ k. slice_cmp nat_cmp query (items k)) old new (Some n)
+    → query ≡ keyed text → n ≡ length texts → bytes owned ≡ text → later ≡ texts ++ owned ∷ []
+    → Numbers (λ other. get_by (λ k. slice_cmp nat_cmp (keyed other) (items k)) new) (map bytes later)
+both-joined items bytes old new texts later query text owned n h absent u key number same e =
+    let before : List ℕ → Option ℕ = λ other. get_by (λ k. slice_cmp nat_cmp (keyed other) (items k)) old in
+    let after : List ℕ → Option ℕ = λ other. get_by (λ k. slice_cmp nat_cmp (keyed other) (items k)) new in
+    let updates : UpdatesBy (λ x y. slice_cmp nat_cmp (items x) (items y)) (λ k. slice_cmp nat_cmp (keyed text) (items k)) old new (Some n) =
+    subst (λ q. UpdatesBy (λ x y. slice_cmp nat_cmp (items x) (items y)) (λ k. slice_cmp nat_cmp q (items k)) old new (Some n)) key u in
     let last : length (map bytes texts) ≡ n = length-bytes bytes texts ∙ sym number in
-    let here : after text ≡ Some (length (map bytes texts)) = u.1 ∙ ap Some (sym last) in
+    let here : after text ≡ Some (length (map bytes texts)) = updates.1 ∙ ap Some (sym last) in
     let made : Numbers after (map bytes texts ++ text ∷ []) =
-    joined-texts before after (map bytes texts) text h (not-known before (map bytes texts) text h absent (before text) refl) here (other-texts items text old new (Some n) u) in
+    joined-texts before after (map bytes texts) text h (not-known before (map bytes texts) text h absent (before text) refl) here
+    (λ other f. other-texts items (keyed text) old new (Some n) updates (keyed other) (apart-keyed text other f)) in
     let whole : map bytes later ≡ map bytes texts ++ text ∷ [] = ap (map bytes) e ∙ map-joined bytes texts owned ∙ ap (λ t. map bytes texts ++ t ∷ []) same in
     subst (λ ts. Numbers after ts) (sym whole) made

@@ -12,13 +12,14 @@ ghost use Rattle.wf_parse_grammar.specs.Values.{perform};
 ghost use Rattle.wf_parse_nodes.specs.Makers.{nodes, IsSound, KeepsTexts, made};
 ghost use Rattle.wf_parse.specs.Machines.{size, state_of, AnswersBuild, AnswersToken, AnswersEnd, want_owes};
 
+use stacks::Stack;
 use wf_parse_grammar::table::{build, may_end, opens, owes, skips};
 use wf_parse_grammar::{Action, Build, Sym, Token, Want, Wants};
-use wf_parse_nodes::{Maker, Stack};
+use wf_parse_nodes::Maker;
 use wf_text::Rule;
 
 /// Why the machine stops.
-#[derive(Clone, Copy, PartialEq, Eq)]
+#[derive(Clone, Copy)]
 pub enum StepFault {
     /// The token breaks a rule.
     Refused(Rule),

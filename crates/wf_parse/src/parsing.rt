@@ -8,17 +8,18 @@ ghost use Rattle.wf_parse.specs.Reading.{AnswersOne, AnswersFile, AnswersBytes};
 
 use crate::lexing::{FileTokens, file_tokens};
 use crate::machine::{Machine, StepFault};
+use stacks::Stack;
 use std::alloc::{AllocError, Global};
 use wf_ast::Package;
 use wf_parse_grammar::{Sym, Token, Want};
-use wf_parse_nodes::{Maker, Stack};
-use wf_text::{PhaseFault, Place, Refusal, Rule};
+use wf_parse_nodes::Maker;
+use wf_text::{NoMemory, PhaseFault, Place, Refusal, Rule};
 
 /// How many tokens the files of a package may have together.
 const MOST_TOKENS: usize = 262144;
 
 /// Why a file isn't read.
-#[derive(Clone, Copy, PartialEq, Eq)]
+#[derive(Clone, Copy)]
 pub enum FileFault {
     /// A token breaks a rule. `left` counts the tokens from it on, and is 0 at the file's end.
     Refused { rule: Rule, left: usize },
@@ -52,7 +53,7 @@ impl Machine {
     }
 
     /// In front of a file's first token.
-    fn begin_file(&mut self) -> Result<(), AllocError>
+    fn begin_file(&mut self) -> Result<(), NoMemory>
         ensures state { OnOk result (state_of self.new ≡ file_start (record { vals = []; decls = decls_of self.old.maker.package })) }
         ensures same { OnOk result (self.new.maker.package ≡ self.old.maker.package) }
         ensures none { OnOk result (self.new.maker.values ≡ []) }

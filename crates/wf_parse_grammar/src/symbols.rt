@@ -5,7 +5,7 @@ use wf_ast::{Op, TextId};
 use wf_text::Place;
 
 /// A part of the grammar, or what is left of one behind its first tokens.
-#[derive(Clone, Copy, PartialEq, Eq)]
+#[derive(Clone, Copy)]
 pub enum Sym {
     File,
     /// Behind `pub` or `pri`.
@@ -117,7 +117,7 @@ pub enum Sym {
 }
 
 /// What is made of the values read so far. Each names the values that it takes, the topmost first.
-#[derive(Clone, Copy, PartialEq, Eq)]
+#[derive(Clone, Copy)]
 pub enum Action {
     // what a token says, as it stands
     PushName(Name),
@@ -262,7 +262,7 @@ pub enum Action {
 }
 
 /// What stands on the machine's stack.
-#[derive(Clone, Copy, PartialEq, Eq)]
+#[derive(Clone, Copy)]
 pub enum Want {
     /// Tokens of this part are read.
     Read(Sym),

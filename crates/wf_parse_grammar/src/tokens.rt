@@ -4,7 +4,7 @@ use wf_ast::{Op, TextId};
 use wf_text::Place;
 
 /// What a token is.
-#[derive(Clone, Copy, PartialEq, Eq)]
+#[derive(Clone, Copy)]
 pub enum Kind {
     Name(TextId),
     Number(u64),
@@ -78,7 +78,7 @@ pub enum Kind {
 }
 
 /// A token with the place of its first byte.
-#[derive(Clone, Copy, PartialEq, Eq)]
+#[derive(Clone, Copy)]
 pub struct Token {
     pub kind: Kind,
     pub at: Place,

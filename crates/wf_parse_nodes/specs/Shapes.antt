@@ -122,3 +122,37 @@ takes does.StatusDecl = shapes.Name ∷ shapes.Place ∷ shapes.Public ∷ []
 takes does.ConstDecl = shapes.Expr ∷ shapes.Type ∷ shapes.Name ∷ shapes.Place ∷ shapes.Public ∷ []
 takes does.StructDecl = shapes.Fields ∷ shapes.Mark ∷ shapes.Name ∷ shapes.Place ∷ shapes.Public ∷ []
 takes does.MethodDecl = shapes.Block ∷ shapes.Result ∷ shapes.Fields ∷ shapes.Mark ∷ shapes.Name ∷ shapes.Name ∷ shapes.Place ∷ shapes.Public ∷ []
+
+-- It takes nothing from the stack and pushes one value.
+abbrev pub pushes : Action → Bool
+pushes (does.PushName _) = true
+pushes (does.PushPlace _) = true
+pushes (does.PushMark _) = true
+pushes (does.PushPublic _) = true
+pushes (does.PushSign _ _) = true
+pushes (does.BarePath _) = true
+pushes does.NoPart = true
+pushes does.StartGivens = true
+pushes does.StartType = true
+pushes does.NoBounds = true
+pushes does.StartItems = true
+pushes does.StartArms = true
+pushes does.NoElse = true
+pushes does.StartClauses = true
+pushes does.NoLabel = true
+pushes does.NoVia = true
+pushes does.StartFields = true
+pushes _ = false
+
+-- It adds to a list or pushes two values, and so may want memory.
+abbrev pub lets_grow : Action → Bool
+lets_grow does.ThisMethod = true
+lets_grow does.AddLink = true
+lets_grow does.AddGiven = true
+lets_grow (does.AddSlice _) = true
+lets_grow does.AddArray = true
+lets_grow does.AddStmt = true
+lets_grow does.AddArm = true
+lets_grow (does.AddClause _) = true
+lets_grow does.AddField = true
+lets_grow _ = false

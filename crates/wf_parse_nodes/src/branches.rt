@@ -10,13 +10,14 @@ use crate::pops::{
     pop_arms, pop_block, pop_clauses, pop_expr, pop_label, pop_name, pop_otherwise, pop_place,
 };
 use crate::products::Product;
-use crate::stack::Stack;
 use crate::values::Value;
-use std::alloc::AllocError;
+use stacks::Stack;
 use wf_ast::parsed::{Arm, Clause, LoopClause, Stmt, StmtNode};
+use wf_text::NoMemory;
 
 /// One arm more of an `if`.
-pub fn add_arm(values: &mut Stack<Value>) -> Result<Product, AllocError>
+#[inline(never)]
+pub fn add_arm(values: &mut Stack<Value>) -> Result<Product, NoMemory>
     requires { fits (shapes.Block ∷ shapes.Expr ∷ shapes.Arms ∷ []) values.old ≡ true }
     ensures { IfOk result (λ product. making does.AddArm values.old ≡ record { product = product; vals = values.new }) }
 {
@@ -28,6 +29,7 @@ pub fn add_arm(values: &mut Stack<Value>) -> Result<Product, AllocError>
 }
 
 /// The block behind a last `else`.
+#[inline(never)]
 pub fn some_else(values: &mut Stack<Value>) -> Product
     requires { fits (shapes.Block ∷ []) values.old ≡ true }
     ensures { making does.SomeElse values.old ≡ record { product = result; vals = values.new } }
@@ -37,6 +39,7 @@ pub fn some_else(values: &mut Stack<Value>) -> Product
 }
 
 /// A whole `if`.
+#[inline(never)]
 pub fn if_stmt(values: &mut Stack<Value>) -> Product
     requires { fits (shapes.Otherwise ∷ shapes.Arms ∷ shapes.Place ∷ []) values.old ≡ true }
     ensures { making does.IfStmt values.old ≡ record { product = result; vals = values.new } }
@@ -51,7 +54,8 @@ pub fn if_stmt(values: &mut Stack<Value>) -> Product
 }
 
 /// One promise more of a loop.
-pub fn add_clause(kind: Clause, values: &mut Stack<Value>) -> Result<Product, AllocError>
+#[inline(never)]
+pub fn add_clause(kind: Clause, values: &mut Stack<Value>) -> Result<Product, NoMemory>
     requires { fits (shapes.Expr ∷ shapes.Place ∷ shapes.Clauses ∷ []) values.old ≡ true }
     ensures { IfOk result (λ product. making (does.AddClause kind) values.old ≡ record { product = product; vals = values.new }) }
 {
@@ -67,6 +71,7 @@ pub fn add_clause(kind: Clause, values: &mut Stack<Value>) -> Result<Product, Al
 }
 
 /// A loop without a label.
+#[inline(never)]
 pub fn loop_stmt(values: &mut Stack<Value>) -> Product
     requires { fits (shapes.Block ∷ shapes.Clauses ∷ shapes.Expr ∷ shapes.Place ∷ []) values.old ≡ true }
     ensures { making does.LoopStmt values.old ≡ record { product = result; vals = values.new } }
@@ -87,6 +92,7 @@ pub fn loop_stmt(values: &mut Stack<Value>) -> Product
 }
 
 /// A loop with a label.
+#[inline(never)]
 pub fn labelled_stmt(values: &mut Stack<Value>) -> Product
     requires { fits (shapes.Block ∷ shapes.Clauses ∷ shapes.Expr ∷ shapes.Name ∷ shapes.Place ∷ []) values.old ≡ true }
     ensures { making does.LabelledStmt values.old ≡ record { product = result; vals = values.new } }
@@ -108,6 +114,7 @@ pub fn labelled_stmt(values: &mut Stack<Value>) -> Product
 }
 
 /// The label of a jump.
+#[inline(never)]
 pub fn some_label(values: &mut Stack<Value>) -> Product
     requires { fits (shapes.Name ∷ []) values.old ≡ true }
     ensures { making does.SomeLabel values.old ≡ record { product = result; vals = values.new } }
@@ -117,6 +124,7 @@ pub fn some_label(values: &mut Stack<Value>) -> Product
 }
 
 /// A `break`.
+#[inline(never)]
 pub fn break_stmt(values: &mut Stack<Value>) -> Product
     requires { fits (shapes.Label ∷ shapes.Place ∷ []) values.old ≡ true }
     ensures { making does.BreakStmt values.old ≡ record { product = result; vals = values.new } }
@@ -130,6 +138,7 @@ pub fn break_stmt(values: &mut Stack<Value>) -> Product
 }
 
 /// A `continue`.
+#[inline(never)]
 pub fn continue_stmt(values: &mut Stack<Value>) -> Product
     requires { fits (shapes.Label ∷ shapes.Place ∷ []) values.old ≡ true }
     ensures { making does.ContinueStmt values.old ≡ record { product = result; vals = values.new } }

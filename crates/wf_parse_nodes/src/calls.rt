@@ -8,13 +8,14 @@ ghost use Rattle.wf_parse_nodes.specs.declared.shapes.Shape.TheVariants as shape
 
 use crate::pops::{pop_expr, pop_givens, pop_mark, pop_name, pop_receiver};
 use crate::products::Product;
-use crate::stack::Stack;
 use crate::values::Value;
-use std::alloc::AllocError;
+use stacks::Stack;
 use wf_ast::parsed::{Call, Given};
+use wf_text::NoMemory;
 
 /// One argument more.
-pub fn add_given(values: &mut Stack<Value>) -> Result<Product, AllocError>
+#[inline(never)]
+pub fn add_given(values: &mut Stack<Value>) -> Result<Product, NoMemory>
     requires { fits (shapes.Expr ∷ shapes.Name ∷ shapes.Givens ∷ []) values.old ≡ true }
     ensures { IfOk result (λ product. making does.AddGiven values.old ≡ record { product = product; vals = values.new }) }
 {
@@ -26,6 +27,7 @@ pub fn add_given(values: &mut Stack<Value>) -> Result<Product, AllocError>
 }
 
 /// A whole call.
+#[inline(never)]
 pub fn finish_call(values: &mut Stack<Value>) -> Product
     requires { fits (shapes.Givens ∷ shapes.Mark ∷ shapes.Name ∷ shapes.Receiver ∷ []) values.old ≡ true }
     ensures { making does.FinishCall values.old ≡ record { product = result; vals = values.new } }

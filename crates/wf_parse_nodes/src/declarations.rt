@@ -11,13 +11,14 @@ use crate::pops::{
     pop_result, pop_type,
 };
 use crate::products::Product;
-use crate::stack::Stack;
 use crate::values::Value;
-use std::alloc::AllocError;
+use stacks::Stack;
 use wf_ast::parsed::{Decl, DeclNode, Field};
+use wf_text::NoMemory;
 
 /// One field more.
-pub fn add_field(values: &mut Stack<Value>) -> Result<Product, AllocError>
+#[inline(never)]
+pub fn add_field(values: &mut Stack<Value>) -> Result<Product, NoMemory>
     requires { fits (shapes.Type ∷ shapes.Name ∷ shapes.Fields ∷ []) values.old ≡ true }
     ensures { IfOk result (λ product. making does.AddField values.old ≡ record { product = product; vals = values.new }) }
 {
@@ -29,6 +30,7 @@ pub fn add_field(values: &mut Stack<Value>) -> Result<Product, AllocError>
 }
 
 /// No result of a method.
+#[inline(never)]
 pub fn no_result(values: &mut Stack<Value>) -> Product
     requires { fits (shapes.Prefixes ∷ []) values.old ≡ true }
     ensures { making does.NoResult values.old ≡ record { product = result; vals = values.new } }
@@ -38,6 +40,7 @@ pub fn no_result(values: &mut Stack<Value>) -> Product
 }
 
 /// The result of a method.
+#[inline(never)]
 pub fn some_result(values: &mut Stack<Value>) -> Product
     requires { fits (shapes.Type ∷ []) values.old ≡ true }
     ensures { making does.SomeResult values.old ≡ record { product = result; vals = values.new } }
@@ -47,6 +50,7 @@ pub fn some_result(values: &mut Stack<Value>) -> Product
 }
 
 /// A status.
+#[inline(never)]
 pub fn status_decl(values: &mut Stack<Value>) -> Product
     requires { fits (shapes.Name ∷ shapes.Place ∷ shapes.Public ∷ []) values.old ≡ true }
     ensures { making does.StatusDecl values.old ≡ record { product = result; vals = values.new } }
@@ -62,6 +66,7 @@ pub fn status_decl(values: &mut Stack<Value>) -> Product
 }
 
 /// A constant.
+#[inline(never)]
 pub fn const_decl(values: &mut Stack<Value>) -> Product
     requires { fits (shapes.Expr ∷ shapes.Type ∷ shapes.Name ∷ shapes.Place ∷ shapes.Public ∷ []) values.old ≡ true }
     ensures { making does.ConstDecl values.old ≡ record { product = result; vals = values.new } }
@@ -79,6 +84,7 @@ pub fn const_decl(values: &mut Stack<Value>) -> Product
 }
 
 /// A struct.
+#[inline(never)]
 pub fn struct_decl(values: &mut Stack<Value>) -> Product
     requires { fits (shapes.Fields ∷ shapes.Mark ∷ shapes.Name ∷ shapes.Place ∷ shapes.Public ∷ []) values.old ≡ true }
     ensures { making does.StructDecl values.old ≡ record { product = result; vals = values.new } }
@@ -96,6 +102,7 @@ pub fn struct_decl(values: &mut Stack<Value>) -> Product
 }
 
 /// A method.
+#[inline(never)]
 pub fn method_decl(values: &mut Stack<Value>) -> Product
     requires { fits (shapes.Block ∷ shapes.Result ∷ shapes.Fields ∷ shapes.Mark ∷ shapes.Name ∷ shapes.Name ∷ shapes.Place ∷ shapes.Public ∷ []) values.old ≡ true }
     ensures { making does.MethodDecl values.old ≡ record { product = result; vals = values.new } }

@@ -2,7 +2,9 @@
 
 ghost use Rattle.std.specs.Prelude.{◌≡◌, ◌<◌, List, [], ◌∷◌, true, IfOk};
 ghost use Rattle.wf_parse_grammar.specs.declared.symbols.Action.TheVariants as does;
+ghost use Rattle.wf_ast.specs.declared.parsed.Expr.TheVariants as exprs;
 ghost use Rattle.wf_parse_nodes.specs.Making.{making};
+ghost use Rattle.wf_parse_nodes.specs.declared.products.Product.TheVariants as makes;
 ghost use Rattle.wf_parse_nodes.specs.Shapes.{fits};
 ghost use Rattle.wf_parse_nodes.specs.declared.shapes.Shape.TheVariants as shapes;
 
@@ -10,14 +12,59 @@ use crate::pops::{
     pop_call, pop_chain, pop_expr, pop_name, pop_part, pop_path, pop_place, pop_type,
 };
 use crate::products::Product;
-use crate::stack::Stack;
 use crate::values::{OpenChain, Value};
-use std::alloc::{AllocError, Global};
-use wf_ast::parsed::{Expr, ExprNode, Link};
+use stacks::Stack;
+use std::alloc::Global;
+use wf_ast::parsed::{Expr, ExprNode, Link, Name};
 use wf_ast::{Op, Sequence};
-use wf_text::Place;
+use wf_text::{NoMemory, Place};
+
+/// A number.
+#[inline(never)]
+pub fn number_expr(value: u64, at: Place) -> Product
+    ensures { result ≡ makes.Expr (record { expr = exprs.Number value; at = at }) }
+{
+    Product::Expr(ExprNode {
+        expr: Expr::Number(value),
+        at,
+    })
+}
+
+/// A status of the package.
+#[inline(never)]
+pub fn own_status_expr(text: Name) -> Product
+    ensures { result ≡ makes.Expr (record { expr = exprs.OwnStatus text; at = text.at }) }
+{
+    Product::Expr(ExprNode {
+        expr: Expr::OwnStatus(text),
+        at: text.at,
+    })
+}
+
+/// `ok`
+#[inline(never)]
+pub fn fine_expr(at: Place) -> Product
+    ensures { result ≡ makes.Expr (record { expr = exprs.Fine; at = at }) }
+{
+    Product::Expr(ExprNode {
+        expr: Expr::Fine,
+        at,
+    })
+}
+
+/// `true` or `false`
+#[inline(never)]
+pub fn truth_expr(value: bool, at: Place) -> Product
+    ensures { result ≡ makes.Expr (record { expr = exprs.Truth value; at = at }) }
+{
+    Product::Expr(ExprNode {
+        expr: Expr::Truth(value),
+        at,
+    })
+}
 
 /// A status of the language.
+#[inline(never)]
 pub fn base_status_expr(values: &mut Stack<Value>) -> Product
     requires { fits (shapes.Name ∷ shapes.Place ∷ []) values.old ≡ true }
     ensures { making does.BaseStatusExpr values.old ≡ record { product = result; vals = values.new } }
@@ -31,6 +78,7 @@ pub fn base_status_expr(values: &mut Stack<Value>) -> Product
 }
 
 /// A path as an operand.
+#[inline(never)]
 pub fn path_expr(values: &mut Stack<Value>) -> Product
     requires { fits (shapes.Path ∷ []) values.old ≡ true }
     ensures { making does.PathExpr values.old ≡ record { product = result; vals = values.new } }
@@ -43,6 +91,7 @@ pub fn path_expr(values: &mut Stack<Value>) -> Product
 }
 
 /// An index.
+#[inline(never)]
 pub fn index_expr(values: &mut Stack<Value>) -> Product
     requires { fits (shapes.Expr ∷ shapes.Place ∷ shapes.Path ∷ []) values.old ≡ true }
     ensures { making does.IndexExpr values.old ≡ record { product = result; vals = values.new } }
@@ -57,6 +106,7 @@ pub fn index_expr(values: &mut Stack<Value>) -> Product
 }
 
 /// A slice.
+#[inline(never)]
 pub fn slice_expr(values: &mut Stack<Value>) -> Product
     requires { fits (shapes.Part ∷ shapes.Part ∷ shapes.Place ∷ shapes.Path ∷ []) values.old ≡ true }
     ensures { making does.SliceExpr values.old ≡ record { product = result; vals = values.new } }
@@ -72,6 +122,7 @@ pub fn slice_expr(values: &mut Stack<Value>) -> Product
 }
 
 /// A call as an operand.
+#[inline(never)]
 pub fn call_expr(values: &mut Stack<Value>) -> Product
     requires { fits (shapes.Call ∷ []) values.old ≡ true }
     ensures { making does.CallExpr values.old ≡ record { product = result; vals = values.new } }
@@ -85,6 +136,7 @@ pub fn call_expr(values: &mut Stack<Value>) -> Product
 }
 
 /// A negation.
+#[inline(never)]
 pub fn not_expr(values: &mut Stack<Value>) -> Product
     requires { fits (shapes.Expr ∷ shapes.Place ∷ []) values.old ≡ true }
     ensures { making does.NotExpr values.old ≡ record { product = result; vals = values.new } }
@@ -98,6 +150,7 @@ pub fn not_expr(values: &mut Stack<Value>) -> Product
 }
 
 /// A conversion.
+#[inline(never)]
 pub fn convert_expr(values: &mut Stack<Value>) -> Product
     requires { fits (shapes.Type ∷ shapes.Place ∷ shapes.Expr ∷ []) values.old ≡ true }
     ensures { making does.ConvertExpr values.old ≡ record { product = result; vals = values.new } }
@@ -112,6 +165,7 @@ pub fn convert_expr(values: &mut Stack<Value>) -> Product
 }
 
 /// A chain with its first operand.
+#[inline(never)]
 pub fn start_chain(alloc: Global, op: Op, at: Place, values: &mut Stack<Value>) -> Product
     requires { fits (shapes.Expr ∷ []) values.old ≡ true }
     ensures { making (does.StartChain op at) values.old ≡ record { product = result; vals = values.new } }
@@ -126,7 +180,8 @@ pub fn start_chain(alloc: Global, op: Op, at: Place, values: &mut Stack<Value>) 
 }
 
 /// One operand more of a chain.
-pub fn add_link(values: &mut Stack<Value>) -> Result<Product, AllocError>
+#[inline(never)]
+pub fn add_link(values: &mut Stack<Value>) -> Result<Product, NoMemory>
     requires { fits (shapes.Expr ∷ shapes.Place ∷ shapes.Chain ∷ []) values.old ≡ true }
     ensures { IfOk result (λ product. making does.AddLink values.old ≡ record { product = product; vals = values.new }) }
 {
@@ -144,6 +199,7 @@ pub fn add_link(values: &mut Stack<Value>) -> Result<Product, AllocError>
 }
 
 /// A whole chain.
+#[inline(never)]
 pub fn finish_chain(values: &mut Stack<Value>) -> Product
     requires { fits (shapes.Chain ∷ []) values.old ≡ true }
     ensures { making does.FinishChain values.old ≡ record { product = result; vals = values.new } }
@@ -160,6 +216,7 @@ pub fn finish_chain(values: &mut Stack<Value>) -> Product
 }
 
 /// An expression that might be absent.
+#[inline(never)]
 pub fn some_part(values: &mut Stack<Value>) -> Product
     requires { fits (shapes.Expr ∷ []) values.old ≡ true }
     ensures { making does.SomePart values.old ≡ record { product = result; vals = values.new } }

@@ -13,11 +13,9 @@ pub mod paths;
 pub mod pops;
 pub mod products;
 pub mod shapes;
-pub mod stack;
 pub mod statements;
 pub mod types;
 pub mod values;
 
 pub use maker::Maker;
-pub use stack::Stack;
 pub use values::Value;

@@ -10,11 +10,12 @@ ghost use Rattle.wf_parse_nodes.specs.Makers.{made, nodes, IsSound, KeepsTexts};
 use crate::actions::make;
 use crate::products::Product;
 use crate::shapes::{fits, takes};
-use crate::stack::Stack;
 use crate::values::Value;
-use std::alloc::{AllocError, Global};
+use stacks::Stack;
+use std::alloc::Global;
 use wf_ast::Package;
 use wf_parse_grammar::Action;
+use wf_text::NoMemory;
 
 /// A package whose nodes are made of values on a stack.
 #[derive(Drop)]
@@ -26,7 +27,7 @@ pub struct Maker {
 
 impl Maker {
     /// Puts what was made into the package, and on the stack what stands for it.
-    fn put(&mut self, product: Product) -> Result<(), AllocError>
+    fn put(&mut self, product: Product) -> Result<(), NoMemory>
         requires sound { IsSound self.old }
         requires parts { ProductParts (length self.old.package.exprs) (length self.old.package.stmts) product }
         requires room { nodes self.old < 2 ^ 32 }
@@ -45,13 +46,16 @@ impl Maker {
                 let number = self.package.push_stmt(node)?;
                 self.values.push(Value::Stmt(number))
             }
-            Product::Decl(node) => self.package.push_decl(node),
+            Product::Decl(node) => {
+                self.package.push_decl(node)?;
+                Ok(())
+            }
         }
     }
 
     /// Performs an action. Where the topmost values are others than it takes, none are left; the actions of the
     /// grammar's table never come to that.
-    pub fn perform(&mut self, action: Action) -> Result<(), AllocError>
+    pub fn perform(&mut self, action: Action) -> Result<(), NoMemory>
         requires sound { IsSound self.old }
         requires room { nodes self.old < 2 ^ 32 }
         ensures made { OnOk result (made self.new ≡ perform action (made self.old)) }
@@ -68,7 +72,7 @@ impl Maker {
     }
 
     /// Performs actions one after the other.
-    pub fn perform_all(&mut self, actions: &[Action]) -> Result<(), AllocError>
+    pub fn perform_all(&mut self, actions: &[Action]) -> Result<(), NoMemory>
         requires sound { IsSound self.old }
         requires room { nodes self.old + length actions.now < 2 ^ 32 }
         ensures made { OnOk result (made self.new ≡ all_performed actions.now (made self.old)) }

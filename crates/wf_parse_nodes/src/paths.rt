@@ -8,12 +8,13 @@ ghost use Rattle.wf_parse_nodes.specs.declared.shapes.Shape.TheVariants as shape
 
 use crate::pops::{pop_name, pop_path, pop_place};
 use crate::products::Product;
-use crate::stack::Stack;
 use crate::values::Value;
-use std::alloc::AllocError;
+use stacks::Stack;
 use wf_ast::parsed::{Path, Receiver, Root};
+use wf_text::NoMemory;
 
 /// A name behind `this` and a dot.
+#[inline(never)]
 pub fn this_path(values: &mut Stack<Value>) -> Product
     requires { fits (shapes.Name ∷ shapes.Place ∷ []) values.old ≡ true }
     ensures { making does.ThisPath values.old ≡ record { product = result; vals = values.new } }
@@ -28,6 +29,7 @@ pub fn this_path(values: &mut Stack<Value>) -> Product
 }
 
 /// A name behind `args` and a dot.
+#[inline(never)]
 pub fn args_path(values: &mut Stack<Value>) -> Product
     requires { fits (shapes.Name ∷ shapes.Place ∷ []) values.old ≡ true }
     ensures { making does.ArgsPath values.old ≡ record { product = result; vals = values.new } }
@@ -42,6 +44,7 @@ pub fn args_path(values: &mut Stack<Value>) -> Product
 }
 
 /// A path that a call is made on.
+#[inline(never)]
 pub fn path_receiver(values: &mut Stack<Value>) -> Product
     requires { fits (shapes.Path ∷ []) values.old ≡ true }
     ensures { making does.PathReceiver values.old ≡ record { product = result; vals = values.new } }
@@ -51,7 +54,8 @@ pub fn path_receiver(values: &mut Stack<Value>) -> Product
 }
 
 /// `this` that a call is made on, below the method's name.
-pub fn this_method(values: &mut Stack<Value>) -> Result<Product, AllocError>
+#[inline(never)]
+pub fn this_method(values: &mut Stack<Value>) -> Result<Product, NoMemory>
     requires { fits (shapes.Name ∷ shapes.Place ∷ []) values.old ≡ true }
     ensures { IfOk result (λ product. making does.ThisMethod values.old ≡ record { product = product; vals = values.new }) }
 {

@@ -3,12 +3,12 @@
 ghost use Rattle.std.specs.Prelude.{◌≡◌, ◌<◌, List, [], ◌∷◌, slice_get};
 ghost use Rattle.wf_parse_nodes.specs.Shapes.{is_shape, is_shape_at, fits, takes};
 
-use crate::stack::Stack;
 use crate::values::Value;
+use stacks::Stack;
 use wf_parse_grammar::Action;
 
 /// The shape of a value, which is its variant.
-#[derive(Clone, Copy, PartialEq, Eq)]
+#[derive(Clone, Copy)]
 pub enum Shape {
     Name,
     Place,

@@ -11,14 +11,14 @@ use crate::pops::{
     pop_stmt, pop_target, pop_type, pop_via,
 };
 use crate::products::Product;
-use crate::stack::Stack;
 use crate::values::Value;
-use std::alloc::AllocError;
+use stacks::Stack;
 use wf_ast::parsed::{Block, Stmt, StmtNode, Target, Via};
-use wf_text::Place;
+use wf_text::{NoMemory, Place};
 
 /// One statement more of a block.
-pub fn add_stmt(values: &mut Stack<Value>) -> Result<Product, AllocError>
+#[inline(never)]
+pub fn add_stmt(values: &mut Stack<Value>) -> Result<Product, NoMemory>
     requires { fits (shapes.Stmt ∷ shapes.Items ∷ []) values.old ≡ true }
     ensures { IfOk result (λ product. making does.AddStmt values.old ≡ record { product = product; vals = values.new }) }
 {
@@ -29,6 +29,7 @@ pub fn add_stmt(values: &mut Stack<Value>) -> Result<Product, AllocError>
 }
 
 /// A whole block.
+#[inline(never)]
 pub fn close_block(close: Place, values: &mut Stack<Value>) -> Product
     requires { fits (shapes.Items ∷ []) values.old ≡ true }
     ensures { making (does.CloseBlock close) values.old ≡ record { product = result; vals = values.new } }
@@ -38,6 +39,7 @@ pub fn close_block(close: Place, values: &mut Stack<Value>) -> Product
 }
 
 /// A declaration of a local.
+#[inline(never)]
 pub fn var_stmt(values: &mut Stack<Value>) -> Product
     requires { fits (shapes.Type ∷ shapes.Name ∷ shapes.Place ∷ []) values.old ≡ true }
     ensures { making does.VarStmt values.old ≡ record { product = result; vals = values.new } }
@@ -52,6 +54,7 @@ pub fn var_stmt(values: &mut Stack<Value>) -> Product
 }
 
 /// A path that is written to.
+#[inline(never)]
 pub fn path_target(values: &mut Stack<Value>) -> Product
     requires { fits (shapes.Path ∷ []) values.old ≡ true }
     ensures { making does.PathTarget values.old ≡ record { product = result; vals = values.new } }
@@ -61,6 +64,7 @@ pub fn path_target(values: &mut Stack<Value>) -> Product
 }
 
 /// An element that is written to.
+#[inline(never)]
 pub fn element_target(values: &mut Stack<Value>) -> Product
     requires { fits (shapes.Expr ∷ shapes.Place ∷ shapes.Path ∷ []) values.old ≡ true }
     ensures { making does.ElementTarget values.old ≡ record { product = result; vals = values.new } }
@@ -72,6 +76,7 @@ pub fn element_target(values: &mut Stack<Value>) -> Product
 }
 
 /// An assignment.
+#[inline(never)]
 pub fn assign_stmt(values: &mut Stack<Value>) -> Product
     requires { fits (shapes.Expr ∷ shapes.Sign ∷ shapes.Target ∷ shapes.Place ∷ []) values.old ≡ true }
     ensures { making does.AssignStmt values.old ≡ record { product = result; vals = values.new } }
@@ -92,6 +97,7 @@ pub fn assign_stmt(values: &mut Stack<Value>) -> Product
 }
 
 /// An assignment by `=?`.
+#[inline(never)]
 pub fn keep_stmt(values: &mut Stack<Value>) -> Product
     requires { fits (shapes.Call ∷ shapes.Target ∷ shapes.Place ∷ []) values.old ≡ true }
     ensures { making does.KeepStmt values.old ≡ record { product = result; vals = values.new } }
@@ -106,6 +112,7 @@ pub fn keep_stmt(values: &mut Stack<Value>) -> Product
 }
 
 /// A call as a statement.
+#[inline(never)]
 pub fn call_stmt(values: &mut Stack<Value>) -> Product
     requires { fits (shapes.Call ∷ shapes.Place ∷ []) values.old ≡ true }
     ensures { making does.CallStmt values.old ≡ record { product = result; vals = values.new } }
@@ -119,6 +126,7 @@ pub fn call_stmt(values: &mut Stack<Value>) -> Product
 }
 
 /// A `return`.
+#[inline(never)]
 pub fn return_stmt(values: &mut Stack<Value>) -> Product
     requires { fits (shapes.Part ∷ shapes.Place ∷ []) values.old ≡ true }
     ensures { making does.ReturnStmt values.old ≡ record { product = result; vals = values.new } }
@@ -132,6 +140,7 @@ pub fn return_stmt(values: &mut Stack<Value>) -> Product
 }
 
 /// A `yield`.
+#[inline(never)]
 pub fn yield_stmt(values: &mut Stack<Value>) -> Product
     requires { fits (shapes.Expr ∷ shapes.Place ∷ []) values.old ≡ true }
     ensures { making does.YieldStmt values.old ≡ record { product = result; vals = values.new } }
@@ -145,6 +154,7 @@ pub fn yield_stmt(values: &mut Stack<Value>) -> Product
 }
 
 /// An axiom with what is given to it.
+#[inline(never)]
 pub fn some_via(values: &mut Stack<Value>) -> Product
     requires { fits (shapes.Givens ∷ shapes.Name ∷ []) values.old ≡ true }
     ensures { making does.SomeVia values.old ≡ record { product = result; vals = values.new } }
@@ -155,6 +165,7 @@ pub fn some_via(values: &mut Stack<Value>) -> Product
 }
 
 /// An assertion.
+#[inline(never)]
 pub fn assert_stmt(values: &mut Stack<Value>) -> Product
     requires { fits (shapes.Via ∷ shapes.Expr ∷ shapes.Place ∷ []) values.old ≡ true }
     ensures { making does.AssertStmt values.old ≡ record { product = result; vals = values.new } }

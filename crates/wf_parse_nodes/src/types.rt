@@ -8,11 +8,10 @@ ghost use Rattle.wf_parse_nodes.specs.declared.shapes.Shape.TheVariants as shape
 
 use crate::pops::{pop_bounds, pop_core, pop_expr, pop_part, pop_place, pop_prefixes};
 use crate::products::Product;
-use crate::stack::Stack;
 use crate::values::{OpenCore, Value};
-use std::alloc::AllocError;
+use stacks::Stack;
 use wf_ast::parsed::{Bounds, Core, Name, Prefix, TypeExpr};
-use wf_text::Place;
+use wf_text::{NoMemory, Place};
 
 /// What a type ends with.
 fn closed_core(core: OpenCore) -> Core
@@ -25,7 +24,8 @@ fn closed_core(core: OpenCore) -> Core
 }
 
 /// `slice` in front of a type.
-pub fn add_slice(at: Place, values: &mut Stack<Value>) -> Result<Product, AllocError>
+#[inline(never)]
+pub fn add_slice(at: Place, values: &mut Stack<Value>) -> Result<Product, NoMemory>
     requires { fits (shapes.Prefixes ∷ []) values.old ≡ true }
     ensures { IfOk result (λ product. making (does.AddSlice at) values.old ≡ record { product = product; vals = values.new }) }
 {
@@ -35,7 +35,8 @@ pub fn add_slice(at: Place, values: &mut Stack<Value>) -> Result<Product, AllocE
 }
 
 /// `array` with a length in front of a type.
-pub fn add_array(values: &mut Stack<Value>) -> Result<Product, AllocError>
+#[inline(never)]
+pub fn add_array(values: &mut Stack<Value>) -> Result<Product, NoMemory>
     requires { fits (shapes.Expr ∷ shapes.Place ∷ shapes.Prefixes ∷ []) values.old ≡ true }
     ensures { IfOk result (λ product. making does.AddArray values.old ≡ record { product = product; vals = values.new }) }
 {
@@ -47,6 +48,7 @@ pub fn add_array(values: &mut Stack<Value>) -> Result<Product, AllocError>
 }
 
 /// A type that ends with the name of a struct.
+#[inline(never)]
 pub fn struct_type(name: Name, values: &mut Stack<Value>) -> Product
     requires { fits (shapes.Prefixes ∷ []) values.old ≡ true }
     ensures { making (does.StructType name) values.old ≡ record { product = result; vals = values.new } }
@@ -60,6 +62,7 @@ pub fn struct_type(name: Name, values: &mut Stack<Value>) -> Product
 }
 
 /// A type of the language, by its name.
+#[inline(never)]
 pub fn base_core(name: Name, values: &mut Stack<Value>) -> Product
     requires { fits (shapes.Place ∷ []) values.old ≡ true }
     ensures { making (does.BaseCore name) values.old ≡ record { product = result; vals = values.new } }
@@ -69,6 +72,7 @@ pub fn base_core(name: Name, values: &mut Stack<Value>) -> Product
 }
 
 /// The type of statuses.
+#[inline(never)]
 pub fn status_core(values: &mut Stack<Value>) -> Product
     requires { fits (shapes.Place ∷ []) values.old ≡ true }
     ensures { making does.StatusCore values.old ≡ record { product = result; vals = values.new } }
@@ -78,6 +82,7 @@ pub fn status_core(values: &mut Stack<Value>) -> Product
 }
 
 /// The bounds of a refined type.
+#[inline(never)]
 pub fn some_bounds(values: &mut Stack<Value>) -> Product
     requires { fits (shapes.Expr ∷ shapes.Part ∷ []) values.old ≡ true }
     ensures { making does.SomeBounds values.old ≡ record { product = result; vals = values.new } }
@@ -88,6 +93,7 @@ pub fn some_bounds(values: &mut Stack<Value>) -> Product
 }
 
 /// A type that ends with a type of the language.
+#[inline(never)]
 pub fn finish_type(values: &mut Stack<Value>) -> Product
     requires { fits (shapes.Bounds ∷ shapes.Core ∷ shapes.Prefixes ∷ []) values.old ≡ true }
     ensures { making does.FinishType values.old ≡ record { product = result; vals = values.new } }

@@ -9,7 +9,7 @@ use wf_ast::{ExprId, Op, Sequence, StmtId};
 use wf_text::Place;
 
 /// The sign of an assignment: `=`, or an operator in front of it.
-#[derive(Clone, Copy, PartialEq, Eq)]
+#[derive(Clone, Copy)]
 pub struct Sign {
     pub op: Option<Op>,
     pub at: Place,
@@ -25,7 +25,7 @@ pub struct OpenChain {
 }
 
 /// What a type that begins with `base` names. `at` is the place of `base`.
-#[derive(Clone, Copy, PartialEq, Eq)]
+#[derive(Clone, Copy)]
 pub enum OpenCore {
     Base { name: Name, at: Place },
     Status { at: Place },

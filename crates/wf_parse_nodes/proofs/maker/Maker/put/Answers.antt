@@ -24,12 +24,10 @@ returns-in_ok-number-in-Stmt-clause-sound c =
     let sound = λ (ws : c.push-in-Stmt.new.self ≡ vals.Stmt c.in_ok-number-in-Stmt.number ∷ c.args.self.now.values). stmt_sound c.args.self.now (record { alloc = c.args.self.now.alloc; «package» = c.push_stmt.new.self; values = c.push-in-Stmt.new.self }) c.requires.sound c.args.product c.requires.parts c.in-Stmt.node c.in_ok-number-in-Stmt.number c.in-Stmt.is c.in_ok-number-in-Stmt.ensures.number c.in_ok-number-in-Stmt.ensures.ok ws in
     on_ok_weaker c.push-in-Stmt.result sound c.push-in-Stmt.ensures.ok
 
-pub returns-in-Decl-clause-made : goal.returns-in-Decl-clause-made
-returns-in-Decl-clause-made c =
-    let made = λ (p : c.push_decl.new.self ≡ record c.args.self.now.package { decls = c.args.self.now.package.decls ++ c.in-Decl.node ∷ [] }). decl_put c.args.self.now c.requires.sound c.args.product c.push_decl.new.self c.args.self.now.values c.in-Decl.node c.in-Decl.is p refl in
-    on_ok_weaker c.push_decl.result made c.push_decl.ensures.ok
+pub returns-in_ok-push_decl-in-Decl-clause-made : goal.returns-in_ok-push_decl-in-Decl-clause-made
+returns-in_ok-push_decl-in-Decl-clause-made c =
+    decl_put c.args.self.now c.requires.sound c.args.product c.push_decl.new.self c.args.self.now.values c.in-Decl.node c.in-Decl.is c.in_ok-push_decl-in-Decl.ensures.ok refl
 
-pub returns-in-Decl-clause-sound : goal.returns-in-Decl-clause-sound
-returns-in-Decl-clause-sound c =
-    let sound = λ (p : c.push_decl.new.self ≡ record c.args.self.now.package { decls = c.args.self.now.package.decls ++ c.in-Decl.node ∷ [] }). decl_sound c.args.self.now (record { alloc = c.args.self.now.alloc; «package» = c.push_decl.new.self; values = c.args.self.now.values }) c.requires.sound c.args.product c.requires.parts c.in-Decl.node c.in-Decl.is p refl in
-    on_ok_weaker c.push_decl.result sound c.push_decl.ensures.ok
+pub returns-in_ok-push_decl-in-Decl-clause-sound : goal.returns-in_ok-push_decl-in-Decl-clause-sound
+returns-in_ok-push_decl-in-Decl-clause-sound c =
+    decl_sound c.args.self.now (record { alloc = c.args.self.now.alloc; «package» = c.push_decl.new.self; values = c.args.self.now.values }) c.requires.sound c.args.product c.requires.parts c.in-Decl.node c.in-Decl.is c.in_ok-push_decl-in-Decl.ensures.ok refl

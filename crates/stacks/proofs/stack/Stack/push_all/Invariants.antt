@@ -1,5 +1,5 @@
 use Rattle.std.proofs.Common.{◌≡◌, ◌≤◌, ◌++◌, length, drop}
-use Rattle.wf_parse_nodes.proofs.stack.Stack.push_all.Given as goal
+use Rattle.stacks.proofs.stack.Stack.push_all.Given as goal
 
 abbrev pub invariant-loop-left : goal.invariant-loop-left
 invariant-loop-left g l = record {

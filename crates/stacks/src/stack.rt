@@ -2,21 +2,23 @@
 
 ghost use Rattle.std.specs.Prelude.{◌≡◌, ◌++◌, ◌<◌, ◌≤◌, List, [], ◌∷◌, Some, length, slice_get, IfSome, IfNone, OnOk, OnErr};
 
-use std::alloc::{AllocError, Global};
-use std::collections::VecDeque;
+use std::alloc::Global;
 use std::marker::Model;
+use wf_text::NoMemory;
 
 /// A stack.
 #[derive(Drop)]
 pub struct Stack<T> {
-    /// The items, the topmost in front.
-    items: VecDeque<T>,
+    /// The items, the topmost at the end.
+    items: Vec<T>,
 }
 
 impl<T> Model for Stack<T> {
+    ghost use Rattle.std.specs.Prelude.{List, reverse};
+
     ghost Value = { List T };
 
-    ghost view = { λ s. s.items.items };
+    ghost view = { λ s. reverse s.items.items };
 }
 
 impl<T: Drop> Stack<T> {
@@ -25,18 +27,18 @@ impl<T: Drop> Stack<T> {
         ensures { result ≡ [] }
     {
         Stack {
-            items: VecDeque::new(alloc),
+            items: Vec::new(alloc),
         }
     }
 
-    /// Puts `item` on the top. On `Err` the stack is as it was.
-    pub fn push(&mut self, item: T) -> Result<(), AllocError>
+    /// Puts `item` on the top. After `NoMemory` the stack is as before.
+    pub fn push(&mut self, item: T) -> Result<(), NoMemory>
         ensures ok { OnOk result (self.new ≡ item ∷ self.old) }
         ensures err { OnErr result (self.new ≡ self.old) }
     {
-        match self.items.push_front(item) {
+        match self.items.push(item) {
             Ok(()) => Ok(()),
-            Err(_) => Err(AllocError),
+            Err(_) => Err(NoMemory),
         }
     }
 
@@ -45,7 +47,7 @@ impl<T: Drop> Stack<T> {
         ensures some { IfSome result (λ item. self.old ≡ item ∷ self.new) }
         ensures none { IfNone result (self.old ≡ [] × (self.new ≡ [])) }
     {
-        self.items.pop_front()
+        self.items.pop()
     }
 
     /// The item so far below the top, 0 at the top. None where there are fewer items.
@@ -53,7 +55,11 @@ impl<T: Drop> Stack<T> {
         ensures some { IfSome result (λ item. slice_get self.now depth ≡ Some item.now) }
         ensures none { IfNone result (length self.now ≤ depth) }
     {
-        self.items.get(depth)
+        if depth < self.items.len() {
+            Some(self.at(depth))
+        } else {
+            None
+        }
     }
 
     /// The item so far below the top, 0 at the top.
@@ -61,10 +67,7 @@ impl<T: Drop> Stack<T> {
         requires { depth < length self.now }
         ensures { slice_get self.now depth ≡ Some result.now }
     {
-        match self.items.get(depth) {
-            Some(item) => item,
-            None => unreachable!(),
-        }
+        &self.items[self.items.len() - 1 - depth]
     }
 
     /// How many items there are.
@@ -83,8 +86,8 @@ impl<T: Drop> Stack<T> {
 }
 
 impl<T: Copy + Drop> Stack<T> {
-    /// Puts the items on the top, the first of them topmost.
-    pub fn push_all(&mut self, items: &[T]) -> Result<(), AllocError>
+    /// Puts the items on the top, the first of them topmost. After `NoMemory` some of the last of them are on it.
+    pub fn push_all(&mut self, items: &[T]) -> Result<(), NoMemory>
         ensures { OnOk result (self.new ≡ items.now ++ self.old) }
     {
         let mut left = items.len();
