@@ -3,13 +3,13 @@
 // in which all that have a way to it, and no label yet, get the label of its place.
 
 ghost use Rattle.std.specs.Prelude.{◌≡◌, ◌+◌, ◌<◌, ◌≤◌, ◌^◌, ◌++◌, [], ◌∷◌, if◌then◌else◌, length, slice_index_or, nat_eq, vec_len, IfOk, OnOk};
-ghost use Rattle.wf_names_rules.specs.Graphs.{AreWithin};
+ghost use Rattle.graphs.specs.Graphs.{AreWithin};
 ghost use Rattle.graphs.specs.Leaving.{IsLeaving};
 ghost use Rattle.graphs.specs.Labels.{goes_back, AreLabels, AreJoined, IsRound};
 
+use crate::rows::Row;
 use crate::walk::{row, set_number, zeros};
 use std::alloc::Global;
-use wf_ast::Sequence;
 use wf_text::faults::NoMemory;
 
 // Gives a number its label, and joins it to the queue.
@@ -36,7 +36,7 @@ fn give(
 fn give_row(
     labels: &mut Vec<usize>,
     queue: &mut Vec<usize>,
-    turned: &[Sequence<usize>],
+    turned: &[Row],
     order: &Vec<u32>,
     p: usize,
     i: usize,
@@ -66,7 +66,7 @@ fn give_row(
 fn round(
     labels: &mut Vec<usize>,
     queue: &mut Vec<usize>,
-    turned: &[Sequence<usize>],
+    turned: &[Row],
     order: &Vec<u32>,
     i: usize,
 ) -> Result<(), NoMemory>
@@ -98,11 +98,7 @@ fn round(
 
 /// Labels of the numbers of a graph, by the lists of those that go to each and by the order in which a walk over the
 /// graph left them. `Err` where memory was refused. The time is in proportion to the numbers and what goes to them.
-pub fn labelled(
-    alloc: Global,
-    turned: &[Sequence<usize>],
-    order: &Vec<u32>,
-) -> Result<Vec<usize>, NoMemory>
+pub fn labelled(alloc: Global, turned: &[Row], order: &Vec<u32>) -> Result<Vec<usize>, NoMemory>
     requires few { length turned.now ≤ 2 ^ 32 }
     requires within { AreWithin turned.now (length turned.now) }
     requires leaving { IsLeaving (length turned.now) (goes_back turned.now) order.now.items }

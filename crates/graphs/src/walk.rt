@@ -2,16 +2,15 @@
 // that it goes to. What leads to the number where the walk is stands on a path, so that nothing calls itself.
 
 ghost use Rattle.std.specs.Prelude.{◌≡◌, ◌+◌, ◌-◌, ◌<◌, ◌≤◌, ◌^◌, ◌++◌, ◌||◌, [], ◌∷◌, true, false, if◌then◌else◌, Some, length, take, slice_get, slice_index_or, nat_eq, vec_len, IfOk, IfSome, IfNone, OnOk};
-ghost use Rattle.wf_names_rules.specs.Graphs.{Path, holds, goes, row_at, AreWithin};
+ghost use Rattle.graphs.specs.Graphs.{Path, holds, goes, row_at, AreWithin};
 ghost use Rattle.graphs.specs.Leaving.{IsLeaving};
 ghost use Rattle.graphs.specs.Walking.{AreFlagsOf, ArePassed, IsWalk, IsNext, IsDone, Walks, has_begun, Remembers, Advances};
 
+use crate::rows::Row;
 use std::alloc::Global;
-use wf_ast::Sequence;
 use wf_text::faults::NoMemory;
 
 /// A walk over the numbers of a graph.
-#[derive(Drop)]
 pub struct Walk {
     /// The numbers that were left, in that order.
     pub order: Vec<u32>,
@@ -23,8 +22,34 @@ pub struct Walk {
     pub passed: Vec<usize>,
 }
 
+impl Drop for Walk {
+    fn drop(self) {
+        let Walk {
+            order: _,
+            path: _,
+            begun: _,
+            passed: _,
+        } = self;
+    }
+}
+
+impl Walk {
+    // The numbers in the order in which they were left.
+    fn into_order(self) -> Vec<u32>
+        ensures { result ≡ self.order }
+    {
+        let Walk {
+            order,
+            path: _,
+            begun: _,
+            passed: _,
+        } = self;
+        order
+    }
+}
+
 /// Where a number of a graph goes.
-pub fn row(rows: &[Sequence<usize>], a: usize) -> &[usize]
+pub fn row(rows: &[Row], a: usize) -> &[usize]
     requires { a < length rows.now }
     ensures { result.now ≡ row_at rows.now a }
 {
@@ -142,7 +167,7 @@ fn leave(walk: &mut Walk, a: usize) -> Result<(), NoMemory>
 }
 
 // Passes what was begun in the row of a number: the first number in it that wasn't, if there is one.
-fn pass(walk: &mut Walk, rows: &[Sequence<usize>], a: usize) -> Option<usize>
+fn pass(walk: &mut Walk, rows: &[Row], a: usize) -> Option<usize>
     requires a { a < length rows.now }
     requires within { AreWithin rows.now (length rows.now) }
     requires walks { Walks rows.now walk.old }
@@ -159,7 +184,7 @@ fn pass(walk: &mut Walk, rows: &[Sequence<usize>], a: usize) -> Option<usize>
 }
 
 // One step from the last number of the path: on to one that it goes to, or back.
-fn step(walk: &mut Walk, rows: &[Sequence<usize>], a: usize) -> Result<(), NoMemory>
+fn step(walk: &mut Walk, rows: &[Row], a: usize) -> Result<(), NoMemory>
     requires few { length rows.now ≤ 2 ^ 32 }
     requires within { AreWithin rows.now (length rows.now) }
     requires walks { Walks rows.now walk.old }
@@ -173,7 +198,7 @@ fn step(walk: &mut Walk, rows: &[Sequence<usize>], a: usize) -> Result<(), NoMem
 }
 
 // Walks from a number to all that it leads to, which the order then has. `Err` where memory was refused.
-fn visit(walk: &mut Walk, rows: &[Sequence<usize>], start: usize) -> Result<(), NoMemory>
+fn visit(walk: &mut Walk, rows: &[Row], start: usize) -> Result<(), NoMemory>
     requires few { length rows.now ≤ 2 ^ 32 }
     requires within { AreWithin rows.now (length rows.now) }
     requires walks { Walks rows.now walk.old }
@@ -202,7 +227,7 @@ fn visit(walk: &mut Walk, rows: &[Sequence<usize>], start: usize) -> Result<(), 
 
 /// The numbers of a graph in the order in which a walk into depth leaves them. `Err` where memory was refused. No
 /// recursion is needed for it, and the time is in proportion to the numbers and what they go to.
-pub fn leaving(alloc: Global, rows: &[Sequence<usize>]) -> Result<Vec<u32>, NoMemory>
+pub fn leaving(alloc: Global, rows: &[Row]) -> Result<Vec<u32>, NoMemory>
     requires few { length rows.now ≤ 2 ^ 32 }
     requires within { AreWithin rows.now (length rows.now) }
     ensures { IfOk result (λ order. IsLeaving (length rows.now) (goes rows.now) order.items) }
@@ -217,5 +242,5 @@ pub fn leaving(alloc: Global, rows: &[Sequence<usize>]) -> Result<Vec<u32>, NoMe
             Err(fault) => return Err(fault),
         }
     }
-    Ok(walk.order)
+    Ok(walk.into_order())
 }

@@ -1,9 +1,9 @@
 -- A test of whether an order settles rows, which computes on those that the tests write.
 use Rattle.std.proofs.Common.{◌≡◌, ℕ, zero, suc, ◌<◌, Bool, true, false, ◌&&◌, ◌||◌, List, [], ◌∷◌, take, length, Option, Some, None, slice_get, nat_eq, nat_lt, refl, sym, ap, ◌∙◌, subst, arith}
 use Rattle.std.proofs.lemmas.Bool.Decides.{nat_tests}
-use Rattle.wf_names_rules.specs.Graphs.{holds}
+use Rattle.graphs.specs.Graphs.{holds}
 use Rattle.wf_names_rules.specs.Passes.{is_flagged}
-use Rattle.wf_names_rules.proofs.NumberLemmas.{same_number}
+use Rattle.graphs.proofs.NumberLemmas.{same_number}
 use Rattle.wf_names_sizes.specs.declared.parts.Part.{Part}
 use Rattle.wf_names_sizes.specs.declared.parts.Part.TheVariants as parts
 use Rattle.wf_names_sizes.specs.Orders.{is_struct, has_struct, IsSettlingOrder}

@@ -1,5 +1,5 @@
 use Rattle.std.proofs.Common.{◌≡◌, ◌<◌, ◌≤◌, ◌∙◌, ℕ, length, sym, subst, arith}
-use Rattle.wf_names_rules.proofs.NumberLemmas.{holds_at}
+use Rattle.graphs.proofs.NumberLemmas.{holds_at}
 use Rattle.graphs.specs.Labels.{goes_back, IsRound}
 use Rattle.graphs.proofs.LabelLemmas.{place-read, label-read, next-label, round-begins, round-skipped, round-ends, queue-few}
 use Rattle.graphs.proofs.labels.round.Goals as goal

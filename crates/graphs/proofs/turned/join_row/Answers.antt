@@ -1,6 +1,6 @@
 use Rattle.std.proofs.Common.{◌≤◌, ◌||◌, ◌&&◌, ◌∙◌, List, ℕ, nat_eq, slice_index_or, length, refl, ap, arith}
-use Rattle.wf_names_rules.specs.Graphs.{holds, goes}
-use Rattle.wf_names_rules.proofs.NumberLemmas.{holds_index}
+use Rattle.graphs.specs.Graphs.{holds, goes}
+use Rattle.graphs.proofs.NumberLemmas.{holds_index}
 use Rattle.graphs.proofs.TurnLemmas.{row-begins, row-more, take-over}
 use Rattle.graphs.proofs.turned.join_row.Goals as goal
 

@@ -1,0 +1,20 @@
+use Rattle.wf_text.specs.Precedence.{Decides}
+use Rattle.wf_names_rules.specs.NameRules.{SizeBreaks, Breaks}
+use Rattle.wf_names_scopes.specs.Agreeing.{package_of}
+use Rattle.wf_names_scopes.proofs.UseLemmas.{if_ok}
+use Rattle.wf_names_sizes.specs.Deciding.{DecidesBehind}
+use Rattle.wf_names.proofs.DecidingLemmas.{all-decide, flags-hold, order-stands}
+use Rattle.wf_names.proofs.findings.deciding.Goals as goal
+
+pub size_breaks-requires-clause-holding : goal.size_breaks-requires-clause-holding
+size_breaks-requires-clause-holding c = rw c.as_slice.ensures.value (flags-hold (package_of c.args.parsed.now) c.args.structs.now c.requires.structs)
+
+pub size_breaks-requires-clause-order : goal.size_breaks-requires-clause-order
+size_breaks-requires-clause-order c = rw c.as_slice-2.ensures.value (order-stands (package_of c.args.parsed.now) c.args.structs.now c.requires.structs)
+
+pub returns : goal.returns
+returns c =
+    let d = package_of c.args.parsed.now in
+    if_ok (λ all. DecidesBehind (SizeBreaks d) c.circling.result all) (Decides (Breaks d)) c.size_breaks.result
+    (λ all b. all-decide d c.in_ok-named.named c.circling.result all c.in_ok-named.ensures (c.circling.ensures d c.requires.structs c.requires.methods) b)
+    c.size_breaks.ensures
