@@ -4,8 +4,8 @@ use Rattle.std.specs.List.{IsDistinct}
 use Rattle.std.proofs.lemmas.Bool.Decides.{nat_tests}
 use Rattle.std.proofs.lemmas.Map.Keys.{IsDistinct-push}
 use Rattle.std.proofs.lemmas.Map.Steps.{length-le_from_distinct_below}
-use Rattle.wf_names_rules.specs.Graphs.{Path, last, more, holds, goes}
-use Rattle.wf_names_rules.proofs.NumberLemmas.{same_number, number_self, numbers_equivalence, holds_at}
+use Rattle.graphs.specs.Graphs.{Path, last, more, holds, goes}
+use Rattle.graphs.proofs.NumberLemmas.{same_number, number_self, numbers_equivalence, holds_at}
 use Rattle.graphs.specs.Leaving.{IsLeaving}
 use Rattle.graphs.specs.Labels.{goes_back, label, AreTied, AreLabels, AreGiven, AreJoined, IsRound}
 use Rattle.graphs.proofs.WalkLemmas.{either, found-at, place, get-front, get-within, holds-pushed, keeps-pushed, has-pushed, take-more}

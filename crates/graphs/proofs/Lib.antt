@@ -1,3 +1,4 @@
+pub mod NumberLemmas
 pub mod LabelLemmas
 pub mod OrderLemmas
 pub mod TurnLemmas

@@ -1,18 +1,16 @@
 -- A walk that has begun with every number and has come back has an order of all of them.
-use Rattle.std.proofs.Common.{◌≡◌, ◌⊎◌, ℕ, zero, suc, ◌<◌, ◌+◌, ◌≤◌, ◌||◌, Bool, true, false, List, [], ◌∷◌, ◌++◌, length, take, Some, slice_get, nat_eq, Result, Ok, Err, IfOk, refl, sym, ap, ◌∙◌, subst, inl, inr, arith, length-append, append-nil}
+use Rattle.std.proofs.Common.{◌≡◌, ◌⊎◌, ℕ, zero, suc, ◌<◌, ◌≤◌, ◌||◌, Bool, true, false, List, [], ◌∷◌, ◌++◌, length, take, Some, slice_get, nat_eq, refl, sym, ap, ◌∙◌, subst, inl, inr, arith, length-append, append-nil}
 use Rattle.std.specs.List.{IsDistinct}
-use Rattle.std.proofs.lemmas.Bool.Decides.{nat_tests}
 use Rattle.std.proofs.lemmas.Map.Keys.{IsDistinct-push}
 use Rattle.std.proofs.lemmas.Map.Made.{length-le_from_is_member}
 use Rattle.std.proofs.lemmas.Map.Steps.{length-le_from_distinct_below}
-use Rattle.wf_text.specs.declared.faults.NoMemory.{NoMemory}
-use Rattle.wf_names_rules.specs.Graphs.{Path, last, more, holds, goes}
-use Rattle.wf_names_rules.proofs.NumberLemmas.{same_number, number_self, numbers_equivalence}
+use Rattle.graphs.specs.Graphs.{Path, last, more, holds, goes}
+use Rattle.graphs.proofs.NumberLemmas.{same_number, number_self, numbers_equivalence}
 use Rattle.graphs.specs.declared.walk.Walk.{Walk}
 use Rattle.graphs.specs.Leaving.{IsLeaving}
 use Rattle.graphs.specs.Orders.{IsOrder, IsOrderOffCircles, HasCircle}
 use Rattle.graphs.specs.Walking.{Walks, has_begun}
-use Rattle.graphs.proofs.WalkLemmas.{either, found-at, take-at, one-place, get-within, holds-pushed, walk-few}
+use Rattle.graphs.proofs.WalkLemmas.{either, found-at, take-at, one-place, holds-pushed, walk-few}
 
 -- The numbers below a number.
 abbrev below : ℕ → List ℕ
@@ -121,58 +119,21 @@ module _ (rows : List (List ℕ)) (order : List ℕ) (h : IsOrder rows order) wh
 -- In the order in which a walk left the numbers each stands behind those that it goes to and that have no way back.
 pub leaving-off-circles : (rows : List (List ℕ)) (order : List ℕ) → IsLeaving (length rows) (goes rows) order → IsOrderOffCircles rows order
 leaving-off-circles rows order leaving = record {
+  whole = leaving.whole;
   every = all-held (length rows) order leaving.whole leaving.within leaving.once;
   within = leaving.within;
   once = leaving.once;
   behind = leaving.back;
 }
 
-pub if_ok : {X : Type 0} (P Q : X → Type 0) (r : Result X NoMemory) → ((x : X) → P x → Q x) → IfOk r P → IfOk r Q
-if_ok P Q (Ok x) f h = f x h
-if_ok P Q (Err e) f h = h
-
--- The front of a list, place by place.
-pub take-next : (ks : List ℕ) (i a b : ℕ) → slice_get ks i ≡ Some a → holds (take (i + 1) ks) b ≡ (nat_eq b a || holds (take i ks) b)
-take-next [] i a b h = absurd (cc h)
-take-next (k ∷ ks) zero a b h = let same : k ≡ a = cc h in ap (λ x. nat_eq b x || holds [] b) same
-take-next (k ∷ ks) (suc i) a b h =
-    ap (λ n. holds (take n (k ∷ ks)) b) (sym next) ∙ ap (λ t. nat_eq b k || t) (take-next ks i a b h) ∙ swapped (nat_eq b k) (nat_eq b a) (holds (take i ks) b)
-  where
-    next : suc (i + 1) ≡ suc i + 1
-    next = omega arith
-
-    swapped : (x y z : Bool) → (x || (y || z)) ≡ (y || (x || z))
-    swapped true true z = refl
-    swapped true false z = refl
-    swapped false true z = refl
-    swapped false false z = refl
-
--- Numbers that stand behind all that they go to, one by one.
-module _ (rows : List (List ℕ)) (order : List ℕ) (leaving : IsLeaving (length rows) (goes rows) order) where
-  pub behind-more : (i a : ℕ) → slice_get order i ≡ Some a → ((b : ℕ) → goes rows a b ≡ true → holds (take i order) b ≡ true)
-      → ((j c b : ℕ) → j < i → slice_get order j ≡ Some c → goes rows c b ≡ true → holds (take j order) b ≡ true)
-      → (j c b : ℕ) → j < i + 1 → slice_get order j ≡ Some c → goes rows c b ≡ true → holds (take j order) b ≡ true
-  behind-more i a at new old j c b l k g = by_test (nat_eq j i) refl
-    where
-      by_test : (t : Bool) → nat_eq j i ≡ t → holds (take j order) b ≡ true
-      by_test true t =
-          let same : j ≡ i = same_number j i t in
-          let both : Some c ≡ Some a = sym k ∙ ap (slice_get order) same ∙ at in
-          let one : c ≡ a = cc both in
-          ap (λ n. holds (take n order) b) same ∙ new b (ap (λ x. goes rows x b) (sym one) ∙ g)
-      by_test false t = let below : j < i = grind (arith, nat_tests, t, l) in old j c b below k g
-
-  pub order-holds : (i : ℕ) → length order ≤ i → ((j c b : ℕ) → j < i → slice_get order j ≡ Some c → goes rows c b ≡ true → holds (take j order) b ≡ true) → IsOrder rows order
-  order-holds i over all = record {
-    whole = leaving.whole;
-    within = leaving.within;
-    once = leaving.once;
-    behind = λ j a b at g. all j a b (let inside = get-within order j a at in omega (arith, inside, over)) at g;
-  }
-
-  -- A number that doesn't stand behind one that it goes to stands on a circle with it.
-  pub circle-shown : (i a b : ℕ) → slice_get order i ≡ Some a → goes rows a b ≡ true → holds (take i order) b ≡ false → HasCircle rows
-  circle-shown i a b at g out = elim (leaving.back i a b at g) [
-    | inl k ↦ absurd (let no : true ≡ false = sym k ∙ out in cc no)
-    | inr p ↦ (a, more a b a g p)
-  ]
+-- Where no number has a way back to itself that is an order.
+pub order-open : (rows : List (List ℕ)) (order : List ℕ) → IsOrderOffCircles rows order → (HasCircle rows → ⊥) → IsOrder rows order
+order-open rows order h open_ = record {
+  whole = h.whole;
+  within = h.within;
+  once = h.once;
+  behind = λ i a b at g. elim (h.behind i a b at g) [
+    | inl k ↦ k
+    | inr p ↦ absurd (open_ (a, more a b a g p))
+  ];
+}

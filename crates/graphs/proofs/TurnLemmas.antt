@@ -1,7 +1,7 @@
 -- A graph is turned, number by number.
 use Rattle.std.proofs.Common.{◌≡◌, ℕ, zero, suc, ◌+◌, ◌<◌, ◌≤◌, ◌||◌, ◌&&◌, Bool, true, false, List, [], ◌∷◌, ◌++◌, length, take, set, nat_eq, slice_index_or, get_or, refl, sym, ap, ◌∙◌, arith}
 use Rattle.std.proofs.lemmas.Bool.Decides.{nat_tests}
-use Rattle.wf_names_rules.specs.Graphs.{holds, row_at, goes}
+use Rattle.graphs.specs.Graphs.{holds, row_at, goes}
 use Rattle.graphs.proofs.WalkLemmas.{holds-pushed}
 
 or_false : (t : Bool) → (t || false) ≡ t

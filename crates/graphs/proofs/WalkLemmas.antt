@@ -7,8 +7,8 @@ use Rattle.std.proofs.lemmas.List.Sorted.{IsPermutation-append_comm, IsPermutati
 use Rattle.std.proofs.lemmas.Map.Keys.{IsDistinct-push, IsDistinct-IsPermutation, apart_from_distinct}
 use Rattle.std.proofs.lemmas.Map.Steps.{length-le_from_distinct_below}
 use Rattle.std.proofs.lemmas.Option.{get_or_from_slice_get, slice_get_within}
-use Rattle.wf_names_rules.specs.Graphs.{Path, last, holds, row_at, goes, AreWithin}
-use Rattle.wf_names_rules.proofs.NumberLemmas.{same_number, number_self, numbers_equivalence, path-push, holds_at}
+use Rattle.graphs.specs.Graphs.{Path, last, holds, row_at, goes, AreWithin}
+use Rattle.graphs.proofs.NumberLemmas.{same_number, number_self, numbers_equivalence, path-push, holds_at}
 use Rattle.graphs.specs.declared.walk.Walk.{Walk}
 use Rattle.graphs.specs.Leaving.{IsNest}
 use Rattle.graphs.specs.Walking.{AreFlagsOf, ArePassed, IsOpen, IsWalk, Walks, IsNext, IsDone, Advances, has_begun}

@@ -1,7 +1,7 @@
 -- Labels of the numbers of a graph: two have one label exactly where they are one, or each has a way to the other.
 use Rattle.std.specs.Prelude.{◌≡◌, ◌⊎◌, ◌<◌, ◌≤◌, ℕ, suc, Bool, true, List, Some, length, slice_get, slice_index_or, nat_eq}
 use Rattle.std.specs.List.{IsDistinct}
-use Rattle.wf_names_rules.specs.Graphs.{Path, holds, goes}
+use Rattle.graphs.specs.Graphs.{Path, holds, goes}
 use Rattle.graphs.specs.Leaving.{IsNest}
 
 -- The steps of a graph, from the lists of the numbers that go to each.

@@ -1,7 +1,7 @@
 -- The order in which a walk into depth leaves the numbers of a graph.
 use Rattle.std.specs.Prelude.{◌≡◌, ◌⊎◌, ◌<◌, ◌≤◌, ℕ, Bool, true, List, Some, length, take, slice_get, nat_eq}
 use Rattle.std.specs.List.{IsDistinct}
-use Rattle.wf_names_rules.specs.Graphs.{Path, holds}
+use Rattle.graphs.specs.Graphs.{Path, holds}
 
 -- The number `a`, at place `i` of the order, was begun when `from` numbers had been left. A way leads from it to each
 -- that was left since then, and none that was left before goes to it or to any of those.

@@ -1,3 +1,4 @@
+pub mod Graphs
 pub mod Labels
 pub mod Leaving
 pub mod Orders

@@ -1,7 +1,7 @@
 -- Orders of the numbers of a graph: each number stands behind those that it goes to.
 use Rattle.std.specs.Prelude.{◌≡◌, ◌⊎◌, ◌<◌, ℕ, true, List, Some, length, take, slice_get, nat_eq}
 use Rattle.std.specs.List.{IsDistinct}
-use Rattle.wf_names_rules.specs.Graphs.{Path, holds, goes}
+use Rattle.graphs.specs.Graphs.{Path, holds, goes}
 
 -- Every number of the graph stands in the order once, and all that it goes to stand in front of it.
 pub record IsOrder (rows : List (List ℕ)) (order : List ℕ) : Type 0 where
@@ -13,6 +13,7 @@ pub record IsOrder (rows : List (List ℕ)) (order : List ℕ) : Type 0 where
 -- Every number of the graph stands in the order once, and all that it goes to stand in front of it, apart from those that
 -- have a way back to it.
 pub record IsOrderOffCircles (rows : List (List ℕ)) (order : List ℕ) : Type 0 where
+  pub whole : length order ≡ length rows
   pub every : (a : ℕ) → a < length rows → holds order a ≡ true
   pub within : (a : ℕ) → holds order a ≡ true → a < length rows
   pub once : IsDistinct nat_eq order

@@ -1,7 +1,7 @@
 -- A walk over a graph that goes into depth: what stands in the order, and the path that leads to where the walk is.
 use Rattle.std.specs.Prelude.{◌≡◌, ◌⊎◌, ◌≤◌, ◌+◌, ◌*◌, ◌-◌, ◌<◌, ℕ, Bool, true, false, List, ◌++◌, Some, length, take, slice_get, slice_index_or, nat_eq}
 use Rattle.std.specs.List.{IsDistinct}
-use Rattle.wf_names_rules.specs.Graphs.{Path, holds, row_at, goes}
+use Rattle.graphs.specs.Graphs.{Path, holds, row_at, goes}
 use Rattle.graphs.specs.declared.walk.Walk.{Walk}
 use Rattle.graphs.specs.Leaving.{IsNest}
 

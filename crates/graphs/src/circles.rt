@@ -1,18 +1,19 @@
-// Which numbers of a graph have a way back to themselves.
+// Which numbers of a graph have a way back to themselves, and an order of them, by one walk.
 
 ghost use Rattle.std.specs.Prelude.{◌≡◌, ◌<◌, ◌-◌, ◌^◌, true, length, IfOk};
-ghost use Rattle.wf_names_rules.specs.Graphs.{Path, goes, AreWithin, AreCircles};
+ghost use Rattle.graphs.specs.Graphs.{Path, goes, AreWithin, AreCircles};
 ghost use Rattle.graphs.specs.Labels.{AreLabels};
+ghost use Rattle.graphs.specs.Orders.{IsOrderOffCircles};
 
 use crate::labels::labelled;
+use crate::rows::Row;
 use crate::turned::turned;
 use crate::walk::{leaving, row};
 use std::alloc::Global;
-use wf_ast::Sequence;
 use wf_text::faults::NoMemory;
 
 // Whether a number goes to one that has its label.
-fn stays(rows: &[Sequence<usize>], labels: &Vec<usize>, a: usize) -> bool
+fn stays(rows: &[Row], labels: &Vec<usize>, a: usize) -> bool
     requires a { a < length rows.now }
     requires within { AreWithin rows.now (length rows.now) }
     requires labels { AreLabels (length rows.now) (goes rows.now) labels.now.items }
@@ -30,42 +31,40 @@ fn stays(rows: &[Sequence<usize>], labels: &Vec<usize>, a: usize) -> bool
 }
 
 // The flags of a graph whose numbers have labels.
-fn flags_of(
-    alloc: Global,
-    rows: &[Sequence<usize>],
-    labels: &Vec<usize>,
-) -> Result<Vec<bool>, NoMemory>
+fn flags_of(alloc: Global, rows: &[Row], labels: &Vec<usize>) -> Result<Vec<bool>, NoMemory>
     requires within { AreWithin rows.now (length rows.now) }
     requires labels { AreLabels (length rows.now) (goes rows.now) labels.now.items }
     ensures { IfOk result (λ flags. AreCircles rows.now flags.items (length rows.now)) }
 {
     let mut flags = Vec::new(alloc);
     for a in 0..rows.len() {
-        match flags.push(stays(rows, labels, a)) {
-            Ok(()) => {}
-            Err(_) => return Err(NoMemory),
-        }
+        flags.push(stays(rows, labels, a))?;
     }
     Ok(flags)
 }
 
-/// For each number of a graph over the numbers below its size whether a way of one or more steps leads from it
-/// back to itself. `Err` where memory was refused. The time is in proportion to the numbers and what they go to.
-pub fn circle_flags(alloc: Global, rows: &[Sequence<usize>]) -> Result<Vec<bool>, NoMemory>
+/// What one walk over a graph tells of its numbers: which have a way of one or more steps back to themselves, and an
+/// order of them.
+#[derive(Drop)]
+pub struct Cycles {
+    /// For each number whether it has such a way.
+    pub flags: Vec<bool>,
+    /// Every number once, behind those that it goes to, apart from those that have a way back to it.
+    pub order: Vec<u32>,
+}
+
+/// The cycles of a graph over the numbers below its size, and an order of these; `rows` lists for each number those that
+/// it goes to. `Err` where memory was refused. The time is in proportion to the numbers and what they go to, and no
+/// recursion is needed for it.
+pub fn find_cycles(alloc: Global, rows: &[Row]) -> Result<Cycles, NoMemory>
     requires few { length rows.now < 2 ^ 32 - 1 }
     requires within { AreWithin rows.now (length rows.now) }
-    ensures { IfOk result (λ flags. AreCircles rows.now flags.items (length rows.now)) }
+    ensures flags { IfOk result (λ cycles. AreCircles rows.now cycles.flags.items (length rows.now)) }
+    ensures order { IfOk result (λ cycles. IsOrderOffCircles rows.now cycles.order.items) }
 {
-    let order = match leaving(alloc, rows) {
-        Ok(order) => order,
-        Err(fault) => return Err(fault),
-    };
-    let back = match turned(alloc, rows) {
-        Ok(back) => back,
-        Err(fault) => return Err(fault),
-    };
-    match labelled(alloc, back.as_slice(), &order) {
-        Ok(labels) => flags_of(alloc, rows, &labels),
-        Err(fault) => Err(fault),
-    }
+    let order = leaving(alloc, rows)?;
+    let back = turned(alloc, rows)?;
+    let labels = labelled(alloc, back.as_slice(), &order)?;
+    let flags = flags_of(alloc, rows, &labels)?;
+    Ok(Cycles { flags, order })
 }

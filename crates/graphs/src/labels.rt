@@ -3,13 +3,13 @@
 // in which all that have a way to it, and no label yet, get the label of its place.
 
 ghost use Rattle.std.specs.Prelude.{◌≡◌, ◌+◌, ◌<◌, ◌≤◌, ◌^◌, ◌++◌, [], ◌∷◌, if◌then◌else◌, length, slice_index_or, nat_eq, vec_len, IfOk, OnOk};
-ghost use Rattle.wf_names_rules.specs.Graphs.{AreWithin};
+ghost use Rattle.graphs.specs.Graphs.{AreWithin};
 ghost use Rattle.graphs.specs.Leaving.{IsLeaving};
 ghost use Rattle.graphs.specs.Labels.{goes_back, AreLabels, AreJoined, IsRound};
 
+use crate::rows::Row;
 use crate::walk::{row, set_number, zeros};
 use std::alloc::Global;
-use wf_ast::Sequence;
 use wf_text::faults::NoMemory;
 
 // Gives a number its label, and joins it to the queue.
@@ -24,10 +24,7 @@ fn give(
     ensures set { OnOk result ((b d : _) → b < length labels.old.items → slice_index_or labels.new.items b d ≡ (if nat_eq b a then label else slice_index_or labels.old.items b d)) }
     ensures queue { OnOk result (queue.new.items ≡ queue.old.items ++ a ∷ []) }
 {
-    match queue.push(a) {
-        Ok(()) => {}
-        Err(_) => return Err(NoMemory),
-    }
+    queue.push(a)?;
     set_number(labels, a, label);
     Ok(())
 }
@@ -36,7 +33,7 @@ fn give(
 fn give_row(
     labels: &mut Vec<usize>,
     queue: &mut Vec<usize>,
-    turned: &[Sequence<usize>],
+    turned: &[Row],
     order: &Vec<u32>,
     p: usize,
     i: usize,
@@ -66,7 +63,7 @@ fn give_row(
 fn round(
     labels: &mut Vec<usize>,
     queue: &mut Vec<usize>,
-    turned: &[Sequence<usize>],
+    turned: &[Row],
     order: &Vec<u32>,
     i: usize,
 ) -> Result<(), NoMemory>
@@ -82,15 +79,9 @@ fn round(
         return Ok(());
     }
     let mut p = queue.len();
-    match give(labels, queue, root, i + 1) {
-        Ok(()) => {}
-        Err(fault) => return Err(fault),
-    }
+    give(labels, queue, root, i + 1)?;
     while p < queue.len() {
-        match give_row(labels, queue, turned, order, p, i) {
-            Ok(()) => {}
-            Err(fault) => return Err(fault),
-        }
+        give_row(labels, queue, turned, order, p, i)?;
         p += 1;
     }
     Ok(())
@@ -98,28 +89,18 @@ fn round(
 
 /// Labels of the numbers of a graph, by the lists of those that go to each and by the order in which a walk over the
 /// graph left them. `Err` where memory was refused. The time is in proportion to the numbers and what goes to them.
-pub fn labelled(
-    alloc: Global,
-    turned: &[Sequence<usize>],
-    order: &Vec<u32>,
-) -> Result<Vec<usize>, NoMemory>
+pub fn labelled(alloc: Global, turned: &[Row], order: &Vec<u32>) -> Result<Vec<usize>, NoMemory>
     requires few { length turned.now ≤ 2 ^ 32 }
     requires within { AreWithin turned.now (length turned.now) }
     requires leaving { IsLeaving (length turned.now) (goes_back turned.now) order.now.items }
     ensures { IfOk result (λ labels. AreLabels (length turned.now) (goes_back turned.now) labels.items) }
 {
-    let mut labels = match zeros(alloc, turned.len()) {
-        Ok(labels) => labels,
-        Err(fault) => return Err(fault),
-    };
+    let mut labels = zeros(alloc, turned.len())?;
     let mut queue = Vec::new(alloc);
     let mut i = order.len();
     while i > 0 {
         i -= 1;
-        match round(&mut labels, &mut queue, turned, order, i) {
-            Ok(()) => {}
-            Err(fault) => return Err(fault),
-        }
+        round(&mut labels, &mut queue, turned, order, i)?;
     }
     Ok(labels)
 }

@@ -5,6 +5,6 @@
 pub mod circles;
 mod labels;
 pub mod laws;
-pub mod order;
+pub mod rows;
 mod turned;
 mod walk;

@@ -2,16 +2,15 @@
 // that it goes to. What leads to the number where the walk is stands on a path, so that nothing calls itself.
 
 ghost use Rattle.std.specs.Prelude.{◌≡◌, ◌+◌, ◌-◌, ◌<◌, ◌≤◌, ◌^◌, ◌++◌, ◌||◌, [], ◌∷◌, true, false, if◌then◌else◌, Some, length, take, slice_get, slice_index_or, nat_eq, vec_len, IfOk, IfSome, IfNone, OnOk};
-ghost use Rattle.wf_names_rules.specs.Graphs.{Path, holds, goes, row_at, AreWithin};
+ghost use Rattle.graphs.specs.Graphs.{Path, holds, goes, row_at, AreWithin};
 ghost use Rattle.graphs.specs.Leaving.{IsLeaving};
 ghost use Rattle.graphs.specs.Walking.{AreFlagsOf, ArePassed, IsWalk, IsNext, IsDone, Walks, has_begun, Remembers, Advances};
 
+use crate::rows::Row;
 use std::alloc::Global;
-use wf_ast::Sequence;
 use wf_text::faults::NoMemory;
 
 /// A walk over the numbers of a graph.
-#[derive(Drop)]
 pub struct Walk {
     /// The numbers that were left, in that order.
     pub order: Vec<u32>,
@@ -23,8 +22,34 @@ pub struct Walk {
     pub passed: Vec<usize>,
 }
 
+impl Drop for Walk {
+    fn drop(self) {
+        let Walk {
+            order: _,
+            path: _,
+            begun: _,
+            passed: _,
+        } = self;
+    }
+}
+
+impl Walk {
+    // The numbers in the order in which they were left.
+    fn into_order(self) -> Vec<u32>
+        ensures { result ≡ self.order }
+    {
+        let Walk {
+            order,
+            path: _,
+            begun: _,
+            passed: _,
+        } = self;
+        order
+    }
+}
+
 /// Where a number of a graph goes.
-pub fn row(rows: &[Sequence<usize>], a: usize) -> &[usize]
+pub fn row(rows: &[Row], a: usize) -> &[usize]
     requires { a < length rows.now }
     ensures { result.now ≡ row_at rows.now a }
 {
@@ -76,10 +101,7 @@ pub fn falses(alloc: Global, count: usize) -> Result<Vec<bool>, NoMemory>
     ensures len { IfOk result (λ flags. length flags.items ≡ count) }
     ensures none { IfOk result (λ flags. (b d : _) → b < count → slice_index_or flags.items b d ≡ false) }
 {
-    match vec![in alloc; false; count] {
-        Ok(flags) => Ok(flags),
-        Err(_) => Err(NoMemory),
-    }
+    Ok(vec![in alloc; false; count]?)
 }
 
 /// So many zeros. `Err` where memory was refused.
@@ -87,10 +109,7 @@ pub fn zeros(alloc: Global, count: usize) -> Result<Vec<usize>, NoMemory>
     ensures len { IfOk result (λ numbers. length numbers.items ≡ count) }
     ensures zero { IfOk result (λ numbers. (b d : _) → b < count → slice_index_or numbers.items b d ≡ 0) }
 {
-    match vec![in alloc; 0; count] {
-        Ok(numbers) => Ok(numbers),
-        Err(_) => Err(NoMemory),
-    }
+    Ok(vec![in alloc; 0; count]?)
 }
 
 // A walk that has begun nowhere yet, over a graph of so many numbers. `Err` where memory was refused.
@@ -98,14 +117,8 @@ fn nowhere(alloc: Global, count: usize) -> Result<Walk, NoMemory>
     ensures walks { IfOk result (λ walk. (rows : _) → length rows ≡ count → Walks rows walk) }
     ensures path { IfOk result (λ walk. walk.path.items ≡ []) }
 {
-    let begun = match falses(alloc, count) {
-        Ok(flags) => flags,
-        Err(fault) => return Err(fault),
-    };
-    let passed = match zeros(alloc, count) {
-        Ok(numbers) => numbers,
-        Err(fault) => return Err(fault),
-    };
+    let begun = falses(alloc, count)?;
+    let passed = zeros(alloc, count)?;
     Ok(Walk {
         order: Vec::new(alloc),
         path: Vec::new(alloc),
@@ -120,10 +133,7 @@ fn enter(walk: &mut Walk, a: usize) -> Result<(), NoMemory>
     ensures walks { OnOk result ((rows : _) → Walks rows walk.old → IsNext rows walk.old a → Advances rows walk.old walk.new) }
     ensures begun { OnOk result (has_begun walk.new a ≡ true) }
 {
-    match walk.path.push(a) {
-        Ok(()) => {}
-        Err(_) => return Err(NoMemory),
-    }
+    walk.path.push(a)?;
     set_flag(&mut walk.begun, a);
     Ok(())
 }
@@ -133,16 +143,13 @@ fn leave(walk: &mut Walk, a: usize) -> Result<(), NoMemory>
     requires { a < 2 ^ 32 }
     ensures { OnOk result ((rows : _) → Walks rows walk.old → IsDone rows walk.old a → Advances rows walk.old walk.new) }
 {
-    match walk.order.push(a as u32) {
-        Ok(()) => {}
-        Err(_) => return Err(NoMemory),
-    }
+    walk.order.push(a as u32)?;
     walk.path.pop();
     Ok(())
 }
 
 // Passes what was begun in the row of a number: the first number in it that wasn't, if there is one.
-fn pass(walk: &mut Walk, rows: &[Sequence<usize>], a: usize) -> Option<usize>
+fn pass(walk: &mut Walk, rows: &[Row], a: usize) -> Option<usize>
     requires a { a < length rows.now }
     requires within { AreWithin rows.now (length rows.now) }
     requires walks { Walks rows.now walk.old }
@@ -159,7 +166,7 @@ fn pass(walk: &mut Walk, rows: &[Sequence<usize>], a: usize) -> Option<usize>
 }
 
 // One step from the last number of the path: on to one that it goes to, or back.
-fn step(walk: &mut Walk, rows: &[Sequence<usize>], a: usize) -> Result<(), NoMemory>
+fn step(walk: &mut Walk, rows: &[Row], a: usize) -> Result<(), NoMemory>
     requires few { length rows.now ≤ 2 ^ 32 }
     requires within { AreWithin rows.now (length rows.now) }
     requires walks { Walks rows.now walk.old }
@@ -173,7 +180,7 @@ fn step(walk: &mut Walk, rows: &[Sequence<usize>], a: usize) -> Result<(), NoMem
 }
 
 // Walks from a number to all that it leads to, which the order then has. `Err` where memory was refused.
-fn visit(walk: &mut Walk, rows: &[Sequence<usize>], start: usize) -> Result<(), NoMemory>
+fn visit(walk: &mut Walk, rows: &[Row], start: usize) -> Result<(), NoMemory>
     requires few { length rows.now ≤ 2 ^ 32 }
     requires within { AreWithin rows.now (length rows.now) }
     requires walks { Walks rows.now walk.old }
@@ -187,35 +194,23 @@ fn visit(walk: &mut Walk, rows: &[Sequence<usize>], start: usize) -> Result<(), 
     if walk.begun[start] {
         return Ok(());
     }
-    match enter(walk, start) {
-        Ok(()) => {}
-        Err(fault) => return Err(fault),
-    }
+    enter(walk, start)?;
     while let Some(a) = last(&walk.path) {
-        match step(walk, rows, a) {
-            Ok(()) => {}
-            Err(fault) => return Err(fault),
-        }
+        step(walk, rows, a)?;
     }
     Ok(())
 }
 
 /// The numbers of a graph in the order in which a walk into depth leaves them. `Err` where memory was refused. No
 /// recursion is needed for it, and the time is in proportion to the numbers and what they go to.
-pub fn leaving(alloc: Global, rows: &[Sequence<usize>]) -> Result<Vec<u32>, NoMemory>
+pub fn leaving(alloc: Global, rows: &[Row]) -> Result<Vec<u32>, NoMemory>
     requires few { length rows.now ≤ 2 ^ 32 }
     requires within { AreWithin rows.now (length rows.now) }
     ensures { IfOk result (λ order. IsLeaving (length rows.now) (goes rows.now) order.items) }
 {
-    let mut walk = match nowhere(alloc, rows.len()) {
-        Ok(walk) => walk,
-        Err(fault) => return Err(fault),
-    };
+    let mut walk = nowhere(alloc, rows.len())?;
     for start in 0..rows.len() {
-        match visit(&mut walk, rows, start) {
-            Ok(()) => {}
-            Err(fault) => return Err(fault),
-        }
+        visit(&mut walk, rows, start)?;
     }
-    Ok(walk.order)
+    Ok(walk.into_order())
 }

@@ -1,6 +1,5 @@
 -- A package that breaks no rule of names has an order of its methods, and is well named.
-use Rattle.std.proofs.Common.{◌≡◌, ℕ, ◌+◌, ◌≤◌, ◌<◌, true, List, [], ◌∷◌, None, length, nat_eq, refl, sym, ap, ◌∙◌, subst}
-use Rattle.wf_text.specs.declared.rules.Refusal.{Refusal}
+use Rattle.std.proofs.Common.{◌≡◌, ℕ, true, List, None, length, sym, subst}
 use Rattle.wf_text.specs.Precedence.{Decides}
 use Rattle.wf_ast.specs.ParsedParts.{Parsed}
 use Rattle.wf_ast.specs.ParsedTree.{DeclTree}
@@ -8,37 +7,40 @@ use Rattle.wf_ast.specs.ParsedTrees.{decl_trees}
 use Rattle.wf_named.specs.NamedParts.{NamedParts, named_package}
 use Rattle.wf_named.specs.NamedTree.{NamedPackageTree}
 use Rattle.wf_named.specs.WellNamed.{well_named}
-use Rattle.wf_names_rules.specs.Declarations.{Declared, declared, methods_of}
-use Rattle.wf_names_rules.specs.NameRules.{Breaks, DeclarationBreaks, UseBreaks, CircleBreaks, by_declaration, by_use, by_circle}
+use Rattle.wf_names_rules.specs.Declarations.{Declared, declared}
+use Rattle.wf_names_rules.specs.NameRules.{Breaks, by_use, by_circle}
 use Rattle.wf_names_scopes.specs.Agreeing.{package_of}
 use Rattle.wf_names_cycles.specs.Called.{AreRows}
+use Rattle.wf_names_cycles.specs.Circling.{IsCallOrder}
 use Rattle.wf_names_resolve.specs.Package.{resolved_package}
 use Rattle.graphs.specs.Orders.{IsOrder, HasCircle}
-use Rattle.wf_names_laws.proofs.FrontLemmas.{calls-open, circle-breaks, order-front, order-long, rows-few}
+use Rattle.graphs.proofs.OrderLemmas.{order-open}
+use Rattle.wf_names_laws.proofs.FrontLemmas.{calls-open, circle-breaks, order-front, order-long}
 use Rattle.wf_names_laws.specs.Ordered.{HasOrder}
 use Rattle.wf_names_laws.proofs.PackageLaws.{package-named}
 use Rattle.wf_names.specs.Naming.{IsResolved}
 
--- The graph of its calls is small and has no circle.
-pub calls-few : (d : Declared) (rows : List (List ℕ)) → Decides (Breaks d) None → AreRows d rows (length d.methods) → length rows ≤ 1024
-calls-few d rows kept made = rows-few d rows made (λ s broken. kept s (by_declaration s broken))
-
+-- The graph of its calls has no circle.
 pub no-circle : (d : Declared) (rows : List (List ℕ)) → Decides (Breaks d) None → AreRows d rows (length d.methods) → HasCircle rows → ⊥
 no-circle d rows kept made circle = let broken = circle-breaks d rows made circle in kept broken.0 (by_circle broken.0 broken.1)
 
--- And an order of that graph is one of the resolved package.
-pub order-kept : (name : List ℕ) (texts : List (List ℕ)) (decls : List DeclTree) (order : List ℕ) (rows : List (List ℕ)) → Decides (Breaks (declared texts decls)) None
-    → AreRows (declared texts decls) rows (length (declared texts decls).methods) → IsOrder rows order → HasOrder (resolved_package name texts decls order)
-order-kept name texts decls order rows kept made ordered = record {
-  long = order-long texts decls name order rows made ordered;
-  in_front = order-front texts decls name order rows made ordered (calls-open (declared texts decls) (λ s broken. kept s (by_use s broken)));
-}
+-- So an order of the calls is one of the resolved package.
+pub order-kept : (name : List ℕ) (texts : List (List ℕ)) (decls : List DeclTree) (order : List ℕ) → Decides (Breaks (declared texts decls)) None
+    → IsCallOrder (declared texts decls) order → HasOrder (resolved_package name texts decls order)
+order-kept name texts decls order kept calls =
+    let d = declared texts decls in
+    let ordered : IsOrder calls.rows order = order-open calls.rows order calls.order_of (no-circle d calls.rows kept calls.made) in
+    record {
+      long = order-long texts decls name order calls.rows calls.made ordered;
+      in_front = order-front texts decls name order calls.rows calls.made ordered (calls-open d (λ s broken. kept s (by_use s broken)));
+    }
 
 -- The resolved tree of such a package, with such an order, is what its names stand for, and is well named.
-pub tree-resolved : (p : Parsed) (nodes : NamedParts) (order : List ℕ) → Decides (Breaks (package_of p)) None
-    → HasOrder (resolved_package p.name p.texts (decl_trees p.exprs p.stmts p.decls) order)
+pub tree-resolved : (p : Parsed) (nodes : NamedParts) (order : List ℕ) → Decides (Breaks (package_of p)) None → IsCallOrder (package_of p) order
     → named_package nodes ≡ resolved_package p.name p.texts (decl_trees p.exprs p.stmts p.decls) order → IsResolved p nodes
-tree-resolved p nodes order kept ordered made = record { kept = kept; order = order; tree = made; ordered = subst HasOrder (sym made) ordered }
+tree-resolved p nodes order kept calls made =
+    let ordered = order-kept p.name p.texts (decl_trees p.exprs p.stmts p.decls) order kept calls in
+    record { kept = kept; order = order; tree = made; ordered = subst HasOrder (sym made) ordered }
 
 pub resolved-named : (p : Parsed) (nodes : NamedParts) → IsResolved p nodes → well_named (named_package nodes) ≡ true
 resolved-named p nodes resolved =

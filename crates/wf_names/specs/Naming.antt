@@ -3,14 +3,23 @@ use Rattle.std.specs.Prelude.{◌≡◌, ℕ, ⊤, List}
 use Rattle.wf_text.specs.declared.faults.PhaseFault.{PhaseFault}
 use Rattle.wf_text.specs.declared.faults.PhaseFault.TheVariants as phase
 use Rattle.wf_text.specs.declared.rules.Refusal.{Refusal}
-use Rattle.wf_text.specs.Precedence.{IsFirst}
+use Rattle.wf_text.specs.Precedence.{IsFirst, Decides}
 use Rattle.wf_ast.specs.ParsedParts.{Parsed}
 use Rattle.wf_ast.specs.ParsedTrees.{decl_trees}
 use Rattle.wf_named.specs.NamedParts.{NamedParts, named_package}
+use Rattle.wf_names_rules.specs.Declarations.{Declared}
 use Rattle.wf_names_rules.specs.NameRules.{Breaks}
-use Rattle.wf_names_scopes.specs.Agreeing.{package_of}
+use Rattle.wf_names_scopes.specs.Agreeing.{package_of, TellsPackage}
+use Rattle.wf_names_cycles.specs.Circling.{IsCallOrder}
 use Rattle.wf_names_resolve.specs.Package.{resolved_package}
 use Rattle.wf_names_laws.specs.Ordered.{HasOrder}
+use Rattle.wf_names.specs.declared.findings.Findings.{Findings}
+
+-- What is found of a package: the refusal that decides, tables that tell what it declares, and an order of its methods.
+pub record AreFindings (d : Declared) (found : Findings) : Type 0 where
+  pub decides : Decides (Breaks d) found.refusal
+  pub tables : TellsPackage d found.tables
+  pub order : IsCallOrder d found.order.items
 
 -- A package is refused by what decides of all that it breaks of the rules of names. Want of memory says nothing of it.
 abbrev pub IsMisnamed : Parsed → PhaseFault → Type 0

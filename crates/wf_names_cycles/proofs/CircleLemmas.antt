@@ -5,7 +5,7 @@ use Rattle.wf_text.specs.declared.rules.Refusal.{Refusal}
 use Rattle.wf_text.specs.Precedence.{is_before, soonest, Decides}
 use Rattle.wf_text.proofs.PrecedenceLaws.{Among, here, there, is_before-self, is_before-over, is_before-same, Decides-map, Decides-soonest}
 use Rattle.wf_ast.specs.declared.parsed.Name.{Name}
-use Rattle.wf_names_rules.specs.Graphs.{Path, last, more, AreCircles}
+use Rattle.graphs.specs.Graphs.{Path, last, more, AreCircles}
 use Rattle.wf_names_rules.specs.Passes.{flagged_from}
 use Rattle.wf_names_rules.specs.Found.{Finds, RecursName}
 use Rattle.wf_names_rules.proofs.ListLaws.{flagged-sound, flagged-complete}

@@ -1,8 +1,7 @@
 -- The rows of the structs are the graph of the structs.
-use Rattle.std.proofs.Common.{◌≡◌, ◌⊎◌, ℕ, zero, suc, ◌+◌, ◌<◌, ◌≤◌, Bool, true, false, cond, ◌||◌, List, [], ◌∷◌, ◌++◌, length, drop, Option, Some, None, slice_get, slice_index_or, nat_eq, Result, Ok, Err, IfOk, refl, sym, ap, ◌∙◌, inl, inr, arith}
+use Rattle.std.proofs.Common.{◌≡◌, ◌⊎◌, ℕ, zero, suc, ◌+◌, ◌<◌, ◌≤◌, ◌-◌, ◌^◌, Bool, true, false, cond, ◌||◌, List, [], ◌∷◌, ◌++◌, length, drop, Option, Some, None, slice_get, slice_index_or, nat_eq, refl, sym, ap, ◌∙◌, inl, inr, arith}
 use Rattle.std.specs.List.{list_any, position_from}
 use Rattle.std.proofs.lemmas.List.Folds.{list_any-append}
-use Rattle.wf_text.specs.declared.faults.NoMemory.{NoMemory}
 use Rattle.wf_text.specs.declared.rules.Refusal.{Refusal}
 use Rattle.wf_text.specs.declared.rules.Rule.TheVariants.{N4}
 use Rattle.wf_ast.specs.declared.parsed.DeclNode.{DeclNode}
@@ -16,12 +15,13 @@ use Rattle.wf_ast.specs.ParsedTree as tree
 use Rattle.wf_ast.specs.ParsedTree.{ExprTree, StmtTree, TypeTree, DeclTree}
 use Rattle.wf_ast.specs.ParsedTrees.{all_prefixed, type_at, fields_at, expr_trees, stmt_trees, decl_made, decls_made, decl_trees}
 use Rattle.wf_names_rules.specs.Declarations.{Variable, Structure, Declared, declared, is_spelt, struct_named, variables, structs_of}
-use Rattle.wf_names_rules.specs.Graphs.{holds, row_in, goes, AreWithin}
+use Rattle.graphs.specs.Graphs.{holds, row_in, goes, AreWithin}
 use Rattle.wf_names_rules.specs.Found.{RecursName}
 use Rattle.wf_names_rules.specs.Sizes.{struct_held, is_the, fields_at as fields_in_struct, holds_struct}
-use Rattle.wf_names_rules.proofs.NumberLemmas.{same_number}
+use Rattle.graphs.proofs.NumberLemmas.{same_number}
 use Rattle.wf_names_rules.proofs.WalkLemmas.{drop-one}
 use Rattle.wf_names_cycles.specs.Circling.{DecidesWith, HoldsItself}
+use Rattle.wf_names_cycles.specs.StructRows.{AreStructRows}
 use Rattle.wf_names_cycles.specs.Held.{number_of, names_of, one_number, held_by, held_in, held_rows}
 use Rattle.wf_names_cycles.proofs.CircleLemmas.{DecidesWith-map, path-map}
 
@@ -192,8 +192,12 @@ module _ (d : Declared) (names : List Name) (f : ℕ → Option ℕ) (rows : Lis
       let below : b < length d.structs = row-below f (length d.structs) (λ text a e. let first : a < 0 + length d.structs = position-below (λ s. is_spelt text s.name) 0 d.structs a (sym (f-is text) ∙ e) in omega (arith, first)) b d.structs a (ap (λ rs. goes rs a b) (sym made) ∙ h) in
       omega (arith, below, ap length made, rows-long f d.structs)
 
+  pub rows-are : length rows < 2 ^ 32 - 1 → AreStructRows d rows
+  rows-are few = record { len = ap length made ∙ rows-long f d.structs; same = goes-is; within = structs-within; few = few }
+
+module _ (d : Declared) (names : List Name) (rows : List (List ℕ)) (named : names ≡ names_of d.structs) (made : AreStructRows d rows) where
   pub structs-long : length names ≡ length rows
-  structs-long = ap length named ∙ names-long d.structs ∙ sym (rows-long f d.structs) ∙ sym (ap length made)
+  structs-long = ap length named ∙ names-long d.structs ∙ sym made.len
 
   holds-from : (s : Refusal) → RecursName rows names s → HoldsItself d s
   holds-from s r =
@@ -201,7 +205,7 @@ module _ (d : Declared) (names : List Name) (f : ℕ → Option ℕ) (rows : Lis
         number = r.number;
         structure = at.0;
         is = at.1.0;
-        path = path-map (goes rows) (holds_struct d) goes-is r.number r.number r.path;
+        path = path-map (goes rows) (holds_struct d) made.same r.number r.number r.path;
         refused = r.refused ∙ ap (λ (n : Name). record { rule = N4; at = n.at }) (sym at.1.1);
       }
 
@@ -210,7 +214,7 @@ module _ (d : Declared) (names : List Name) (f : ℕ → Option ℕ) (rows : Lis
     number = h.number;
     name = h.structure.name;
     is = ap (λ ns. slice_get ns h.number) named ∙ name-at d.structs h.number h.structure h.is;
-    path = path-map (holds_struct d) (goes rows) (λ a b. sym (goes-is a b)) h.number h.number h.path;
+    path = path-map (holds_struct d) (goes rows) (λ a b. sym (made.same a b)) h.number h.number h.path;
     refused = h.refused;
   }
 
@@ -230,17 +234,11 @@ module _ (texts : List (List ℕ)) (exprs : List ExprNode) (stmts : List StmtNod
   pub graph-few : (n : ℕ) → length nodes < n → length rows < n
   graph-few n h = rows-few f [] [] nodes rows n (made [] []) h
 
-  pub graph-within : AreWithin rows (length rows)
+  pub rows-made : length nodes < 2 ^ 32 - 1 → AreStructRows (declared texts (decl_trees exprs stmts nodes)) rows
   unfolding decl_trees
-  graph-within = structs-within (declared texts (decl_trees exprs stmts nodes)) names f rows (named (expr_trees exprs) (stmt_trees exprs stmts)) numbered (made (expr_trees exprs) (stmt_trees exprs stmts))
+  rows-made few =
+      rows-are (declared texts (decl_trees exprs stmts nodes)) names f rows (named (expr_trees exprs) (stmt_trees exprs stmts)) numbered (made (expr_trees exprs) (stmt_trees exprs stmts)) (graph-few _ few)
 
-  pub graph-long : length names ≡ length rows
+  pub names-made : names ≡ names_of (declared texts (decl_trees exprs stmts nodes)).structs
   unfolding decl_trees
-  graph-long = structs-long (declared texts (decl_trees exprs stmts nodes)) names f rows (named (expr_trees exprs) (stmt_trees exprs stmts)) numbered (made (expr_trees exprs) (stmt_trees exprs stmts))
-
-  pub graph-decided : (found : Option Refusal) (r : Result (Option Refusal) NoMemory) → IfOk r (λ all. DecidesWith (RecursName rows names) found all)
-      → IfOk r (λ all. DecidesWith (HoldsItself (declared texts (decl_trees exprs stmts nodes))) found all)
-  unfolding decl_trees
-  graph-decided found (Err fault) h = h
-  graph-decided found (Ok all) h =
-      structs-decided (declared texts (decl_trees exprs stmts nodes)) names f rows (named (expr_trees exprs) (stmt_trees exprs stmts)) numbered (made (expr_trees exprs) (stmt_trees exprs stmts)) found all h
+  names-made = named (expr_trees exprs) (stmt_trees exprs stmts)

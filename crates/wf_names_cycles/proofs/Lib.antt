@@ -3,3 +3,4 @@ pub mod CircleLemmas
 pub mod HeldLemmas
 pub mod MethodLemmas
 pub mod SectionLemmas
+pub mod RowLemmas

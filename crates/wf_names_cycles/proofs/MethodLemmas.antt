@@ -1,7 +1,5 @@
 -- The rows and the names of the methods, by the nodes of a package.
-use Rattle.std.proofs.Common.{◌≡◌, ℕ, zero, suc, ◌+◌, ◌<◌, ◌≤◌, List, [], ◌∷◌, ◌++◌, length, drop, slice_index_or, Option, Result, Ok, Err, IfOk, refl, sym, ap, ◌∙◌, subst, arith}
-use Rattle.wf_text.specs.declared.faults.NoMemory.{NoMemory}
-use Rattle.wf_text.specs.declared.rules.Refusal.{Refusal}
+use Rattle.std.proofs.Common.{◌≡◌, ℕ, zero, suc, ◌+◌, ◌<◌, ◌≤◌, List, [], ◌∷◌, ◌++◌, length, drop, slice_index_or, refl, sym, ap, ◌∙◌, subst, arith}
 use Rattle.wf_ast.specs.declared.parsed.DeclNode.{DeclNode}
 use Rattle.wf_ast.specs.declared.parsed.ExprNode.{ExprNode}
 use Rattle.wf_ast.specs.declared.parsed.Field.{Field}
@@ -14,13 +12,11 @@ use Rattle.wf_ast.specs.ParsedParts.{TypeBelow, FieldsBelow}
 use Rattle.wf_names_rules.specs.Declarations.{declared, variables, methods_of}
 use Rattle.wf_names_rules.specs.Uses.{type_uses, variable_uses}
 use Rattle.wf_names_rules.specs.Meanings.{Known}
-use Rattle.wf_names_rules.specs.Found.{RecursName}
 use Rattle.wf_names_rules.proofs.WalkLemmas.{drop-one}
 use Rattle.wf_names_cycles.specs.Called.{with_calls, AreRows, method_names}
-use Rattle.wf_names_cycles.specs.Circling.{DecidesWith, CallsItself}
 use Rattle.wf_names_cycles.proofs.CallLemmas.{rows_append}
 use Rattle.wf_names_cycles.proofs.HeldLemmas.{append-assoc}
-use Rattle.wf_names_cycles.proofs.SectionLemmas.{methods-decided, methods-long}
+use Rattle.wf_names_cycles.proofs.SectionLemmas.{methods-long}
 
 -- Arguments one by one.
 pub field-step : (k : Known) (row next : List ℕ) (es : List ExprTree) (fields : List Field) (i : ℕ) (x : Field) → x ≡ slice_index_or fields i x → i < length fields
@@ -74,10 +70,7 @@ module _ (texts : List (List ℕ)) (exprs : List ExprNode) (stmts : List StmtNod
   unfolding decl_trees
   graph-long names named = methods-long (declared texts (decl_trees exprs stmts nodes)) rows made names (named (expr_trees exprs) (stmt_trees exprs stmts))
 
-  pub graph-decided : (names : List Name) → ((es : List ExprTree) (ts : List StmtTree) → names ≡ method_names (methods_of (decls_made es ts nodes)))
-      → (found : Option Refusal) (r : Result (Option Refusal) NoMemory) → IfOk r (λ all. DecidesWith (RecursName rows names) found all)
-      → IfOk r (λ all. DecidesWith (CallsItself (declared texts (decl_trees exprs stmts nodes))) found all)
+  pub names-made : (names : List Name) → ((es : List ExprTree) (ts : List StmtTree) → names ≡ method_names (methods_of (decls_made es ts nodes)))
+      → names ≡ method_names (declared texts (decl_trees exprs stmts nodes)).methods
   unfolding decl_trees
-  graph-decided names named found (Err fault) h = h
-  graph-decided names named found (Ok all) h =
-      methods-decided (declared texts (decl_trees exprs stmts nodes)) rows made names (named (expr_trees exprs) (stmt_trees exprs stmts)) found all h
+  names-made names named = named (expr_trees exprs) (stmt_trees exprs stmts)

@@ -1,12 +1,11 @@
 -- The section of circles: the rows of the methods are their graph, and what decides of both graphs.
-use Rattle.std.proofs.Common.{◌≡◌, ◌⊎◌, ℕ, zero, suc, ◌+◌, ◌<◌, ◌≤◌, Bool, true, false, ◌||◌, List, [], ◌∷◌, ◌++◌, length, Option, Some, None, slice_get, Result, Ok, Err, IfOk, nat_eq, nat_lt, ◌&&◌, if◌then◌else◌, refl, sym, ap, ◌∙◌, subst, inl, inr, arith, length-append}
+use Rattle.std.proofs.Common.{◌≡◌, ◌⊎◌, ℕ, zero, suc, ◌+◌, ◌<◌, ◌≤◌, Bool, true, false, ◌||◌, List, [], ◌∷◌, ◌++◌, length, Option, Some, None, slice_get, nat_eq, nat_lt, ◌&&◌, if◌then◌else◌, refl, sym, ap, ◌∙◌, subst, inl, inr, arith, length-append}
 use Rattle.std.specs.List.{list_any}
 use Rattle.std.proofs.lemmas.Bool.Decides.{nat_tests}
 use Rattle.std.proofs.lemmas.Option.{none-some}
 use Rattle.std.proofs.lemmas.List.Folds.{list_any-append}
 use Rattle.wf_base.specs.declared.base_methods.BaseSig.{BaseSig}
 use Rattle.wf_base.specs.BaseTable as table
-use Rattle.wf_text.specs.declared.faults.NoMemory.{NoMemory}
 use Rattle.wf_text.specs.declared.rules.Refusal.{Refusal}
 use Rattle.wf_text.specs.declared.rules.Rule.TheVariants.{N4}
 use Rattle.wf_text.specs.Precedence.{Decides}
@@ -25,10 +24,10 @@ use Rattle.wf_names_rules.specs.declared.sorts.Sort.TheVariants as sorts
 use Rattle.wf_names_rules.specs.Declarations.{Method, Declared, is_spelt, method_named}
 use Rattle.wf_names_rules.specs.Uses.{Use, Scope, own_status, base_status, variable, structure, method, method_uses, method_scope}
 use Rattle.wf_names_rules.specs.Meanings.{Known, known_at, method_known, path_sort, this_callee, public_callee, struct_callee, found_base, part_callee, sorted_callee, callee_on, callee_of}
-use Rattle.wf_names_rules.specs.Graphs.{holds, row_in, goes, AreWithin}
+use Rattle.graphs.specs.Graphs.{holds, row_in, goes, AreWithin}
 use Rattle.wf_names_rules.specs.Found.{RecursName}
 use Rattle.wf_names_rules.specs.NameRules.{is_callee, calls_it, method_calls, calls, CircleBreaks, recursion, holds_itself}
-use Rattle.wf_names_rules.proofs.NumberLemmas.{same_number}
+use Rattle.graphs.proofs.NumberLemmas.{same_number}
 use Rattle.wf_names_cycles.specs.Called.{with_callee, with_call, with_calls, called_in, AgreeOnCalls, IsRowOf, AreRows, AreRowsInFront, method_names}
 use Rattle.wf_names_cycles.specs.Circling.{DecidesWith, HoldsItself, CallsItself}
 use Rattle.wf_names_cycles.proofs.CircleLemmas.{DecidesWith-map, decides-with, path-map}
@@ -267,11 +266,6 @@ circles-decided d found last all h k =
     (λ s c. elim c [ inl p ↦ elim p [ inl e ↦ inl e | inr q ↦ inr (struct-breaks d s q) ] | inr q ↦ inr (method-breaks d s q) ])
     (λ s c. elim c [ inl e ↦ inl (inl e) | inr b ↦ elim (circle-cases d s b) [ inl q ↦ inl (inr q) | inr q ↦ inr q ] ])
     (decides-with (λ s. (found ≡ Some s) ⊎ HoldsItself d s) (CallsItself d) last all h k)
-
-pub ok-decided : (d : Declared) (found last : Option Refusal) (r : Result (Option Refusal) NoMemory) → DecidesWith (HoldsItself d) found last
-    → IfOk r (λ all. DecidesWith (CallsItself d) last all) → IfOk r (λ all. DecidesWith (CircleBreaks d) found all)
-ok-decided d found last (Err fault) h k = k
-ok-decided d found last (Ok all) h k = circles-decided d found last all h k
 
 -- Where nothing was found before.
 pub circles-alone : (d : Declared) (all : Option Refusal) → DecidesWith (CircleBreaks d) None all → Decides (CircleBreaks d) all

@@ -12,7 +12,7 @@ use Rattle.wf_names_rules.specs.Declarations.{Method, Declared, variables}
 use Rattle.wf_names_rules.specs.Uses as uses
 use Rattle.wf_names_rules.specs.Uses.{Use, variable_uses, result_uses, block_uses}
 use Rattle.wf_names_rules.specs.Meanings.{Known, callee_of}
-use Rattle.wf_names_rules.specs.Graphs.{holds, goes}
+use Rattle.graphs.specs.Graphs.{holds, goes}
 use Rattle.wf_names_rules.specs.NameRules.{method_calls, calls}
 
 -- A row with a callee at its end, where that is a method of the package.

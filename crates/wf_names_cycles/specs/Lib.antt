@@ -1,3 +1,4 @@
 pub mod Called
 pub mod Circling
 pub mod Held
+pub mod StructRows

@@ -1,34 +1,57 @@
-// The names of the numbers of a graph that have a way back to themselves.
+// The structs or the methods of a package with the cycles of their graph, and what those on cycles break.
 
-ghost use Rattle.std.specs.Prelude.{◌≡◌, ◌<◌, ◌-◌, ◌^◌, length, IfOk};
-ghost use Rattle.wf_names_rules.specs.Graphs.{AreWithin};
+ghost use Rattle.std.specs.Prelude.{◌≡◌, ℕ, List};
+ghost use Rattle.wf_names_rules.specs.Declarations.{Declared};
 ghost use Rattle.wf_names_rules.specs.Found.{RecursName};
-ghost use Rattle.wf_names_cycles.specs.Circling.{DecidesWith};
+ghost use Rattle.wf_names_rules.specs.NameRules.{CircleBreaks};
+ghost use Rattle.wf_names_cycles.specs.Circling.{DecidesWith, AreCyclesOf, AreStructCycles, AreMethodCycles};
 
-use graphs::circles::circle_flags;
-use std::alloc::Global;
-use wf_ast::Sequence;
+use graphs::circles::Cycles;
 use wf_ast::parsed::Name;
 use wf_names_rules::lists::flagged;
-use wf_text::faults::NoMemory;
 use wf_text::rules::Refusal;
 
-/// What decides of what was found before and of N4 at the names whose numbers have a way back to themselves.
-/// `rows` lists for each number those that it goes to, and `names` has the name of each. `Err` where memory was
-/// refused. The time is in proportion to the numbers and what they go to.
-pub fn circling(
-    alloc: Global,
-    found: Option<Refusal>,
-    rows: &[Sequence<usize>],
-    names: &[Name],
-) -> Result<Option<Refusal>, NoMemory>
-    requires few { length rows.now < 2 ^ 32 - 1 }
-    requires within { AreWithin rows.now (length rows.now) }
-    requires names { length names.now ≡ length rows.now }
-    ensures { IfOk result (λ all. DecidesWith (RecursName rows.now names.now) found all) }
-{
-    match circle_flags(alloc, rows) {
-        Ok(flags) => Ok(flagged(found, flags.as_slice(), names)),
-        Err(fault) => Err(fault),
+/// The structs of a package, or its methods: their names, in order, and the cycles of their graph.
+pub struct NamedCycles {
+    pub names: Vec<Name>,
+    pub cycles: Cycles,
+}
+
+impl Drop for NamedCycles {
+    fn drop(self) {
+        let NamedCycles {
+            names: _,
+            cycles: _,
+        } = self;
     }
+}
+
+impl NamedCycles {
+    /// The numbers alone, each behind those that it goes to, apart from those that have a way back to it.
+    pub fn into_order(self) -> Vec<u32>
+        ensures { result ≡ self.cycles.order }
+    {
+        let NamedCycles { names: _, cycles } = self;
+        cycles.order
+    }
+}
+
+// What decides of what was found before and of N4 at the names on cycles.
+fn recursive(found: Option<Refusal>, named: &NamedCycles) -> Option<Refusal>
+    ensures { (rows : List (List ℕ)) → AreCyclesOf rows named.now → DecidesWith (RecursName rows named.now.names.items) found result }
+{
+    flagged(found, named.cycles.flags.as_slice(), named.names.as_slice())
+}
+
+/// What decides of what was found before and of N4 at structs that hold themselves and methods that can reach
+/// themselves by calls.
+pub fn circle_breaks(
+    found: Option<Refusal>,
+    structs: &NamedCycles,
+    methods: &NamedCycles,
+) -> Option<Refusal>
+    ensures { (d : Declared) → AreStructCycles d structs.now → AreMethodCycles d methods.now → DecidesWith (CircleBreaks d) found result }
+{
+    let held = recursive(found, structs);
+    recursive(held, methods)
 }

@@ -9,13 +9,14 @@ ghost use Rattle.wf_names_rules.specs.NodeUses.{prefix_uses};
 ghost use Rattle.wf_names_rules.specs.Tables.{known_by};
 ghost use Rattle.wf_names_cycles.specs.Called.{with_callee, with_calls};
 
+use graphs::rows::Row;
 use wf_ast::parsed::{Bounds, Call, Core, Expr, Given, Link, Prefix, TypeExpr};
-use wf_ast::{ExprId, Package, Sequence};
+use wf_ast::{ExprId, Package};
 use wf_names_rules::callees::Callee;
 use wf_names_rules::tables::{Scope, Tables, callee_on};
 use wf_text::faults::NoMemory;
 
-fn add_method(row: &mut Sequence<usize>, m: usize) -> Result<(), NoMemory>
+fn add_method(row: &mut Row, m: usize) -> Result<(), NoMemory>
     ensures { OnOk result (row.new ≡ row.old ++ m ∷ []) }
 {
     match row.push(m) {
@@ -24,7 +25,7 @@ fn add_method(row: &mut Sequence<usize>, m: usize) -> Result<(), NoMemory>
     }
 }
 
-fn add_callee(row: &mut Sequence<usize>, callee: Callee) -> Result<(), NoMemory>
+fn add_callee(row: &mut Row, callee: Callee) -> Result<(), NoMemory>
     ensures { OnOk result (row.new ≡ with_callee row.old callee) }
 {
     match callee {
@@ -41,7 +42,7 @@ fn add_callee(row: &mut Sequence<usize>, callee: Callee) -> Result<(), NoMemory>
 /// it is called. `Err` where memory was refused; the row may then have some of them.
 #[cycle(collect_exprs)]
 pub fn collect_expr(
-    row: &mut Sequence<usize>,
+    row: &mut Row,
     parsed: &Package,
     tables: &Tables,
     scope: &Scope,
@@ -80,7 +81,7 @@ pub fn collect_expr(
 /// The same for an expression that may be absent.
 #[cycle(collect_exprs)]
 pub fn collect_part(
-    row: &mut Sequence<usize>,
+    row: &mut Row,
     parsed: &Package,
     tables: &Tables,
     scope: &Scope,
@@ -97,7 +98,7 @@ pub fn collect_part(
 
 #[cycle(collect_exprs)]
 fn collect_parts(
-    row: &mut Sequence<usize>,
+    row: &mut Row,
     parsed: &Package,
     tables: &Tables,
     scope: &Scope,
@@ -116,7 +117,7 @@ fn collect_parts(
 
 #[cycle(collect_exprs)]
 fn collect_links(
-    row: &mut Sequence<usize>,
+    row: &mut Row,
     parsed: &Package,
     tables: &Tables,
     scope: &Scope,
@@ -137,7 +138,7 @@ fn collect_links(
 /// The same for the values of arguments, or for what is given to an axiom.
 #[cycle(collect_exprs)]
 pub fn collect_given(
-    row: &mut Sequence<usize>,
+    row: &mut Row,
     parsed: &Package,
     tables: &Tables,
     scope: &Scope,
@@ -158,7 +159,7 @@ pub fn collect_given(
 /// The same for a call: those that its arguments' values call, and then its own method.
 #[cycle(collect_exprs)]
 pub fn collect_call(
-    row: &mut Sequence<usize>,
+    row: &mut Row,
     parsed: &Package,
     tables: &Tables,
     scope: &Scope,
@@ -178,7 +179,7 @@ pub fn collect_call(
 
 #[cycle(collect_exprs)]
 fn collect_prefix(
-    row: &mut Sequence<usize>,
+    row: &mut Row,
     parsed: &Package,
     tables: &Tables,
     scope: &Scope,
@@ -195,7 +196,7 @@ fn collect_prefix(
 
 #[cycle(collect_exprs)]
 fn collect_prefixes(
-    row: &mut Sequence<usize>,
+    row: &mut Row,
     parsed: &Package,
     tables: &Tables,
     scope: &Scope,
@@ -215,7 +216,7 @@ fn collect_prefixes(
 
 #[cycle(collect_exprs)]
 fn collect_bounds(
-    row: &mut Sequence<usize>,
+    row: &mut Row,
     parsed: &Package,
     tables: &Tables,
     scope: &Scope,
@@ -232,7 +233,7 @@ fn collect_bounds(
 
 #[cycle(collect_exprs)]
 fn collect_core(
-    row: &mut Sequence<usize>,
+    row: &mut Row,
     parsed: &Package,
     tables: &Tables,
     scope: &Scope,
@@ -252,7 +253,7 @@ fn collect_core(
 /// The same for a type: for its lengths and its bounds.
 #[cycle(collect_exprs)]
 pub fn collect_type(
-    row: &mut Sequence<usize>,
+    row: &mut Row,
     parsed: &Package,
     tables: &Tables,
     scope: &Scope,

@@ -9,13 +9,14 @@ ghost use Rattle.wf_names_rules.specs.Tables.{known_by};
 ghost use Rattle.wf_names_cycles.specs.Called.{with_calls};
 
 use crate::collect_exprs::{collect_call, collect_expr, collect_given, collect_part, collect_type};
+use graphs::rows::Row;
 use wf_ast::parsed::{Arm, Block, LoopClause, Stmt, Target, Via};
-use wf_ast::{ExprId, Package, Sequence, StmtId};
+use wf_ast::{ExprId, Package, StmtId};
 use wf_names_rules::tables::{Scope, Tables};
 use wf_text::faults::NoMemory;
 
 fn collect_target(
-    row: &mut Sequence<usize>,
+    row: &mut Row,
     parsed: &Package,
     tables: &Tables,
     scope: &Scope,
@@ -31,7 +32,7 @@ fn collect_target(
 }
 
 fn collect_clauses(
-    row: &mut Sequence<usize>,
+    row: &mut Row,
     parsed: &Package,
     tables: &Tables,
     scope: &Scope,
@@ -50,7 +51,7 @@ fn collect_clauses(
 }
 
 fn collect_via(
-    row: &mut Sequence<usize>,
+    row: &mut Row,
     parsed: &Package,
     tables: &Tables,
     scope: &Scope,
@@ -67,7 +68,7 @@ fn collect_via(
 
 // The condition of a loop and its promises.
 fn collect_head(
-    row: &mut Sequence<usize>,
+    row: &mut Row,
     parsed: &Package,
     tables: &Tables,
     scope: &Scope,
@@ -86,7 +87,7 @@ fn collect_head(
 
 #[cycle(collect_stmts)]
 fn collect_stmt(
-    row: &mut Sequence<usize>,
+    row: &mut Row,
     parsed: &Package,
     tables: &Tables,
     scope: &Scope,
@@ -142,7 +143,7 @@ fn collect_stmt(
 /// often as it is called. `Err` where memory was refused; the row may then have some of them.
 #[cycle(collect_stmts)]
 pub fn collect_block(
-    row: &mut Sequence<usize>,
+    row: &mut Row,
     parsed: &Package,
     tables: &Tables,
     scope: &Scope,
@@ -162,7 +163,7 @@ pub fn collect_block(
 
 #[cycle(collect_stmts)]
 fn collect_arm(
-    row: &mut Sequence<usize>,
+    row: &mut Row,
     parsed: &Package,
     tables: &Tables,
     scope: &Scope,
@@ -180,7 +181,7 @@ fn collect_arm(
 
 #[cycle(collect_stmts)]
 fn collect_else(
-    row: &mut Sequence<usize>,
+    row: &mut Row,
     parsed: &Package,
     tables: &Tables,
     scope: &Scope,
@@ -197,7 +198,7 @@ fn collect_else(
 
 #[cycle(collect_stmts)]
 fn collect_arms(
-    row: &mut Sequence<usize>,
+    row: &mut Row,
     parsed: &Package,
     tables: &Tables,
     scope: &Scope,

@@ -2,9 +2,10 @@
 // graphs of the structs and of the methods of a parsed package.
 #![tactic(auto)]
 
+mod calls;
 pub mod circling;
-pub mod collect_exprs;
-pub mod collect_stmts;
+mod collect_exprs;
+mod collect_stmts;
 pub mod laws;
 pub mod methods;
 pub mod structs;

@@ -1,28 +1,29 @@
 // The graph of the methods of a package, which call each other, and what its circles break.
 
 ghost use Rattle.std.specs.Prelude.{◌≡◌, ◌<◌, ◌-◌, ◌^◌, ◌++◌, [], ◌∷◌, length, IfOk, OnOk};
-ghost use Rattle.wf_ast.specs.ParsedTrees.{expr_trees, stmt_trees, fields_at, result_at, decl_made, decls_made, decl_trees};
+ghost use Rattle.wf_ast.specs.ParsedTrees.{expr_trees, stmt_trees, fields_at, result_at, decl_made, decls_made};
 ghost use Rattle.wf_ast.specs.ParsedParts.{FieldsBelow, ResultBelow, BlockBelow};
-ghost use Rattle.wf_names_rules.specs.Declarations.{declared, variables, methods_of};
+ghost use Rattle.wf_names_rules.specs.Declarations.{variables, methods_of};
 ghost use Rattle.wf_names_rules.specs.Uses.{variable_uses, result_uses};
 ghost use Rattle.wf_names_rules.specs.Tables.{known_by};
-ghost use Rattle.wf_names_rules.specs.NameRules.{CircleBreaks};
-ghost use Rattle.wf_names_cycles.specs.Called.{with_calls, called_in, node_uses, AreRows, method_names as names_of_methods};
-ghost use Rattle.wf_names_cycles.specs.Circling.{DecidesWith, CallsItself};
+ghost use Rattle.wf_names_scopes.specs.Agreeing.{package_of, TellsPackage};
+ghost use Rattle.wf_names_cycles.specs.Called.{with_calls, called_in, node_uses, method_names as names_of_methods};
+ghost use Rattle.wf_names_cycles.specs.Circling.{AreMethodCycles};
 
-use crate::circling::circling;
+use crate::calls::call_rows;
+use crate::circling::NamedCycles;
 use crate::collect_exprs::collect_type;
 use crate::collect_stmts::collect_block;
-use crate::structs::struct_circles;
+use graphs::circles::find_cycles;
+use graphs::rows::Row;
 use std::alloc::Global;
+use wf_ast::Package;
 use wf_ast::parsed::{Block, Decl, DeclNode, Field, Name, TypeExpr};
-use wf_ast::{Package, Sequence};
 use wf_names_rules::tables::{Scope, Tables};
 use wf_text::faults::NoMemory;
-use wf_text::rules::Refusal;
 
 fn collect_fields(
-    row: &mut Sequence<usize>,
+    row: &mut Row,
     parsed: &Package,
     tables: &Tables,
     scope: &Scope,
@@ -41,7 +42,7 @@ fn collect_fields(
 }
 
 fn collect_result(
-    row: &mut Sequence<usize>,
+    row: &mut Row,
     parsed: &Package,
     tables: &Tables,
     scope: &Scope,
@@ -56,10 +57,10 @@ fn collect_result(
     }
 }
 
-/// The methods that a method calls, by their numbers, in the order of its calls and each as often as it is called:
-/// in the types of its arguments and of its result, and in its body. `scope` is what is known in the method. `Err`
-/// where memory was refused. The time is that of one walk over the method.
-pub fn method_row(
+// The methods that a method calls, by their numbers, in the order of its calls and each as often as it is called:
+// in the types of its arguments and of its result, and in its body. `scope` is what is known in the method. `Err`
+// where memory was refused. The time is that of one walk over the method.
+pub(crate) fn method_row(
     alloc: Global,
     parsed: &Package,
     tables: &Tables,
@@ -67,13 +68,13 @@ pub fn method_row(
     args: &[Field],
     gives: &Option<TypeExpr>,
     body: &Block,
-) -> Result<Sequence<usize>, NoMemory>
+) -> Result<Row, NoMemory>
     requires args { FieldsBelow (length parsed.now.exprs) args.now }
     requires gives { ResultBelow (length parsed.now.exprs) gives.now }
     requires body { BlockBelow (length parsed.now.stmts) body.now }
     ensures { IfOk result (λ row. row ≡ called_in (known_by parsed.now.texts tables.now scope.now) (node_uses (expr_trees parsed.now.exprs) (stmt_trees parsed.now.exprs parsed.now.stmts) args.now gives.now body.now)) }
 {
-    let mut row = Sequence::new(alloc);
+    let mut row = Row::new(alloc);
     match collect_fields(&mut row, parsed, tables, scope, args) {
         Ok(()) => {}
         Err(fault) => return Err(fault),
@@ -102,8 +103,8 @@ fn add_name(names: &mut Vec<Name>, decl: &Decl) -> Result<(), NoMemory>
     }
 }
 
-/// The names of the methods that are declared, in order. `Err` where memory was refused.
-pub fn method_names(alloc: Global, decls: &[DeclNode]) -> Result<Vec<Name>, NoMemory>
+// The names of the methods that are declared, in order. `Err` where memory was refused.
+fn method_names(alloc: Global, decls: &[DeclNode]) -> Result<Vec<Name>, NoMemory>
     ensures { IfOk result (λ names. (es : _) (ts : _) → names.items ≡ names_of_methods (methods_of (decls_made es ts decls.now))) }
 {
     let mut names = Vec::new(alloc);
@@ -116,40 +117,20 @@ pub fn method_names(alloc: Global, decls: &[DeclNode]) -> Result<Vec<Name>, NoMe
     Ok(names)
 }
 
-/// What decides of what was found before and of N4 at each method that can reach itself by calls. `rows` has for
-/// each method, in order, those that it calls, as `method_row` makes them. `Err` where memory was refused. The time
-/// is in proportion to the methods and all their calls.
-pub fn method_circles(
+/// The methods that are declared, and the cycles of their graph, which lists for each those that it calls: in the types of
+/// its arguments and of its result, and in its body. `Err` where memory was refused. The time is that of one walk over
+/// the package.
+pub fn method_cycles(
     alloc: Global,
-    found: Option<Refusal>,
     parsed: &Package,
-    rows: &[Sequence<usize>],
-) -> Result<Option<Refusal>, NoMemory>
+    tables: &Tables,
+) -> Result<NamedCycles, NoMemory>
     requires few { length parsed.now.decls < 2 ^ 32 - 1 }
-    requires rows { AreRows (declared parsed.now.texts (decl_trees parsed.now.exprs parsed.now.stmts parsed.now.decls)) rows.now (length (methods_of (decl_trees parsed.now.exprs parsed.now.stmts parsed.now.decls))) }
-    ensures { IfOk result (λ all. DecidesWith (CallsItself (declared parsed.now.texts (decl_trees parsed.now.exprs parsed.now.stmts parsed.now.decls))) found all) }
+    requires tables { TellsPackage (package_of parsed.now) tables.now }
+    ensures { IfOk result (AreMethodCycles (package_of parsed.now)) }
 {
-    match method_names(alloc, parsed.decls()) {
-        Ok(names) => circling(alloc, found, rows, names.as_slice()),
-        Err(fault) => Err(fault),
-    }
-}
-
-/// What decides of what was found before and of N4 at structs that hold themselves and methods that can reach
-/// themselves by calls. `rows` has for each method, in order, those that it calls, as `method_row` makes them. `Err`
-/// where memory was refused.
-pub fn name_circles(
-    alloc: Global,
-    found: Option<Refusal>,
-    parsed: &Package,
-    rows: &[Sequence<usize>],
-) -> Result<Option<Refusal>, NoMemory>
-    requires few { length parsed.now.decls < 2 ^ 32 - 1 }
-    requires rows { AreRows (declared parsed.now.texts (decl_trees parsed.now.exprs parsed.now.stmts parsed.now.decls)) rows.now (length (methods_of (decl_trees parsed.now.exprs parsed.now.stmts parsed.now.decls))) }
-    ensures { IfOk result (λ all. DecidesWith (CircleBreaks (declared parsed.now.texts (decl_trees parsed.now.exprs parsed.now.stmts parsed.now.decls))) found all) }
-{
-    match struct_circles(alloc, found, parsed) {
-        Ok(found) => method_circles(alloc, found, parsed, rows),
-        Err(fault) => Err(fault),
-    }
+    let rows = call_rows(alloc, parsed, tables)?;
+    let names = method_names(alloc, parsed.decls())?;
+    let cycles = find_cycles(alloc, rows.as_slice())?;
+    Ok(NamedCycles { names, cycles })
 }

@@ -2,18 +2,20 @@
 
 ghost use Rattle.std.specs.Prelude.{◌≡◌, ◌<◌, ◌-◌, ◌^◌, ◌++◌, [], ◌∷◌, ℕ, length, nat_eq, IfOk, OnOk};
 ghost use Rattle.indexmap.specs.IndexMap.{get};
-ghost use Rattle.wf_ast.specs.ParsedTrees.{type_at, core_at, fields_at, decl_made, decls_made, decl_trees};
-ghost use Rattle.wf_names_rules.specs.Declarations.{declared, variables, structs_of};
-ghost use Rattle.wf_names_cycles.specs.Circling.{DecidesWith, HoldsItself};
+ghost use Rattle.wf_ast.specs.ParsedTrees.{type_at, core_at, fields_at, decl_made, decls_made};
+ghost use Rattle.wf_names_rules.specs.Declarations.{variables, structs_of};
+ghost use Rattle.wf_names_scopes.specs.Agreeing.{package_of};
+ghost use Rattle.wf_names_cycles.specs.Circling.{AreStructCycles};
 ghost use Rattle.wf_names_cycles.specs.Held.{number_of, names_of, one_number, held_by, held_in, held_rows};
 
-use crate::circling::circling;
+use crate::circling::NamedCycles;
+use graphs::circles::find_cycles;
+use graphs::rows::Row;
 use indexmap::IndexMap;
 use std::alloc::Global;
+use wf_ast::Package;
 use wf_ast::parsed::{Core, Decl, DeclNode, Field, Name, TypeExpr};
-use wf_ast::{Package, Sequence};
 use wf_text::faults::NoMemory;
-use wf_text::rules::Refusal;
 
 fn add_name(names: &mut Vec<Name>, decl: &Decl) -> Result<(), NoMemory>
     ensures { OnOk result ((es : _) (ts : _) (public : _) (at : _) → names.new.items ≡ names.old.items ++ names_of (structs_of (decl_made es ts public decl.now at ∷ []))) }
@@ -29,8 +31,8 @@ fn add_name(names: &mut Vec<Name>, decl: &Decl) -> Result<(), NoMemory>
     }
 }
 
-/// The names of the structs that are declared, in order. `Err` where memory was refused.
-pub fn struct_names(alloc: Global, decls: &[DeclNode]) -> Result<Vec<Name>, NoMemory>
+// The names of the structs that are declared, in order. `Err` where memory was refused.
+fn struct_names(alloc: Global, decls: &[DeclNode]) -> Result<Vec<Name>, NoMemory>
     ensures { IfOk result (λ names. (es : _) (ts : _) → names.items ≡ names_of (structs_of (decls_made es ts decls.now))) }
 {
     let mut names = Vec::new(alloc);
@@ -43,9 +45,9 @@ pub fn struct_names(alloc: Global, decls: &[DeclNode]) -> Result<Vec<Name>, NoMe
     Ok(names)
 }
 
-/// The number of each name, from 0, by its text; of names that are spelt alike that of the first. `Err` where
-/// memory was refused.
-pub fn numbered(alloc: Global, names: &[Name]) -> Result<IndexMap<u32, usize>, NoMemory>
+// The number of each name, from 0, by its text; of names that are spelt alike that of the first. `Err` where
+// memory was refused.
+fn numbered(alloc: Global, names: &[Name]) -> Result<IndexMap<u32, usize>, NoMemory>
     ensures { IfOk result (λ table. (text : ℕ) → get nat_eq table text ≡ number_of names.now text) }
 {
     let mut table = IndexMap::new(alloc);
@@ -77,7 +79,7 @@ fn held(numbers: &IndexMap<u32, usize>, of: &TypeExpr) -> Option<usize>
 }
 
 // Joins a number at the end of a row, if there is one.
-fn add_number(row: &mut Sequence<usize>, number: Option<usize>) -> Result<(), NoMemory>
+fn add_number(row: &mut Row, number: Option<usize>) -> Result<(), NoMemory>
     ensures { OnOk result (row.new ≡ row.old ++ one_number number) }
 {
     match number {
@@ -94,10 +96,10 @@ fn struct_row(
     alloc: Global,
     numbers: &IndexMap<u32, usize>,
     fields: &[Field],
-) -> Result<Sequence<usize>, NoMemory>
+) -> Result<Row, NoMemory>
     ensures { IfOk result (λ row. (es : _) → row ≡ held_in (get nat_eq numbers.now) (variables (fields_at es fields.now))) }
 {
-    let mut row = Sequence::new(alloc);
+    let mut row = Row::new(alloc);
     for field in fields {
         match add_number(&mut row, held(numbers, &field.of)) {
             Ok(()) => {}
@@ -109,7 +111,7 @@ fn struct_row(
 
 fn add_row(
     alloc: Global,
-    rows: &mut Vec<Sequence<usize>>,
+    rows: &mut Vec<Row>,
     numbers: &IndexMap<u32, usize>,
     decl: &Decl,
 ) -> Result<(), NoMemory>
@@ -129,13 +131,13 @@ fn add_row(
     }
 }
 
-/// For each struct that is declared, in order, the structs that its fields hold, by their numbers; `numbers` has
-/// those of their names. `Err` where memory was refused.
-pub fn struct_rows(
+// For each struct that is declared, in order, the structs that its fields hold, by their numbers; `numbers` has
+// those of their names. `Err` where memory was refused.
+fn struct_rows(
     alloc: Global,
     numbers: &IndexMap<u32, usize>,
     decls: &[DeclNode],
-) -> Result<Vec<Sequence<usize>>, NoMemory>
+) -> Result<Vec<Row>, NoMemory>
     ensures { IfOk result (λ rows. (es : _) (ts : _) → rows.items ≡ held_rows (get nat_eq numbers.now) (structs_of (decls_made es ts decls.now))) }
 {
     let mut rows = Vec::new(alloc);
@@ -148,26 +150,16 @@ pub fn struct_rows(
     Ok(rows)
 }
 
-/// What decides of what was found before and of N4 at each struct that holds itself through fields whose whole
-/// types are structs. `Err` where memory was refused. The time is in proportion to the structs and all their fields.
-pub fn struct_circles(
-    alloc: Global,
-    found: Option<Refusal>,
-    parsed: &Package,
-) -> Result<Option<Refusal>, NoMemory>
+/// The structs that are declared, and the cycles of their graph, which lists for each those that it holds: the structs that
+/// are the whole types of its fields. `Err` where memory was refused. The time is in proportion to the structs and all
+/// their fields.
+pub fn struct_cycles(alloc: Global, parsed: &Package) -> Result<NamedCycles, NoMemory>
     requires { length parsed.now.decls < 2 ^ 32 - 1 }
-    ensures { IfOk result (λ all. DecidesWith (HoldsItself (declared parsed.now.texts (decl_trees parsed.now.exprs parsed.now.stmts parsed.now.decls))) found all) }
+    ensures { IfOk result (AreStructCycles (package_of parsed.now)) }
 {
-    let names = match struct_names(alloc, parsed.decls()) {
-        Ok(names) => names,
-        Err(fault) => return Err(fault),
-    };
-    let numbers = match numbered(alloc, names.as_slice()) {
-        Ok(numbers) => numbers,
-        Err(fault) => return Err(fault),
-    };
-    match struct_rows(alloc, &numbers, parsed.decls()) {
-        Ok(rows) => circling(alloc, found, rows.as_slice(), names.as_slice()),
-        Err(fault) => Err(fault),
-    }
+    let names = struct_names(alloc, parsed.decls())?;
+    let numbers = numbered(alloc, names.as_slice())?;
+    let rows = struct_rows(alloc, &numbers, parsed.decls())?;
+    let cycles = find_cycles(alloc, rows.as_slice())?;
+    Ok(NamedCycles { names, cycles })
 }

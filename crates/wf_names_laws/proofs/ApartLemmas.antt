@@ -8,10 +8,10 @@ use Rattle.wf_ast.specs.declared.numbers.TextId.{TextId}
 use Rattle.wf_ast.specs.declared.parsed.Name.{Name}
 use Rattle.wf_names_rules.specs.Declarations.{Variable, Structure, Method, Declared, is_spelt, struct_named}
 use Rattle.wf_names_rules.specs.Meanings.{args_in}
-use Rattle.wf_names_rules.specs.Graphs.{holds}
+use Rattle.graphs.specs.Graphs.{holds}
 use Rattle.wf_names_rules.specs.NameRules as rules
 use Rattle.wf_names_rules.specs.NameRules.{Breaks, by_declaration, declared_twice, IsRepeated, twice, variable_names}
-use Rattle.wf_names_rules.proofs.NumberLemmas.{same_number, number_self}
+use Rattle.graphs.proofs.NumberLemmas.{same_number, number_self}
 use Rattle.wf_names_laws.proofs.ListLemmas.{position-first}
 
 same-text : (a b : Name) → a.text.0 ≡ b.text.0 → a.text ≡ b.text

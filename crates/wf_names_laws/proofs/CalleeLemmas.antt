@@ -28,7 +28,7 @@ use Rattle.wf_names_rules.specs.declared.sorts.Sort.TheVariants as sorts
 use Rattle.wf_names_rules.specs.Declarations.{Method, Declared, is_spelt, text_of, struct_named, method_named}
 use Rattle.wf_names_rules.specs.Uses.{Scope}
 use Rattle.wf_names_rules.specs.Meanings.{method_known, public_in, args_in, known_at, sort_at, path_sort, this_callee, public_callee, found_base, part_callee, sorted_callee, callee_on, parameters_of, lacks_one}
-use Rattle.wf_names_rules.proofs.NumberLemmas.{same_number, number_self}
+use Rattle.graphs.proofs.NumberLemmas.{same_number, number_self}
 use Rattle.wf_names_uses.specs.Fitting.{is_open, Fits}
 use Rattle.wf_names_uses.proofs.FoundLemmas.{both, both-so}
 use Rattle.wf_names_resolve.specs.Standing.{Standing, standing_at}

@@ -18,8 +18,8 @@ use Rattle.wf_names_rules.specs.Uses as uses
 use Rattle.wf_names_rules.specs.Uses.{Use, Scope, block_uses, result_uses, variable_uses, method_uses, method_scope, constant_sites, struct_sites, method_sites, sites}
 use Rattle.wf_names_rules.specs.Meanings.{known_at, callee_of}
 use Rattle.wf_names_rules.specs.NameRules.{DeclarationBreaks, too_many_methods, UseBreaks, CircleBreaks, recursion, IsUsed, is_callee, calls_it, method_calls, calls}
-use Rattle.wf_names_rules.specs.Graphs.{Path, last, more, holds, goes}
-use Rattle.wf_names_rules.proofs.NumberLemmas.{number_self, holds_at}
+use Rattle.graphs.specs.Graphs.{Path, last, more, holds, goes}
+use Rattle.graphs.proofs.NumberLemmas.{number_self, holds_at}
 use Rattle.wf_names_uses.specs.Fitting.{is_open}
 use Rattle.wf_names_scopes.specs.UsesFound.{uses_found}
 use Rattle.wf_names_uses.proofs.UseLaws.{uses_found-decides}

@@ -15,7 +15,7 @@ use Rattle.wf_named.specs.NamedTree.{NamedBoundsTree, base_type}
 use Rattle.wf_named.specs.WellNamed.{width_in, kind_of, same_kind}
 use Rattle.wf_names_rules.specs.declared.sorts.Sort.TheVariants as sorts
 use Rattle.wf_names_rules.specs.Meanings.{width_of, slice_sort, array_sort, sort_of}
-use Rattle.wf_names_rules.proofs.NumberLemmas.{number_self}
+use Rattle.graphs.proofs.NumberLemmas.{number_self}
 use Rattle.wf_names_resolve.specs.Standing.{Standing}
 use Rattle.wf_names_resolve.specs.Resolved.{sized_type, plain_type_named, base_type_named, resolved_bounds, resolved_type}
 

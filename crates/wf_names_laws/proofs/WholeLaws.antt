@@ -13,10 +13,10 @@ use Rattle.wf_named.specs.NamedTree.{VarTree, NamedStructTree, NamedPackageTree}
 use Rattle.wf_named.specs.WellNamed.{is_whole_type, is_whole_struct, is_whole, all_whole}
 use Rattle.wf_names_rules.specs.Declarations.{Variable, Structure, Declared, declared, is_spelt, struct_named}
 use Rattle.wf_names_rules.specs.Uses.{type_uses, struct_scope}
-use Rattle.wf_names_rules.specs.Graphs.{Path, last, holds}
+use Rattle.graphs.specs.Graphs.{Path, last, holds}
 use Rattle.wf_names_rules.specs.Sizes.{struct_held, is_the, fields_at, holds_struct}
 use Rattle.wf_names_rules.specs.NameRules.{Breaks, by_circle, holds_itself}
-use Rattle.wf_names_rules.proofs.NumberLemmas.{same_number, number_self, numbers_equivalence, path-push}
+use Rattle.graphs.proofs.NumberLemmas.{same_number, number_self, numbers_equivalence, path-push}
 use Rattle.wf_names_uses.proofs.FoundLemmas.{both-so}
 use Rattle.wf_names_resolve.specs.Standing.{Standing, standing_at}
 use Rattle.wf_names_resolve.specs.Resolved.{number_or, resolved_type}

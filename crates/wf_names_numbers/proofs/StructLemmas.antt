@@ -8,7 +8,7 @@ use Rattle.wf_ast.specs.ParsedTree.{DeclTree}
 use Rattle.wf_ast.specs.ParsedTrees.{expr_trees, stmt_trees, decls_made}
 use Rattle.wf_names_rules.specs.Declarations.{Structure, structs_of, struct_named, fields_of, is_spelt, fields_in}
 use Rattle.wf_names_rules.specs.Tables.{Pair, same_pair}
-use Rattle.wf_names_rules.proofs.NumberLemmas.{same_number}
+use Rattle.graphs.proofs.NumberLemmas.{same_number}
 use Rattle.wf_names_scopes.specs.Agreeing.{package_of}
 use Rattle.wf_names_scopes.specs.Growing.{with_first}
 use Rattle.wf_names_scopes.proofs.FirstLemmas.{or_none}

@@ -1,6 +1,6 @@
 pub mod ArgumentLemmas
+pub mod InsertLemmas
 pub mod ListLaws
-pub mod NumberLemmas
 pub mod StmtLemmas
 pub mod TypeLemmas
 pub mod WalkLemmas

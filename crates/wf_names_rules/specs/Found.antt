@@ -4,7 +4,7 @@ use Rattle.wf_text.specs.declared.rules.Refusal.{Refusal}
 use Rattle.wf_text.specs.declared.rules.Rule.TheVariants.{N2, N3, N4}
 use Rattle.wf_ast.specs.declared.parsed.Name.{Name}
 use Rattle.wf_names_rules.specs.Reserved.{is_reserved, is_initialize}
-use Rattle.wf_names_rules.specs.Graphs.{Path, goes}
+use Rattle.graphs.specs.Graphs.{Path, goes}
 use Rattle.wf_names_rules.specs.Passes.{bytes_at}
 use Rattle.wf_names_rules.specs.NameRules.{IsRepeated, twice}
 

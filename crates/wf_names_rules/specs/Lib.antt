@@ -2,7 +2,6 @@ pub mod Above
 pub mod ConstantValues
 pub mod Declarations
 pub mod Found
-pub mod Graphs
 pub mod Jumps
 pub mod Judged
 pub mod Meanings

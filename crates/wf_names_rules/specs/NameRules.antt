@@ -18,7 +18,7 @@ use Rattle.wf_names_rules.specs.declared.callees.Callee.{Callee}
 use Rattle.wf_names_rules.specs.declared.callees.Callee.TheVariants as callees
 use Rattle.wf_names_rules.specs.Jumps.{Jump, labelled, to_label, to_innermost, block_jumps, has_label}
 use Rattle.wf_names_rules.specs.Reserved.{is_reserved, is_initialize}
-use Rattle.wf_names_rules.specs.Graphs.{Path}
+use Rattle.graphs.specs.Graphs.{Path}
 use Rattle.wf_names_rules.specs.Sizes.{is_too_long, holds_struct, Take}
 
 -- A name's place with a rule.

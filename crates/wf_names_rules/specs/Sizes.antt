@@ -9,7 +9,7 @@ use Rattle.wf_ast.specs.ParsedTree.{TypeTree}
 use Rattle.wf_names_rules.specs.Declarations.{Variable, Structure, Declared, is_spelt, text_of, struct_named, variable_named}
 use Rattle.wf_names_rules.specs.Meanings.{width_named, width_of}
 use Rattle.wf_names_rules.specs.ConstantValues.{Sized, value_of, known_constants}
-use Rattle.wf_names_rules.specs.Graphs.{Path}
+use Rattle.graphs.specs.Graphs.{Path}
 
 -- A local hides a constant.
 abbrev pub hidden_by : List Variable → ℕ → Bool

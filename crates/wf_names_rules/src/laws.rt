@@ -3,7 +3,7 @@
 ghost use Rattle.std.specs.Prelude.{◌≡◌, ℕ, Bool, List, [], length};
 ghost use Rattle.wf_text.specs.declared.rules.Refusal.{Refusal};
 ghost use Rattle.wf_ast.specs.declared.parsed.Name.{Name};
-ghost use Rattle.wf_names_rules.specs.Graphs.{AreCircles};
+ghost use Rattle.graphs.specs.Graphs.{AreCircles};
 ghost use Rattle.wf_names_rules.specs.Passes.{doubles_of, reserved_of, initializes_of, flagged_from};
 ghost use Rattle.wf_names_rules.specs.Found.{Finds, RepeatsName, ReservesName, InitializesName, RecursName};
 

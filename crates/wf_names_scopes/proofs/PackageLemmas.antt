@@ -20,7 +20,7 @@ use Rattle.wf_names_rules.specs.declared.tables.Tables.{Tables}
 use Rattle.wf_names_rules.specs.Declarations.{Variable, Constant, Structure, Method, Declared, declared, variables, statuses_of, constants_of, structs_of, methods_of, is_spelt, status_named, struct_named, method_named, structure_in, fields_in, fields_of, locals_of}
 use Rattle.wf_names_rules.specs.Meanings.{args_in}
 use Rattle.wf_names_rules.specs.Tables.{Pair, same_pair}
-use Rattle.wf_names_rules.proofs.NumberLemmas.{same_number}
+use Rattle.graphs.proofs.NumberLemmas.{same_number}
 use Rattle.wf_names_scopes.specs.Agreeing.{TellsPackage, package_of, sort_among}
 use Rattle.wf_names_scopes.specs.Growing.{with_first, with_fields, with_status, with_struct, with_method}
 use Rattle.wf_names_scopes.proofs.FirstLemmas.{or_none, position_pushed, position_any, find_any, find_pushed, any_pushed, declared_pushed, map_pushed, map_length}

@@ -4,10 +4,10 @@ use Rattle.std.proofs.Common.{◌≡◌, ◌⊎◌, ℕ, ◌<◌, Bool, true, fa
 use Rattle.std.proofs.lemmas.Option.{slice_get_within}
 use Rattle.std.specs.List.{list_any}
 use Rattle.wf_names_rules.specs.Declarations.{Structure, Declared}
-use Rattle.wf_names_rules.specs.Graphs.{Path, last, more, holds, goes, AreCircles}
+use Rattle.graphs.specs.Graphs.{Path, last, more, holds, goes, AreCircles}
 use Rattle.wf_names_rules.specs.Passes.{is_flagged}
 use Rattle.wf_names_rules.specs.Sizes.{fields_at, holds_struct, is_the, struct_held}
-use Rattle.wf_names_rules.proofs.NumberLemmas.{path-push}
+use Rattle.graphs.proofs.NumberLemmas.{path-push}
 use Rattle.wf_names_sizes.specs.Orders.{IsHoldingOrder}
 use Rattle.wf_names_sizes.specs.StructSizes.{AreHolding}
 

@@ -4,10 +4,10 @@ use Rattle.std.specs.Prelude.{replicate}
 use Rattle.std.specs.List.{list_any}
 use Rattle.std.proofs.lemmas.Bool.Decides.{nat_tests}
 use Rattle.wf_names_rules.specs.Declarations.{Variable, Structure, Declared}
-use Rattle.wf_names_rules.specs.Graphs.{holds}
+use Rattle.graphs.specs.Graphs.{holds}
 use Rattle.wf_names_rules.specs.Passes.{is_flagged}
 use Rattle.wf_names_rules.specs.Sizes.{fields_at, is_the, struct_held, plain_bytes, Take}
-use Rattle.wf_names_rules.proofs.NumberLemmas.{same_number, number_self}
+use Rattle.graphs.proofs.NumberLemmas.{same_number, number_self}
 use Rattle.wf_names_sizes.specs.declared.parts.Part.{Part}
 use Rattle.wf_names_sizes.specs.declared.parts.Part.TheVariants as parts
 use Rattle.wf_names_sizes.specs.Orders.{is_struct, has_struct, IsHoldingOrder, IsSettlingOrder}

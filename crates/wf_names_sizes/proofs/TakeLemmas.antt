@@ -2,7 +2,7 @@
 use Rattle.std.proofs.Common.{◌≡◌, ◌⊎◌, ℕ, zero, suc, ◌+◌, Bool, true, false, List, [], ◌∷◌, ◌++◌, map, length, Option, Some, None, slice_get, is_some, refl, sym, ap, ◌∙◌, subst, inl, inr, arith}
 use Rattle.std.specs.List.{position_from}
 use Rattle.wf_names_rules.specs.Declarations.{Variable, Structure, Declared, is_spelt}
-use Rattle.wf_names_rules.specs.Graphs.{Path}
+use Rattle.graphs.specs.Graphs.{Path}
 use Rattle.wf_names_rules.specs.Passes.{is_flagged}
 use Rattle.wf_names_rules.specs.Sizes.{plain_bytes, struct_held, fields_at, holds_struct, Take, nothing, plain, part, circle}
 use Rattle.wf_ast.specs.ParsedTree as tree

@@ -2,7 +2,7 @@
 use Rattle.std.specs.Prelude.{◌≡◌, ◌⊎◌, ℕ, ◌<◌, Bool, true, false, List, Some, length, take, slice_get, nat_eq}
 use Rattle.std.specs.List.{list_any}
 use Rattle.wf_names_rules.specs.Declarations.{Declared}
-use Rattle.wf_names_rules.specs.Graphs.{Path, holds}
+use Rattle.graphs.specs.Graphs.{Path, holds}
 use Rattle.wf_names_rules.specs.Passes.{is_flagged}
 use Rattle.wf_names_rules.specs.Sizes.{holds_struct}
 use Rattle.wf_names_sizes.specs.declared.parts.Part.{Part}

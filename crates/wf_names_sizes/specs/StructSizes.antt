@@ -7,7 +7,7 @@ use Rattle.wf_text.specs.declared.rules.Refusal.{Refusal}
 use Rattle.wf_text.specs.declared.rules.Rule.TheVariants.{L7}
 use Rattle.wf_names_rules.specs.Declarations.{Variable, Structure, Declared, is_spelt}
 use Rattle.wf_names_rules.specs.Sizes.{plain_bytes, struct_held, fields_at, holds_struct, Take}
-use Rattle.wf_names_rules.specs.Graphs.{Path}
+use Rattle.graphs.specs.Graphs.{Path}
 use Rattle.wf_names_rules.specs.Passes.{refused_if, is_flagged}
 use Rattle.wf_names_rules.specs.NameRules.{IsStructure}
 use Rattle.wf_names_sizes.specs.declared.parts.Part.{Part}

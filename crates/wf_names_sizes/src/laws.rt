@@ -4,7 +4,7 @@ ghost use Rattle.std.specs.Prelude.{◌≡◌, ◌⊎◌, ◌<◌, ℕ, Bool, tr
 ghost use Rattle.wf_text.specs.declared.rules.Refusal.{Refusal};
 ghost use Rattle.wf_text.specs.Precedence.{Decides};
 ghost use Rattle.wf_names_rules.specs.Declarations.{Declared, Variable};
-ghost use Rattle.wf_names_rules.specs.Graphs.{Path, holds, goes, AreCircles};
+ghost use Rattle.graphs.specs.Graphs.{Path, holds, goes, AreCircles};
 ghost use Rattle.wf_names_rules.specs.NameRules.{SizeBreaks};
 ghost use Rattle.wf_names_rules.specs.Sizes.{Take, holds_struct};
 ghost use Rattle.wf_names_sizes.specs.Deciding.{DecidesBehind};

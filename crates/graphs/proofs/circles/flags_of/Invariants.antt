@@ -1,4 +1,4 @@
-use Rattle.wf_names_rules.specs.Graphs.{AreCircles}
+use Rattle.graphs.specs.Graphs.{AreCircles}
 use Rattle.graphs.proofs.circles.flags_of.Given as goal
 
 abbrev pub invariant-loop-a : goal.invariant-loop-a

@@ -1,6 +1,6 @@
 use Rattle.std.proofs.Common.{◌≡◌, ◌<◌, ◌≤◌, ◌∙◌, true, slice_index_or, length, inl, inr, sym, ap, arith}
-use Rattle.wf_names_rules.specs.Graphs.{holds, goes}
-use Rattle.wf_names_rules.proofs.NumberLemmas.{holds_index}
+use Rattle.graphs.specs.Graphs.{holds, goes}
+use Rattle.graphs.proofs.NumberLemmas.{holds_index}
 use Rattle.graphs.specs.Labels.{label}
 use Rattle.graphs.proofs.WalkLemmas.{take-more, take-whole}
 use Rattle.graphs.proofs.LabelLemmas.{label-read, stays-sound, stays-complete}

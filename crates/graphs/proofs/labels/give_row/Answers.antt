@@ -1,6 +1,6 @@
 use Rattle.std.proofs.Common.{◌≡◌, ◌<◌, ◌≤◌, ◌∙◌, ◌+◌, ℕ, Bool, true, if◌then◌else◌, List, Vec, Global, nat_eq, length, slice_index_or, inl, inr, refl, sym, ap, arith}
-use Rattle.wf_names_rules.specs.Graphs.{holds, goes}
-use Rattle.wf_names_rules.proofs.NumberLemmas.{holds_at, holds_index}
+use Rattle.graphs.specs.Graphs.{holds, goes}
+use Rattle.graphs.proofs.NumberLemmas.{holds_at, holds_index}
 use Rattle.graphs.specs.Labels.{goes_back, label}
 use Rattle.graphs.proofs.WalkLemmas.{take-more, take-whole}
 use Rattle.graphs.proofs.LabelLemmas.{place-read, label-read, label-held, next-label, place-labelled, row-ends}

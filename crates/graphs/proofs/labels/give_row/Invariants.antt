@@ -1,5 +1,5 @@
 use Rattle.std.proofs.Common.{◌≡◌, ℕ, true, Some, length, take, slice_get}
-use Rattle.wf_names_rules.specs.Graphs.{holds}
+use Rattle.graphs.specs.Graphs.{holds}
 use Rattle.graphs.specs.Labels.{goes_back, IsRound}
 use Rattle.graphs.proofs.labels.give_row.Given as goal
 

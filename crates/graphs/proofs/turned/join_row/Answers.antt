@@ -1,6 +1,6 @@
 use Rattle.std.proofs.Common.{◌≤◌, ◌||◌, ◌&&◌, ◌∙◌, List, ℕ, nat_eq, slice_index_or, length, refl, ap, arith}
-use Rattle.wf_names_rules.specs.Graphs.{holds, goes}
-use Rattle.wf_names_rules.proofs.NumberLemmas.{holds_index}
+use Rattle.graphs.specs.Graphs.{holds, goes}
+use Rattle.graphs.proofs.NumberLemmas.{holds_index}
 use Rattle.graphs.proofs.TurnLemmas.{row-begins, row-more, take-over}
 use Rattle.graphs.proofs.turned.join_row.Goals as goal
 
@@ -16,7 +16,7 @@ pub loop-b-preserved : goal.loop-b-preserved
 loop-b-preserved c = (
   c.join.ensures.len ∙ c.loop-b.invariant.0,
   λ b d.
-      c.in-Ok.ensures.goes b d
+      c.in_ok-join.ensures.goes b d
       ∙ row-more c.args.row.now c.loop-b.b-index b 0 (goes c.loop-b.rows.items b d) (goes c.args.rows.now.items b d) (nat_eq d c.args.a) c.loop-b-test.true (c.loop-b.invariant.1 b d),
 )
 

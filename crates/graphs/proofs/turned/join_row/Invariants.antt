@@ -1,5 +1,5 @@
 use Rattle.std.proofs.Common.{◌≡◌, ◌||◌, ◌&&◌, ℕ, length, take, nat_eq}
-use Rattle.wf_names_rules.specs.Graphs.{holds, goes}
+use Rattle.graphs.specs.Graphs.{holds, goes}
 use Rattle.graphs.proofs.turned.join_row.Given as goal
 
 abbrev pub invariant-loop-b : goal.invariant-loop-b

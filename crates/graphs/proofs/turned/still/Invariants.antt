@@ -1,5 +1,5 @@
 use Rattle.std.proofs.Common.{◌≡◌, ℕ, false, length}
-use Rattle.wf_names_rules.specs.Graphs.{goes}
+use Rattle.graphs.specs.Graphs.{goes}
 use Rattle.graphs.proofs.turned.still.Given as goal
 
 abbrev pub invariant-loop-number : goal.invariant-loop-number

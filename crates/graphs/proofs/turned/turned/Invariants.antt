@@ -1,5 +1,5 @@
 use Rattle.std.proofs.Common.{◌≡◌, ◌&&◌, ℕ, length, nat_lt}
-use Rattle.wf_names_rules.specs.Graphs.{goes}
+use Rattle.graphs.specs.Graphs.{goes}
 use Rattle.graphs.proofs.turned.turned.Given as goal
 
 abbrev pub invariant-loop-a : goal.invariant-loop-a

@@ -1,6 +1,6 @@
 use Rattle.std.proofs.Common.{◌≡◌, ◌<◌, ◌∙◌, ℕ, true, false, slice_index_or, length, vec_len, inl, inr, sym, subst, arith}
 use Rattle.std.proofs.lemmas.List.{get_or_default}
-use Rattle.wf_names_rules.proofs.NumberLemmas.{holds_index}
+use Rattle.graphs.proofs.NumberLemmas.{holds_index}
 use Rattle.graphs.proofs.WalkLemmas.{take-more}
 use Rattle.graphs.proofs.walk.first_left.Goals as goal
 

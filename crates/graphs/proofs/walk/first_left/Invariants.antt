@@ -1,5 +1,5 @@
 use Rattle.std.proofs.Common.{◌≡◌, ◌-◌, true, false, ℕ, length, take, slice_index_or}
-use Rattle.wf_names_rules.specs.Graphs.{holds}
+use Rattle.graphs.specs.Graphs.{holds}
 use Rattle.graphs.proofs.walk.first_left.Given as goal
 
 abbrev pub invariant-loop-i : goal.invariant-loop-i

@@ -1,5 +1,5 @@
 use Rattle.std.proofs.Common.{◌≤◌, ◌∙◌, true, false, slice_index_or, length, sym, arith}
-use Rattle.wf_names_rules.proofs.NumberLemmas.{holds_index}
+use Rattle.graphs.proofs.NumberLemmas.{holds_index}
 use Rattle.graphs.proofs.WalkLemmas.{take-whole, passed-flags, flags-begun, goes-row}
 use Rattle.graphs.proofs.walk.pass.Goals as goal
 

@@ -1,6 +1,6 @@
 use Rattle.std.proofs.Common.{◌<◌, ◌∙◌, List, Option, None, ℕ, length, slice_index_or, sym, ap, subst, arith}
 use Rattle.std.proofs.lemmas.List.{length-replicate}
-use Rattle.wf_names_rules.proofs.NumberLemmas.{holds_at}
+use Rattle.graphs.proofs.NumberLemmas.{holds_at}
 use Rattle.wf_names_sizes.specs.StructSizes.{AreSizes}
 use Rattle.wf_names_sizes.proofs.SettleLemmas.{AreKnown, no-sizes, get-index, take-whole, set-length, settled-sound, settled-known, all-settled}
 use Rattle.wf_names_sizes.proofs.struct_sizes.sizes.Goals as goal

@@ -1,0 +1,10 @@
+use Rattle.wf_names_scopes.specs.Agreeing.{package_of}
+use Rattle.wf_names.proofs.DecidingLemmas.{order-of-calls}
+use Rattle.wf_names.proofs.findings.look_through.Goals as goal
+
+pub returns : goal.returns
+returns c = record {
+  decides = c.in_ok-refusal.ensures;
+  tables = c.in_ok-tables.ensures;
+  order = rw c.into_order.ensures (order-of-calls (package_of c.args.parsed.now) c.in_ok-methods.methods c.in_ok-methods.ensures);
+}

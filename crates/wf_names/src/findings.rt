@@ -1,0 +1,76 @@
+// What a look for what a package breaks of the rules of names finds: the refusal that decides, section by section of
+// their table, and what the resolved tree is made of.
+
+ghost use Rattle.std.specs.Prelude.{◌≡◌, ◌<◌, ◌-◌, ◌^◌, length, IfOk};
+ghost use Rattle.wf_text.specs.Precedence.{Decides};
+ghost use Rattle.wf_names_rules.specs.NameRules.{Breaks};
+ghost use Rattle.wf_names_scopes.specs.Agreeing.{package_of, TellsPackage};
+ghost use Rattle.wf_names_cycles.specs.Circling.{AreStructCycles, AreMethodCycles};
+ghost use Rattle.wf_names.specs.Naming.{AreFindings};
+
+use std::alloc::Global;
+use wf_ast::Package;
+use wf_names_cycles::circling::{NamedCycles, circle_breaks};
+use wf_names_cycles::methods::method_cycles;
+use wf_names_cycles::structs::struct_cycles;
+use wf_names_decls::declarations::declarations;
+use wf_names_decls::labels::labels;
+use wf_names_rules::tables::Tables;
+use wf_names_scopes::tables::tables;
+use wf_names_scopes::uses::uses;
+use wf_names_sizes::large::size_breaks;
+use wf_text::faults::NoMemory;
+use wf_text::rules::Refusal;
+
+/// What is known of a package once it was looked through for what it breaks.
+#[derive(Drop)]
+pub struct Findings {
+    /// The refusal that decides; None exactly where the package keeps all rules of names.
+    pub refusal: Option<Refusal>,
+    /// What the package declares.
+    pub tables: Tables,
+    /// The numbers of all methods, each behind those that it calls, apart from those that can reach it by calls.
+    pub order: Vec<u32>,
+}
+
+// The refusal that decides: of what has the least place the rule that is named first.
+fn deciding(
+    alloc: Global,
+    parsed: &Package,
+    tables: &Tables,
+    structs: &NamedCycles,
+    methods: &NamedCycles,
+) -> Result<Option<Refusal>, NoMemory>
+    requires tables { TellsPackage (package_of parsed.now) tables.now }
+    requires structs { AreStructCycles (package_of parsed.now) structs.now }
+    requires methods { AreMethodCycles (package_of parsed.now) methods.now }
+    ensures { IfOk result (Decides (Breaks (package_of parsed.now))) }
+{
+    let declared = declarations(alloc, None, parsed)?;
+    let labelled = labels(alloc, declared, parsed)?;
+    let named = uses(alloc, labelled, parsed, tables)?;
+    let circling = circle_breaks(named, structs, methods);
+    size_breaks(
+        alloc,
+        circling,
+        parsed,
+        structs.cycles.flags.as_slice(),
+        structs.cycles.order.as_slice(),
+    )
+}
+
+/// Looks through a package for what it breaks of the rules of names. `Err` where memory was refused.
+pub fn look_through(alloc: Global, parsed: &Package) -> Result<Findings, NoMemory>
+    requires few { length parsed.now.decls < 2 ^ 32 - 1 }
+    ensures { IfOk result (AreFindings (package_of parsed.now)) }
+{
+    let tables = tables(alloc, parsed)?;
+    let structs = struct_cycles(alloc, parsed)?;
+    let methods = method_cycles(alloc, parsed, &tables)?;
+    let refusal = deciding(alloc, parsed, &tables, &structs, &methods)?;
+    Ok(Findings {
+        refusal,
+        tables,
+        order: methods.into_order(),
+    })
+}

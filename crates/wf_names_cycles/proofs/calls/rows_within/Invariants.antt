@@ -1,0 +1,14 @@
+use Rattle.std.proofs.Common.{◌-◌, drop, length}
+use Rattle.wf_ast.specs.ParsedTrees.{expr_trees, stmt_trees, decls_made}
+use Rattle.wf_names_rules.specs.Declarations.{methods_of}
+use Rattle.wf_names_scopes.specs.Agreeing.{package_of, TellsConstants}
+use Rattle.wf_names_cycles.specs.Called.{AreRowsInFront}
+use Rattle.wf_names_cycles.proofs.calls.rows_within.Given as goal
+
+abbrev pub invariant-loop-number : goal.invariant-loop-number
+invariant-loop-number l =
+    TellsConstants (package_of l.parsed) l.scope
+    × AreRowsInFront (package_of l.parsed) l.rows.items (methods_of (decls_made (expr_trees l.parsed.exprs) (stmt_trees l.parsed.exprs l.parsed.stmts) (drop l.number l.parsed.decls)))
+
+abbrev pub decreases-loop-number : goal.decreases-loop-number
+decreases-loop-number l = length l.parsed.decls - l.number
