@@ -1,5 +1,5 @@
 use Rattle.std.proofs.Common.{◌≡◌, ◌<◌, ℕ, true, length}
-use Rattle.wf_names_rules.specs.Graphs.{goes}
+use Rattle.graphs.specs.Graphs.{goes}
 use Rattle.ground_tests.proofs.graph_tests.all_within.Given as goal
 
 abbrev pub invariant-loop-row : goal.invariant-loop-row

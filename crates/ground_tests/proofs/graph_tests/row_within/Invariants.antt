@@ -1,5 +1,5 @@
 use Rattle.std.proofs.Common.{◌≡◌, ◌<◌, ℕ, true, take}
-use Rattle.wf_names_rules.specs.Graphs.{holds}
+use Rattle.graphs.specs.Graphs.{holds}
 use Rattle.ground_tests.proofs.graph_tests.row_within.Given as goal
 
 abbrev pub invariant-loop-b : goal.invariant-loop-b
