@@ -71,7 +71,7 @@ is_named label other = false
 
 -- The number of a `case` is converted to the type of what is switched on (6.8.4.2p5).
 abbrev pub is_case : Label → CNumber → Bool
-is_case (by_case n) k = nat_eq n.bits (converted n.type (literal_number k)).bits
+is_case (by_case n) k = nat_eq n.bits (converted n.ty (literal_number k)).bits
 is_case label k = false
 
 -- The label is `default` (6.8.4.2p4).

@@ -35,8 +35,8 @@ pub fn operators_are_those_of_whole_numbers()
     ensures product { (a b r : Number) → operated Mul a b ≡ Some r → Gives (both a b) (left a b *ℤ right a b) r }
     ensures quotient { (a b r : Number) → operated Div a b ≡ Some r → Gives (both a b) (int_div (left a b) (right a b)) r }
     ensures remainder { (a b r : Number) → operated Rem a b ≡ Some r → Gives (both a b) (int_rem (left a b) (right a b)) r }
-    ensures shifted_left { (a b r : Number) → operated Shl a b ≡ Some r → Gives a.type (whole a *ℤ pos (2 ^ b.bits)) r }
-    ensures shifted_right { (a b r : Number) → operated Shr a b ≡ Some r → Gives a.type (int_div_euclid (whole a) (pos (2 ^ b.bits))) r }
+    ensures shifted_left { (a b r : Number) → operated Shl a b ≡ Some r → Gives a.ty (whole a *ℤ pos (2 ^ b.bits)) r }
+    ensures shifted_right { (a b r : Number) → operated Shr a b ≡ Some r → Gives a.ty (int_div_euclid (whole a) (pos (2 ^ b.bits))) r }
     ensures undefined_sum { (a b : Number) → IsNone (operated Add a b) ↔ Overflows (both a b) (left a b +ℤ right a b) }
     ensures undefined_difference { (a b : Number) → IsNone (operated Sub a b) ↔ Overflows (both a b) (left a b -ℤ right a b) }
     ensures undefined_product { (a b : Number) → IsNone (operated Mul a b) ↔ Overflows (both a b) (left a b *ℤ right a b) }
