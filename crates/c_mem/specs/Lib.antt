@@ -1,0 +1,4 @@
+pub mod FieldParts
+pub mod FieldViews
+pub mod Leaving
+pub mod MemoryViews

@@ -1,0 +1,74 @@
+// The memory.
+
+ghost use Rattle.std.specs.Prelude.{◌≡◌, ◌^◌, map, IfOk, ◌≤ℤ◌, ◌<ℤ◌, pos, negsuc};
+ghost use Rattle.c_meaning.specs.CMemory.{load, store, offset, cell_at, part_at};
+ghost use Rattle.c_mem.specs.FieldParts.{declared_object};
+ghost use Rattle.c_mem.specs.Leaving.{Leaves};
+ghost use Rattle.c_mem.specs.MemoryViews.{memory};
+
+use crate::decls::ObjDecl;
+use crate::objects::Object;
+use c_meaning::cells::{Cell, CellType};
+use c_meaning::values::Pointer;
+use std::alloc::Global;
+use wf_text::NoMemory;
+
+/// A memory.
+#[derive(Drop)]
+pub struct Mem {
+    objects: Vec<Object>,
+}
+
+impl Mem {
+    /// The memory of these objects, each numbered by its place, with all cells unset.
+    pub fn reserve(alloc: Global, objects: &[ObjDecl]) -> Result<Mem, NoMemory>
+        ensures { IfOk result (λ mem. memory mem ≡ map declared_object objects.now) }
+    {
+        let mut made = Vec::new(alloc);
+        for object in objects {
+            made.push(Object::new(alloc, object)?)?;
+        }
+        Ok(Mem { objects: made })
+    }
+
+    /// The cell that a pointer names, and its type; None outside every field.
+    pub fn cell(&self, p: Pointer) -> Option<(CellType, Cell)>
+        ensures { result ≡ cell_at (memory self.now) p }
+    {
+        self.objects.get(p.object)?.cell(p.field, p.index)
+    }
+
+    /// The cell that a pointer names; None outside every field, and where the cell is unset (6.3.2.1p2, 6.5.3.2p4).
+    pub fn load(&self, p: Pointer) -> Option<Cell>
+        ensures { result ≡ load (memory self.now) p }
+    {
+        self.objects.get(p.object)?.load(p.field, p.index)
+    }
+
+    /// Writes the cell that a pointer names; None, and the memory is as before, outside every field (6.5.3.2p4).
+    pub fn store(&mut self, p: Pointer, cell: Cell) -> Option<()>
+        ensures { Leaves (store (memory self.old) p cell) (memory self.old) result (memory self.new) }
+    {
+        if p.object >= self.objects.len() {
+            return None;
+        }
+        self.objects[p.object].store(p.field, p.index, cell)
+    }
+
+    /// The pointer so many cells on; None outside the field and one past it (6.5.6p8).
+    pub fn offset(&self, p: Pointer, by: i128) -> Option<Pointer>
+        requires low { negsuc (2 ^ 64) ≤ℤ by }
+        requires high { by <ℤ pos (2 ^ 64) }
+        ensures { result ≡ offset (memory self.now) p by }
+    {
+        let index = self.objects.get(p.object)?.offset(p.field, p.index, by)?;
+        Some(Pointer { index, ..p })
+    }
+
+    /// The object inside that a field holds; None where no such object, field or object inside is there (6.5.2.3).
+    pub fn part(&self, object: usize, field: usize) -> Option<usize>
+        ensures { result ≡ part_at (memory self.now) object field }
+    {
+        self.objects.get(object)?.part(field)
+    }
+}
