@@ -14,6 +14,11 @@ read_is [] i x h e = absurd (omega (arith, h))
 read_is (y ∷ ys) zero x h e = ap Some (sym e)
 read_is (y ∷ ys) (suc i) x h e = read_is ys i x (omega (arith, h)) e
 
+pub found_is : {A : Type 0} (xs : List A) (i : ℕ) (d : A) → i < length xs → slice_get xs i ≡ Some (slice_index_or xs i d)
+found_is [] i d h = absurd (omega (arith, h))
+found_is (y ∷ ys) zero d h = refl
+found_is (y ∷ ys) (suc i) d h = found_is ys i d (omega (arith, h))
+
 pub put_back : {A : Type 0} (xs : List A) (i : ℕ) (x : A) → slice_get xs i ≡ Some x → slice_set xs i x ≡ xs
 put_back [] i x e = refl
 put_back (y ∷ ys) zero x e = let q : y ≡ x = cc (e) in ap (λ z. z ∷ ys) (sym q)

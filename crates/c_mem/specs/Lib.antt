@@ -2,3 +2,4 @@ pub mod FieldParts
 pub mod FieldViews
 pub mod Leaving
 pub mod MemoryViews
+pub mod Marking

@@ -7,6 +7,7 @@ mod decls;
 mod fields;
 mod mem;
 mod objects;
+mod zeroing;
 
 pub use decls::{FieldDecl, ObjDecl};
 pub use mem::Mem;

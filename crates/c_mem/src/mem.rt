@@ -1,10 +1,6 @@
 // The memory.
 
-ghost use Rattle.std.specs.Prelude.{◌≡◌, ◌^◌, map, IfOk, ◌≤ℤ◌, ◌<ℤ◌, pos, negsuc};
-ghost use Rattle.c_meaning.specs.CMemory.{load, store, offset, cell_at, part_at};
-ghost use Rattle.c_mem.specs.FieldParts.{declared_object};
-ghost use Rattle.c_mem.specs.Leaving.{Leaves};
-ghost use Rattle.c_mem.specs.MemoryViews.{memory};
+ghost use Rattle.std.specs.Prelude.{◌≡◌, vec_len};
 
 use crate::decls::ObjDecl;
 use crate::objects::Object;
@@ -16,19 +12,33 @@ use wf_text::NoMemory;
 /// A memory.
 #[derive(Drop)]
 pub struct Mem {
-    objects: Vec<Object>,
+    pub(crate) objects: Vec<Object>,
+    // What `zero` has to come to, by the numbers of objects.
+    pub(crate) marks: Vec<bool>,
+    ghost marked: { vec_len marks ≡ vec_len objects },
 }
 
 impl Mem {
+    ghost use Rattle.std.specs.Prelude.{◌^◌, map, IfOk, ◌≤ℤ◌, ◌<ℤ◌, pos, negsuc};
+    ghost use Rattle.c_meaning.specs.CMemory.{load, store, offset, cell_at, part_at};
+    ghost use Rattle.c_mem.specs.FieldParts.{declared_object};
+    ghost use Rattle.c_mem.specs.Leaving.{Leaves};
+    ghost use Rattle.c_mem.specs.MemoryViews.{memory};
+
     /// The memory of these objects, each numbered by its place, with all cells unset.
     pub fn reserve(alloc: Global, objects: &[ObjDecl]) -> Result<Mem, NoMemory>
         ensures { IfOk result (λ mem. memory mem ≡ map declared_object objects.now) }
     {
         let mut made = Vec::new(alloc);
+        let mut marks = Vec::new(alloc);
         for object in objects {
             made.push(Object::new(alloc, object)?)?;
+            marks.push(false)?;
         }
-        Ok(Mem { objects: made })
+        Ok(Mem {
+            objects: made,
+            marks,
+        })
     }
 
     /// The cell that a pointer names, and its type; None outside every field.

@@ -15,7 +15,7 @@ use wf_text::NoMemory;
 /// An object.
 #[derive(Drop)]
 pub(crate) struct Object {
-    fields: Vec<Field>,
+    pub(crate) fields: Vec<Field>,
 }
 
 impl Model for Object {
