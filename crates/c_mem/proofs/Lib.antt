@@ -1,3 +1,4 @@
 pub mod Copies
-pub mod Stored
+pub mod Moved
 pub mod Passing
+pub mod Stored

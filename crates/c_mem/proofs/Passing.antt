@@ -130,7 +130,7 @@ more_wanted number wanted k h = let e : nat_eq k number ≡ false = grind (arith
 newly_wanted : (number : ℕ) (wanted : List ℕ) → contains (number ∷ wanted) number ≡ true
 newly_wanted number wanted = let e : nat_eq number number ≡ true = grind (arith, nat_tests) in ap (λ (b : Bool). b || contains wanted number) e
 
-equal_or_not : {P : Type 0} (i j : ℕ) → (i ≡ j → P) → ((i ≡ j → ⊥) → P) → P
+pub equal_or_not : {P : Type 0} (i j : ℕ) → (i ≡ j → P) → ((i ≡ j → ⊥) → P) → P
 equal_or_not {P = P} i j same other = by_test (nat_eq i j) refl
   where
     by_test : (b : Bool) → nat_eq i j ≡ b → P

@@ -19,6 +19,11 @@ found_is [] i d h = absurd (omega (arith, h))
 found_is (y ∷ ys) zero d h = refl
 found_is (y ∷ ys) (suc i) d h = found_is ys i d (omega (arith, h))
 
+pub read_back : {A : Type 0} (xs : List A) (i : ℕ) (x y : A) → i < length xs → x ≡ slice_index_or (slice_set xs i y) i x → x ≡ y
+read_back [] i x y h e = absurd (omega (arith, h))
+read_back (z ∷ zs) zero x y h e = e
+read_back (z ∷ zs) (suc i) x y h e = read_back zs i x y (omega (arith, h)) e
+
 pub put_back : {A : Type 0} (xs : List A) (i : ℕ) (x : A) → slice_get xs i ≡ Some x → slice_set xs i x ≡ xs
 put_back [] i x e = refl
 put_back (y ∷ ys) zero x e = let q : y ≡ x = cc (e) in ap (λ z. z ∷ ys) (sym q)

@@ -3,3 +3,4 @@ pub mod FieldViews
 pub mod Leaving
 pub mod MemoryViews
 pub mod Marking
+pub mod Moving

@@ -24,7 +24,7 @@ pub(crate) enum Held {
 /// A field.
 #[derive(Drop)]
 pub(crate) struct Field {
-    held: Held,
+    pub(crate) held: Held,
 }
 
 impl Model for Field {
@@ -38,7 +38,7 @@ impl Model for Field {
 
 impl Field {
     /// The field that holds the object of this number.
-    fn part(object: usize) -> Field
+    pub(crate) fn part(object: usize) -> Field
         ensures { result ≡ part object }
     {
         Field {

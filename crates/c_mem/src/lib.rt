@@ -6,6 +6,7 @@
 mod decls;
 mod fields;
 mod mem;
+mod moving;
 mod objects;
 mod zeroing;
 

@@ -3,6 +3,7 @@
 ghost use Rattle.std.specs.Prelude.{◌≡◌, vec_len};
 
 use crate::decls::ObjDecl;
+use crate::fields::Field;
 use crate::objects::Object;
 use c_meaning::cells::{Cell, CellType};
 use c_meaning::values::Pointer;
@@ -15,6 +16,8 @@ pub struct Mem {
     pub(crate) objects: Vec<Object>,
     // What `zero` has to come to, by the numbers of objects.
     pub(crate) marks: Vec<bool>,
+    // Stands in for the field that cells are moved to.
+    pub(crate) spare: Field,
     ghost marked: { vec_len marks ≡ vec_len objects },
 }
 
@@ -38,6 +41,7 @@ impl Mem {
         Ok(Mem {
             objects: made,
             marks,
+            spare: Field::part(0),
         })
     }
 
