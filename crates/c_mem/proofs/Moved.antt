@@ -1,5 +1,5 @@
 -- Cells that are moved.
-use Rattle.std.proofs.Common.{◌≡◌, ℕ, zero, suc, ◌+◌, ◌-◌, ◌<◌, ◌≤◌, Bool, true, false, List, [], ◌∷◌, ◌++◌, length, take, drop, Option, Some, None, refl, sym, subst, ap, ◌∙◌, arith}
+use Rattle.std.proofs.Common.{◌≡◌, ℕ, zero, suc, ◌+◌, ◌-◌, ◌≤◌, Bool, true, false, List, [], ◌∷◌, ◌++◌, length, take, drop, Option, Some, None, refl, sym, subst, ap, ◌∙◌, arith}
 use Rattle.std.specs.Prelude.{if◌then◌else◌, ◌&&◌, nat_eq, nat_le, slice_get, slice_set, slice_range, option_map, option_and_then, unwrap_or}
 use Rattle.std.specs.List.{list_all, copy_within}
 use Rattle.std.proofs.lemmas.List.{append_assoc, take-append-drop, set-set}
@@ -57,7 +57,7 @@ counted_fits type target to source_type source from bytes n e = by_zero (nat_eq 
 
     by_zero : (b : Bool)
         → (if b then (if nat_le to (length target) && nat_le from (length source) then Some 0 else None)
-           else option_and_then (λ count. if same_type type source_type && (nat_le (from + count) (length source) && (nat_le (to + count) (length target) && list_all is_set (slice_range source from (from + count)))) then Some count else None) (whole_cells source_type bytes)) ≡ Some n
+        else option_and_then (λ count. if same_type type source_type && (nat_le (from + count) (length source) && (nat_le (to + count) (length target) && list_all is_set (slice_range source from (from + count)))) then Some count else None) (whole_cells source_type bytes)) ≡ Some n
         → (to + n ≤ length target) × (from + n ≤ length source)
     by_zero true h = none_moved (nat_le to (length target)) (nat_le from (length source)) refl refl h
     by_zero false h = some_moved (whole_cells source_type bytes) h
@@ -131,8 +131,8 @@ module _ (memory : Memory) (to from : Pointer) (bytes : ℕ) (it : Object) (ther
       by_zero : (b : Bool)
           → (if b then (if nat_le to.index (length xs) && nat_le from.index (length ys) then Some memory else None) else option_and_then (λ count. copied memory to from count (type, xs) (source_type, ys)) (whole_cells source_type bytes))
           ≡ option_map now_with (option_map (pasted (cells type xs) to.index (cells source_type ys) from.index)
-              (if b then (if nat_le to.index (length xs) && nat_le from.index (length ys) then Some 0 else None)
-               else option_and_then (λ count. if same_type type source_type && (nat_le (from.index + count) (length ys) && (nat_le (to.index + count) (length xs) && list_all is_set (slice_range ys from.index (from.index + count)))) then Some count else None) (whole_cells source_type bytes)))
+          (if b then (if nat_le to.index (length xs) && nat_le from.index (length ys) then Some 0 else None)
+          else option_and_then (λ count. if same_type type source_type && (nat_le (from.index + count) (length ys) && (nat_le (to.index + count) (length xs) && list_all is_set (slice_range ys from.index (from.index + count)))) then Some count else None) (whole_cells source_type bytes)))
       by_zero true = none_moved (nat_le to.index (length xs) && nat_le from.index (length ys))
       by_zero false = some_moved (whole_cells source_type bytes)
 
@@ -212,7 +212,7 @@ module _ (memory : Memory) (to from : Pointer) (bytes : ℕ) (it : Object) (ther
   moves_across target z later r true back taken e h l s =
       let g : moved_from target to.index (now_with z) from bytes ≡ moved_from target to.index memory from bytes = ap (option_and_then (λ (x : Field). moved_field target to.index x from.index bytes)) (field_apart z h) in
       let back_is : slice_set (now_with z) to.object back ≡ now_with later =
-          ap (slice_set (now_with z) to.object) (s.1 ∙ set-set it to.field z later) ∙ set-set memory to.object (slice_set it to.field z) (slice_set it to.field later) in
+      ap (slice_set (now_with z) to.object) (s.1 ∙ set-set it to.field z later) ∙ set-set memory to.object (slice_set it to.field z) (slice_set it to.field later) in
       let P : Memory → Type 0 = λ m. Leaves (move_bytes memory to from bytes) memory r m in
       subst P (sym back_is) (leaves_with target later r e (leaves_same (moved_from target to.index (now_with z) from bytes) (moved_from target to.index memory from bytes) target later r g l))
 

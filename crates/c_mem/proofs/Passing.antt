@@ -1,7 +1,6 @@
 -- One pass over objects makes the wanted ones zero, where marks say which are wanted.
-use Rattle.std.proofs.Common.{◌≡◌, ℕ, zero, suc, ◌+◌, ◌<◌, ◌≤◌, Bool, true, false, List, [], ◌∷◌, ◌++◌, length, map, take, drop, Option, Some, None, refl, sym, subst, ap, ◌∙◌, arith, ◌⊎◌, inl, inr}
+use Rattle.std.proofs.Common.{◌≡◌, ℕ, zero, suc, ◌+◌, ◌<◌, ◌≤◌, Bool, true, false, List, [], ◌∷◌, ◌++◌, length, map, take, drop, Some, None, refl, sym, subst, ap, ◌∙◌, arith, ◌⊎◌, inl, inr}
 use Rattle.std.specs.Prelude.{if◌then◌else◌, ◌||◌, max, nat_eq, nat_lt, slice_get, slice_set, slice_index_or}
-use Rattle.std.specs.List.{list_any}
 use Rattle.std.proofs.lemmas.List.{append_assoc, append-nil, drop_more, take_more, take_more_set, drop-set-lt, take-append-drop, length-set}
 use Rattle.std.proofs.lemmas.Bool.Decides.{nat_tests}
 use Rattle.c_meaning.specs.CMemory.{Field, cells, part, Object, Memory, part_of, zero_field, parts_of, contains, zeroed_from}
@@ -201,7 +200,7 @@ pub part_beyond : (marks : List Bool) (from last number : ℕ) (f : Field) → p
 part_beyond marks from last number (cells type them) e far within reached fields wanted m = absurd (cc (e))
 part_beyond marks from last number (part other) e far within reached fields wanted m = one_more_field marks from last fields (part other) wanted
     (same_wanted marks from last (parts_of fields ++ wanted) ((parts_of fields ++ other ∷ []) ++ wanted)
-        (λ k l u. without (parts_of fields) wanted other k (λ q. let n : other ≡ number = cc (e) in beyond far k l u (q ∙ n))) within m reached)
+    (λ k l u. without (parts_of fields) wanted other k (λ q. let n : other ≡ number = cc (e) in beyond far k l u (q ∙ n))) within m reached)
   where
     beyond : (number < from) ⊎ (length marks ≤ number) → (k : ℕ) → from ≤ k → k < length marks → k ≡ number → ⊥
     beyond (inl a) k l u q = omega (arith, a, l, q)
@@ -214,6 +213,6 @@ part_marked old new from last now number (part other) e one within reached insid
     let n : other ≡ number = cc (e) in
     let k : Marked new from now (number ∷ (parts_of fields ++ wanted)) = marks_number old new number from last now (parts_of fields ++ wanted) one reached within inside m in
     let j : Marked new from now ((parts_of fields ++ number ∷ []) ++ wanted) = same_wanted new from now (number ∷ (parts_of fields ++ wanted)) ((parts_of fields ++ number ∷ []) ++ wanted)
-        (λ k l u. middle_of (parts_of fields) wanted number k) (omega (arith, one.size, one.now_is, within, inside)) k (omega (arith, one.now_is, reached)) in
+    (λ k l u. middle_of (parts_of fields) wanted number k) (omega (arith, one.size, one.now_is, within, inside)) k (omega (arith, one.now_is, reached)) in
     let P : ℕ → Type 0 = λ x. Marked new from now ((parts_of fields ++ x ∷ []) ++ wanted) in
     one_more_field new from now fields (part other) wanted (subst P (sym n) j)

@@ -1,5 +1,5 @@
 -- What memory is at one object, and at one field: the definitions of `CMemory` for these alone.
-use Rattle.std.specs.Prelude.{ℕ, if◌then◌else◌, nat_lt, List, [], ◌∷◌, length, map, replicate, slice_get, slice_set, Option, Some, None, option_map, option_and_then, ℤ, pos, ◌+ℤ◌}
+use Rattle.std.specs.Prelude.{ℕ, if◌then◌else◌, nat_lt, length, map, replicate, slice_get, slice_set, Option, Some, None, option_map, option_and_then, ℤ, pos, ◌+ℤ◌}
 use Rattle.c_meaning.specs.declared.cells.CellType.{CellType}
 use Rattle.c_meaning.specs.declared.cells.Cell.{Cell}
 use Rattle.c_meaning.specs.declared.cells.Cell.TheVariants.{Unset as unset}

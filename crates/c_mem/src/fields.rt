@@ -2,7 +2,7 @@
 
 ghost use Rattle.std.specs.Prelude.{◌≡◌, ◌+◌, ◌^◌, ◌<◌, ◌≤◌, replicate, IfOk, ◌≤ℤ◌, ◌<ℤ◌, pos, negsuc};
 ghost use Rattle.c_meaning.specs.declared.cells.Cell.TheVariants.{Unset as unset};
-ghost use Rattle.c_meaning.specs.CMemory.{cells, part, part_of, zero_field};
+ghost use Rattle.c_meaning.specs.CMemory.{cells, part, part_of, zero_field, zero_cell as zeroed_cell};
 ghost use Rattle.c_mem.specs.FieldParts.{cell_in, load_in, stored_in, moved_index, declared_field};
 ghost use Rattle.c_mem.specs.Leaving.{Leaves};
 
@@ -159,8 +159,8 @@ fn zero_cell(ty: CellType) -> Cell
 {
     match ty {
         CellType::Pointer => Cell::Null,
-        CellType::U8 | CellType::U16 | CellType::U32 | CellType::U64 | CellType::Flag => Cell::Num(0),
+        CellType::U8 | CellType::U16 | CellType::U32 | CellType::U64 | CellType::Flag => Cell::Num(
+            0,
+        ),
     }
 }
-
-ghost use Rattle.c_meaning.specs.CMemory.{zero_cell as zeroed_cell};

@@ -1,11 +1,11 @@
 // `memmove` (ISO/IEC 9899:1999, 7.21.2.2).
 
-ghost use Rattle.std.specs.Prelude.{◌≡◌, ◌+◌, ◌<◌, ◌≤◌, drop, length, nat_le, IfSome, slice_get, slice_range};
+ghost use Rattle.std.specs.Prelude.{◌≡◌, ◌+◌, ◌<◌, ◌≤◌, drop, length, nat_le, IfSome, slice_get, slice_range, false};
 ghost use Rattle.std.specs.List.{list_all};
 ghost use Rattle.c_meaning.specs.CMemory.{bytes_of, whole_cells, same_type, is_set, move_bytes};
 ghost use Rattle.c_mem.specs.Leaving.{Leaves};
 ghost use Rattle.c_mem.specs.MemoryViews.{memory};
-ghost use Rattle.c_mem.specs.Moving.{counted, count_moved, moved_field, moved_at, PastesIn, pasted, paste_cells, Swaps};
+ghost use Rattle.c_mem.specs.Moving.{counted, count_moved, moved_field, moved_at, PastesIn, pasted, paste_cells, Swaps, moved_from, same_field};
 
 use crate::fields::{Field, Held};
 use crate::mem::Mem;
@@ -32,7 +32,11 @@ fn cells_in(ty: CellType, bytes: u64) -> Option<u64>
     ensures { result ≡ whole_cells ty bytes }
 {
     let size = cell_bytes(ty)?;
-    if bytes % size == 0 { Some(bytes / size) } else { None }
+    if bytes % size == 0 {
+        Some(bytes / size)
+    } else {
+        None
+    }
 }
 
 /// Whether two types are one.
@@ -76,11 +80,23 @@ fn are_set(cells: &[Cell], at: usize, count: usize) -> bool
 }
 
 /// How many cells so many bytes are that may come from `source` to `target`; None where `memmove` isn't defined.
-fn count_cells(ty: CellType, target: &[Cell], to: u64, from_ty: CellType, source: &[Cell], from: u64, bytes: u64) -> Option<u64>
+fn count_cells(
+    ty: CellType,
+    target: &[Cell],
+    to: u64,
+    from_ty: CellType,
+    source: &[Cell],
+    from: u64,
+    bytes: u64,
+) -> Option<u64>
     ensures { result ≡ counted ty target.now to from_ty source.now from bytes }
 {
     if bytes == 0 {
-        return if to <= target.len() as u64 && from <= source.len() as u64 { Some(0) } else { None };
+        return if to <= target.len() as u64 && from <= source.len() as u64 {
+            Some(0)
+        } else {
+            None
+        };
     }
     let count = cells_in(from_ty, bytes)?;
     if !is_same_type(ty, from_ty) {
@@ -92,7 +108,11 @@ fn count_cells(ty: CellType, target: &[Cell], to: u64, from_ty: CellType, source
     if !are_within(to, count, target.len() as u64) {
         return None;
     }
-    if are_set(source, from as usize, count as usize) { Some(count) } else { None }
+    if are_set(source, from as usize, count as usize) {
+        Some(count)
+    } else {
+        None
+    }
 }
 
 /// So many cells of one list come to stand in another.
@@ -111,7 +131,15 @@ impl Field {
     {
         match &self.held {
             Held::Cells(ty, target) => match &source.held {
-                Held::Cells(from_ty, cells) => count_cells(*ty, target.as_slice(), to, *from_ty, cells.as_slice(), from, bytes),
+                Held::Cells(from_ty, cells) => count_cells(
+                    *ty,
+                    target.as_slice(),
+                    to,
+                    *from_ty,
+                    cells.as_slice(),
+                    from,
+                    bytes,
+                ),
                 Held::Part(_) => None,
             },
             Held::Part(_) => None,
@@ -125,7 +153,13 @@ impl Field {
     {
         match &mut self.held {
             Held::Cells(_, target) => match &source.held {
-                Held::Cells(_, cells) => copy_cells(target.as_mut_slice(), to as usize, cells.as_slice(), from as usize, count as usize),
+                Held::Cells(_, cells) => copy_cells(
+                    target.as_mut_slice(),
+                    to as usize,
+                    cells.as_slice(),
+                    from as usize,
+                    count as usize,
+                ),
                 Held::Part(_) => {}
             },
             Held::Part(_) => {}
@@ -207,9 +241,6 @@ fn is_one_field(p: Pointer, q: Pointer) -> bool
     p.object == q.object && p.field == q.field
 }
 
-ghost use Rattle.c_mem.specs.Moving.{moved_from, same_field};
-ghost use Rattle.std.specs.Prelude.{false};
-
 impl Mem {
     /// `memmove(to, from, bytes)` (7.21.2.2): whole cells that are set come to stand at `to`, as they were before. None, and
     /// the memory is as before, beyond a field, at a part of a cell, at an unset cell, and between cells of different
@@ -235,7 +266,13 @@ impl Mem {
         if !self.objects[to.object].swap_field(to.field, &mut self.spare) {
             return None;
         }
-        let moved = move_to(&mut self.spare, to.index, self.objects.as_slice(), from, bytes);
+        let moved = move_to(
+            &mut self.spare,
+            to.index,
+            self.objects.as_slice(),
+            from,
+            bytes,
+        );
         let _back = self.objects[to.object].swap_field(to.field, &mut self.spare);
         moved
     }

@@ -1,7 +1,7 @@
 // `memset` of a whole object with 0 (ISO/IEC 9899:1999, 7.21.6.1).
 
-ghost use Rattle.std.specs.Prelude.{◌≡◌, ◌+◌, ◌<◌, ◌≤◌, ◌++◌, ℕ, List, length, slice_get, Some, true};
-ghost use Rattle.c_meaning.specs.CMemory.{zeroed, parts_of};
+ghost use Rattle.std.specs.Prelude.{◌≡◌, ◌+◌, ◌<◌, ◌≤◌, ◌++◌, ℕ, List, length, slice_get, Some, true, [], ◌∷◌};
+ghost use Rattle.c_meaning.specs.CMemory.{zeroed, parts_of, zeroed_from, Field as FieldOfMemory};
 ghost use Rattle.c_mem.specs.Leaving.{Leaves};
 ghost use Rattle.c_mem.specs.Marking.{Marked, MarksOne};
 ghost use Rattle.c_mem.specs.MemoryViews.{memory};
@@ -20,7 +20,11 @@ impl Mem {
             return None;
         }
         self.marks[object] = true;
-        zero_marked(self.objects.as_mut_slice(), self.marks.as_mut_slice(), object);
+        zero_marked(
+            self.objects.as_mut_slice(),
+            self.marks.as_mut_slice(),
+            object,
+        );
         Some(())
     }
 }
@@ -43,9 +47,6 @@ fn zero_marked(objects: &mut [Object], marks: &mut [bool], first: usize)
         at += 1;
     }
 }
-
-ghost use Rattle.std.specs.Prelude.{[], ◌∷◌};
-ghost use Rattle.c_meaning.specs.CMemory.{zeroed_from};
 
 impl Object {
     /// Marks the objects inside that have greater numbers than this one. Marks count up to `last`; the answer is the new
@@ -89,8 +90,6 @@ impl Field {
         mark(marks, part, last)
     }
 }
-
-ghost use Rattle.c_meaning.specs.CMemory.{Field as FieldOfMemory};
 
 /// Marks a number. Marks count up to `last`; the answer is the new one.
 fn mark(marks: &mut [bool], number: usize, last: usize) -> usize

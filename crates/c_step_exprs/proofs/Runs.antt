@@ -1,5 +1,5 @@
 -- Runs of instructions in a row: what puts a value, and what turns the value on top of the stack into another one.
-use Rattle.std.proofs.Common.{◌≡◌, ℕ, zero, suc, Bool, true, false, List, [], ◌∷◌, ◌++◌, length, Option, Some, None, refl, sym, subst, ap, ◌∙◌}
+use Rattle.std.proofs.Common.{◌≡◌, ℕ, suc, Bool, true, false, List, [], ◌∷◌, ◌++◌, length, Option, Some, None, refl, sym, ap, ◌∙◌}
 use Rattle.std.specs.Prelude.{option_map, option_and_then}
 use Rattle.std.proofs.lemmas.List.{append_assoc}
 use Rattle.c_meaning.specs.declared.values.Value.{Value}
@@ -10,7 +10,7 @@ use Rattle.c_step_exprs.specs.declared.instrs.Instr.{Instr}
 use Rattle.c_step_exprs.specs.declared.instrs.Instr.TheVariants as does
 use Rattle.c_step_exprs.specs.declared.instrs.Turn.TheVariants as turn
 use Rattle.c_step_exprs.specs.declared.instrs.Test.TheVariants as tests
-use Rattle.c_step_exprs.specs.Instrs.{Around, pushed, by_one, by_two, Step, goes_on, tested, by_test, truth_of, step, exec}
+use Rattle.c_step_exprs.specs.Instrs.{Around, pushed, goes_on, tested, truth_of, step, exec}
 use Rattle.c_step_exprs.specs.Resolving.{arms_code}
 
 -- What an option leads to.
@@ -38,14 +38,18 @@ module _ (a : Around) where
   in_front c d rest stack = ap (λ (is : List Instr). exec a 0 is stack) (append_assoc c d rest)
 
   pub followed : (c d : List Instr) (o : Option Value) (f : Value → Option Value) → Pushes c o → Turns d f → Pushes (c ++ d) (option_and_then f o)
-  followed c d o f h g = record { by = λ rest stack. in_front c d rest stack ∙ (h.by (d ++ rest) stack
-      ∙ (alike (λ v. exec a 0 (d ++ rest) (v ∷ stack)) (λ v. option_and_then (λ w. exec a 0 rest (w ∷ stack)) (f v)) (λ v. g.by rest v stack) o
-      ∙ sym (through f (λ w. exec a 0 rest (w ∷ stack)) o))) }
+  followed c d o f h g = record {
+    by = λ rest stack. in_front c d rest stack ∙ (h.by (d ++ rest) stack
+        ∙ (alike (λ v. exec a 0 (d ++ rest) (v ∷ stack)) (λ v. option_and_then (λ w. exec a 0 rest (w ∷ stack)) (f v)) (λ v. g.by rest v stack) o
+        ∙ sym (through f (λ w. exec a 0 rest (w ∷ stack)) o)));
+  }
 
   pub compose : (c d : List Instr) (f g : Value → Option Value) → Turns c f → Turns d g → Turns (c ++ d) (λ v. option_and_then g (f v))
-  compose c d f g h k = record { by = λ rest v stack. in_front c d rest (v ∷ stack) ∙ (h.by (d ++ rest) v stack
-      ∙ (alike (λ w. exec a 0 (d ++ rest) (w ∷ stack)) (λ w. option_and_then (λ x. exec a 0 rest (x ∷ stack)) (g w)) (λ w. k.by rest w stack) (f v)
-      ∙ sym (through g (λ x. exec a 0 rest (x ∷ stack)) (f v)))) }
+  compose c d f g h k = record {
+    by = λ rest v stack. in_front c d rest (v ∷ stack) ∙ (h.by (d ++ rest) v stack
+        ∙ (alike (λ w. exec a 0 (d ++ rest) (w ∷ stack)) (λ w. option_and_then (λ x. exec a 0 rest (x ∷ stack)) (g w)) (λ w. k.by rest w stack) (f v)
+        ∙ sym (through g (λ x. exec a 0 rest (x ∷ stack)) (f v))));
+  }
 
   pub pushes_same : (c : List Instr) (o p : Option Value) → Pushes c o → o ≡ p → Pushes c p
   pushes_same c o p h e = record { by = λ rest stack. h.by rest stack ∙ by_result (λ v. exec a 0 rest (v ∷ stack)) o p e }
@@ -74,10 +78,12 @@ module _ (a : Around) where
   -- A second operand and an instruction that takes both.
   pub with_second : (c : List Instr) (p : Option Value) (i : Instr) (f : Value → Value → Option Value) → Pushes c p
       → ((first second : Value) (stack : List Value) → step a i (second ∷ first ∷ stack) ≡ goes_on (pushed (f first second) stack)) → Turns (c ++ i ∷ []) (λ v. option_and_then (f v) p)
-  with_second c p i f h e = record { by = λ rest v stack. in_front c (i ∷ []) rest (v ∷ stack) ∙ (h.by (i ∷ rest) (v ∷ stack)
-      ∙ (alike (λ w. exec a 0 (i ∷ rest) (w ∷ v ∷ stack)) (λ w. option_and_then (λ x. exec a 0 rest (x ∷ stack)) (f v w))
-          (λ w. by_result (λ (next : ℕ × List Value). exec a next.0 rest next.1) (step a i (w ∷ v ∷ stack)) (goes_on (pushed (f v w) stack)) (e v w stack) ∙ goes_to rest (f v w) stack) p
-      ∙ sym (through (f v) (λ x. exec a 0 rest (x ∷ stack)) p))) }
+  with_second c p i f h e = record {
+    by = λ rest v stack. in_front c (i ∷ []) rest (v ∷ stack) ∙ (h.by (i ∷ rest) (v ∷ stack)
+        ∙ (alike (λ w. exec a 0 (i ∷ rest) (w ∷ v ∷ stack)) (λ w. option_and_then (λ x. exec a 0 rest (x ∷ stack)) (f v w))
+        (λ w. by_result (λ (next : ℕ × List Value). exec a next.0 rest next.1) (step a i (w ∷ v ∷ stack)) (goes_on (pushed (f v w) stack)) (e v w stack) ∙ goes_to rest (f v w) stack) p
+        ∙ sym (through (f v) (λ x. exec a 0 rest (x ∷ stack)) p)));
+  }
 
   -- Instructions that are passed over.
   pub pass : (c rest : List Instr) (stack : List Value) → exec a (length c) (c ++ rest) stack ≡ exec a 0 rest stack

@@ -1,6 +1,6 @@
 -- A stack is a list with its top last.
-use Rattle.std.proofs.Common.{◌≡◌, ℕ, zero, suc, ◌<◌, List, [], ◌∷◌, ◌++◌, length, Option, Some, None, refl, sym, ap, ◌∙◌, arith, drop}
-use Rattle.std.specs.Prelude.{slice_get, slice_index_or, reverse, option_to_list}
+use Rattle.std.proofs.Common.{◌≡◌, List, [], ◌∷◌, ◌++◌, length, Option, Some, None, refl, sym, ap, ◌∙◌, drop}
+use Rattle.std.specs.Prelude.{slice_get, reverse, option_to_list}
 use Rattle.std.proofs.lemmas.List.{reverse-append, length-reverse}
 
 pub put_on_top : {A : Type 0} (xs : List A) (x : A) → reverse (xs ++ x ∷ []) ≡ x ∷ reverse xs

@@ -1,7 +1,7 @@
 -- The instructions of an expression put its value, and those of an lvalue its place.
-use Rattle.std.proofs.Common.{◌≡◌, ℕ, zero, suc, ◌<◌, ◌≤◌, ◌+◌, Bool, true, false, List, [], ◌∷◌, ◌++◌, length, Option, Some, None, refl, sym, subst, ap, ◌∙◌, arith, take, drop}
+use Rattle.std.proofs.Common.{◌≡◌, ℕ, suc, Bool, true, false, List, [], ◌∷◌, ◌++◌, length, Option, Some, None, refl, sym, subst, ap, ◌∙◌, arith, take, drop}
 use Rattle.std.specs.Prelude.{if◌then◌else◌, nat_eq, nat_le, position, option_map, option_and_then, bytes_eq, reverse}
-use Rattle.std.proofs.lemmas.List.{append_assoc, append-nil, length-append, length-reverse, reverse-append, reverse-reverse, take_at, drop_at}
+use Rattle.std.proofs.lemmas.List.{append_assoc, length-append, length-reverse, reverse-append, reverse-reverse, take_at, drop_at}
 use Rattle.std.proofs.lemmas.Bool.Decides.{nat_tests}
 use Rattle.c_text.specs.declared.kinds.COp.{COp}
 use Rattle.c_text.specs.declared.kinds.CUnary.TheVariants.{Not, Complement, Address}
@@ -10,7 +10,7 @@ use Rattle.c_meaning.specs.declared.values.Pointer.{Pointer}
 use Rattle.c_meaning.specs.declared.values.Value.{Value}
 use Rattle.c_meaning.specs.declared.values.Value.TheVariants.{Numeric as numeric, Address as address, NullPointer as null_pointer}
 use Rattle.c_meaning.specs.CValues.{literal_number, holds, negated}
-use Rattle.c_meaning.specs.CMemory.{Memory, loaded, cell_at, part_at}
+use Rattle.c_meaning.specs.CMemory.{Memory, loaded}
 use Rattle.c_meaning.specs.CTypes.{ExprType, numbers, points_to, zero_literal, Held, one, fixed, many, inner, character, characters, type_of, held_of, variable_held, member_held, element_held, pointed_held, choice_type}
 use Rattle.c_meaning.specs.CExprs.{Surroundings, cell_type, field_place, field_number, pointed_place, named_place, element_place, held_value, address_of, Combination, conjunction, disjunction, addition, other, combination_of, combined_by, combined, from_left, sum_value, other_value, is_object_pointer, complement_of, chosen, as_expr_type, choice_value, all_some, value, place, operand_values, arg_values}
 use Rattle.c_step_exprs.specs.declared.instrs.Instr.{Instr}
@@ -18,11 +18,10 @@ use Rattle.c_step_exprs.specs.declared.instrs.Instr.TheVariants as does
 use Rattle.c_step_exprs.specs.declared.instrs.Put.TheVariants as put
 use Rattle.c_step_exprs.specs.declared.instrs.Turn.TheVariants as turn
 use Rattle.c_step_exprs.specs.declared.instrs.Join.TheVariants as join
-use Rattle.c_step_exprs.specs.declared.instrs.Test.TheVariants as tests
-use Rattle.c_step_exprs.specs.Instrs.{Around, pushed, local_place, field_of, element_of, place_of, loaded_from, cell_there, object_inside, as_cell, as_pointer, calls, goes_on, step, exec}
-use Rattle.c_step_exprs.specs.Resolving.{function_number, named_code, held_code, variable_code, field_code, address_code, operator_code, as_type_code, arms_code, choice_code, call_code, arg_count, unary_code, value_code, place_code, operands_code, args_code}
+use Rattle.c_step_exprs.specs.Instrs.{Around, pushed, local_place, field_of, element_of, place_of, cell_there, object_inside, as_cell, as_pointer, calls, goes_on, step, exec}
+use Rattle.c_step_exprs.specs.Resolving.{function_number, named_code, held_code, variable_code, field_code, address_code, operator_code, as_type_code, arms_code, choice_code, call_code, arg_count, value_code, place_code, operands_code, args_code}
 use Rattle.c_step_exprs.specs.Values.{around, called_by, AreCalled}
-use Rattle.c_step_exprs.proofs.Runs.{through, alike, by_result, Pushes, Turns, in_front, followed, compose, pushes_same, turns_same, puts, turns, nothing, stuck, with_second, both_runs, either_runs, arms_run}
+use Rattle.c_step_exprs.proofs.Runs.{Pushes, Turns, in_front, followed, compose, pushes_same, turns_same, puts, turns, nothing, stuck, with_second, both_runs, either_runs, arms_run}
 
 -- Where there is no place there is no value.
 held_none : (memory : Memory) (held : Option Held) → held_value memory held None ≡ None
@@ -289,7 +288,7 @@ module _ (s : Surroundings) (calls_of : ℕ → List Value → Option Value) (kn
   choice_runs None b c d test met unmet h k l = record { by = λ rest stack. refl }
   choice_runs (Some t) b c d test met unmet h k l = pushes_same it (b ++ arms_code (c ++ as_type_code t) (d ++ as_type_code t)) _ _
       (followed it b (arms_code (c ++ as_type_code t) (d ++ as_type_code t)) test (λ v. chosen (holds v) (option_map (as_expr_type t) met) (option_map (as_expr_type t) unmet)) h
-          (arms_run it (c ++ as_type_code t) (d ++ as_type_code t) (option_map (as_expr_type t) met) (option_map (as_expr_type t) unmet) (arm_runs t c met k) (arm_runs t d unmet l)))
+      (arms_run it (c ++ as_type_code t) (d ++ as_type_code t) (option_map (as_expr_type t) met) (option_map (as_expr_type t) unmet) (arm_runs t c met k) (arm_runs t d unmet l)))
       (choices t test met unmet)
 
   -- The arguments of a call stand on the stack, the last one on top.
@@ -336,8 +335,10 @@ module _ (s : Surroundings) (calls_of : ℕ → List Value → Option Value) (kn
 
   call_runs : (callee : Option ℕ) (given : Args) → Puts (args_code s.scope given) (all_some (arg_values s given))
       → Pushes it (args_code s.scope given ++ call_code callee (arg_count given)) (option_and_then (called_by calls_of callee) (all_some (arg_values s given)))
-  call_runs callee given h = record { by = λ rest stack. in_front it (args_code s.scope given) (call_code callee (arg_count given)) rest stack
-      ∙ (h.by (call_code callee (arg_count given) ++ rest) stack ∙ by_values rest stack callee (all_some (arg_values s given)) (counted given)) }
+  call_runs callee given h = record {
+    by = λ rest stack. in_front it (args_code s.scope given) (call_code callee (arg_count given)) rest stack
+        ∙ (h.by (call_code callee (arg_count given) ++ rest) stack ∙ by_values rest stack callee (all_some (arg_values s given)) (counted given));
+  }
     where
       by_result_of : (rest : List Instr) (stack : List Value) (o : Option Value) → option_and_then (λ (next : ℕ × List Value). exec it next.0 rest next.1) (goes_on (pushed o stack)) ≡ option_and_then (λ v. exec it 0 rest (v ∷ stack)) o
       by_result_of rest stack None = refl
@@ -364,24 +365,24 @@ module _ (s : Surroundings) (calls_of : ℕ → List Value → Option Value) (kn
     value_runs (variable name) = variable_runs (variable_held s.scope name) (position (λ it. bytes_eq it.name name) s.scope.names) (position (λ it. bytes_eq it.name name) s.scope.texts)
     value_runs (member of field) = regroup (value_code s.scope of) (field_code (field_number s.scope field (type_of s.scope of))) (held_code (member_held s.scope field (type_of s.scope of))) _
         (held_after (member_held s.scope field (type_of s.scope of)) (value_code s.scope of ++ field_code (field_number s.scope field (type_of s.scope of))) (option_and_then (field_place (field_number s.scope field (type_of s.scope of))) (pointed_place (value s of)))
-            (member_place_runs (field_number s.scope field (type_of s.scope of)) (value_code s.scope of) (value s of) (value_runs of)))
+        (member_place_runs (field_number s.scope field (type_of s.scope of)) (value_code s.scope of) (value s of) (value_runs of)))
     value_runs (element of index) = let P : List Instr → Type 0 = λ is. Pushes it is (value s (element of index)) in
         subst P (sym (element_code (value_code s.scope of) (value_code s.scope index) (held_code (element_held (type_of s.scope of) (type_of s.scope index)))))
         (held_after (element_held (type_of s.scope of) (type_of s.scope index)) (value_code s.scope of ++ (value_code s.scope index ++ does.Join join.Element ∷ [])) (element_place s.memory (value s of) (value s index))
-            (element_place_runs (value_code s.scope of) (value_code s.scope index) (value s of) (value s index) (value_runs of) (value_runs index)))
+        (element_place_runs (value_code s.scope of) (value_code s.scope index) (value s of) (value s index) (value_runs of) (value_runs index)))
     value_runs (pointed of) = regroup (value_code s.scope of) (does.Turn turn.Place ∷ []) (held_code (pointed_held (type_of s.scope of))) _
         (held_after (pointed_held (type_of s.scope of)) (value_code s.scope of ++ does.Turn turn.Place ∷ []) (pointed_place (value s of)) (pointed_place_runs (value_code s.scope of) (value s of) (value_runs of)))
     value_runs (operation op first second others) =
         pushes_same it _ _ _
-            (followed it (value_code s.scope first) (operator_code (combination_of op) (is_object_pointer (type_of s.scope first)) op (value_code s.scope second) ++ operands_code s.scope (combination_of op) (is_object_pointer (type_of s.scope first)) op others) (value s first)
-                (λ v. option_and_then (λ w. from_left s.memory (is_object_pointer (type_of s.scope first)) op (Some w) (operand_values s others)) (combined s.memory (is_object_pointer (type_of s.scope first)) op (Some v) (value s second)))
-                (value_runs first)
-                (compose it (operator_code (combination_of op) (is_object_pointer (type_of s.scope first)) op (value_code s.scope second)) (operands_code s.scope (combination_of op) (is_object_pointer (type_of s.scope first)) op others)
-                    (λ v. combined s.memory (is_object_pointer (type_of s.scope first)) op (Some v) (value s second))
-                    (λ w. from_left s.memory (is_object_pointer (type_of s.scope first)) op (Some w) (operand_values s others))
-                    (operator_runs (combination_of op) (is_object_pointer (type_of s.scope first)) op (value_code s.scope second) (value s second) (value_runs second))
-                    (operands_run (is_object_pointer (type_of s.scope first)) op others)))
-            (operations (is_object_pointer (type_of s.scope first)) op (value s first) (value s second) (operand_values s others))
+        (followed it (value_code s.scope first) (operator_code (combination_of op) (is_object_pointer (type_of s.scope first)) op (value_code s.scope second) ++ operands_code s.scope (combination_of op) (is_object_pointer (type_of s.scope first)) op others) (value s first)
+        (λ v. option_and_then (λ w. from_left s.memory (is_object_pointer (type_of s.scope first)) op (Some w) (operand_values s others)) (combined s.memory (is_object_pointer (type_of s.scope first)) op (Some v) (value s second)))
+        (value_runs first)
+        (compose it (operator_code (combination_of op) (is_object_pointer (type_of s.scope first)) op (value_code s.scope second)) (operands_code s.scope (combination_of op) (is_object_pointer (type_of s.scope first)) op others)
+        (λ v. combined s.memory (is_object_pointer (type_of s.scope first)) op (Some v) (value s second))
+        (λ w. from_left s.memory (is_object_pointer (type_of s.scope first)) op (Some w) (operand_values s others))
+        (operator_runs (combination_of op) (is_object_pointer (type_of s.scope first)) op (value_code s.scope second) (value s second) (value_runs second))
+        (operands_run (is_object_pointer (type_of s.scope first)) op others)))
+        (operations (is_object_pointer (type_of s.scope first)) op (value s first) (value s second) (operand_values s others))
     value_runs (unary Not of) = pushes_same it (value_code s.scope of ++ does.Turn turn.Not ∷ []) _ _
         (followed it (value_code s.scope of) (does.Turn turn.Not ∷ []) (value s of) (λ v. Some (numeric (negated v))) (value_runs of) (turns it (does.Turn turn.Not) (λ v. Some (numeric (negated v))) (λ v stack. refl))) (not_held (value s of))
     value_runs (unary Complement of) = followed it (value_code s.scope of) (does.Turn turn.Complement ∷ []) (value s of) complement_of (value_runs of) (turns it (does.Turn turn.Complement) complement_of (λ v stack. refl))
@@ -409,8 +410,8 @@ module _ (s : Surroundings) (calls_of : ℕ → List Value → Option Value) (kn
     operands_run o op no_operand = nothing it (λ v. Some v) (λ v. refl)
     operands_run o op (operand e es) = turns_same it (operator_code (combination_of op) o op (value_code s.scope e) ++ operands_code s.scope (combination_of op) o op es) _ _
         (compose it (operator_code (combination_of op) o op (value_code s.scope e)) (operands_code s.scope (combination_of op) o op es)
-            (λ v. combined s.memory o op (Some v) (value s e)) (λ w. from_left s.memory o op (Some w) (operand_values s es))
-            (operator_runs (combination_of op) o op (value_code s.scope e) (value s e) (value_runs e)) (operands_run o op es))
+        (λ v. combined s.memory o op (Some v) (value s e)) (λ w. from_left s.memory o op (Some w) (operand_values s es))
+        (operator_runs (combination_of op) o op (value_code s.scope e) (value s e) (value_runs e)) (operands_run o op es))
         (λ v. from_first o op (operand_values s es) (combined s.memory o op (Some v) (value s e)))
 
     args_run : (given : Args) → Puts (args_code s.scope given) (all_some (arg_values s given))

@@ -1,6 +1,5 @@
 -- What instructions do, and the run of a list of them. A stack of values has its top first.
 use Rattle.std.specs.Prelude.{ℕ, zero, suc, Bool, true, false, if◌then◌else◌, nat_le, List, [], ◌∷◌, length, take, drop, reverse, Option, Some, None, option_map, option_and_then}
-use Rattle.wf_num.specs.declared.c_arithmetic.CTy.{CTy}
 use Rattle.c_meaning.specs.declared.values.Pointer.{Pointer}
 use Rattle.c_meaning.specs.declared.values.Value.{Value}
 use Rattle.c_meaning.specs.declared.values.Value.TheVariants.{Numeric as numeric, Address as address, NullPointer as null_pointer}

@@ -1,5 +1,5 @@
 -- Where a run of instructions comes to, as far as calls are made by who runs it.
-use Rattle.std.specs.Prelude.{◌≡◌, ℕ, Bool, true, List, drop, slice_get, Option, Some, None, option_map}
+use Rattle.std.specs.Prelude.{◌≡◌, ℕ, true, List, drop, slice_get, Option, Some, None, option_map}
 use Rattle.c_meaning.specs.declared.values.Value.{Value}
 use Rattle.c_step_exprs.specs.declared.instrs.Instr.{Instr}
 use Rattle.c_step_exprs.specs.declared.running.Stop.{Stop}

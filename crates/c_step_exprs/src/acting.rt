@@ -1,21 +1,22 @@
 // What one instruction does to the stack.
 
-ghost use Rattle.std.specs.Prelude.{◌≡◌, ◌<◌, ◌≤◌, suc, length, false, option_map};
-ghost use Rattle.std.specs.Prelude.{ℕ, List, Option};
+ghost use Rattle.std.specs.Prelude.{◌≡◌, ◌<◌, ◌≤◌, suc, length, false, option_map, ℕ, List, Option, ◌^◌, ◌≤ℤ◌, ◌<ℤ◌, pos, negsuc};
 ghost use Rattle.c_meaning.specs.declared.values.Value.{Value as AnyValue};
-ghost use Rattle.c_meaning.specs.CExprs.{pointed_place, sum_value};
+ghost use Rattle.c_meaning.specs.CExprs.{pointed_place, sum_value, complement_of, as_expr_type};
 ghost use Rattle.c_mem.specs.MemoryViews.{memory};
-ghost use Rattle.c_step_exprs.specs.Instrs.{put_value, turned, joined, tested, element_of, field_of, loaded_from, cell_there, object_inside, goes_on, pushed, by_one, by_two, by_test, step};
+ghost use Rattle.c_step_exprs.specs.Instrs.{put_value, turned, joined, tested, element_of, field_of, loaded_from, cell_there, object_inside, goes_on, pushed, by_one, by_two, by_test, step, as_pointer};
 ghost use Rattle.c_meaning.specs.CValues.{holds};
 ghost use Rattle.c_step_exprs.specs.Values.{placed, is_call};
 ghost use Rattle.c_step_exprs.specs.Stacks.{on_stack, most};
+ghost use Rattle.c_meaning.specs.CMemory.{loaded, offset_object};
+ghost use Rattle.c_meaning.specs.CTypes.{numbers};
 
 use crate::instrs::{Instr, Join, Put, Test, Turn};
 use crate::numbers::{complement, convert, operate, truth_number, whole_of};
 use crate::places::{cast, operate_values, value_holds, value_in};
 use crate::stack::Stack;
-use c_mem::Mem;
 use c_meaning::values::{Pointer, Value};
+use c_mem::Mem;
 use c_text::COp;
 use wf_num::CTy;
 
@@ -36,8 +37,6 @@ fn load_value(mem: &Mem, p: Pointer) -> Option<Value>
     let (ty, cell) = mem.cell(p)?;
     value_in(ty, cell)
 }
-
-ghost use Rattle.c_meaning.specs.CMemory.{loaded};
 
 /// The pointer to a field of the object that a value points to.
 fn field_pointer(field: usize, v: Value) -> Option<Value>
@@ -99,9 +98,6 @@ fn move_object(p: Pointer, by: i128) -> Option<Pointer>
     Some(Pointer { index, ..p })
 }
 
-ghost use Rattle.std.specs.Prelude.{◌^◌, ◌≤ℤ◌, ◌<ℤ◌, pos, negsuc};
-ghost use Rattle.c_meaning.specs.CMemory.{offset_object};
-
 /// `first + second` (6.5.6).
 fn add_values(mem: &Mem, whole_object: bool, first: Value, second: Value) -> Option<Value>
     ensures { result ≡ sum_value (memory mem.now) whole_object first second }
@@ -113,7 +109,11 @@ fn add_values(mem: &Mem, whole_object: bool, first: Value, second: Value) -> Opt
         }
         (Value::Address(p), Value::Numeric(n)) => {
             let by = whole_of(n);
-            let moved = if whole_object { move_object(p, by)? } else { mem.offset(p, by)? };
+            let moved = if whole_object {
+                move_object(p, by)?
+            } else {
+                mem.offset(p, by)?
+            };
             Some(Value::Address(moved))
         }
         (_, _) => None,
@@ -156,10 +156,6 @@ fn complement_value(v: Value) -> Option<Value>
         Value::Address(_) | Value::NullPointer => None,
     }
 }
-
-ghost use Rattle.c_meaning.specs.CExprs.{complement_of, as_expr_type};
-ghost use Rattle.c_meaning.specs.CTypes.{numbers};
-ghost use Rattle.c_step_exprs.specs.Instrs.{as_pointer};
 
 /// A number as one of a type; a pointer stays.
 fn as_number(ty: CTy, v: Value) -> Value

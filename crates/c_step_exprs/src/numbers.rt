@@ -73,7 +73,16 @@ fn operate_in(op: COp, ty: CTy, a: u64, b: u64) -> Option<u64>
         COp::BitAnd => Some(a & b),
         COp::BitOr => Some(a | b),
         COp::BitXor => Some(a ^ b),
-        COp::Shl | COp::Shr | COp::Lt | COp::Le | COp::Gt | COp::Ge | COp::Eq | COp::Ne | COp::Both | COp::Either => None,
+        COp::Shl
+        | COp::Shr
+        | COp::Lt
+        | COp::Le
+        | COp::Gt
+        | COp::Ge
+        | COp::Eq
+        | COp::Ne
+        | COp::Both
+        | COp::Either => None,
     }
 }
 
@@ -88,7 +97,18 @@ fn compare(op: COp, a: i128, b: i128) -> Option<bool>
         COp::Ge => Some(b <= a),
         COp::Eq => Some(a <= b && b <= a),
         COp::Ne => Some(!(a <= b && b <= a)),
-        COp::Add | COp::Sub | COp::Mul | COp::Div | COp::Rem | COp::Shl | COp::Shr | COp::BitAnd | COp::BitOr | COp::BitXor | COp::Both | COp::Either => None,
+        COp::Add
+        | COp::Sub
+        | COp::Mul
+        | COp::Div
+        | COp::Rem
+        | COp::Shl
+        | COp::Shr
+        | COp::BitAnd
+        | COp::BitOr
+        | COp::BitXor
+        | COp::Both
+        | COp::Either => None,
     }
 }
 
@@ -99,7 +119,22 @@ fn shift(op: COp, a: Number, b: Number) -> Option<u64>
     match op {
         COp::Shl => c_shl(a.ty, a.bits, b.bits),
         COp::Shr => c_shr(a.ty, a.bits, b.bits),
-        COp::Add | COp::Sub | COp::Mul | COp::Div | COp::Rem | COp::Lt | COp::Le | COp::Gt | COp::Ge | COp::Eq | COp::Ne | COp::BitAnd | COp::BitOr | COp::BitXor | COp::Both | COp::Either => None,
+        COp::Add
+        | COp::Sub
+        | COp::Mul
+        | COp::Div
+        | COp::Rem
+        | COp::Lt
+        | COp::Le
+        | COp::Gt
+        | COp::Ge
+        | COp::Eq
+        | COp::Ne
+        | COp::BitAnd
+        | COp::BitOr
+        | COp::BitXor
+        | COp::Both
+        | COp::Either => None,
     }
 }
 
@@ -118,7 +153,14 @@ pub(crate) fn operate(op: COp, a: Number, b: Number) -> Option<Number>
             Some(truth_number(holds))
         }
         COp::Both | COp::Either => None,
-        COp::Add | COp::Sub | COp::Mul | COp::Div | COp::Rem | COp::BitAnd | COp::BitOr | COp::BitXor => {
+        COp::Add
+        | COp::Sub
+        | COp::Mul
+        | COp::Div
+        | COp::Rem
+        | COp::BitAnd
+        | COp::BitOr
+        | COp::BitXor => {
             let ty = common_type(a.ty, b.ty);
             let bits = operate_in(op, ty, convert(ty, a).bits, convert(ty, b).bits)?;
             Some(Number { ty, bits })

@@ -48,7 +48,22 @@ fn compare_places(op: COp, v: Value, w: Value) -> Option<Number>
     match op {
         COp::Eq => Some(truth_number(is_same_place(v, w))),
         COp::Ne => Some(truth_number(!is_same_place(v, w))),
-        COp::Add | COp::Sub | COp::Mul | COp::Div | COp::Rem | COp::Shl | COp::Shr | COp::BitAnd | COp::BitOr | COp::BitXor | COp::Lt | COp::Le | COp::Gt | COp::Ge | COp::Both | COp::Either => None,
+        COp::Add
+        | COp::Sub
+        | COp::Mul
+        | COp::Div
+        | COp::Rem
+        | COp::Shl
+        | COp::Shr
+        | COp::BitAnd
+        | COp::BitOr
+        | COp::BitXor
+        | COp::Lt
+        | COp::Le
+        | COp::Gt
+        | COp::Ge
+        | COp::Both
+        | COp::Either => None,
     }
 }
 
@@ -69,9 +84,15 @@ pub(crate) fn cell_for(ty: CellType, v: Value) -> Option<Cell>
 {
     match (ty, v) {
         (CellType::U8, Value::Numeric(n)) => Some(Cell::Num(whole_of(n).rem_euclid(1 << 8) as u64)),
-        (CellType::U16, Value::Numeric(n)) => Some(Cell::Num(whole_of(n).rem_euclid(1 << 16) as u64)),
-        (CellType::U32, Value::Numeric(n)) => Some(Cell::Num(whole_of(n).rem_euclid(1 << 32) as u64)),
-        (CellType::U64, Value::Numeric(n)) => Some(Cell::Num(whole_of(n).rem_euclid(1 << 64) as u64)),
+        (CellType::U16, Value::Numeric(n)) => Some(Cell::Num(
+            whole_of(n).rem_euclid(1 << 16) as u64,
+        )),
+        (CellType::U32, Value::Numeric(n)) => Some(Cell::Num(
+            whole_of(n).rem_euclid(1 << 32) as u64,
+        )),
+        (CellType::U64, Value::Numeric(n)) => Some(Cell::Num(
+            whole_of(n).rem_euclid(1 << 64) as u64,
+        )),
         (CellType::Flag, Value::Numeric(n)) => Some(Cell::Num(truth_number(is_not_zero(n)).bits)),
         (CellType::Pointer, Value::Numeric(_) | Value::NullPointer) => Some(Cell::Null),
         (CellType::Pointer, Value::Address(p)) => Some(Cell::At(p)),

@@ -5,7 +5,7 @@ ghost use Rattle.c_meaning.specs.declared.values.Value.{Value as AnyValue};
 ghost use Rattle.c_mem.specs.MemoryViews.{memory};
 ghost use Rattle.c_step_exprs.specs.Running.{run_from, StopsAt};
 ghost use Rattle.c_step_exprs.specs.Stacks.{on_stack, most};
-ghost use Rattle.c_step_exprs.specs.Values.{placed};
+ghost use Rattle.c_step_exprs.specs.Values.{placed, is_call};
 
 use crate::acting::act;
 use crate::instrs::Instr;
@@ -55,8 +55,11 @@ fn is_call(i: Instr) -> bool
 {
     match i {
         Instr::Call { .. } => true,
-        Instr::Put(_) | Instr::Turn(_) | Instr::Join(_) | Instr::Test(_, _) | Instr::Skip(_) | Instr::Stuck => false,
+        Instr::Put(_)
+        | Instr::Turn(_)
+        | Instr::Join(_)
+        | Instr::Test(_, _)
+        | Instr::Skip(_)
+        | Instr::Stuck => false,
     }
 }
-
-ghost use Rattle.c_step_exprs.specs.Values.{is_call};

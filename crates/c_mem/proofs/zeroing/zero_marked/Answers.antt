@@ -1,4 +1,4 @@
-use Rattle.std.proofs.Common.{◌≡◌, ◌<◌, ◌≤◌, ◌∙◌, arith, ap, Bool, true, false, Some, length, slice_index_or}
+use Rattle.std.proofs.Common.{◌≡◌, ◌<◌, ◌≤◌, ◌∙◌, arith, ap, true, false, Some, length, slice_index_or}
 use Rattle.std.specs.Prelude.{slice_get}
 use Rattle.std.proofs.lemmas.List.{get_or_default}
 use Rattle.std.proofs.lemmas.Option.{slice_get_within}
@@ -17,16 +17,16 @@ loop-at-preserved c =
     let within : c.loop-at.at < length c.loop-at.objects = omega (arith, in_turn, c.loop-at.invariant.within) in
     let inside : c.loop-at.at < length c.loop-at.marks = omega (arith, within, c.loop-at.invariant.sizes) in
     elim c.if-marks-at.branch [
-      then-marks-at w ↦
-        (let marked : slice_get c.loop-at.marks c.loop-at.at ≡ Some true = found_is c.loop-at.marks c.loop-at.at false inside ∙ ap Some w.if-marks-at.true in
-        let x : Object = slice_index_or c.loop-at.objects c.loop-at.at w.index-objects-at.result in
-        rw (w.objects-is, w.marks-is, w.last-is, w.zero.ensures, get_or_default c.loop-at.objects c.loop-at.at w.index-objects-at-then-marks-at.result w.index-objects-at.result within)
-        (zeroes_one c.args.first c.args.objects.now c.loop-at.at c.loop-at.last c.loop-at.objects c.loop-at.marks w.mark_parts-last.new.marks w.mark_parts-last.result x
-            c.loop-at.invariant in_turn marked (found_is c.loop-at.objects c.loop-at.at w.index-objects-at.result within)
-            w.mark_parts-last.ensures.least w.mark_parts-last.ensures.below w.mark_parts-last.ensures.size w.mark_parts-last.ensures.marked))
-    | else-marks-at w ↦
-        (let unmarked : slice_get c.loop-at.marks c.loop-at.at ≡ Some false = found_is c.loop-at.marks c.loop-at.at false inside ∙ ap Some w.if-marks-at.false in
-        rw (w.objects-is, w.marks-is, w.last-is) (passes c.args.first c.args.objects.now c.loop-at.at c.loop-at.last c.loop-at.objects c.loop-at.marks c.loop-at.invariant in_turn unmarked))
+      | then-marks-at w ↦
+          (let marked : slice_get c.loop-at.marks c.loop-at.at ≡ Some true = found_is c.loop-at.marks c.loop-at.at false inside ∙ ap Some w.if-marks-at.true in
+          let x : Object = slice_index_or c.loop-at.objects c.loop-at.at w.index-objects-at.result in
+          rw (w.objects-is, w.marks-is, w.last-is, w.zero.ensures, get_or_default c.loop-at.objects c.loop-at.at w.index-objects-at-then-marks-at.result w.index-objects-at.result within)
+          (zeroes_one c.args.first c.args.objects.now c.loop-at.at c.loop-at.last c.loop-at.objects c.loop-at.marks w.mark_parts-last.new.marks w.mark_parts-last.result x
+          c.loop-at.invariant in_turn marked (found_is c.loop-at.objects c.loop-at.at w.index-objects-at.result within)
+          w.mark_parts-last.ensures.least w.mark_parts-last.ensures.below w.mark_parts-last.ensures.size w.mark_parts-last.ensures.marked))
+      | else-marks-at w ↦
+          (let unmarked : slice_get c.loop-at.marks c.loop-at.at ≡ Some false = found_is c.loop-at.marks c.loop-at.at false inside ∙ ap Some w.if-marks-at.false in
+          rw (w.objects-is, w.marks-is, w.last-is) (passes c.args.first c.args.objects.now c.loop-at.at c.loop-at.last c.loop-at.objects c.loop-at.marks c.loop-at.invariant in_turn unmarked))
     ]
 
 pub returns : goal.returns

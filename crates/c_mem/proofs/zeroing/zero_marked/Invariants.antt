@@ -1,6 +1,4 @@
-use Rattle.std.proofs.Common.{◌≡◌, ℕ, ◌+◌, ◌-◌, ◌<◌, ◌≤◌, List, [], ◌∷◌, ◌++◌, length, take, drop}
-use Rattle.c_meaning.specs.CMemory.{zeroed_from}
-use Rattle.c_mem.specs.Marking.{Marked}
+use Rattle.std.proofs.Common.{◌-◌, length}
 use Rattle.c_mem.proofs.Passing.{ZeroedSoFar}
 use Rattle.c_mem.proofs.zeroing.zero_marked.Given as goal
 

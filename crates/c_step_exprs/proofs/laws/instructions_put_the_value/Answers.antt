@@ -1,10 +1,10 @@
-use Rattle.std.proofs.Common.{◌≡◌, ℕ, List, [], ◌∷◌, ◌++◌, Option, Some, None, refl, sym, ap, ◌∙◌}
+use Rattle.std.proofs.Common.{◌≡◌, List, [], ◌∷◌, Option, Some, None, refl, sym, ap, ◌∙◌}
 use Rattle.std.specs.Prelude.{option_map, option_and_then}
 use Rattle.std.proofs.lemmas.List.{append-nil}
 use Rattle.c_meaning.specs.declared.values.Pointer.{Pointer}
 use Rattle.c_meaning.specs.declared.values.Value.{Value}
 use Rattle.c_meaning.specs.declared.values.Value.TheVariants.{Address as address}
-use Rattle.c_meaning.specs.CExprs.{Surroundings, value, place}
+use Rattle.c_meaning.specs.CExprs.{value, place}
 use Rattle.c_step_exprs.specs.declared.instrs.Instr.{Instr}
 use Rattle.c_step_exprs.specs.Instrs.{exec}
 use Rattle.c_step_exprs.specs.Resolving.{value_code, place_code}

@@ -8,5 +8,5 @@ pub returns-then-is_one_field : goal.returns-then-is_one_field
 returns-then-is_one_field c =
     let one : same_field c.args.to c.args.from ≡ true = sym c.is_one_field.ensures ∙ c.if-is_one_field.true in
     moves_within c.args.self.now.objects.items c.args.to c.args.from c.args.bytes c.index_mut.result.now
-        (read_is c.args.self.now.objects.items c.args.to.object c.index_mut.result.now (omega arith) c.index_mut.ensures.value)
-        c.move_within.new.self c.move_within.result (one_field c.args.to c.args.from one).0 (one_field c.args.to c.args.from one).1 c.move_within.ensures
+    (read_is c.args.self.now.objects.items c.args.to.object c.index_mut.result.now (omega arith) c.index_mut.ensures.value)
+    c.move_within.new.self c.move_within.result (one_field c.args.to c.args.from one).0 (one_field c.args.to c.args.from one).1 c.move_within.ensures

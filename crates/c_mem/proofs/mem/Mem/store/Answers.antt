@@ -5,4 +5,4 @@ use Rattle.c_mem.proofs.mem.Mem.store.Goals as goal
 pub returns : goal.returns
 returns c =
     store_object c.args.self.now.objects.items c.args.p c.args.cell c.index_mut.result.now c.store.new.self c.store.result
-        (read_is c.args.self.now.objects.items c.args.p.object c.index_mut.result.now (omega arith) c.index_mut.ensures.value) c.store.ensures
+    (read_is c.args.self.now.objects.items c.args.p.object c.index_mut.result.now (omega arith) c.index_mut.ensures.value) c.store.ensures

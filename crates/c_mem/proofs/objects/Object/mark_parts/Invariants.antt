@@ -1,4 +1,4 @@
-use Rattle.std.proofs.Common.{◌≡◌, ℕ, ◌+◌, ◌<◌, ◌≤◌, List, ◌++◌, length, take}
+use Rattle.std.proofs.Common.{ℕ, ◌+◌, ◌<◌, ◌≤◌, List, ◌++◌, length, take}
 use Rattle.c_meaning.specs.CMemory.{parts_of}
 use Rattle.c_mem.specs.Marking.{Marked}
 use Rattle.c_mem.proofs.objects.Object.mark_parts.Given as goal
