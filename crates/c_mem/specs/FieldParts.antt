@@ -48,3 +48,8 @@ declared_field (declares.Part object) = part object
 
 abbrev pub declared_object : ObjDecl → Object
 declared_object decl = map declared_field decl.fields.items
+
+-- A field whose cells are all unset.
+abbrev pub unset_field : Field → Field
+unset_field (cells type them) = cells type (map (λ _. unset) them)
+unset_field (part object) = part object

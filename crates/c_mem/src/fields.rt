@@ -3,7 +3,7 @@
 ghost use Rattle.std.specs.Prelude.{◌≡◌, ◌+◌, ◌^◌, ◌<◌, ◌≤◌, replicate, IfOk, ◌≤ℤ◌, ◌<ℤ◌, pos, negsuc};
 ghost use Rattle.c_meaning.specs.declared.cells.Cell.TheVariants.{Unset as unset};
 ghost use Rattle.c_meaning.specs.CMemory.{cells, part, part_of, zero_field, zero_cell as zeroed_cell};
-ghost use Rattle.c_mem.specs.FieldParts.{cell_in, load_in, stored_in, moved_index, declared_field};
+ghost use Rattle.c_mem.specs.FieldParts.{cell_in, load_in, stored_in, moved_index, declared_field, unset_field};
 ghost use Rattle.c_mem.specs.Leaving.{Leaves};
 
 use crate::decls::FieldDecl;
@@ -146,6 +146,21 @@ impl Field {
                 let zero = zero_cell(*ty);
                 for cell in cells.iter_mut() {
                     *cell = zero;
+                }
+            }
+            Held::Part(_) => {}
+        }
+    }
+
+    /// Makes every cell unset.
+    pub(crate) fn clear(&mut self)
+        ensures { self.new ≡ unset_field self.old }
+    {
+        match &mut self.held {
+            Held::Cells(_, cells) => {
+                let nothing = Cell::Unset;
+                for cell in cells.iter_mut() {
+                    *cell = nothing;
                 }
             }
             Held::Part(_) => {}

@@ -12,3 +12,4 @@ mod zeroing;
 
 pub use decls::{FieldDecl, ObjDecl};
 pub use mem::Mem;
+pub use objects::Object;

@@ -22,18 +22,21 @@ pub struct Mem {
 }
 
 impl Mem {
-    ghost use Rattle.std.specs.Prelude.{◌^◌, map, IfOk, ◌≤ℤ◌, ◌<ℤ◌, pos, negsuc};
+    ghost use Rattle.std.specs.Prelude.{ℕ, ◌+◌, ◌^◌, ◌<◌, [], ◌∷◌, ◌++◌, length, map, option_to_list, IfOk, IsSome, ◌≤ℤ◌, ◌<ℤ◌, pos, negsuc};
     ghost use Rattle.c_meaning.specs.CMemory.{load, store, offset, cell_at, part_at};
     ghost use Rattle.c_mem.specs.FieldParts.{declared_object};
     ghost use Rattle.c_mem.specs.Leaving.{Leaves};
-    ghost use Rattle.c_mem.specs.MemoryViews.{memory};
+    ghost use Rattle.c_mem.specs.MemoryViews.{memory, HasRoom};
 
-    /// The memory of these objects, each numbered by its place, with all cells unset.
-    pub fn reserve(alloc: Global, objects: &[ObjDecl]) -> Result<Mem, NoMemory>
-        ensures { IfOk result (λ mem. memory mem ≡ map declared_object objects.now) }
+    /// The memory of these objects, each numbered by its place, with all cells unset, and with room for so many more.
+    pub fn reserve(alloc: Global, objects: &[ObjDecl], more: usize) -> Result<Mem, NoMemory>
+        requires { length objects.now + more < 2 ^ 64 }
+        ensures objects { IfOk result (λ mem. memory mem ≡ map declared_object objects.now) }
+        ensures room { IfOk result (λ mem. HasRoom mem more) }
     {
-        let mut made = Vec::new(alloc);
-        let mut marks = Vec::new(alloc);
+        let count = objects.len() + more;
+        let mut made = Vec::with_capacity(alloc, count)?;
+        let mut marks = Vec::with_capacity(alloc, count)?;
         for object in objects {
             made.push(Object::new(alloc, object)?)?;
             marks.push(false)?;
@@ -43,6 +46,25 @@ impl Mem {
             marks,
             spare: Field::part(0),
         })
+    }
+
+    /// Adds an object after the others; there is room for it.
+    pub fn enter(&mut self, object: Object)
+        requires { HasRoom self.old 1 }
+        ensures objects { memory self.new ≡ memory self.old ++ object ∷ [] }
+        ensures room { (more : ℕ) → HasRoom self.old (more + 1) → HasRoom self.new more }
+    {
+        let _ = self.objects.push(object);
+        let _ = self.marks.push(false);
+    }
+
+    /// Takes the last object out, which leaves room for it; None where there is none.
+    pub fn leave(&mut self) -> Option<Object>
+        ensures objects { memory self.old ≡ memory self.new ++ option_to_list result }
+        ensures room { (more : ℕ) → HasRoom self.old more → IsSome result → HasRoom self.new (more + 1) }
+    {
+        let _ = self.marks.pop();
+        self.objects.pop()
     }
 
     /// The cell that a pointer names, and its type; None outside every field.
@@ -61,7 +83,8 @@ impl Mem {
 
     /// Writes the cell that a pointer names; None, and the memory is as before, outside every field (6.5.3.2p4).
     pub fn store(&mut self, p: Pointer, cell: Cell) -> Option<()>
-        ensures { Leaves (store (memory self.old) p cell) (memory self.old) result (memory self.new) }
+        ensures objects { Leaves (store (memory self.old) p cell) (memory self.old) result (memory self.new) }
+        ensures room { (more : ℕ) → HasRoom self.old more → HasRoom self.new more }
     {
         if p.object >= self.objects.len() {
             return None;

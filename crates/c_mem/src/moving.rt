@@ -1,10 +1,10 @@
 // `memmove` (ISO/IEC 9899:1999, 7.21.2.2).
 
-ghost use Rattle.std.specs.Prelude.{◌≡◌, ◌+◌, ◌<◌, ◌≤◌, drop, length, nat_le, IfSome, slice_get, slice_range, false};
+ghost use Rattle.std.specs.Prelude.{◌≡◌, ℕ, ◌+◌, ◌<◌, ◌≤◌, drop, length, nat_le, IfSome, slice_get, slice_range, false};
 ghost use Rattle.std.specs.List.{list_all};
 ghost use Rattle.c_meaning.specs.CMemory.{bytes_of, whole_cells, same_type, is_set, move_bytes};
 ghost use Rattle.c_mem.specs.Leaving.{Leaves};
-ghost use Rattle.c_mem.specs.MemoryViews.{memory};
+ghost use Rattle.c_mem.specs.MemoryViews.{memory, HasRoom};
 ghost use Rattle.c_mem.specs.Moving.{counted, count_moved, moved_field, moved_at, PastesIn, pasted, paste_cells, Swaps, moved_from, same_field};
 
 use crate::fields::{Field, Held};
@@ -246,7 +246,8 @@ impl Mem {
     /// the memory is as before, beyond a field, at a part of a cell, at an unset cell, and between cells of different
     /// types. 0 bytes ask for two places that are there.
     pub fn move_bytes(&mut self, to: Pointer, from: Pointer, bytes: u64) -> Option<()>
-        ensures { Leaves (move_bytes (memory self.old) to from bytes) (memory self.old) result (memory self.new) }
+        ensures objects { Leaves (move_bytes (memory self.old) to from bytes) (memory self.old) result (memory self.new) }
+        ensures room { (more : ℕ) → HasRoom self.old more → HasRoom self.new more }
     {
         if to.object >= self.objects.len() {
             return None;
@@ -261,7 +262,8 @@ impl Mem {
     fn move_across(&mut self, to: Pointer, from: Pointer, bytes: u64) -> Option<()>
         requires there { to.object < length (memory self.old) }
         requires apart { same_field to from ≡ false }
-        ensures { Leaves (move_bytes (memory self.old) to from bytes) (memory self.old) result (memory self.new) }
+        ensures objects { Leaves (move_bytes (memory self.old) to from bytes) (memory self.old) result (memory self.new) }
+        ensures room { (more : ℕ) → HasRoom self.old more → HasRoom self.new more }
     {
         if !self.objects[to.object].swap_field(to.field, &mut self.spare) {
             return None;

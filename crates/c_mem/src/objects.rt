@@ -2,7 +2,7 @@
 
 ghost use Rattle.std.specs.Prelude.{◌≡◌, ◌^◌, map, IfOk, ◌≤ℤ◌, ◌<ℤ◌, pos, negsuc};
 ghost use Rattle.c_meaning.specs.CMemory.{zero_field};
-ghost use Rattle.c_mem.specs.FieldParts.{cell_at_field, load_at_field, stored_at_field, part_at_field, moved_at_field, declared_object};
+ghost use Rattle.c_mem.specs.FieldParts.{cell_at_field, load_at_field, stored_at_field, part_at_field, moved_at_field, declared_object, unset_field};
 ghost use Rattle.c_mem.specs.Leaving.{Leaves};
 
 use crate::decls::ObjDecl;
@@ -12,9 +12,9 @@ use std::alloc::Global;
 use std::marker::Model;
 use wf_text::NoMemory;
 
-/// An object.
+/// An object, as it stands in a memory or will.
 #[derive(Drop)]
-pub(crate) struct Object {
+pub struct Object {
     pub(crate) fields: Vec<Field>,
 }
 
@@ -29,7 +29,7 @@ impl Model for Object {
 
 impl Object {
     /// An object as it is declared, with all cells unset.
-    pub(crate) fn new(alloc: Global, decl: &ObjDecl) -> Result<Object, NoMemory>
+    pub fn new(alloc: Global, decl: &ObjDecl) -> Result<Object, NoMemory>
         ensures { IfOk result (λ object. object ≡ declared_object decl.now) }
     {
         let mut fields = Vec::new(alloc);
@@ -70,7 +70,7 @@ impl Object {
     }
 
     /// Writes a cell of a field; None, and the object is as before, where there is none.
-    pub(crate) fn store(&mut self, field: usize, index: u64, cell: Cell) -> Option<()>
+    pub fn store(&mut self, field: usize, index: u64, cell: Cell) -> Option<()>
         ensures { Leaves (stored_at_field self.old field index cell) self.old result self.new }
     {
         if field >= self.fields.len() {
@@ -85,6 +85,15 @@ impl Object {
     {
         for field in self.fields.iter_mut() {
             field.zero();
+        }
+    }
+
+    /// Makes every cell unset.
+    pub fn unset(&mut self)
+        ensures { self.new ≡ map unset_field self.old }
+    {
+        for field in self.fields.iter_mut() {
+            field.clear();
         }
     }
 }

@@ -4,7 +4,7 @@ ghost use Rattle.std.specs.Prelude.{◌≡◌, ◌+◌, ◌<◌, ◌≤◌, ◌+
 ghost use Rattle.c_meaning.specs.CMemory.{zeroed, parts_of, zeroed_from, Field as FieldOfMemory};
 ghost use Rattle.c_mem.specs.Leaving.{Leaves};
 ghost use Rattle.c_mem.specs.Marking.{Marked, MarksOne};
-ghost use Rattle.c_mem.specs.MemoryViews.{memory};
+ghost use Rattle.c_mem.specs.MemoryViews.{memory, HasRoom};
 
 use crate::fields::Field;
 use crate::mem::Mem;
@@ -14,7 +14,8 @@ impl Mem {
     /// Makes an object, and every object inside it, all zero: numbers become 0, flags false and pointers null
     /// (7.21.6.1). None, and the memory is as before, where there is no such object.
     pub fn zero(&mut self, object: usize) -> Option<()>
-        ensures { Leaves (zeroed (memory self.old) object) (memory self.old) result (memory self.new) }
+        ensures objects { Leaves (zeroed (memory self.old) object) (memory self.old) result (memory self.new) }
+        ensures room { (more : ℕ) → HasRoom self.old more → HasRoom self.new more }
     {
         if object >= self.objects.len() {
             return None;

@@ -6,15 +6,15 @@ use Rattle.c_mem.proofs.Moved.{moves_nowhere, moves_across, two_fields}
 use Rattle.c_mem.proofs.Stored.{read_is, read_back, put_back}
 use Rattle.c_mem.proofs.mem.Mem.move_across.Goals as goal
 
-pub returns-then-not-swap_field : goal.returns-then-not-swap_field
-returns-then-not-swap_field c =
+pub returns-then-not-swap_field-clause-objects : goal.returns-then-not-swap_field-clause-objects
+returns-then-not-swap_field-clause-objects c =
     let there : slice_get c.args.self.now.objects.items c.args.to.object ≡ Some c.index_mut.result.now = read_is c.args.self.now.objects.items c.args.to.object c.index_mut.result.now c.requires.there c.index_mut.ensures.value in (
       moves_nowhere c.args.self.now.objects.items c.args.to c.args.from c.args.bytes c.index_mut.result.now there c.if-not-swap_field.ensures.0,
       ap (slice_set c.args.self.now.objects.items c.args.to.object) c.if-not-swap_field.ensures.1.0 ∙ put_back c.args.self.now.objects.items c.args.to.object c.index_mut.result.now there,
     )
 
-pub returns : goal.returns
-returns c =
+pub returns-clause-objects : goal.returns-clause-objects
+returns-clause-objects c =
     let there : slice_get c.args.self.now.objects.items c.args.to.object ≡ Some c.index_mut.result.now = read_is c.args.self.now.objects.items c.args.to.object c.index_mut.result.now c.requires.there c.index_mut.ensures.value in
     let moved_in = rw (c.as_slice.ensures.value, c.if-not-swap_field.ensures.1) at c.move_to-moved.ensures in
     let found : c.index_mut-2.result.now ≡ c.swap_field.new.self = read_back c.args.self.now.objects.items c.args.to.object c.index_mut-2.result.now c.swap_field.new.self c.requires.there c.index_mut-2.ensures.value in
