@@ -11,7 +11,7 @@ use Rattle.c_meaning.specs.CValues.{Pointer, Value, numeric, address, null_point
 use Rattle.c_meaning.specs.CMemory.{Object, Memory, stored, move_bytes, zeroed}
 use Rattle.c_meaning.specs.CTypes.{Function}
 use Rattle.c_meaning.specs.CExprs.{value, place, pointed_place, arg_values, all_some}
-use Rattle.c_meaning.specs.CStep.{Continuation, stop, behind, again, Place, at, place_weight, by_name, by_case, by_default, first_of, find, Returned, Meaning, Running, State, state, weight, surroundings, goes_on, by_test, takes_turn, tested_again, leaps, jumps, enters, switches, kept, goes_back, calls, Callee, memory_move, memory_set, own, callee_of, as_size, moves, zeroes, move_given, set_given, calls_function, returns, result_value, assigned, at_end, step_at, step}
+use Rattle.c_meaning.specs.CStep.{Continuation, stop, behind, again, Place, at, place_weight, by_name, by_case, by_default, first_of, find, Returned, Meaning, Running, State, state, weight, surroundings, goes_on, by_test, takes_turn, tested_again, leaps, jumps, enters, switches, one_place, kept, goes_back, calls, Callee, memory_move, memory_set, own, callee_of, as_size, moves, zeroes, move_given, set_given, calls_function, returns, result_value, assigned, at_end, step_at, step}
 use Rattle.c_meaning.specs.CCall.{Program, frame_object, ExprMeaning, expression_call, entered, initial_stored, initialized, without_frame, body_run, running, started, function_meaning, call_of}
 use Rattle.c_meaning.proofs.Weights.{step_falls}
 
@@ -119,7 +119,7 @@ module _ (Fit : Memory → Type 0) (R : Memory → Memory → Type 0) (is_kept :
       set_given_by [] = tt
       set_given_by (a ∷ others) = zeroes_by (pointed_place a)
 
-      kept_by : (target : Option ExprTree) (done : Returned) → R memory done.memory → LeftBy R memory (kept r target done)
+      kept_by : (target : Option ExprTree) (done : Returned) → R memory done.memory → LeftBy R memory (kept r memory target done)
       kept_by None done h = h
       kept_by (Some target) done h = left_then memory done.memory _ h (by_value done.value)
         where
@@ -127,9 +127,9 @@ module _ (Fit : Memory → Type 0) (R : Memory → Memory → Type 0) (is_kept :
           by_place v None = tt
           by_place v (Some p) = is_kept.stores done.memory (is_kept.fit memory done.memory ready h) p v
 
-          by_value : (v : Option Value) → LeftBy R done.memory (option_and_then (λ v. option_and_then (λ p. stored done.memory p v) (place (surroundings r done.memory) target)) v)
+          by_value : (v : Option Value) → LeftBy R done.memory (option_and_then (λ v. option_and_then (λ p. stored done.memory p v) (one_place (place (surroundings r memory) target) (place (surroundings r done.memory) target))) v)
           by_value None = tt
-          by_value (Some v) = by_place v (place (surroundings r done.memory) target)
+          by_value (Some v) = by_place v (one_place (place (surroundings r memory) target) (place (surroundings r done.memory) target))
 
       goes_back_by : (n left : ℕ) (rest : Code) (k : Continuation) (o : Option Memory) → LeftBy R memory o → NextBy memory (goes_back n left rest k o)
       unfolding onward
@@ -144,7 +144,7 @@ module _ (Fit : Memory → Type 0) (R : Memory → Memory → Type 0) (is_kept :
 
       calls_by : (n : ℕ) (target : Option ExprTree) (meaning : Meaning) (given : Option (List Value)) (rest : Code) (k : Continuation) → MeaningBy meaning → NextBy memory (calls r n target meaning given rest k memory)
       calls_by n target meaning None rest k h = tt
-      calls_by n target meaning (Some given) rest k h = holding_by (meaning n given memory) _ (h.by n given memory ready) (λ left done a. goes_back_by n left rest k (kept r target done) (kept_by target done a))
+      calls_by n target meaning (Some given) rest k h = holding_by (meaning n given memory) _ (h.by n given memory ready) (λ left done a. goes_back_by n left rest k (kept r memory target done) (kept_by target done a))
 
       calls_function_by : (c : Callee) (n : ℕ) (target : Option ExprTree) (name : List ℕ) (given : List (Option Value)) (rest : Code) (k : Continuation) → NextBy memory (calls_function c r n target name given rest k memory)
       calls_function_by memory_move n target name given rest k = goes_on_by rest k (move_given memory given) (move_given_by given)

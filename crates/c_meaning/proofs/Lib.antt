@@ -10,6 +10,7 @@ pub mod ReachExprs
 pub mod ReachMemory
 pub mod ReachSteps
 pub mod Stores
+pub mod Targets
 pub mod Text
 pub mod TypedLaws
 pub mod Untouched

@@ -69,7 +69,7 @@ when false o bits e = absurd (cc (e))
 
 module _ (a b r : Number) where
   abbrev type : CTy
-  type = common a.type b.type
+  type = common a.ty b.ty
 
   abbrev left : Number
   left = converted type a
@@ -92,11 +92,11 @@ module _ (a b r : Number) where
   pub remainder_gives : operated Rem a b ≡ Some r → Gives type (int_rem (whole left) (whole right)) r
   remainder_gives e = given type _ (c_remainder type left.bits right.bits) r (λ bits f. when (is_some (c_quotient type left.bits right.bits)) _ bits f) e
 
-  pub shifted_left_gives : operated Shl a b ≡ Some r → Gives a.type (whole a *ℤ pos (2 ^ b.bits)) r
-  shifted_left_gives e = given a.type _ (c_shifted_left a.type a.bits b.bits) r (λ bits f. when (nat_lt b.bits (c_width a.type) && int_le (pos 0) (whole a)) _ bits f) e
+  pub shifted_left_gives : operated Shl a b ≡ Some r → Gives a.ty (whole a *ℤ pos (2 ^ b.bits)) r
+  shifted_left_gives e = given a.ty _ (c_shifted_left a.ty a.bits b.bits) r (λ bits f. when (nat_lt b.bits (c_width a.ty) && int_le (pos 0) (whole a)) _ bits f) e
 
-  pub shifted_right_gives : operated Shr a b ≡ Some r → Gives a.type (int_div_euclid (whole a) (pos (2 ^ b.bits))) r
-  shifted_right_gives e = given a.type _ (c_shifted_right a.type a.bits b.bits) r (λ bits f. when (nat_lt b.bits (c_width a.type)) _ bits f) e
+  pub shifted_right_gives : operated Shr a b ≡ Some r → Gives a.ty (int_div_euclid (whole a) (pos (2 ^ b.bits))) r
+  shifted_right_gives e = given a.ty _ (c_shifted_right a.ty a.bits b.bits) r (λ bits f. when (nat_lt b.bits (c_width a.ty)) _ bits f) e
 
 -- A conversion keeps the value where the type can represent it.
 pub conversion_keeps : (type : CTy) (a : Number) → IsIn type (whole a) → whole (converted type a) ≡ whole a
@@ -129,7 +129,7 @@ zero_abs (negsuc n) h = absurd (grind (arith, nat_tests, h))
 
 module _ (a b : Number) where
   abbrev shared : CTy
-  shared = common a.type b.type
+  shared = common a.ty b.ty
 
   abbrev one : Number
   one = converted shared a

@@ -84,7 +84,7 @@ module _ (more : ℕ) where
   calls_up : (r : Running) (n : ℕ) (target : Option ExprTree) (meaning : Meaning) (given : Option (List Value)) (rest : Code) (k : Continuation) (memory : Memory) → Raises meaning
       → Up more (calls r n target meaning given rest k memory) (calls r (n + more) target meaning given rest k memory)
   calls_up r n target meaning None rest k memory h = refl
-  calls_up r n target meaning (Some given) rest k memory h = holding_up (meaning n given memory) (meaning (n + more) given memory) _ _ (h.by n more given memory) (λ left done. goes_back_up n left rest k (kept r target done))
+  calls_up r n target meaning (Some given) rest k memory h = holding_up (meaning n given memory) (meaning (n + more) given memory) _ _ (h.by n more given memory) (λ left done. goes_back_up n left rest k (kept r memory target done))
 
   calls_function_up : (c : Callee) (r : Running) (n : ℕ) (target : Option ExprTree) (name : List ℕ) (given : List (Option Value)) (rest : Code) (k : Continuation) (memory : Memory) → Raises (r.callee name)
       → Up more (calls_function c r n target name given rest k memory) (calls_function c r (n + more) target name given rest k memory)

@@ -8,11 +8,11 @@ use Rattle.turns.proofs.Unfolds.{unfolds}
 use Rattle.c_text.specs.declared.kinds.Linkage.{Linkage}
 use Rattle.c_text.specs.declared.kinds.Linkage.TheVariants.{External, Static, StaticInline}
 use Rattle.c_text.specs.CTree.{TypeTree, ExprTree, Code, finish, nested, empty, assign, call, jump, branch, repeat, select, leave, case_label, default_label, name_label, ParamTree, LocalTree}
-use Rattle.c_meaning.specs.CValues.{Pointer, Value, numeric, address, null_pointer, holds}
+use Rattle.c_meaning.specs.CValues.{Pointer, same_pointer, Value, numeric, address, null_pointer, holds}
 use Rattle.c_meaning.specs.CMemory.{Cell, unset, Field, Object, Memory, cell_of, stored, zeroed}
 use Rattle.c_meaning.specs.CTypes.{Function, local_name, returned}
 use Rattle.c_meaning.specs.CExprs.{Surroundings, cell_type, value, place, pointed_place, arg_values, all_some}
-use Rattle.c_meaning.specs.CStep.{Continuation, stop, behind, again, Place, at, place_weight, by_name, by_case, by_default, first_of, find, Returned, Meaning, Running, State, state, weight, surroundings, goes_on, by_test, takes_turn, tested_again, leaps, jumps, enters, switches, kept, goes_back, calls, Callee, memory_move, memory_set, own, callee_of, as_size, moves, zeroes, move_given, set_given, calls_function, returns, result_value, assigned, at_end, step_at, step}
+use Rattle.c_meaning.specs.CStep.{Continuation, stop, behind, again, Place, at, place_weight, by_name, by_case, by_default, first_of, find, Returned, Meaning, Running, State, state, weight, surroundings, goes_on, by_test, takes_turn, tested_again, leaps, jumps, enters, switches, one_place, kept, goes_back, calls, Callee, memory_move, memory_set, own, callee_of, as_size, moves, zeroes, move_given, set_given, calls_function, returns, result_value, assigned, at_end, step_at, step}
 use Rattle.c_meaning.specs.CCall.{Program, scope_in, field_with, passed, frame_object, ExprMeaning, returned_value, expression_meaning, expression_call, entered, initial_stored, initialized, without_frame, body_run, running, started, function_meaning, call_of, host_call}
 use Rattle.c_meaning.specs.Reach.{ObjectIn, FoundIn, ValueIn, ValuesIn, IsReady, Keeps}
 use Rattle.c_meaning.proofs.Weights.{step_falls}
@@ -123,7 +123,16 @@ module _ (inside : ℕ → Bool) where
       set_given_in [] h = tt
       set_given_in (a ∷ others) h = zeroes_in (pointed_place a) (pointed_in inside a h.0)
 
-      kept_in : (target : Option ExprTree) (done : Returned) → Keeps inside memory done.memory → OptIn inside done.value → LeftIn inside memory (kept r target done)
+      one_place_in : (before after : Option Pointer) → PointerIn inside after → PointerIn inside (one_place before after)
+      one_place_in None after h = tt
+      one_place_in (Some p) None h = tt
+      one_place_in (Some p) (Some q) h = by_same (same_pointer p q)
+        where
+          by_same : (b : Bool) → PointerIn inside (if b then Some q else None)
+          by_same true = h
+          by_same false = tt
+
+      kept_in : (target : Option ExprTree) (done : Returned) → Keeps inside memory done.memory → OptIn inside done.value → LeftIn inside memory (kept r memory target done)
       kept_in None done h k = h
       kept_in (Some target) done h k = left_then memory done.memory _ h (by_value done.value k)
         where
@@ -131,9 +140,10 @@ module _ (inside : ℕ → Bool) where
           by_place v g None e = tt
           by_place v g (Some p) e = stored_in inside done.memory h.closed p v e g
 
-          by_value : (v : Option Value) → OptIn inside v → LeftIn inside done.memory (option_and_then (λ v. option_and_then (λ p. stored done.memory p v) (place (surroundings r done.memory) target)) v)
+          by_value : (v : Option Value) → OptIn inside v → LeftIn inside done.memory (option_and_then (λ v. option_and_then (λ p. stored done.memory p v) (one_place (place (surroundings r memory) target) (place (surroundings r done.memory) target))) v)
           by_value None g = tt
-          by_value (Some v) g = by_place v g (place (surroundings r done.memory) target) (place_in inside (surroundings r done.memory) (around done.memory (ready_then memory done.memory ready h)) target)
+          by_value (Some v) g = by_place v g (one_place (place (surroundings r memory) target) (place (surroundings r done.memory) target))
+              (one_place_in (place (surroundings r memory) target) (place (surroundings r done.memory) target) (place_in inside (surroundings r done.memory) (around done.memory (ready_then memory done.memory ready h)) target))
 
       with_turns_in : (n left : ℕ) (t : State) → Keeps inside memory t.memory → NextIn memory (onward n left t)
       unfolding onward
@@ -151,7 +161,7 @@ module _ (inside : ℕ → Bool) where
 
       calls_in : (n : ℕ) (target : Option ExprTree) (meaning : Meaning) (given : Option (List Value)) (rest : Code) (k : Continuation) → MeaningIn meaning → ListIn inside given → NextIn memory (calls r n target meaning given rest k memory)
       calls_in n target meaning None rest k h g = tt
-      calls_in n target meaning (Some given) rest k h g = holding_in (meaning n given memory) _ (h.by n given memory ready g) (λ left done a b. goes_back_in n left rest k (kept r target done) (kept_in target done a b))
+      calls_in n target meaning (Some given) rest k h g = holding_in (meaning n given memory) _ (h.by n given memory ready g) (λ left done a b. goes_back_in n left rest k (kept r memory target done) (kept_in target done a b))
 
       calls_function_in : (c : Callee) (n : ℕ) (target : Option ExprTree) (name : List ℕ) (given : List (Option Value)) (rest : Code) (k : Continuation) → OptsIn inside given → NextIn memory (calls_function c r n target name given rest k memory)
       calls_function_in memory_move n target name given rest k h = goes_on_in rest k (move_given memory given) (move_given_in given h)

@@ -113,7 +113,7 @@ module _ (n : ℕ) (s : State) where
 
   calls_down : (r : Running) (target : Option ExprTree) (meaning : Meaning) (given : Option (List Value)) (rest : Code) (k : Continuation) (memory : Memory) → code_weight rest + continuation_weight k < weight s → Down (calls r n target meaning given rest k memory)
   calls_down r target meaning None rest k memory h = tt
-  calls_down r target meaning (Some given) rest k memory h = holding_down (meaning n given memory) _ (λ left done. goes_back_down left rest k (kept r target done) h)
+  calls_down r target meaning (Some given) rest k memory h = holding_down (meaning n given memory) _ (λ left done. goes_back_down left rest k (kept r memory target done) h)
 
   calls_function_down : (c : Callee) (r : Running) (target : Option ExprTree) (name : List ℕ) (given : List (Option Value)) (rest : Code) (k : Continuation) (memory : Memory) → code_weight rest + continuation_weight k < weight s → Down (calls_function c r n target name given rest k memory)
   calls_function_down memory_move r target name given rest k memory h = goes_on_down rest k (move_given memory given) h

@@ -6,22 +6,10 @@ use Rattle.wf_num.specs.declared.c_arithmetic.CTy.TheVariants.{Int, U32, U64}
 use Rattle.wf_num.specs.CArithmetic.{modulo}
 use Rattle.c_meaning.specs.CValues.{number, whole, is_nonzero, Pointer, Value, numeric, address, null_pointer}
 
--- What the cells of a field hold. `uint64_t` and `size_t` are one kind of cell, and so are `uint8_t` and the bytes of
--- a string (6.2.5).
-pub data CellType : Type 0 where
-  u8 : CellType
-  u16 : CellType
-  u32 : CellType
-  u64 : CellType
-  flag : CellType
-  pointer : CellType
-
--- A cell: a number, null, a pointer, or unset (6.2.6.1, 6.3.2.3p3).
-pub data Cell : Type 0 where
-  num : ℕ → Cell
-  null : Cell
-  at : Pointer → Cell
-  unset : Cell
+pub use Rattle.c_meaning.specs.declared.cells.CellType.{CellType}
+pub use Rattle.c_meaning.specs.declared.cells.CellType.TheVariants.{U8 as u8, U16 as u16, U32 as u32, U64 as u64, Flag as flag, Pointer as pointer}
+pub use Rattle.c_meaning.specs.declared.cells.Cell.{Cell}
+pub use Rattle.c_meaning.specs.declared.cells.Cell.TheVariants.{Num as num, Null as null, At as at, Unset as unset}
 
 -- A field has cells of one type, or holds an object of its own, which is inside this one and has a greater
 -- number (6.2.5p20).

@@ -6,12 +6,12 @@ use Rattle.c_meaning.specs.CValues.{Number, whole, common, converted}
 
 -- The number has this type, and its bits carry the whole number z: it is z wherever the type can represent z.
 pub record Gives (type : CTy) (z : ℤ) (r : Number) : Type 0 where
-  pub type_is : r.type ≡ type
+  pub type_is : r.ty ≡ type
   pub value : Carries type z r.bits
 
 -- The type of two operands, and the whole numbers that they are in this type.
 abbrev pub both : Number → Number → CTy
-both a b = common a.type b.type
+both a b = common a.ty b.ty
 
 abbrev pub left : Number → Number → ℤ
 left a b = whole (converted (both a b) a)

@@ -5,7 +5,7 @@ use Rattle.wf_num.specs.CArithmetic.{modulo}
 use Rattle.turns.specs.Run.{Next, Go, Turn, End, Out, Fail, Outcome, onward, holding}
 use Rattle.c_text.specs.declared.kinds.CNumber.{CNumber}
 use Rattle.c_text.specs.CTree.{TypeTree, ExprTree, Code, finish, nested, empty, assign, call, jump, branch, repeat, select, leave, case_label, default_label, name_label}
-use Rattle.c_meaning.specs.CValues.{Number, whole, literal_number, converted, Pointer, Value, numeric, holds}
+use Rattle.c_meaning.specs.CValues.{Number, whole, literal_number, converted, Pointer, same_pointer, Value, numeric, holds}
 use Rattle.c_meaning.specs.CMemory.{Memory, stored, move_bytes, zeroed}
 use Rattle.c_meaning.specs.CTypes.{Scope}
 use Rattle.c_meaning.specs.CExprs.{Surroundings, value, place, pointed_place, as_type, arg_values, all_some}
@@ -71,7 +71,7 @@ is_named label other = false
 
 -- The number of a `case` is converted to the type of what is switched on (6.8.4.2p5).
 abbrev pub is_case : Label → CNumber → Bool
-is_case (by_case n) k = nat_eq n.bits (converted n.type (literal_number k)).bits
+is_case (by_case n) k = nat_eq n.bits (converted n.ty (literal_number k)).bits
 is_case label k = false
 
 -- The label is `default` (6.8.4.2p4).
@@ -188,11 +188,16 @@ switches (Some (numeric n)) body rest k memory =
     enters (first_of (find (by_case n) body (behind finish rest k)) (find by_default body (behind finish rest k))) rest k memory
 switches v body rest k memory = Fail
 
--- A call has ended with so many turns left: its value is assigned, and the target's place is found only
--- now (6.5.2.2, 6.5.16).
-abbrev pub kept : Running → Option ExprTree → Returned → Option Memory
-kept r None done = Some done.memory
-kept r (Some target) done = option_and_then (λ v. option_and_then (λ p. stored done.memory p v) (place (surroundings r done.memory) target)) done.value
+-- The place of a call's target. C leaves open whether it is found before the call or after it (6.5.16p4), so there is
+-- none where the two differ, or one of them isn't defined.
+abbrev pub one_place : (before after : Option Pointer) → Option Pointer
+one_place (Some p) (Some q) = if same_pointer p q then Some q else None
+one_place before after = None
+
+-- A call that found memory as it was before has ended: its value is assigned to its target (6.5.2.2, 6.5.16).
+abbrev pub kept : Running → (before : Memory) → Option ExprTree → Returned → Option Memory
+kept r before None done = Some done.memory
+kept r before (Some target) done = option_and_then (λ v. option_and_then (λ p. stored done.memory p v) (one_place (place (surroundings r before) target) (place (surroundings r done.memory) target))) done.value
 
 -- Behind a call (6.5.2.2, 6.8.3).
 abbrev pub goes_back : ℕ → ℕ → Code → Continuation → Option Memory → Next State Returned
@@ -202,7 +207,7 @@ goes_back n left rest k (Some memory) = onward n left (state rest k memory)
 -- A call of a function, where its arguments have values (6.5.2.2p4).
 abbrev pub calls : Running → ℕ → Option ExprTree → Meaning → Option (List Value) → Code → Continuation → Memory → Next State Returned
 calls r n target meaning None rest k memory = Fail
-calls r n target meaning (Some given) rest k memory = holding (meaning n given memory) (λ left done. goes_back n left rest k (kept r target done))
+calls r n target meaning (Some given) rest k memory = holding (meaning n given memory) (λ left done. goes_back n left rest k (kept r memory target done))
 
 -- `memmove(to, from, n)` and `memset(p, 0, sizeof(*p))`; a null pointer is undefined (7.1.4p1).
 pub data Callee : Type 0 where

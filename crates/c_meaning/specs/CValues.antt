@@ -9,36 +9,22 @@ use Rattle.c_text.specs.declared.kinds.CNumber.TheVariants as literal
 use Rattle.c_text.specs.declared.kinds.COp.{COp}
 use Rattle.c_text.specs.declared.kinds.COp.TheVariants.{Add, Sub, Mul, Div, Rem, Shl, Shr, BitAnd, BitOr, BitXor, Lt, Le, Gt, Ge, Eq, Ne, Both, Either}
 
--- A number of `int`, `unsigned int` or `unsigned long long`, by its bits. Numbers of narrower types don't stand here,
--- since every use of one promotes it to int (6.3.1.1p2).
-pub record Number : Type 0 where
-  pub type : CTy
-  pub bits : ℕ
+pub use Rattle.c_meaning.specs.declared.values.Number.{Number}
+pub use Rattle.c_meaning.specs.declared.values.Pointer.{Pointer}
+pub use Rattle.c_meaning.specs.declared.values.Value.{Value}
+pub use Rattle.c_meaning.specs.declared.values.Value.TheVariants.{Numeric as numeric, Address as address, NullPointer as null_pointer}
 
 -- A number of a type, by its bits (6.2.6.2).
 abbrev pub number : CTy → ℕ → Number
-number type bits = record { type = type; bits = bits }
+number type bits = record { ty = type; bits = bits }
 
 -- The whole number that it is (6.2.6.2).
 abbrev pub whole : Number → ℤ
-whole n = c_value n.type n.bits
-
--- A pointer names a cell: an object, one of its fields and a cell of that field. One to a whole object of a struct has
--- field 0 and index 0 (6.2.5p20, 6.5.6).
-pub record Pointer : Type 0 where
-  pub object : ℕ
-  pub field : ℕ
-  pub index : ℕ
+whole n = c_value n.ty n.bits
 
 -- The pointer to a whole object (6.5.3.2p3).
 abbrev pub to_object : ℕ → Pointer
 to_object k = record { object = k; field = 0; index = 0 }
-
--- A value: a number, or a pointer, which may be null (6.2.5).
-pub data Value : Type 0 where
-  numeric : Number → Value
-  address : Pointer → Value
-  null_pointer : Value
 
 -- The value of a literal (6.4.4.1).
 abbrev pub literal_number : CNumber → Number
@@ -100,8 +86,8 @@ compared _ a b = None
 -- A shift has its left operand's type (6.5.7p3), and is undefined where the right one is negative: as bits, a negative
 -- int is above every width.
 abbrev pub shifted : COp → Number → Number → Option ℕ
-shifted Shl a b = c_shifted_left a.type a.bits b.bits
-shifted Shr a b = c_shifted_right a.type a.bits b.bits
+shifted Shl a b = c_shifted_left a.ty a.bits b.bits
+shifted Shr a b = c_shifted_right a.ty a.bits b.bits
 shifted _ a b = None
 
 -- The kinds of operators (6.5.5 to 6.5.14).
@@ -127,9 +113,9 @@ class_of _ = arithmetics
 
 -- Operands of arithmetic and comparisons are brought to one type; those of a shift aren't (6.5.5 to 6.5.12).
 abbrev pub operated_as : OpClass → COp → Number → Number → Option Number
-operated_as arithmetics op a b = of_type (common a.type b.type) (arithmetic op (common a.type b.type) (converted (common a.type b.type) a).bits (converted (common a.type b.type) b).bits)
-operated_as comparison op a b = option_map truth (compared op (whole (converted (common a.type b.type) a)) (whole (converted (common a.type b.type) b)))
-operated_as shift op a b = of_type a.type (shifted op a b)
+operated_as arithmetics op a b = of_type (common a.ty b.ty) (arithmetic op (common a.ty b.ty) (converted (common a.ty b.ty) a).bits (converted (common a.ty b.ty) b).bits)
+operated_as comparison op a b = option_map truth (compared op (whole (converted (common a.ty b.ty) a)) (whole (converted (common a.ty b.ty) b)))
+operated_as shift op a b = of_type a.ty (shifted op a b)
 operated_as logic op a b = None
 
 -- `a op b` of two numbers; None where the behavior is undefined. `&&` and `||` don't stand here (6.5.5 to 6.5.12).
@@ -138,7 +124,7 @@ operated op a b = operated_as (class_of op) op a b
 
 -- `~a`: every bit of the promoted type is the other one (6.5.3.3p4).
 abbrev pub complemented : Number → Number
-complemented a = number a.type (2 ^ c_width a.type - 1 - a.bits)
+complemented a = number a.ty (2 ^ c_width a.ty - 1 - a.bits)
 
 -- `!a` (6.5.3.3p5).
 abbrev pub negated : Value → Number

@@ -7,16 +7,16 @@ use Rattle.wf_text.specs.Seen.{Answer, nothing, Seen, answered}
 use Rattle.wf_base.specs.BaseOps.{Buffer, empty_buffer}
 use Rattle.c_text.specs.declared.kinds.COp.TheVariants.{Add, Mul, Eq}
 use Rattle.c_text.specs.declared.kinds.CUint.TheVariants.{U8, U16, U32}
-use Rattle.c_text.specs.declared.kinds.Linkage.TheVariants.{External}
-use Rattle.c_text.specs.CTree.{uint, uint_pointer, text, element, cast, assign, leave, ItemTree, function_item}
-use Rattle.c_meaning.specs.TextWords.{v, n, m, o, block, when, pointer_to, field, parameter, local, struct, string, io_buffer_item}
+use Rattle.c_text.specs.declared.kinds.Linkage.TheVariants.{External, Static}
+use Rattle.c_text.specs.CTree.{uint, uint_pointer, text, element, cast, no_arg, expr_arg, assign, call, leave, ItemTree, function_item}
+use Rattle.c_meaning.specs.TextWords.{v, n, m, o, block, when, pointer_to, field, array, parameter, local, struct, string, io_buffer_item}
 use Rattle.c_meaning.specs.SmallText.{base_statuses}
 use Rattle.c_meaning.specs.CValues.{Pointer}
 use Rattle.c_meaning.specs.CMemory.{Memory, num as num_cell, unset, cells, part, u8, u16, u32}
 
--- typedef struct { uint8_t life; } wuffs_u__u;
+-- typedef struct { uint8_t life; uint8_t i; uint8_t a[2]; } wuffs_u__u;
 abbrev pub struct_decl : ItemTree
-struct_decl = struct "wuffs_u__u" (field (uint U8) "life" ∷ [])
+struct_decl = struct "wuffs_u__u" (field (uint U8) "life" ∷ field (uint U8) "i" ∷ array (uint U8) "a" 2 ∷ [])
 
 -- static const char end_of_data[] = "@base: end of data";
 abbrev pub end_of_data_item : ItemTree
@@ -54,12 +54,27 @@ null_item = function_item External (Some (uint U8)) (codes "wuffs_u__u__null") (
 abbrev pub end_item : ItemTree
 end_item = function_item External (Some (uint U8)) (codes "wuffs_u__u__end") (parameter (pointer_to "wuffs_u__u") "self" ∷ []) [] (block (when (o Eq (m (v "self") "life") (n 9)) (leave (Some (n 1)) ∷ []) ∷ []))
 
+-- static uint8_t seven_at(wuffs_u__u* self, uint8_t k) { self->i = k; return 7; }
+abbrev pub seven_at_item : ItemTree
+seven_at_item = function_item Static (Some (uint U8)) (codes "seven_at") (parameter (pointer_to "wuffs_u__u") "self" ∷ parameter (uint U8) "k" ∷ []) [] (block (assign (m (v "self") "i") (v "k") ∷ leave (Some (n 7)) ∷ []))
+
+-- uint8_t wuffs_u__u__moving(wuffs_u__u* self, uint8_t a_i, uint8_t a_k) {
+--   self->i = a_i;
+--   self->a[self->i] = seven_at(self, a_k);
+--   return self->a[0];
+-- }
+abbrev pub moving_item : ItemTree
+moving_item = function_item External (Some (uint U8)) (codes "wuffs_u__u__moving") (parameter (pointer_to "wuffs_u__u") "self" ∷ parameter (uint U8) "a_i" ∷ parameter (uint U8) "a_k" ∷ []) [] (block (
+    assign (m (v "self") "i") (v "a_i") ∷
+    call (Some (element (m (v "self") "a") (m (v "self") "i"))) (codes "seven_at") (expr_arg (v "self") (expr_arg (v "a_k") no_arg)) ∷
+    leave (Some (element (m (v "self") "a") (n 0))) ∷ []))
+
 abbrev pub undefined_text : List ItemTree
-undefined_text = io_buffer_item ∷ struct_decl ∷ end_of_data_item ∷ initialize_item ∷ square_item ∷ cast_square_item ∷ inside_item ∷ beyond_item ∷ unset_item ∷ null_item ∷ end_item ∷ []
+undefined_text = io_buffer_item ∷ struct_decl ∷ end_of_data_item ∷ initialize_item ∷ square_item ∷ cast_square_item ∷ inside_item ∷ beyond_item ∷ unset_item ∷ null_item ∷ end_item ∷ seven_at_item ∷ moving_item ∷ []
 
 -- Package `u`, with a method for each function.
 abbrev pub undefined_struct : PublicStruct
-undefined_struct = record { number = 0; name = codes "u"; methods = record { number = 0; name = codes "square"; args = record { name = codes "a"; kind = kind.number 16 } ∷ []; answers = kind.numeric 32 } ∷ record { number = 1; name = codes "cast_square"; args = record { name = codes "a"; kind = kind.number 16 } ∷ []; answers = kind.numeric 32 } ∷ record { number = 2; name = codes "inside"; args = []; answers = kind.status } ∷ record { number = 3; name = codes "beyond"; args = record { name = codes "dst"; kind = kind.writer } ∷ []; answers = kind.nothing } ∷ record { number = 4; name = codes "unset"; args = []; answers = kind.numeric 32 } ∷ record { number = 5; name = codes "null"; args = []; answers = kind.numeric 8 } ∷ record { number = 6; name = codes "end"; args = []; answers = kind.numeric 8 } ∷ [] }
+undefined_struct = record { number = 0; name = codes "u"; methods = record { number = 0; name = codes "square"; args = record { name = codes "a"; kind = kind.number 16 } ∷ []; answers = kind.numeric 32 } ∷ record { number = 1; name = codes "cast_square"; args = record { name = codes "a"; kind = kind.number 16 } ∷ []; answers = kind.numeric 32 } ∷ record { number = 2; name = codes "inside"; args = []; answers = kind.status } ∷ record { number = 3; name = codes "beyond"; args = record { name = codes "dst"; kind = kind.writer } ∷ []; answers = kind.nothing } ∷ record { number = 4; name = codes "unset"; args = []; answers = kind.numeric 32 } ∷ record { number = 5; name = codes "null"; args = []; answers = kind.numeric 8 } ∷ record { number = 6; name = codes "end"; args = []; answers = kind.numeric 8 } ∷ record { number = 7; name = codes "moving"; args = record { name = codes "i"; kind = kind.number 8 } ∷ record { name = codes "k"; kind = kind.number 8 } ∷ []; answers = kind.numeric 8 } ∷ [] }
 
 abbrev pub undefined_surface : Surface
 undefined_surface = record { package_name = codes "u"; statuses = base_statuses; structs = undefined_struct ∷ [] }

@@ -116,8 +116,8 @@ pub fn a_slice_is_copied_to_a_writer()
 {}
 
 /// Each of these calls is undefined, and only these: a product of two `uint16_t` beyond `int`, a status that points into
-/// a string, a buffer left with `wi` beyond `len`, an unset local, a null pointer, and a function that ends without
-/// the value that it owes.
+/// a string, a buffer left with `wi` beyond `len`, an unset local, a null pointer, a function that ends without the
+/// value that it owes, and a call whose target isn't the same place before the call and after it.
 #[tactic(auto, unfolding(turns::specs::Run::run, turns::specs::Run::runs, turns::specs::Run::holding, turns::specs::Run::onward))]
 pub fn undefined_calls_are_seen_as_such()
     ensures form { HasUnitForm undefined_surface undefined_text }
@@ -129,6 +129,10 @@ pub fn undefined_calls_are_seen_as_such()
     ensures unset { c_run undefined_text undefined_surface undefined_receivers (one_call 4 []) ≡ nothing_then undefined }
     ensures null { c_run undefined_text undefined_surface undefined_receivers (one_call 5 []) ≡ nothing_then undefined }
     ensures end { c_run undefined_text undefined_surface undefined_receivers (one_call 6 []) ≡ nothing_then undefined }
+    ensures same_target { c_run undefined_text undefined_surface undefined_receivers (one_call 7 (number 0 ∷ number 0 ∷ [])) ≡ nothing_then (one_open (num 7)) }
+    ensures moving_target { c_run undefined_text undefined_surface undefined_receivers (one_call 7 (number 0 ∷ number 1 ∷ [])) ≡ nothing_then undefined }
+    ensures no_target_before { c_run undefined_text undefined_surface undefined_receivers (one_call 7 (number 3 ∷ number 0 ∷ [])) ≡ nothing_then undefined }
+    ensures no_target_after { c_run undefined_text undefined_surface undefined_receivers (one_call 7 (number 0 ∷ number 3 ∷ [])) ≡ nothing_then undefined }
 {}
 
 /// The first item that breaks the unit form: a public function that is missing, no item at all, a loop in a function that

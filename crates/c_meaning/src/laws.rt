@@ -6,8 +6,8 @@ ghost use Rattle.wf_num.specs.declared.c_arithmetic.CTy.{CTy};
 ghost use Rattle.wf_num.specs.CArithmetic.{IsIn, Overflows};
 ghost use Rattle.c_text.specs.declared.kinds.COp.TheVariants.{Add, Sub, Mul, Div, Rem, Shl, Shr, Lt, Le};
 ghost use Rattle.c_meaning.specs.COperators.{Gives, both, left, right};
-ghost use Rattle.turns.specs.Run.{Next, Go, Turn, Outcome, Got, More, Lost, on_next, run};
-ghost use Rattle.c_text.specs.CTree.{Code, jump};
+ghost use Rattle.turns.specs.Run.{Next, Go, Turn, Fail, Outcome, Got, More, Lost, on_next, run};
+ghost use Rattle.c_text.specs.CTree.{ExprTree, Args, Code, call, jump};
 ghost use Rattle.wf_text.specs.Surface.{Surface};
 ghost use Rattle.wf_text.specs.HostActions.{Receiver};
 ghost use Rattle.wf_text.specs.Seen.{Answer};
@@ -16,7 +16,8 @@ ghost use Rattle.wf_base.specs.LawfulActions.{IsByteArray};
 ghost use Rattle.wf_base.specs.HostRun.{Host, HostCall, Response, answers, needs_more, not_defined};
 ghost use Rattle.c_meaning.specs.CValues.{Number, whole, converted, truth, operated, Pointer, Value, same_pointer};
 ghost use Rattle.c_meaning.specs.CMemory.{CellType, Cell, Memory, cell_at, part_at, store};
-ghost use Rattle.c_meaning.specs.CStep.{Continuation, stop, Place, at, Label, by_name, find, Returned, Running, State, state, weight, takes_turn, step};
+ghost use Rattle.c_meaning.specs.CStep.{Continuation, stop, Place, at, Label, by_name, find, Returned, Running, State, state, weight, surroundings, takes_turn, one_place, own, callee_of, step};
+ghost use Rattle.c_meaning.specs.CExprs.{place, arg_values, all_some};
 ghost use Rattle.c_meaning.specs.CCall.{Program, host_call};
 ghost use Rattle.c_meaning.specs.CRun.{Loaded, loaded, made, text_object, c_init, c_call};
 ghost use Rattle.c_meaning.specs.TextOrder.{StandsAt};
@@ -34,8 +35,8 @@ pub fn operators_are_those_of_whole_numbers()
     ensures product { (a b r : Number) → operated Mul a b ≡ Some r → Gives (both a b) (left a b *ℤ right a b) r }
     ensures quotient { (a b r : Number) → operated Div a b ≡ Some r → Gives (both a b) (int_div (left a b) (right a b)) r }
     ensures remainder { (a b r : Number) → operated Rem a b ≡ Some r → Gives (both a b) (int_rem (left a b) (right a b)) r }
-    ensures shifted_left { (a b r : Number) → operated Shl a b ≡ Some r → Gives a.type (whole a *ℤ pos (2 ^ b.bits)) r }
-    ensures shifted_right { (a b r : Number) → operated Shr a b ≡ Some r → Gives a.type (int_div_euclid (whole a) (pos (2 ^ b.bits))) r }
+    ensures shifted_left { (a b r : Number) → operated Shl a b ≡ Some r → Gives a.ty (whole a *ℤ pos (2 ^ b.bits)) r }
+    ensures shifted_right { (a b r : Number) → operated Shr a b ≡ Some r → Gives a.ty (int_div_euclid (whole a) (pos (2 ^ b.bits))) r }
     ensures undefined_sum { (a b : Number) → IsNone (operated Add a b) ↔ Overflows (both a b) (left a b +ℤ right a b) }
     ensures undefined_difference { (a b : Number) → IsNone (operated Sub a b) ↔ Overflows (both a b) (left a b -ℤ right a b) }
     ensures undefined_product { (a b : Number) → IsNone (operated Mul a b) ↔ Overflows (both a b) (left a b *ℤ right a b) }
@@ -84,6 +85,16 @@ pub fn a_goto_forward_takes_no_turn()
         → StandsAt r.body i (at (jump label rest) k) → find (by_name label) r.body stop ≡ Some target → StandsAt r.body j target → j < i
         → step r n (state (jump label rest) k memory) ≡ takes_turn n (λ left. Turn left (record { place = target; memory = memory })) }
     ensures stands { (body : Code) (label : Label) (target : Place) → find label body stop ≡ Some target → (j : ℕ) × StandsAt body j target }
+{}
+
+/// A call's target is one place: where it is another one after the call than before it, or isn't defined then or there, the
+/// statement is undefined, whatever the call returned.
+pub fn a_target_is_one_place()
+    ensures moved { (r : Running) (n left : ℕ) (target : ExprTree) (function : List ℕ) (given : Args) (values : List Value) (rest : Code) (k : Continuation) (memory : Memory) (done : Returned)
+        → callee_of function ≡ own → all_some (arg_values (surroundings r memory) given) ≡ Some values → r.callee function n values memory ≡ Got left done
+        → one_place (place (surroundings r memory) target) (place (surroundings r done.memory) target) ≡ None
+        → step r n (state (call (Some target) function given rest) k memory) ≡ Fail }
+    ensures one { (before after : Option Pointer) (p : Pointer) → one_place before after ≡ Some p → (before ≡ Some p) × (after ≡ Some p) }
 {}
 
 /// A store changes the one cell that the pointer names, and is defined exactly where that cell is there.

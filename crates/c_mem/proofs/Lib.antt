@@ -1,0 +1,4 @@
+pub mod Copies
+pub mod Moved
+pub mod Passing
+pub mod Stored

@@ -1,0 +1,6 @@
+use Rattle.std.proofs.Common.{◌≡◌, ◌++◌, map, take, drop}
+use Rattle.c_meaning.specs.CMemory.{zero_field}
+use Rattle.c_mem.proofs.objects.Object.zero.Given as goal
+
+abbrev pub invariant-loop-field : goal.invariant-loop-field
+invariant-loop-field l = l.field-items ≡ map zero_field (take l.field-index l.initial.field-items) ++ drop l.field-index l.initial.field-items

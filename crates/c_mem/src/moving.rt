@@ -1,0 +1,281 @@
+// `memmove` (ISO/IEC 9899:1999, 7.21.2.2).
+
+ghost use Rattle.std.specs.Prelude.{◌≡◌, ℕ, ◌+◌, ◌<◌, ◌≤◌, drop, length, nat_le, IfSome, slice_get, slice_range, false};
+ghost use Rattle.std.specs.List.{list_all};
+ghost use Rattle.c_meaning.specs.CMemory.{bytes_of, whole_cells, same_type, is_set, move_bytes};
+ghost use Rattle.c_mem.specs.Leaving.{Leaves};
+ghost use Rattle.c_mem.specs.MemoryViews.{memory, HasRoom};
+ghost use Rattle.c_mem.specs.Moving.{counted, count_moved, moved_field, moved_at, PastesIn, pasted, paste_cells, Swaps, moved_from, same_field};
+
+use crate::fields::{Field, Held};
+use crate::mem::Mem;
+use crate::objects::Object;
+use c_meaning::cells::{Cell, CellType};
+use c_meaning::values::Pointer;
+
+/// How many bytes a cell has; None where nothing says it (7.18.1.1).
+fn cell_bytes(ty: CellType) -> Option<u64>
+    ensures bytes { result ≡ bytes_of ty }
+    ensures some { IfSome result (λ n. 0 < n) }
+{
+    match ty {
+        CellType::U8 => Some(1),
+        CellType::U16 => Some(2),
+        CellType::U32 => Some(4),
+        CellType::U64 => Some(8),
+        CellType::Flag | CellType::Pointer => None,
+    }
+}
+
+/// How many whole cells so many bytes are.
+fn cells_in(ty: CellType, bytes: u64) -> Option<u64>
+    ensures { result ≡ whole_cells ty bytes }
+{
+    let size = cell_bytes(ty)?;
+    if bytes % size == 0 {
+        Some(bytes / size)
+    } else {
+        None
+    }
+}
+
+/// Whether two types are one.
+fn is_same_type(a: CellType, b: CellType) -> bool
+    ensures { result ≡ same_type a b }
+{
+    match (a, b) {
+        (CellType::U8, CellType::U8)
+        | (CellType::U16, CellType::U16)
+        | (CellType::U32, CellType::U32)
+        | (CellType::U64, CellType::U64)
+        | (CellType::Flag, CellType::Flag)
+        | (CellType::Pointer, CellType::Pointer) => true,
+        (_, _) => false,
+    }
+}
+
+/// Whether so many cells from an index on are among `most`.
+fn are_within(at: u64, count: u64, most: u64) -> bool
+    ensures { result ≡ nat_le (at + count) most }
+{
+    count <= most && at <= most - count
+}
+
+/// Whether a cell is set.
+fn is_set_cell(cell: &Cell) -> bool
+    ensures { result ≡ is_set cell.now }
+{
+    match *cell {
+        Cell::Unset => false,
+        Cell::Num(_) | Cell::Null | Cell::At(_) => true,
+    }
+}
+
+/// Whether so many cells from an index on are set.
+fn are_set(cells: &[Cell], at: usize, count: usize) -> bool
+    requires { at + count ≤ length cells.now }
+    ensures { result ≡ list_all is_set (slice_range cells.now at (at + count)) }
+{
+    cells[at..at + count].iter().all(|cell| is_set_cell(cell))
+}
+
+/// How many cells so many bytes are that may come from `source` to `target`; None where `memmove` isn't defined.
+fn count_cells(
+    ty: CellType,
+    target: &[Cell],
+    to: u64,
+    from_ty: CellType,
+    source: &[Cell],
+    from: u64,
+    bytes: u64,
+) -> Option<u64>
+    ensures { result ≡ counted ty target.now to from_ty source.now from bytes }
+{
+    if bytes == 0 {
+        return if to <= target.len() as u64 && from <= source.len() as u64 {
+            Some(0)
+        } else {
+            None
+        };
+    }
+    let count = cells_in(from_ty, bytes)?;
+    if !is_same_type(ty, from_ty) {
+        return None;
+    }
+    if !are_within(from, count, source.len() as u64) {
+        return None;
+    }
+    if !are_within(to, count, target.len() as u64) {
+        return None;
+    }
+    if are_set(source, from as usize, count as usize) {
+        Some(count)
+    } else {
+        None
+    }
+}
+
+/// So many cells of one list come to stand in another.
+fn copy_cells(target: &mut [Cell], to: usize, source: &[Cell], from: usize, count: usize)
+    requires target { to + count ≤ length target.old }
+    requires source { from + count ≤ length source.now }
+    ensures { target.new ≡ paste_cells target.old to source.now from count }
+{
+    target[to..to + count].copy_from_slice(&source[from..from + count]);
+}
+
+impl Field {
+    /// How many cells `memmove` moves to this field, where it is defined.
+    fn movable(&self, to: u64, source: &Field, from: u64, bytes: u64) -> Option<u64>
+        ensures { result ≡ count_moved self.now to source.now from bytes }
+    {
+        match &self.held {
+            Held::Cells(ty, target) => match &source.held {
+                Held::Cells(from_ty, cells) => count_cells(
+                    *ty,
+                    target.as_slice(),
+                    to,
+                    *from_ty,
+                    cells.as_slice(),
+                    from,
+                    bytes,
+                ),
+                Held::Part(_) => None,
+            },
+            Held::Part(_) => None,
+        }
+    }
+
+    /// Cells of another field come to stand in this one.
+    fn paste(&mut self, to: u64, source: &Field, from: u64, count: u64)
+        requires { PastesIn self.old to source.now from count }
+        ensures { self.new ≡ pasted self.old to source.now from count }
+    {
+        match &mut self.held {
+            Held::Cells(_, target) => match &source.held {
+                Held::Cells(_, cells) => copy_cells(
+                    target.as_mut_slice(),
+                    to as usize,
+                    cells.as_slice(),
+                    from as usize,
+                    count as usize,
+                ),
+                Held::Part(_) => {}
+            },
+            Held::Part(_) => {}
+        }
+    }
+
+    /// Cells of this field come to stand elsewhere in it.
+    #[tactic(auto, using(crate::proofs::Moved::within_cells))]
+    fn paste_within(&mut self, to: u64, from: u64, count: u64)
+        requires { PastesIn self.old to self.old from count }
+        ensures { self.new ≡ pasted self.old to self.old from count }
+    {
+        match &mut self.held {
+            Held::Cells(_, cells) => {
+                let start = from as usize;
+                let end = start + count as usize;
+                cells.as_mut_slice().copy_within(start..end, to as usize);
+            }
+            Held::Part(_) => {}
+        }
+    }
+
+    /// `memmove` from another field to this one.
+    #[tactic(auto, using(crate::proofs::Moved::moves_fit))]
+    fn move_from(&mut self, to: u64, source: &Field, from: u64, bytes: u64) -> Option<()>
+        ensures { Leaves (moved_field self.old to source.now from bytes) self.old result self.new }
+    {
+        let count = self.movable(to, source, from, bytes)?;
+        self.paste(to, source, from, count);
+        Some(())
+    }
+
+    /// `memmove` within this field.
+    #[tactic(auto, using(crate::proofs::Moved::moves_fit))]
+    fn move_within(&mut self, to: u64, from: u64, bytes: u64) -> Option<()>
+        ensures { Leaves (moved_field self.old to self.old from bytes) self.old result self.new }
+    {
+        let count = self.movable(to, self, from, bytes)?;
+        self.paste_within(to, from, count);
+        Some(())
+    }
+}
+
+impl Object {
+    /// `memmove` within a field.
+    fn move_within(&mut self, field: usize, to: u64, from: u64, bytes: u64) -> Option<()>
+        ensures { Leaves (moved_at self.old field to from bytes) self.old result self.new }
+    {
+        if field >= self.fields.len() {
+            return None;
+        }
+        self.fields[field].move_within(to, from, bytes)
+    }
+
+    /// Swaps a field for another one; false, and both stay, where there is none.
+    fn swap_field(&mut self, field: usize, other: &mut Field) -> bool
+        ensures { Swaps self.old field other.old result self.new other.new }
+    {
+        if field >= self.fields.len() {
+            return false;
+        }
+        std::mem::swap(&mut self.fields[field], other);
+        true
+    }
+}
+
+/// `memmove` to a field from one of these objects.
+fn move_to(target: &mut Field, to: u64, objects: &[Object], from: Pointer, bytes: u64) -> Option<()>
+    ensures { Leaves (moved_from target.old to objects.now from bytes) target.old result target.new }
+{
+    let source = objects.get(from.object)?.fields.get(from.field)?;
+    target.move_from(to, source, from.index, bytes)
+}
+
+/// Whether two pointers lead to one field.
+fn is_one_field(p: Pointer, q: Pointer) -> bool
+    ensures { result ≡ same_field p q }
+{
+    p.object == q.object && p.field == q.field
+}
+
+impl Mem {
+    /// `memmove(to, from, bytes)` (7.21.2.2): whole cells that are set come to stand at `to`, as they were before. None, and
+    /// the memory is as before, beyond a field, at a part of a cell, at an unset cell, and between cells of different
+    /// types. 0 bytes ask for two places that are there.
+    pub fn move_bytes(&mut self, to: Pointer, from: Pointer, bytes: u64) -> Option<()>
+        ensures objects { Leaves (move_bytes (memory self.old) to from bytes) (memory self.old) result (memory self.new) }
+        ensures room { (more : ℕ) → HasRoom self.old more → HasRoom self.new more }
+    {
+        if to.object >= self.objects.len() {
+            return None;
+        }
+        if is_one_field(to, from) {
+            return self.objects[to.object].move_within(to.field, to.index, from.index, bytes);
+        }
+        self.move_across(to, from, bytes)
+    }
+
+    /// The same between two fields: the one that cells come to is taken out of the memory meanwhile.
+    fn move_across(&mut self, to: Pointer, from: Pointer, bytes: u64) -> Option<()>
+        requires there { to.object < length (memory self.old) }
+        requires apart { same_field to from ≡ false }
+        ensures objects { Leaves (move_bytes (memory self.old) to from bytes) (memory self.old) result (memory self.new) }
+        ensures room { (more : ℕ) → HasRoom self.old more → HasRoom self.new more }
+    {
+        if !self.objects[to.object].swap_field(to.field, &mut self.spare) {
+            return None;
+        }
+        let moved = move_to(
+            &mut self.spare,
+            to.index,
+            self.objects.as_slice(),
+            from,
+            bytes,
+        );
+        let _back = self.objects[to.object].swap_field(to.field, &mut self.spare);
+        moved
+    }
+}

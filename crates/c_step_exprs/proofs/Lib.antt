@@ -1,0 +1,4 @@
+pub mod Runs
+pub mod Skips
+pub mod Stacks
+pub mod ValueRuns

@@ -1,0 +1,5 @@
+pub mod Instrs
+pub mod Resolving
+pub mod Running
+pub mod Stacks
+pub mod Values
