@@ -1,6 +1,5 @@
 -- The lines of a script, and the words of a line.
-use Rattle.std.specs.Prelude.{ℕ, Bool, true, false, ◌&&◌, ◌||◌, List, [], ◌∷◌, nat_eq, if◌then◌else◌, length, take, slice_get, ◌-◌}
-use Rattle.std.specs.Option.{option_map_or}
+use Rattle.std.specs.Prelude.{ℕ, Bool, true, false, ◌&&◌, ◌||◌, List, [], ◌∷◌, nat_eq, if◌then◌else◌}
 
 abbrev pub is_feed : ℕ → Bool
 is_feed byte = nat_eq byte 10
@@ -17,10 +16,6 @@ abbrev pub begins : (ℕ → Bool) → List ℕ → Bool
 begins test [] = false
 begins test (byte ∷ _) = test byte
 
--- The last one does.
-abbrev pub ends : (ℕ → Bool) → List ℕ → Bool
-ends test text = option_map_or test (slice_get text (length text - 1)) false
-
 -- Pieces of which the first begins with one byte more.
 abbrev pub in_front : ℕ → List (List ℕ) → List (List ℕ)
 in_front byte [] = (byte ∷ []) ∷ []
@@ -35,9 +30,14 @@ lines_of (byte ∷ bytes) =
     else if is_return byte && begins is_feed bytes then lines_of bytes
     else in_front byte (lines_of bytes)
 
+abbrev pub is_over : List ℕ → Bool
+is_over [] = true
+is_over (_ ∷ _) = false
+
 -- A line without a carriage return at its end.
-abbrev pub without_return : List ℕ → List ℕ
-without_return line = if ends is_return line then take (length line - 1) line else line
+unfoldable pub without_return : List ℕ → List ℕ
+without_return [] = []
+without_return (byte ∷ bytes) = if is_return byte && is_over bytes then [] else byte ∷ without_return bytes
 
 -- The line is over, or a blank comes.
 abbrev pub ends_word : List ℕ → Bool

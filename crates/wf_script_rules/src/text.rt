@@ -1,7 +1,7 @@
 // The lines of a script and the words of a line, one after the other. They borrow the script and take no memory.
 
-ghost use Rattle.std.specs.Prelude.{◌≡◌, false};
-ghost use Rattle.std.specs.List.{position_or_len};
+ghost use Rattle.std.specs.Prelude.{◌≡◌, ◌≤◌, false, length, not};
+ghost use Rattle.std.specs.List.{position, position_or_len};
 ghost use Rattle.wf_script_rules.specs.Text.{is_feed, is_return, is_blank, begins, words_of, without_return};
 
 use crate::rules::XRule;
@@ -55,6 +55,24 @@ impl<'a> Model for Words<'a> {
     ghost view = { λ words. words_of words.rest.now };
 }
 
+fn feed_at(text: &[u8]) -> Option<usize>
+    ensures { result ≡ position is_feed text.now }
+{
+    text.iter().position(|byte| is_feed(*byte))
+}
+
+fn blank_at(text: &[u8]) -> Option<usize>
+    ensures { result ≡ position is_blank text.now }
+{
+    text.iter().position(|byte| is_blank(*byte))
+}
+
+fn word_at(text: &[u8]) -> Option<usize>
+    ensures { result ≡ position (λ byte. not (is_blank byte)) text.now }
+{
+    text.iter().position(|byte| !is_blank(*byte))
+}
+
 // The line without a carriage return at its end.
 fn without_return(line: &[u8]) -> &[u8]
     ensures { result.now ≡ without_return line.now }
@@ -87,7 +105,7 @@ impl<'a> Lines<'a> {
         if rest.is_empty() {
             return None;
         }
-        match rest.iter().position(|byte| is_feed(*byte)) {
+        match feed_at(rest) {
             Some(k) => {
                 let (line, _) = rest.split_at(k);
                 let (_, others) = rest.split_at(k + 1);
@@ -157,7 +175,7 @@ fn without_blanks(text: &[u8]) -> &[u8]
     ensures words { words_of result.now ≡ words_of text.now }
     ensures front { begins is_blank result.now ≡ false }
 {
-    match text.iter().position(|byte| !is_blank(*byte)) {
+    match word_at(text) {
         Some(k) => {
             let (_, rest) = text.split_at(k);
             rest
@@ -168,9 +186,10 @@ fn without_blanks(text: &[u8]) -> &[u8]
 
 // The length of the word with which a text begins.
 fn word_len(text: &[u8]) -> usize
-    ensures { result ≡ position_or_len is_blank text.now }
+    ensures place { result ≡ position_or_len is_blank text.now }
+    ensures within { result ≤ length text.now }
 {
-    match text.iter().position(|byte| is_blank(*byte)) {
+    match blank_at(text) {
         Some(k) => k,
         None => text.len(),
     }

@@ -1,8 +1,8 @@
 // What a word spells: a name, a number, bytes, or a command.
 
-ghost use Rattle.std.specs.Prelude.{◌≡◌, ◌≤◌, true, option_map};
+ghost use Rattle.std.specs.Prelude.{◌≡◌, ◌<◌, ◌+◌, ◌*◌, ◌-◌, ◌^◌, nat_eq, option_map};
 ghost use Rattle.std.specs.Option.{SomeIff};
-ghost use Rattle.std.specs.List.{list_all};
+ghost use Rattle.std.specs.List.{list_all, position};
 ghost use Rattle.wf_script_rules.specs.Text.{begins};
 ghost use Rattle.wf_script_rules.specs.Words.{demand, is_lower, is_digit, is_name_byte, is_value_word, is_name, is_number, value_from, number_up_to, bytes_spelt, cut_at, verb_of};
 ghost use Rattle.wf_script_rules.specs.Values.{is_null};
@@ -103,24 +103,28 @@ pub fn number_up_to(most: u64, word: &[u8]) -> Result<u64, XRule>
     if !is_number(word) {
         return Err(XRule::X3);
     }
-    match value_up_to(most, word) {
-        Some(value) => Ok(value),
-        None => Err(XRule::X4),
+    match value_of(word) {
+        Some(value) if value <= most => Ok(value),
+        _ => Err(XRule::X4),
     }
 }
 
-// The value of digits where it is at most `most`.
-fn value_up_to(most: u64, digits: &[u8]) -> Option<u64>
-    requires { list_all is_digit digits.now ≡ true }
-    ensures { SomeIff result (value_from 0 digits.now ≤ most) (value_from 0 digits.now) }
+// The value of digits with one more behind them, where it has 64 bits.
+fn with_digit(value: u64, digit: u8) -> Option<u64>
+    ensures { SomeIff result (value * 10 + (digit - 48) < 2 ^ 64) (value * 10 + (digit - 48)) }
 {
-    let mut value: u64 = 0;
+    value
+        .checked_mul(10)?
+        .checked_add(digit.saturating_sub(48) as u64)
+}
+
+// The value of digits, where it has 64 bits.
+fn value_of(digits: &[u8]) -> Option<u64>
+    ensures { SomeIff result (value_from 0 digits.now < 2 ^ 64) (value_from 0 digits.now) }
+{
+    let mut value = 0;
     for digit in digits {
-        let more = value.checked_mul(10)?.checked_add((*digit - b'0') as u64)?;
-        if more > most {
-            return None;
-        }
-        value = more;
+        value = with_digit(value, *digit)?;
     }
     Some(value)
 }
@@ -140,11 +144,17 @@ pub fn bytes_spelt(alloc: Global, word: &[u8]) -> Result<Vec<u8>, LineFault>
     }
 }
 
+fn mark_at(mark: u8, word: &[u8]) -> Option<usize>
+    ensures { result ≡ position (λ byte. nat_eq byte mark) word.now }
+{
+    word.iter().position(|byte| *byte == mark)
+}
+
 /// What stands before and after the first byte `mark`.
 pub fn cut_at(mark: u8, word: &[u8]) -> Option<(&[u8], &[u8])>
     ensures { option_map (λ parts. (parts.0.now, parts.1.now)) result ≡ cut_at mark word.now }
 {
-    match word.iter().position(|byte| *byte == mark) {
+    match mark_at(mark, word) {
         Some(k) => {
             let (front, _) = word.split_at(k);
             let (_, back) = word.split_at(k + 1);
