@@ -77,6 +77,20 @@ over_none old e = ap at_end e
 pub over_some : (old : List (List ℕ)) (word : List ℕ) (words : List (List ℕ)) → old ≡ word ∷ words → at_end old ≡ Err X3
 over_some old word words e = ap at_end e
 
+same_taken : (x y : List ℕ × List (List ℕ)) (a b : Result (List ℕ × List (List ℕ)) XRule) → a ≡ Ok x → b ≡ Ok y → a ≡ b → x ≡ y
+same_taken x y a b p q h = cc
+
+pub word_taken : (old : List (List ℕ)) (word : List ℕ) (new : List (List ℕ)) → next_word old ≡ Ok (word, new) → old ≡ word ∷ new
+word_taken [] word new h = absurd cc
+word_taken (x ∷ xs) word new h =
+    let first : List ℕ × List (List ℕ) = (x, xs) in
+    let second : List ℕ × List (List ℕ) = (word, new) in
+    ap (λ (q : List ℕ × List (List ℕ)). q.0 ∷ q.1) (same_taken first second (Ok first) (Ok second) refl refl h)
+
+pub none_taken : (old : List (List ℕ)) (rule : XRule) → next_word old ≡ Err rule → old ≡ []
+none_taken [] rule h = refl
+none_taken (x ∷ xs) rule h = absurd cc
+
 pub skips_none : (old : List (List ℕ)) → old ≡ [] → is_skipped old ≡ true
 skips_none old e = ap is_skipped e
 

@@ -117,17 +117,35 @@ names_same (arg.Io (Some j)) (Some (arg.Io (Some k))) = nat_eq j k
 names_same (arg.Bytes (Some j)) (Some (arg.Bytes (Some k))) = nat_eq j k
 names_same _ _ = false
 
--- The arguments given so far, in declared order, with one word more: ARG=VALUE, the first `=` (61) ending the name.
-unfoldable pub with_arg : List Named → List PublicArg → List (Option Arg) → List ℕ → Result (List (Option Arg)) XRule
-with_arg names args given word = do
+-- ARG=VALUE, the first `=` (61) ending the name: which argument it is, of what kind, and the value's text.
+pub record ArgWord : Type 0 where
+  pub number : ℕ
+  pub kind : ArgKind
+  pub text : List ℕ
+
+unfoldable pub arg_word : List PublicArg → List ℕ → Result ArgWord XRule
+arg_word args word = do
   parts ← ok_or (cut_at 61 word) X3
   k ← ok_or (position (λ it. bytes_eq it.name parts.0) args) X3
-  declared ← ok_or (slice_get args k) X3
-  before ← ok_or (slice_get given k) X3
-  value ← unless_given (is_some before) (value_of names declared.kind parts.1)
-  once ← demand (not (list_any (names_same value) given)) X5
-  Ok (slice_set given k (Some value))
+  it ← ok_or (slice_get args k) X3
+  Ok (record { number = k; kind = it.kind; text = parts.1 })
 
+-- Its value, behind the arguments given so far, which stand in declared order.
+unfoldable pub arg_value : List Named → List (Option Arg) → ArgWord → Result Arg XRule
+arg_value names given at = do
+  before ← ok_or (slice_get given at.number) X3
+  value ← unless_given (is_some before) (value_of names at.kind at.text)
+  once ← demand (not (list_any (names_same value) given)) X5
+  Ok value
+
+-- The arguments given so far with one word more.
+unfoldable pub with_arg : List Named → List PublicArg → List (Option Arg) → List ℕ → Result (List (Option Arg)) XRule
+with_arg names args given word = do
+  at ← arg_word args word
+  value ← arg_value names given at
+  Ok (slice_set given at.number (Some value))
+
+-- And with all words of the line.
 unfoldable pub with_args : List Named → List PublicArg → List (Option Arg) → List (List ℕ) → Result (List (Option Arg)) XRule
 with_args names args given [] = Ok given
 with_args names args given (word ∷ words) = with_arg names args given word >>= (λ more. with_args names args more words)

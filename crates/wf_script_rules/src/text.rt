@@ -121,7 +121,7 @@ impl<'a> Lines<'a> {
 }
 
 impl<'a> Words<'a> {
-    ghost use Rattle.std.specs.Prelude.{◌≡◌, ◌∷◌, Result};
+    ghost use Rattle.std.specs.Prelude.{◌≡◌, [], ◌∷◌, MatchOption};
     ghost use Rattle.wf_script_rules.specs.Text.{words_of};
     ghost use Rattle.wf_script_rules.specs.Values.{next_word, at_end};
     ghost use Rattle.wf_script_rules.specs.Lines.{is_skipped};
@@ -146,6 +146,16 @@ impl<'a> Words<'a> {
         let (word, others) = text.split_at(word_len(text));
         self.rest = others;
         Ok(word)
+    }
+
+    /// The next word; None where no word is left.
+    pub fn take(&mut self) -> Option<&'a [u8]>
+        ensures { MatchOption result (self.old ≡ []) (λ word. self.old ≡ word.now ∷ self.new) }
+    {
+        match self.next() {
+            Ok(word) => Some(word),
+            Err(_) => None,
+        }
     }
 
     /// X3 where a word is left.
