@@ -1,2 +1,3 @@
 pub mod Views
 pub mod Values
+pub mod Targets

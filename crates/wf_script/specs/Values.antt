@@ -1,5 +1,5 @@
 -- What the arguments of a call answer.
-use Rattle.std.specs.Prelude.{◌≡◌, List, Option, Result, Ok, Err}
+use Rattle.std.specs.Prelude.{◌≡◌, ◌++◌, List, Option, Result, Ok, Err}
 use Rattle.wf_bufs.specs.declared.calls.Arg.{Arg}
 use Rattle.wf_bufs.specs.SurfaceViews.{arg_kind_of}
 use Rattle.wf_script_rules.specs.declared.rules.XRule.{XRule}
@@ -13,3 +13,8 @@ word_of_arg at = record { number = at.number; kind = arg_kind_of at.kind; text =
 abbrev pub GivenBy : Result (Unit {0}) XRule → List (Option Arg) → Result (List (Option Arg)) XRule → Type 0
 GivenBy (Ok _) given read = read ≡ Ok given
 GivenBy (Err rule) given read = read ≡ Err rule
+
+-- These arguments in front of those that a reading gives.
+abbrev pub with_front : List Arg → Result (List Arg) XRule → Result (List Arg) XRule
+with_front front (Ok args) = Ok (front ++ args)
+with_front front (Err rule) = Err rule

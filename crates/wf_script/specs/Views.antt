@@ -3,6 +3,8 @@ use Rattle.std.specs.Prelude.{◌≡◌, ⊤, ℕ, List, map, Result, Ok, Err}
 use Rattle.wf_text.specs.HostActions.{init, call, put, close, compact}
 use Rattle.wf_bufs.specs.HostViews.{arg_of}
 use Rattle.wf_script_rules.specs.declared.rules.XRule.{XRule}
+use Rattle.wf_script_rules.specs.declared.rules.Verb.{Verb}
+use Rattle.wf_script_rules.specs.declared.rules.Verb.TheVariants as verb
 use Rattle.wf_script_rules.specs.declared.faults.LineFault.{LineFault}
 use Rattle.wf_script_rules.specs.Names.{Declared as Declares}
 use Rattle.wf_script_rules.specs.Lines.{Command as Does, declares, acts, shows, sets_turns, Line}
@@ -28,6 +30,20 @@ abbrev pub Reads : Result Command LineFault → Declares → Line → Type 0
 Reads (Ok command) after line = line ≡ Ok (after, command_of command)
 Reads (Err fault) after line = Fails fault line
 
+-- The same for a line that takes no memory.
+abbrev pub Judges : Result Command XRule → Declares → Line → Type 0
+Judges (Ok command) after line = line ≡ Ok (after, command_of command)
+Judges (Err rule) after line = line ≡ Err rule
+
+-- The word of a line that declares nothing and sets nothing.
+abbrev pub Acts : Verb → Type 0
+Acts verb.New = ⊥
+Acts verb.Null = ⊥
+Acts verb.Buf = ⊥
+Acts verb.Bytes = ⊥
+Acts verb.Turns = ⊥
+Acts _ = ⊤
+
 abbrev pub FailsScript : {X : Type 0} → ScriptFault → Result X Refusal → Type 0
 FailsScript (Refused line rule) read = read ≡ Err (record { line = line; rule = rule })
 FailsScript Memory read = ⊤
@@ -35,3 +51,7 @@ FailsScript Memory read = ⊤
 abbrev pub ReadsOn : Result (Unit {0}) ScriptFault → Read → Result Read Refusal → Type 0
 ReadsOn (Ok _) after read = read ≡ Ok after
 ReadsOn (Err fault) after read = FailsScript fault read
+
+abbrev pub ReadsScript : Result Read ScriptFault → Result Read Refusal → Type 0
+ReadsScript (Ok script) read = read ≡ Ok script
+ReadsScript (Err fault) read = FailsScript fault read

@@ -2,9 +2,13 @@
 #![tactic(auto)]
 
 pub mod commands;
+pub mod declared;
 pub mod faults;
 pub mod names;
+pub mod script;
 pub mod values;
 
+pub use declared::Declared;
 pub use commands::{Command, NumberedCommand};
 pub use faults::ScriptFault;
+pub use script::{Script, read_script};

@@ -236,6 +236,7 @@ fn with_arg(
     Ok(())
 }
 
+#[tactic(auto, unfolding(wf_script_rules::specs::Values::with_args))]
 fn with_args(
     names: &Names,
     args: &[ArgDecl],
@@ -250,6 +251,7 @@ fn with_args(
     Ok(())
 }
 
+#[tactic(auto, unfolding(wf_script_rules::specs::Values::all_given))]
 fn all_given(alloc: Global, given: &[Option<Arg>]) -> Result<Vec<Arg>, LineFault>
     ensures { Gives (λ args. args.items) result (all_given given.now) }
 {
