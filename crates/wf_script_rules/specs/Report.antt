@@ -19,9 +19,12 @@ pub record Sight : Type 0 where
   pub arrays : List (List ℕ)
 
 -- 34 is a double quote.
+abbrev pub quoted : List ℕ → List ℕ
+quoted text = 34 ∷ [] ++ text ++ 34 ∷ []
+
 abbrev pub status_text : List ℕ → List ℕ
 status_text [] = codes "ok"
-status_text (byte ∷ text) = 34 ∷ byte ∷ text ++ 34 ∷ []
+status_text (byte ∷ text) = quoted (byte ∷ text)
 
 abbrev pub answer_text : Answer → List ℕ
 answer_text (status text) = status_text text
@@ -40,7 +43,7 @@ closed_text true = codes " closed"
 closed_text false = codes " open"
 
 abbrev pub counts_text : SeenBuffer → List ℕ
-counts_text it = codes " ri=" ++ (decimal it.ri ++ (codes " wi=" ++ (decimal it.wi ++ (codes " pos=" ++ (decimal it.pos ++ closed_text it.closed)))))
+counts_text it = codes " ri=" ++ decimal it.ri ++ codes " wi=" ++ decimal it.wi ++ codes " pos=" ++ decimal it.pos ++ closed_text it.closed
 
 abbrev pub at_buffer : (SeenBuffer → List ℕ) → Sight → ℕ → List ℕ
 at_buffer text sight k = option_map_or text (slice_get sight.buffers k) []
@@ -48,47 +51,67 @@ at_buffer text sight k = option_map_or text (slice_get sight.buffers k) []
 abbrev pub at_array : (List ℕ → List ℕ) → Sight → ℕ → List ℕ
 at_array text sight k = option_map_or text (slice_get sight.arrays k) []
 
+-- A buffer with its counts, behind a call.
+abbrev pub io_text : List Named → Sight → HostArg → List ℕ
+io_text names sight (io (Some k)) = codes " " ++ name_of (thing.Buffer k) names ++ at_buffer counts_text sight k
+io_text names sight arg = []
+
 -- Each buffer that a call was given, in declared order.
 abbrev pub io_texts : List Named → Sight → List HostArg → List ℕ
 io_texts names sight [] = []
-io_texts names sight (io (Some k) ∷ args) = 32 ∷ name_of (thing.Buffer k) names ++ (at_buffer counts_text sight k ++ io_texts names sight args)
-io_texts names sight (arg ∷ args) = io_texts names sight args
+io_texts names sight (arg ∷ args) = io_text names sight arg ++ io_texts names sight args
 
 abbrev pub method_name : Surface → Declared → (receiver method : ℕ) → List ℕ
 method_name surface declared receiver method = option_map_or (λ it. it.name) (option_and_then (method_of surface method) (slice_get declared.receivers receiver)) []
 
--- The words of a line behind the command's.
-abbrev pub named_line : List Named → (verb : List ℕ) → Thing → (rest : List ℕ) → List ℕ
-named_line names verb it rest = verb ++ (name_of it names ++ rest)
+-- A command's word with a name.
+abbrev pub named_text : List Named → (verb : List ℕ) → Thing → List ℕ
+named_text names verb it = verb ++ name_of it names
 
 -- What is declared. Numbers and counts have no leading zeros.
+abbrev pub receiver_text : List Named → ℕ → Receiver → List ℕ
+receiver_text names k it = named_text names (if it.null then codes "null " else codes "new ") (thing.Receiver k)
+
+abbrev pub size_text : List Named → ℕ → ℕ → List ℕ
+size_text names k size = named_text names (codes "buf ") (thing.Buffer k) ++ codes " " ++ decimal size
+
+abbrev pub length_text : List Named → ℕ → List ℕ → List ℕ
+length_text names k array = named_text names (codes "bytes ") (thing.Array k) ++ codes " " ++ decimal (length array)
+
 abbrev pub declares_text : Declared → Thing → List ℕ
-declares_text declared (thing.Receiver k) = option_map_or (λ it. named_line declared.names (if it.null then codes "null " else codes "new ") (thing.Receiver k) []) (slice_get declared.receivers k) []
-declares_text declared (thing.Buffer k) = option_map_or (λ size. named_line declared.names (codes "buf ") (thing.Buffer k) (32 ∷ decimal size)) (slice_get declared.sizes k) []
-declares_text declared (thing.Array k) = option_map_or (λ array. named_line declared.names (codes "bytes ") (thing.Array k) (32 ∷ decimal (length array))) (slice_get declared.arrays k) []
+declares_text declared (thing.Receiver k) = option_map_or (receiver_text declared.names k) (slice_get declared.receivers k) []
+declares_text declared (thing.Buffer k) = option_map_or (size_text declared.names k) (slice_get declared.sizes k) []
+declares_text declared (thing.Array k) = option_map_or (length_text declared.names k) (slice_get declared.arrays k) []
+
+-- A buffer as it is shown.
+abbrev pub buffer_text : SeenBuffer → List ℕ
+buffer_text it = codes " " ++ shown_bytes it.written ++ counts_text it
+
+abbrev pub array_text : List ℕ → List ℕ
+array_text array = codes " " ++ shown_bytes array
 
 abbrev pub shows_text : List Named → Sight → Thing → List ℕ
 shows_text names sight (thing.Receiver k) = []
-shows_text names sight (thing.Buffer k) = named_line names (codes "show ") (thing.Buffer k) (at_buffer (λ it. 32 ∷ shown_bytes it.written ++ counts_text it) sight k)
-shows_text names sight (thing.Array k) = named_line names (codes "show ") (thing.Array k) (at_array (λ array. 32 ∷ shown_bytes array) sight k)
+shows_text names sight (thing.Buffer k) = named_text names (codes "show ") (thing.Buffer k) ++ at_buffer buffer_text sight k
+shows_text names sight (thing.Array k) = named_text names (codes "show ") (thing.Array k) ++ at_array array_text sight k
 
 -- How many bytes a put appended: `wi` tells.
-abbrev pub put_text : Sight → Sight → ℕ → List ℕ
-put_text before after k = decimal (option_map_or (λ it. it.wi) (slice_get after.buffers k) 0 - option_map_or (λ it. it.wi) (slice_get before.buffers k) 0)
+abbrev pub wi_in : Sight → ℕ → ℕ
+wi_in sight k = option_map_or (λ it. it.wi) (slice_get sight.buffers k) 0
 
--- An action in front of its answer, and the buffers behind it.
+-- An action in front of its answer, and the answer with the buffers behind it.
 abbrev pub action_text : Surface → Declared → HostAction Buffer → List ℕ
-action_text surface declared (init receiver within) = named_line declared.names (codes "init ") (thing.Receiver receiver) (32 ∷ [])
-action_text surface declared (call receiver method args within) = named_line declared.names (codes "call ") (thing.Receiver receiver) (46 ∷ method_name surface declared receiver method ++ 32 ∷ [])
-action_text surface declared (put buffer more) = named_line declared.names (codes "put ") (thing.Buffer buffer) (32 ∷ [])
-action_text surface declared (close buffer) = named_line declared.names (codes "close ") (thing.Buffer buffer) []
-action_text surface declared (compact buffer) = named_line declared.names (codes "compact ") (thing.Buffer buffer) []
+action_text surface declared (init receiver within) = named_text declared.names (codes "init ") (thing.Receiver receiver) ++ codes " "
+action_text surface declared (call receiver method args within) = named_text declared.names (codes "call ") (thing.Receiver receiver) ++ codes "." ++ method_name surface declared receiver method ++ codes " "
+action_text surface declared (put buffer more) = named_text declared.names (codes "put ") (thing.Buffer buffer) ++ codes " "
+action_text surface declared (close buffer) = named_text declared.names (codes "close ") (thing.Buffer buffer)
+action_text surface declared (compact buffer) = named_text declared.names (codes "compact ") (thing.Buffer buffer)
 action_text surface declared (replace buffers arrays) = []
 
 abbrev pub outcome_text : Declared → Sight → Sight → HostAction Buffer → Answer → List ℕ
 outcome_text declared before after (init receiver within) answer = answer_text answer
 outcome_text declared before after (call receiver method args within) answer = answer_text answer ++ io_texts declared.names after args
-outcome_text declared before after (put buffer more) answer = put_text before after buffer
+outcome_text declared before after (put buffer more) answer = decimal (wi_in after buffer - wi_in before buffer)
 outcome_text declared before after (close buffer) answer = []
 outcome_text declared before after (compact buffer) answer = []
 outcome_text declared before after (replace buffers arrays) answer = []
@@ -103,16 +126,19 @@ pub record Report : Type 0 where
   pub text : List ℕ
   pub end : End
 
--- A line in front of a report.
+-- A line in front of a report, and a line that ends it.
 abbrev pub after_line : List ℕ → Report → Report
-after_line text report = record { text = text ++ (10 ∷ report.text); end = report.end }
+after_line text report = record { text = (text ++ 10 ∷ []) ++ report.text; end = report.end }
+
+abbrev pub last_line : List ℕ → End → Report
+last_line text end = record { text = text ++ 10 ∷ []; end = end }
 
 -- An action's line. Behind an answer the report goes on, from what is seen then; else it stops here.
 abbrev pub after_action : Surface → Declared → Sight → (line : ℕ) → HostAction Buffer → List Seen → (Sight → List Seen → Report) → Report
 after_action surface declared sight line action [] rest = record { text = []; end = finished }
 after_action surface declared sight line action (answered answer buffers arrays ∷ seen) rest = after_line (action_text surface declared action ++ outcome_text declared sight (record { buffers = buffers; arrays = arrays }) action answer) (rest (record { buffers = buffers; arrays = arrays }) seen)
-after_action surface declared sight line action (turns ∷ seen) rest = record { text = action_text surface declared action ++ (codes "turns" ++ 10 ∷ []); end = out_of_turns line }
-after_action surface declared sight line action (undefined ∷ seen) rest = record { text = action_text surface declared action ++ (codes "undefined" ++ 10 ∷ []); end = not_defined line }
+after_action surface declared sight line action (turns ∷ seen) rest = last_line (action_text surface declared action ++ codes "turns") (out_of_turns line)
+after_action surface declared sight line action (undefined ∷ seen) rest = last_line (action_text surface declared action ++ codes "undefined") (not_defined line)
 
 abbrev pub after_command : Surface → Declared → Sight → (line : ℕ) → Command → List Seen → (Sight → List Seen → Report) → Report
 after_command surface declared sight line (declares it) seen rest = after_line (declares_text declared it) (rest sight seen)
