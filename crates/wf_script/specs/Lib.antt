@@ -1,3 +1,4 @@
 pub mod Views
 pub mod Values
 pub mod Targets
+pub mod Sights

@@ -5,6 +5,7 @@ pub mod commands;
 pub mod declared;
 pub mod faults;
 pub mod names;
+mod printing;
 pub mod script;
 pub mod values;
 

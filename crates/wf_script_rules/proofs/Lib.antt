@@ -1,3 +1,4 @@
 pub mod Places
 pub mod TextLaws
 pub mod NumberLaws
+pub mod Examples
