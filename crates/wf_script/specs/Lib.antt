@@ -2,3 +2,4 @@ pub mod Views
 pub mod Values
 pub mod Targets
 pub mod Sights
+pub mod Replies

@@ -112,7 +112,26 @@ impl Declared {
         demand(self.stored.saturating_add(count) <= 67_108_864, XRule::X4)
     }
 
-    fn receiver(&self, k: u16) -> Option<ReceiverDecl>
+    /// The size of buffer `k`.
+    pub(crate) fn size(&self, k: u16) -> Option<u32>
+        ensures { result ≡ slice_get self.now.sizes k }
+    {
+        self.sizes.get(k as usize).copied()
+    }
+
+    /// The length of byte array `k`.
+    pub(crate) fn array_len(&self, k: u16) -> Option<usize>
+        ensures { result ≡ option_map (λ array. length array) (slice_get self.now.arrays k) }
+    {
+        if (k as usize) < self.arrays.len() {
+            Some(self.arrays.at(k as usize).bytes().len())
+        } else {
+            None
+        }
+    }
+
+    /// Receiver `k`.
+    pub(crate) fn receiver(&self, k: u16) -> Option<ReceiverDecl>
         ensures { option_map receiver_of result ≡ slice_get self.now.receivers k }
     {
         self.receivers.get(k as usize).copied()

@@ -3,6 +3,7 @@
 
 pub mod commands;
 pub mod declared;
+mod report;
 pub mod faults;
 pub mod names;
 mod printing;

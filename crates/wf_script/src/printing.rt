@@ -1,12 +1,13 @@
 // The words of a report's lines, written over a pen. Nothing here takes memory.
 
-ghost use Rattle.std.specs.Prelude.{◌≡◌, ◌<◌, [], length, decimal, codes, get_or, slice_get};
+ghost use Rattle.std.specs.Prelude.{◌≡◌, ◌++◌, [], decimal, codes, get_or, slice_get};
 ghost use Rattle.std.specs.Option.{option_map};
 ghost use Rattle.hex.specs.Hex.{encode_lower};
 ghost use Rattle.wf_base.specs.BaseOps.{seen_buffer};
 ghost use Rattle.wf_bufs.specs.HostViews.{answer_of, arg_of};
 ghost use Rattle.wf_bufs.specs.HostSeen.{host_of};
 ghost use Rattle.wf_script_rules.specs.declared.rules.Thing.TheVariants as thing;
+ghost use Rattle.wf_script_rules.specs.Names.{name_of};
 ghost use Rattle.wf_script_rules.specs.Report.{status_text, quoted, answer_text, shown_bytes, closed_text, counts_text, at_buffer, at_array, io_text, buffer_text, array_text};
 ghost use Rattle.wf_script.specs.Sights.{sight_of};
 
@@ -203,6 +204,16 @@ pub(crate) fn show_array<P: Pen>(host: &Bufs, k: u16, pen: &mut P)
     }
 }
 
+fn io_buffer<P: Pen>(names: &Names, host: &Bufs, k: u16, pen: &mut P)
+    requires ready { P.ready pen.old }
+    ensures ready { P.ready pen.new }
+    ensures writes { P.writes pen.old pen.new (codes " " ++ name_of (thing.Buffer k) names.now ++ at_buffer counts_text (sight_of (host_of host.now)) k) }
+{
+    pen.write(b" ");
+    pen.write(names.name_of(Thing::Buffer(k)));
+    counts_at(host, k, pen);
+}
+
 /// A buffer that a call was given, with its counts.
 pub(crate) fn io_arg<P: Pen>(names: &Names, host: &Bufs, arg: Arg, pen: &mut P)
     requires ready { P.ready pen.old }
@@ -211,9 +222,7 @@ pub(crate) fn io_arg<P: Pen>(names: &Names, host: &Bufs, arg: Arg, pen: &mut P)
 {
     match arg {
         Arg::Io(Some(k)) => {
-            pen.write(b" ");
-            pen.write(names.name_of(Thing::Buffer(k)));
-            counts_at(host, k, pen);
+            io_buffer(names, host, k, pen);
         }
         _ => pen.write(b""),
     }
