@@ -102,7 +102,10 @@ impl Declared {
         ensures read { result ≡ demand (nat_lt (stores self.now) 64) X4 }
         ensures room { OnOk result (stores self.now < 64) }
     {
-        demand(self.sizes.len().saturating_add(self.arrays.len()) < 64, XRule::X4)
+        demand(
+            self.sizes.len().saturating_add(self.arrays.len()) < 64,
+            XRule::X4,
+        )
     }
 
     fn fits_store(&self, count: u64) -> Result<(), XRule>

@@ -10,10 +10,7 @@ use wf_script_rules::XRule;
 #[derive(Clone, Copy, PartialEq, Eq)]
 pub enum ScriptFault {
     /// This line, counted from 1, is the first that breaks a rule, and this is the first rule that it breaks.
-    Refused {
-        line: u32,
-        rule: XRule,
-    },
+    Refused { line: u32, rule: XRule },
     /// Memory was refused; nothing is said of the bytes.
     Memory,
 }

@@ -3,14 +3,14 @@
 
 pub mod commands;
 pub mod declared;
-mod report;
 pub mod faults;
 pub mod names;
 mod printing;
+mod report;
 pub mod script;
 pub mod values;
 
-pub use declared::Declared;
 pub use commands::{Command, NumberedCommand};
+pub use declared::Declared;
 pub use faults::ScriptFault;
 pub use script::{Script, read_script};

@@ -149,11 +149,7 @@ fn method_in(it: &StructDecl, number: MethodId) -> Option<&MethodDecl>
     it.methods.iter().find(|method| method.number == number)
 }
 
-fn method_of(
-    surface: &PublicSurface,
-    decl: ReceiverDecl,
-    number: MethodId,
-) -> Option<&MethodDecl>
+fn method_of(surface: &PublicSurface, decl: ReceiverDecl, number: MethodId) -> Option<&MethodDecl>
     ensures { option_copied result ≡ method_of surface.now number.0 (receiver_of decl) }
 {
     match struct_numbered(surface, decl.of) {

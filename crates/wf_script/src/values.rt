@@ -33,10 +33,7 @@ pub fn parts_at(mark: u8, word: &[u8]) -> Result<(&[u8], &[u8]), XRule>
 fn struct_named<'s>(surface: &'s PublicSurface, word: &[u8]) -> Option<&'s StructDecl>
     ensures { option_copied result ≡ find (λ it. bytes_eq it.name word.now) surface.now.structs }
 {
-    surface
-        .structs
-        .iter()
-        .find(|it| it.name.as_slice() == word)
+    surface.structs.iter().find(|it| it.name.as_slice() == word)
 }
 
 /// The public struct of this name; X2 where there is none.

@@ -148,6 +148,7 @@ line_on (next ∷ more) byte plain within = rw plain (by_test (is_feed next) ref
     by_return : (r : Bool) → cond (r && true) ([] ∷ lines_of more) ((byte ∷ []) ∷ lines_of more) ≡ cond (r && true) [] (byte ∷ []) ∷ lines_of more
     by_return true = refl
     by_return false = refl
+
     by_test : (t : Bool) → is_feed next ≡ t → cond (not t) (1 + position_or_len is_feed more) 0 < suc (length more) → (is_feed next ≡ false → position_or_len is_feed more < length more → lines_of (next ∷ more) ≡ without_return (next ∷ take (position_or_len is_feed more) more) ∷ lines_of (drop (suc (position_or_len is_feed more)) more)) → cond (is_return byte && t) (lines_of (next ∷ more)) (in_front byte (lines_of (next ∷ more))) ≡ without_return (byte ∷ take (cond (not t) (1 + position_or_len is_feed more) 0) (next ∷ more)) ∷ lines_of (drop (suc (cond (not t) (1 + position_or_len is_feed more) 0)) (next ∷ more))
     by_test true e short others = rw e (by_return (is_return byte))
     by_test false e short others =
