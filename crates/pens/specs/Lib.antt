@@ -1,0 +1,2 @@
+pub mod PenLaws
+pub mod Pens

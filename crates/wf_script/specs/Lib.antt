@@ -1,0 +1,5 @@
+pub mod Views
+pub mod Values
+pub mod Targets
+pub mod Sights
+pub mod Replies

@@ -1,0 +1,4 @@
+pub mod Places
+pub mod TextLaws
+pub mod NumberLaws
+pub mod Examples
