@@ -1,0 +1,7 @@
+//! What a list of facts says of an expression: the facts themselves, which range a number has under a list, which
+//! conditions a list gives, and which demands the value of an expression makes. Nothing here takes memory.
+#![tactic(auto)]
+
+pub mod facts;
+
+pub use facts::{Cmp, Fact, Side};
