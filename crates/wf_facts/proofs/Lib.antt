@@ -1,1 +1,6 @@
+pub mod AddLemmas
+pub mod ChangeLemmas
+pub mod DropLemmas
+pub mod FormLemmas
+pub mod MentioningLemmas
 pub mod SetLemmas

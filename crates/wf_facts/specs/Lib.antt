@@ -1,1 +1,4 @@
+pub mod FactLists
+pub mod Forms
+pub mod IndexedFacts
 pub mod Sets

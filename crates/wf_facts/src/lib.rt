@@ -2,6 +2,18 @@
 // argument, an element or a slice.
 #![tactic(auto)]
 
+mod adding;
+mod changes;
+mod changing;
+mod dropping;
+mod forms;
+mod list;
+mod mentioning;
+mod sameness;
 mod sets;
 
+pub use adding::Full;
+pub use changes::Change;
+pub use forms::Form;
+pub use list::Facts;
 pub use sets::FactSet;

@@ -1,6 +1,6 @@
 // Sets of facts of a list, which hold 512 places.
 
-ghost use Rattle.std.specs.Prelude.{◌≡◌, ℕ, ◌<◌, ◌≤◌, ◌↔◌, IsTrue, ◌||◌, [], nat_eq, replicate};
+ghost use Rattle.std.specs.Prelude.{◌≡◌, ℕ, ◌<◌, ◌≤◌, ◌&&◌, ◌||◌, [], nat_eq};
 ghost use Rattle.wf_facts.specs.Sets.{member, members, IsSetOf, unmarked};
 
 /// A set of places of a list: bit `i mod 64` of word `i / 64` is that of place `i`.
@@ -33,11 +33,14 @@ impl FactSet {
         self.words[i / 64] |= 1 << (i % 64);
     }
 
-    /// Whether no place is in the set.
-    pub(crate) fn is_empty(&self) -> bool
-        ensures { IsTrue result ↔ (self.now.words ≡ replicate 8 0) }
+    /// Adds place `i` where it is present.
+    pub(crate) fn put(&mut self, i: usize, present: bool)
+        requires { i < 512 }
+        ensures { (k : ℕ) → k < 512 → member self.new.words k ≡ ((nat_eq k i && present) || member self.old.words k) }
     {
-        self.words == [0; 8]
+        if present {
+            self.insert(i);
+        }
     }
 
     /// The places among the first `n` that this set has once those of `dropped` are gone and the others move up.
@@ -48,12 +51,11 @@ impl FactSet {
         let mut moved = FactSet::new();
         let mut stays = 0;
         for i in 0..n {
-            if !dropped.has(i) {
-                if self.has(i) {
-                    moved.insert(stays);
-                }
-                stays += 1;
+            if dropped.has(i) {
+                continue;
             }
+            moved.put(stays, self.has(i));
+            stays += 1;
         }
         moved
     }
