@@ -1,1 +1,5 @@
 pub mod Claims
+pub mod Demands
+pub mod Given
+pub mod LawfulState
+pub mod RangeOf
