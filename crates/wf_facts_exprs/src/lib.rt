@@ -3,5 +3,6 @@
 #![tactic(auto)]
 
 pub mod facts;
+pub mod laws;
 
 pub use facts::{Cmp, Fact, Side};
