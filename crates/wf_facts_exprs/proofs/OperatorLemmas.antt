@@ -61,6 +61,12 @@ difference-holds true a b m n o h k =
     let le : n ≤ m = o refl in
     record { above = omega (arith, ints, clamps, i.above, le); below = i.below }
 
+pub few-bits : (bits : ℕ) (b : Range) → bits ≤ 64 → is_below bits b ≡ true → (is_empty b ≡ true) ⊎ (b.hi ≤ 63)
+few-bits bits b le h = elim (or_cases (is_empty b) _ h) [
+  | inl e ↦ inl e
+  | inr e ↦ let l = lt_from b.hi bits e in inr (omega (arith, l, le))
+]
+
 -- A number below the width is what is left of it.
 mod-small : (n k : ℕ) → n < k → n % k ≡ n
 mod-small n k h = mod-eq_of_lt h

@@ -145,7 +145,7 @@ module _ (c : Context) (s : State) (lawful : IsLawful c s) (fs : List Claim) (we
     number = n;
     is = is;
     in_range = natural _ _ (closed-holds part t (rule_range fs t) (pos n)
-    (λ e l m wl same v. ap pos (sym (side-same c s l (single t) m n wl (side-well t (whole-well part t w p e)) same v is))) (whole _ _ h));
+        (λ e l m wl same v. ap pos (sym (side-same c s l (single t) m n wl (side-well t (whole-well part t w p e)) same v is))) (whole _ _ h));
     small = closed-small part t (rule_range fs t) small;
     within = within;
   }
@@ -434,10 +434,10 @@ module _ (c : Context) (s : State) (lawful : IsLawful c s) (fs : List Claim) (we
         items = record {
           few = omega (arith, few, b);
           items = λ k inside.
-            let found = x.items.items (e.first + k) (omega (arith, a, b, inside)) in
-            let same : x.cells.from + (e.first + k) ≡ x.cells.from + e.first + k = omega arith in
-            let P : ℕ → Type 0 = λ j. slice_get (s.cells_at x.cells.store) j ≡ Some found.0 in
-            (found.0, subst P same found.1, found.2);
+              let found = x.items.items (e.first + k) (omega (arith, a, b, inside)) in
+              let same : x.cells.from + (e.first + k) ≡ x.cells.from + e.first + k = omega arith in
+              let P : ℕ → Type 0 = λ j. slice_get (s.cells_at x.cells.store) j ≡ Some found.0 in
+              (found.0, subst P same found.1, found.2);
         };
         count = Holds-width 64 (e.last - e.first) (omega (arith, few, b));
         small = omega arith;
@@ -715,7 +715,7 @@ module _ (c : Context) (s : State) (lawful : IsLawful c s) (fs : List Claim) (we
     number = n;
     is = refl;
     in_range = natural _ _ (closed-holds false (number at n) (rule_range fs (number at n)) (pos n)
-    (λ k l m wl same v. ap pos (sym (side-same c s l (single (number at n)) m n wl refl same v refl))) (whole _ _ (Holds-exact n)));
+        (λ k l m wl same v. ap pos (sym (side-same c s l (single (number at n)) m n wl refl same v refl))) (whole _ _ (Holds-exact n)));
   }
   side-sound (single t) h e = let x : Sound false t = num-of t h e in record { number = x.number; is = x.is; in_range = x.in_range }
 
