@@ -3,5 +3,10 @@
 #![tactic(auto)]
 
 pub mod facts;
+mod given;
+pub mod laws;
+mod meeting;
+mod operators;
+mod shapes;
 
 pub use facts::{Cmp, Fact, Side};
