@@ -49,9 +49,13 @@ filtered nodes q (f ∷ fs) = by (q (claim_in nodes f)) refl (filtered nodes q f
     by true h rest = rw h (ap (λ cs. claim_in nodes f ∷ cs) rest)
     by false h rest = rw h rest
 
-pub claims-common : (nodes : TypedNodes) (fs others : List Fact) (words : List ℕ) → length fs ≤ 512 → IsSetOf words (map (λ f. not (is_among (claims_in nodes others) (claim_in nodes f))) fs)
+pub claims-common : (nodes : TypedNodes) (fs others xs ys : List Fact) (words : List ℕ) → xs ≡ fs → ys ≡ others → length fs ≤ 512
+    → IsSetOf words (map (λ f. not (is_among (claims_in nodes ys) (claim_in nodes f))) xs)
     → claims_in nodes (unmarked (members words (length fs)) fs) ≡ common (claims_in nodes fs) (claims_in nodes others)
-claims-common nodes fs others words few set =
+claims-common nodes fs others xs ys words left right few seen =
+    let P : List Fact → Type 0 = λ gs. IsSetOf words (map (λ f. not (is_among (claims_in nodes ys) (claim_in nodes f))) gs) in
+    let Q : List Fact → Type 0 = λ gs. IsSetOf words (map (λ f. not (is_among (claims_in nodes gs) (claim_in nodes f))) fs) in
+    let set = subst Q right (subst P left seen) in
     let p : Fact → Bool = λ f. not (is_among (claims_in nodes others) (claim_in nodes f)) in
     let known = members_known words (map p fs) set (length fs) (sym (length-map fs p)) few in
     ap (λ ms. claims_in nodes (unmarked ms fs)) known ∙ filtered nodes (λ c. is_among (claims_in nodes others) c) fs
@@ -92,12 +96,13 @@ thing_back things.SliceLocals h = refl
 thing_back (things.Field x) h = absurd (cc (h))
 thing_back (things.Arg x) h = absurd (cc (h))
 
-pub IsOver-pushed : (nodes : TypedNodes) (old : FactList) (f : Fact) (list : List Fact) (sets before : List FactSet) (n : ℕ) → n ≡ length old.list → before ≡ old.sets → list ≡ old.list ++ f ∷ [] → is_fact nodes f ≡ true
+pub IsOver-pushed : (nodes : TypedNodes) (old : FactList) (f : Fact) (list : List Fact) (sets kept before : List FactSet) (n : ℕ) → n ≡ length old.list → before ≡ old.sets → kept ≡ sets → list ≡ old.list ++ f ∷ [] → is_fact nodes f ≡ true
     → ((k : ℕ) → k < 260 → (j : ℕ) → j < 512 → member (words_at sets k) j ≡ ((nat_eq j n && claim_mentions (thing_of k) (claim_in nodes f)) || member (words_at before k) j))
-    → IsOver nodes old → IsOver nodes (record { list = list; sets = sets })
-IsOver-pushed nodes old f list sets before n count same more fact marks over =
-    let R : List Fact → Type 0 = λ fs. IsOver nodes (record { list = fs; sets = sets }) in
-    subst R (sym more) (record {
+    → IsOver nodes old → IsOver nodes (record { list = list; sets = kept })
+IsOver-pushed nodes old f list sets kept before n count same kept_is more fact marks over =
+    let R : List Fact → Type 0 = λ fs. IsOver nodes (record { list = fs; sets = kept }) in
+    let S : List FactSet → Type 0 = λ ss. IsOver nodes (record { list = old.list ++ f ∷ []; sets = ss }) in
+    subst R (sym more) (subst S (sym kept_is) (record {
       facts = All-push (λ g. is_fact nodes g ≡ true) old.list f over.facts fact;
       sets = λ x h.
         let k = set_number x in
@@ -109,7 +114,7 @@ IsOver-pushed nodes old f list sets before n count same more fact marks over =
         ∙ ap (λ ss. (nat_eq j (length (mentioning nodes x old.list)) && b) || member (words_at ss k) j) same in
         let P : List Bool → Type 0 = IsSetOf (words_at sets k) in
         subst P (sym (map-append (λ g. claim_mentions x (claim_in nodes g)) old.list (f ∷ []))) (IsSetOf-put (set_of old x) (words_at sets k) (mentioning nodes x old.list) b (over.sets x h) put);
-    })
+    }))
 
 pub claims-pushed : (nodes : TypedNodes) (fs gs : List Fact) (f : Fact) → gs ≡ fs ++ f ∷ [] → is_among (claims_in nodes fs) (claim_in nodes f) ≡ false
     → claims_in nodes gs ≡ added (claims_in nodes fs) (claim_in nodes f)

@@ -205,7 +205,7 @@ module _ (nodes : TypedNodes) (e : ExprId) (expr : Expr)
   length_is = length_tree nodes e (type_of_node nodes e.0) (tree_of nodes e) (and_parts (is_expr nodes e) _ h).1 (node_kind nodes e expr tree fits)
 
   pub io_form : (ty : Ty) → ty ≡ type_of_node nodes e.0 → is_io ty ≡ true → forms.IoLength ≡ form_of (length_in nodes e (type_of_node nodes e.0) (tree_of nodes e))
-  io_form ty same io = sym (length_is.0 ∙ rw (← same, io) refl)
+  io_form ty same h = sym (length_is.0 ∙ rw (← same, h) refl)
 
   pub list_form : (ty : Ty) → ty ≡ type_of_node nodes e.0 → is_io ty ≡ false → forms.ListLength ≡ form_of (length_in nodes e (type_of_node nodes e.0) (tree_of nodes e))
-  list_form ty same io = sym (length_is.0 ∙ rw (← same, io) refl)
+  list_form ty same h = sym (length_is.0 ∙ rw (← same, h) refl)

@@ -11,6 +11,7 @@ use Rattle.wf_ast.specs.declared.typed_nodes.TypedNodes.{TypedNodes}
 use Rattle.wf_ast.specs.TypedTree.{NumTree, number, ValueTree, numeric, logical, elements, io}
 use Rattle.wf_ast.specs.TypedTrees.{made_or_number, tree_of, num_in, cond_in, type_of_node, constant_of_node, place_of_node, signs_of_node}
 use Rattle.wf_ast.specs.TypedInvariant.{is_expr, is_numeric, is_logical, is_list, is_io, is_tree_of, node_fits}
+use Rattle.wf_ast.specs.Same.{same, same_cond}
 use Rattle.wf_ast.specs.Mentions.{mentions, num_mentions, cond_mentions}
 use Rattle.wf_ast.proofs.TreeKinds.{made_or_number_kind}
 use Rattle.wf_facts_exprs.specs.Claims.{sum_of, side_mentions, length_in, is_number_at, is_condition_at}
@@ -21,6 +22,24 @@ pub node_kind : (nodes : TypedNodes) (e : ExprId) (expr : Expr)
     → node_fits nodes (type_of_node nodes e.0) (constant_of_node nodes e.0) expr ≡ true → is_tree_of (type_of_node nodes e.0) (tree_of nodes e) ≡ true
 node_kind nodes e expr made fits =
     rw made (made_or_number_kind nodes (tree_of nodes) (place_of_node nodes e.0) (signs_of_node nodes e.0) (type_of_node nodes e.0) (constant_of_node nodes e.0) expr fits)
+
+logical_trees : (ty ty' : Ty) (t t' : ValueTree) → is_logical ty ≡ true → is_logical ty' ≡ true → is_tree_of ty t ≡ true → is_tree_of ty' t' ≡ true → same t t' ≡ same_cond (cond_in t) (cond_in t')
+logical_trees types.Flag types.Flag (logical c) (logical d) h h' k k' = refl
+logical_trees types.Flag types.Flag (logical c) t' h h' k k' = absurd (cc (k'))
+logical_trees types.Flag types.Flag t t' h h' k k' = absurd (cc (k))
+logical_trees types.Flag ty' t t' h h' k k' = absurd (cc (h'))
+logical_trees ty ty' t t' h h' k k' = absurd (cc (h))
+
+-- Two conditions are the same where their trees are.
+pub conditions_same : (nodes : TypedNodes) (e e' : ExprId) (expr expr' : Expr)
+    → tree_of nodes e ≡ made_or_number (tree_of nodes) (place_of_node nodes e.0) (signs_of_node nodes e.0) (type_of_node nodes e.0) (constant_of_node nodes e.0) expr
+    → node_fits nodes (type_of_node nodes e.0) (constant_of_node nodes e.0) expr ≡ true
+    → tree_of nodes e' ≡ made_or_number (tree_of nodes) (place_of_node nodes e'.0) (signs_of_node nodes e'.0) (type_of_node nodes e'.0) (constant_of_node nodes e'.0) expr'
+    → node_fits nodes (type_of_node nodes e'.0) (constant_of_node nodes e'.0) expr' ≡ true → is_condition_at nodes e ≡ true → is_condition_at nodes e' ≡ true
+    → same (tree_of nodes e) (tree_of nodes e') ≡ same_cond (cond_in (tree_of nodes e)) (cond_in (tree_of nodes e'))
+conditions_same nodes e e' expr expr' made fits made' fits' h h' =
+    logical_trees (type_of_node nodes e.0) (type_of_node nodes e'.0) (tree_of nodes e) (tree_of nodes e') (and_parts (is_expr nodes e) _ h).1 (and_parts (is_expr nodes e') _ h').1
+    (node_kind nodes e expr made fits) (node_kind nodes e' expr' made' fits')
 
 module _ (x : Thing) where
   number_tree : (ty : Ty) (t : ValueTree) → is_numeric ty ≡ true → is_tree_of ty t ≡ true → mentions t x ≡ num_mentions x (num_in t)

@@ -1,3 +1,4 @@
+pub mod Changes
 pub mod FactLists
 pub mod Forms
 pub mod IndexedFacts

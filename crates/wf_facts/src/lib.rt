@@ -7,6 +7,7 @@ mod changes;
 mod changing;
 mod dropping;
 mod forms;
+pub mod laws;
 mod list;
 mod mentioning;
 mod sameness;

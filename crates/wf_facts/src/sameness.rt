@@ -3,10 +3,10 @@
 ghost use Rattle.std.specs.Prelude.{◌≡◌, true};
 ghost use Rattle.wf_ast.specs.TypedTrees.{tree_of, cond_in};
 ghost use Rattle.wf_ast.specs.Same.{same_cond, same_order};
-ghost use Rattle.wf_facts_exprs.specs.Claims.{claim_in, same_claim, side_in, same_side as same_sides, is_fact, is_side, is_condition_at, order_of};
+ghost use Rattle.wf_facts_exprs.specs.Claims.{claim_in, same_claim, is_fact, is_condition_at, order_of};
 
 use wf_ast::{ExprId, Typed, same};
-use wf_facts_exprs::{Cmp, Fact, Side};
+use wf_facts_exprs::{Cmp, Fact, same_side};
 
 /// Whether two facts claim the same: the same comparison of the same sides, or the same condition with the same answer.
 pub(crate) fn same_fact(t: &Typed, f: Fact, g: Fact) -> bool
@@ -42,15 +42,4 @@ fn same_condition(t: &Typed, e: ExprId, other: ExprId) -> bool
     let _node = t.expr(e);
     let _other = t.expr(other);
     same(t, e, other)
-}
-
-fn same_side(t: &Typed, side: Side, other: Side) -> bool
-    requires first { is_side t.now side ≡ true }
-    requires second { is_side t.now other ≡ true }
-    ensures { result ≡ same_sides (side_in t.now side) (side_in t.now other) }
-{
-    match (side, other) {
-        (Side::Num(m), Side::Num(n)) => m == n,
-        _ => false,
-    }
 }

@@ -8,5 +8,7 @@ pub mod laws;
 mod meeting;
 mod operators;
 mod shapes;
+mod sides;
 
 pub use facts::{Cmp, Fact, Side};
+pub use sides::same_side;
