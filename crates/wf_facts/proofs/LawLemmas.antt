@@ -113,9 +113,9 @@ answered op (Some m) (Some n) true h = h
 answered op (Some m) (Some n) false h = let e : compares op m n ≡ false = cc (h) in ap (λ b. Some b) (complement-true op m n e)
 
 flipped : (op : Order) (x y : Option ℕ) → option_and_then (λ m. option_map (compares op m) y) x ≡ Some true → option_and_then (λ n. option_map (compares (flip op) n) x) y ≡ Some true
-flipped op x y h =
-    let p = compared-parts op x y h in
-    rw (p.left_is, p.right_is) (ap (λ b. Some b) (flip-true op p.left p.right p.holds))
+flipped op None y h = absurd (cc (h))
+flipped op (Some m) None h = absurd (cc (h))
+flipped op (Some m) (Some n) h = let e : compares op m n ≡ true = cc (h) in ap (λ b. Some b) (flip-true op m n e)
 
 turned-true : (s : State) (a : NumTree) (op : Order) (b : NumTree) → claim_truth s (compared (single a) op (single b)) ≡ Some true → claim_truth s (turned a op b) ≡ Some true
 turned-true s (number at n) op b h = flipped op (Some n) (value s b) h
@@ -218,7 +218,7 @@ module _ (x : Thing) (change : Change) (s s' : State) (takes : TakesPlace x chan
       let e : n ≡ p.right = some_of n p.right p.right_is in
       let v = takes.moved t p.left mentioned (spoken change (form_of t) op w) p.left_is in
       let Q : ℕ → Type 0 = λ k. compares op p.left k ≡ true in
-      rw v.1.0 (ap (λ b. Some b) (taken_along change (form_of t) op p.left n v.0 m w v.1.1 moved (subst Q (sym e) p.holds)))
+      rw v.1 (ap (λ b. Some b) (taken_along change (form_of t) op p.left n v.0 m w v.2 moved (subst Q (sym e) p.holds)))
 
   or_false : (b : Bool) → (b || false) ≡ true → b ≡ true
   or_false true h = refl
