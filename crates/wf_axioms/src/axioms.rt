@@ -139,7 +139,11 @@ pub fn premises_of(a: Axiom) -> &'static [(Term, Cmp, Term)]
         Axiom::LeByEqLe => &[(One(A), Eq, One(C)), (One(C), Le, One(B))],
         Axiom::GeByLe => &[(One(B), Le, One(A))],
         Axiom::LtSum => &[(One(A), Lt, One(C)), (Zero, Le, One(B))],
-        Axiom::LtSums => &[(One(A), Lt, Sum(B0, C0)), (One(B0), Le, One(B)), (One(C0), Le, One(C))],
+        Axiom::LtSums => &[
+            (One(A), Lt, Sum(B0, C0)),
+            (One(B0), Le, One(B)),
+            (One(C0), Le, One(C)),
+        ],
         Axiom::LeSum => &[(Zero, Le, One(B))],
         Axiom::LeByLt => &[(One(A), Lt, One(B))],
         Axiom::EqByLeLe => &[(One(A), Le, One(B)), (One(B), Le, One(A))],

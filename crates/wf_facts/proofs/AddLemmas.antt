@@ -1,21 +1,20 @@
 -- Facts come into the list.
-use Rattle.std.proofs.Common.{◌≡◌, ℕ, zero, suc, ◌+◌, ◌<◌, ◌≤◌, Bool, true, false, not, ◌&&◌, ◌||◌, ◌⊎◌, inl, inr, List, [], ◌∷◌, ◌++◌, length, get_or, take, drop, map, refl, sym, ap, ◌∙◌, subst, arith, add-one}
-use Rattle.std.specs.Prelude.{slice_set, filter, All, nat_eq, nat_lt, if◌then◌else◌}
-use Rattle.std.proofs.lemmas.Bool.{cases_eq, lt-ltb}
-use Rattle.std.proofs.lemmas.Bool.Decides.{nat_tests}
-use Rattle.std.proofs.lemmas.List.{append-nil, take_more, drop_more, length-set, length-take-le, length-map, map-append}
+use Rattle.std.proofs.Common.{◌≡◌, ℕ, ◌+◌, ◌<◌, ◌≤◌, Bool, true, false, not, ◌&&◌, ◌||◌, ◌⊎◌, inl, inr, List, [], ◌∷◌, ◌++◌, length, get_or, take, drop, map, refl, sym, ap, ◌∙◌, subst, arith}
+use Rattle.std.specs.Prelude.{slice_set, filter, nat_eq}
+use Rattle.std.proofs.lemmas.Bool.{cases_eq}
+use Rattle.std.proofs.lemmas.List.{take_more, drop_more, length-set, length-take-le, length-map, map-append}
 use Rattle.std.proofs.lemmas.List.Elements.{All-push}
 use Rattle.wf_ast.specs.declared.things.Thing.{Thing}
 use Rattle.wf_ast.specs.declared.things.Thing.TheVariants as things
 use Rattle.wf_ast.specs.declared.typed_nodes.TypedNodes.{TypedNodes}
 use Rattle.wf_facts_exprs.specs.declared.facts.Fact.{Fact}
-use Rattle.wf_facts_exprs.specs.Claims.{Claim, claim_in, claims_in, claim_mentions, same_claim, is_among, is_fact, AreFacts}
+use Rattle.wf_facts_exprs.specs.Claims.{Claim, claim_in, claims_in, claim_mentions, same_claim, is_among, is_fact}
 use Rattle.wf_facts.specs.declared.sets.FactSet.{FactSet}
-use Rattle.wf_facts.specs.Sets.{member, members, marked, IsSetOf, unmarked}
+use Rattle.wf_facts.specs.Sets.{member, members, IsSetOf, unmarked}
 use Rattle.wf_facts.specs.FactLists.{added, common}
 use Rattle.wf_facts.specs.IndexedFacts.{FactList, IsOver, has_set, set_number, set_of, mentioning, words_at, thing_of}
 use Rattle.wf_facts.proofs.SetLemmas.{members_known, IsSetOf-put}
-use Rattle.wf_facts.proofs.DropLemmas.{length-mentioning, number_below, words_got, words_set, words_set_other}
+use Rattle.wf_facts.proofs.DropLemmas.{length-mentioning, number_below, words_set, words_set_other}
 
 -- A look through a list.
 among_next : (nodes : TypedNodes) (fs : List Fact) (i : ℕ) (d : Fact) (c : Claim) → i < length fs
@@ -105,15 +104,15 @@ IsOver-pushed nodes old f list sets kept before n count same kept_is more fact m
     subst R (sym more) (subst S (sym kept_is) (record {
       facts = All-push (λ g. is_fact nodes g ≡ true) old.list f over.facts fact;
       sets = λ x h.
-        let k = set_number x in
-        let b = claim_mentions x (claim_in nodes f) in
-        let put : (j : ℕ) → j < 512 → member (words_at sets k) j ≡ ((nat_eq j (length (mentioning nodes x old.list)) && b) || member (set_of old x) j) = λ j low.
-        marks k (number_below x h) j low
-        ∙ ap (λ m. (nat_eq j m && claim_mentions (thing_of k) (claim_in nodes f)) || member (words_at before k) j) (count ∙ length-mentioning nodes x old.list)
-        ∙ ap (λ y. (nat_eq j (length (mentioning nodes x old.list)) && claim_mentions y (claim_in nodes f)) || member (words_at before k) j) (thing_back x h)
-        ∙ ap (λ ss. (nat_eq j (length (mentioning nodes x old.list)) && b) || member (words_at ss k) j) same in
-        let P : List Bool → Type 0 = IsSetOf (words_at sets k) in
-        subst P (sym (map-append (λ g. claim_mentions x (claim_in nodes g)) old.list (f ∷ []))) (IsSetOf-put (set_of old x) (words_at sets k) (mentioning nodes x old.list) b (over.sets x h) put);
+          let k = set_number x in
+          let b = claim_mentions x (claim_in nodes f) in
+          let put : (j : ℕ) → j < 512 → member (words_at sets k) j ≡ ((nat_eq j (length (mentioning nodes x old.list)) && b) || member (set_of old x) j) = λ j low.
+          marks k (number_below x h) j low
+          ∙ ap (λ m. (nat_eq j m && claim_mentions (thing_of k) (claim_in nodes f)) || member (words_at before k) j) (count ∙ length-mentioning nodes x old.list)
+          ∙ ap (λ y. (nat_eq j (length (mentioning nodes x old.list)) && claim_mentions y (claim_in nodes f)) || member (words_at before k) j) (thing_back x h)
+          ∙ ap (λ ss. (nat_eq j (length (mentioning nodes x old.list)) && b) || member (words_at ss k) j) same in
+          let P : List Bool → Type 0 = IsSetOf (words_at sets k) in
+          subst P (sym (map-append (λ g. claim_mentions x (claim_in nodes g)) old.list (f ∷ []))) (IsSetOf-put (set_of old x) (words_at sets k) (mentioning nodes x old.list) b (over.sets x h) put);
     }))
 
 pub claims-pushed : (nodes : TypedNodes) (fs gs : List Fact) (f : Fact) → gs ≡ fs ++ f ∷ [] → is_among (claims_in nodes fs) (claim_in nodes f) ≡ false

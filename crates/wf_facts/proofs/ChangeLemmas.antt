@@ -1,13 +1,12 @@
 -- What is still known of a number once it has changed.
-use Rattle.std.proofs.Common.{◌≡◌, ℕ, zero, suc, ◌+◌, ◌<◌, ◌≤◌, Bool, true, false, not, ◌&&◌, ◌||◌, List, [], ◌∷◌, ◌++◌, length, get_or, take, drop, map, Option, Some, None, refl, sym, ap, ◌∙◌, subst, arith, add-one}
-use Rattle.std.specs.Prelude.{slice_set, All, nat_eq, option_map, if◌then◌else◌}
-use Rattle.std.specs.List.{filter_map}
-use Rattle.std.proofs.lemmas.Bool.{and_parts, and_from, ne_eqb, eq-eqb}
-use Rattle.std.proofs.lemmas.List.{append-nil, take_more, take_more_set, get_or-drop, drop-drop, drop-set-lt, length-set, length-take-le, length-map, take_all, get_or_default, map-append}
+use Rattle.std.proofs.Common.{◌≡◌, ℕ, zero, suc, ◌+◌, ◌<◌, ◌≤◌, Bool, true, false, ◌||◌, List, [], ◌∷◌, ◌++◌, length, get_or, take, drop, map, Option, Some, None, refl, sym, ap, ◌∙◌, subst, arith, add-one}
+use Rattle.std.specs.Prelude.{slice_set, nat_eq, option_map}
+use Rattle.std.proofs.lemmas.Bool.{ne_eqb, eq-eqb}
+use Rattle.std.proofs.lemmas.List.{append-nil, take_more, take_more_set, get_or-drop, drop-drop, drop-set-lt, length-set, length-take-le, length-map, take_all, map-append}
 use Rattle.std.proofs.lemmas.List.Elements.{All-set}
 use Rattle.wf_ast.specs.declared.things.Thing.{Thing}
 use Rattle.wf_ast.specs.declared.typed_nodes.TypedNodes.{TypedNodes}
-use Rattle.wf_ast.specs.TypedTree.{NumTree, number, link, plus, Order}
+use Rattle.wf_ast.specs.TypedTree.{number, Order}
 use Rattle.wf_ast.specs.TypedTrees.{no_place}
 use Rattle.wf_facts_exprs.specs.declared.facts.Fact.{Fact}
 use Rattle.wf_facts_exprs.specs.Claims.{SideTree, single, sum, tree_of_side, Claim, compared, side_mentions, claim_in, claims_in, claim_mentions, is_fact, AreFacts}
@@ -18,7 +17,7 @@ use Rattle.wf_facts.specs.Forms.{form_of, number_in}
 use Rattle.wf_facts.specs.Sets.{member, members, IsSetOf, unmarked}
 use Rattle.wf_facts.specs.FactLists.{changed, still_known, moves_with, moved_number}
 use Rattle.wf_facts.specs.IndexedFacts.{FactList, IsOver, mentioning, set_of, set_number, words_at}
-use Rattle.wf_facts.proofs.SetLemmas.{length-members, unmarked-push, unmarked_none, unmarked_one, members_known}
+use Rattle.wf_facts.proofs.SetLemmas.{length-members, unmarked-push, members_known}
 use Rattle.wf_facts.proofs.DropLemmas.{length-mentioning, item_at}
 
 -- One comparison.
@@ -150,7 +149,7 @@ module _ (nodes : TypedNodes) (change : Change) (meant dropped : List ℕ) (xs y
   unmeant_on : member meant i ≡ false → Renews nodes change meant dropped xs ys (i + 1)
   unmeant_on h = record {
     claims = left_on dropped false item ys refl fresh (take_more ys i d within) ∙ ap (λ cs. cs ++ claim_in nodes item ∷ []) r.claims
-    ∙ sym (right_on ∙ rw h refl);
+        ∙ sym (right_on ∙ rw h refl);
     later = λ k a b. r.later k (omega (arith, a)) b;
     rest = rest_on;
     long = r.long;
@@ -162,7 +161,7 @@ module _ (nodes : TypedNodes) (change : Change) (meant dropped : List ℕ) (xs y
       → ((x : Thing) → claim_mentions x (claim_in nodes g) ≡ claim_mentions x (claim_in nodes item)) → Renews nodes change meant dropped xs (slice_set ys i g) (i + 1)
   Renews-kept h g known fact same = record {
     claims = left_on dropped false g (slice_set ys i g) refl fresh (take_more_set ys i g within) ∙ ap (λ cs. cs ++ claim_in nodes g ∷ []) r.claims
-    ∙ sym (right_on ∙ rw (h, ← known) refl);
+        ∙ sym (right_on ∙ rw (h, ← known) refl);
     later = λ k a b. r.later k (omega (arith, a)) b;
     rest = drop-set-lt (i + 1) ys i g (omega arith) ∙ rest_on;
     long = length-set ys i g ∙ r.long;
@@ -209,7 +208,7 @@ IsOver-same nodes old mid list is sets facts same over =
     record {
       facts = subst P (sym is) facts;
       sets = λ x h.
-        let Q : List Bool → Type 0 = λ bs. IsSetOf (set_of mid x) bs in
-        let R : List FactSet → Type 0 = λ ss. IsSetOf (words_at ss (set_number x)) (mentioning nodes x old.list) in
-        subst Q (sym (ap (mentioning nodes x) is ∙ same x)) (subst R (sym sets) (over.sets x h));
+          let Q : List Bool → Type 0 = λ bs. IsSetOf (set_of mid x) bs in
+          let R : List FactSet → Type 0 = λ ss. IsSetOf (words_at ss (set_number x)) (mentioning nodes x old.list) in
+          subst Q (sym (ap (mentioning nodes x) is ∙ same x)) (subst R (sym sets) (over.sets x h));
     }

@@ -1,6 +1,6 @@
 -- Facts leave the list, and all sets move with it.
-use Rattle.std.proofs.Common.{◌≡◌, ℕ, zero, suc, ◌+◌, ◌<◌, ◌≤◌, Bool, true, false, not, ◌&&◌, ◌||◌, ◌⊎◌, inl, inr, List, [], ◌∷◌, ◌++◌, length, get_or, take, drop, map, refl, sym, ap, ◌∙◌, subst, arith, add-one}
-use Rattle.std.specs.Prelude.{slice_set, filter, All, nat_eq}
+use Rattle.std.proofs.Common.{◌≡◌, ℕ, zero, suc, ◌+◌, ◌<◌, ◌≤◌, Bool, true, false, ◌&&◌, ◌||◌, ◌⊎◌, inl, inr, List, [], ◌∷◌, ◌++◌, length, get_or, take, drop, map, refl, sym, ap, ◌∙◌, subst, arith, add-one}
+use Rattle.std.specs.Prelude.{slice_set, All, nat_eq}
 use Rattle.std.proofs.lemmas.Bool.{cases_eq}
 use Rattle.std.proofs.lemmas.Bool.Decides.{nat_tests}
 use Rattle.std.proofs.lemmas.List.{append-nil, take_more, take_more_set, get_or-drop, drop-drop, drop-set-lt, length-set, length-take-le, take_all, get_or_default, map-append}
@@ -9,9 +9,9 @@ use Rattle.wf_ast.specs.declared.things.Thing.{Thing}
 use Rattle.wf_ast.specs.declared.things.Thing.TheVariants as things
 use Rattle.wf_ast.specs.declared.typed_nodes.TypedNodes.{TypedNodes}
 use Rattle.wf_facts_exprs.specs.declared.facts.Fact.{Fact}
-use Rattle.wf_facts_exprs.specs.Claims.{Claim, claim_in, claims_in, claim_mentions, is_fact, AreFacts}
+use Rattle.wf_facts_exprs.specs.Claims.{claim_in, claims_in, claim_mentions, is_fact, AreFacts}
 use Rattle.wf_facts.specs.declared.sets.FactSet.{FactSet}
-use Rattle.wf_facts.specs.Sets.{member, members, marked, IsSetOf, unmarked}
+use Rattle.wf_facts.specs.Sets.{member, members, IsSetOf, unmarked}
 use Rattle.wf_facts.specs.FactLists.{without}
 use Rattle.wf_facts.specs.IndexedFacts.{FactList, IsOver, has_set, set_number, set_of, mentioning, words_at}
 use Rattle.wf_facts.proofs.SetLemmas.{length-members, unmarked-push, unmarked_none, unmarked_one, members_known, IsSetOf-put}
@@ -159,11 +159,11 @@ pub IsOver-dropped : (nodes : TypedNodes) (old : FactList) (dropped : List ℕ) 
 IsOver-dropped nodes old dropped sets few whole moved over = record {
   facts = facts-unmarked nodes (members dropped (length old.list)) old.list over.facts;
   sets = λ x h.
-    let ms = members dropped (length old.list) in
-    let known : members (set_of old x) (length old.list) ≡ mentioning nodes x old.list =
-    members_known (set_of old x) (mentioning nodes x old.list) (over.sets x h) (length old.list) (length-mentioning nodes x old.list) few in
-    let P : List Bool → Type 0 = λ bs. IsSetOf (words_at sets (set_number x)) bs in
-    subst P (ap (unmarked ms) known ∙ sym (map-unmarked (λ f. claim_mentions x (claim_in nodes f)) ms old.list)) (moved (set_number x) (omega (arith, number_below x h, whole)));
+      let ms = members dropped (length old.list) in
+      let known : members (set_of old x) (length old.list) ≡ mentioning nodes x old.list =
+      members_known (set_of old x) (mentioning nodes x old.list) (over.sets x h) (length old.list) (length-mentioning nodes x old.list) few in
+      let P : List Bool → Type 0 = λ bs. IsSetOf (words_at sets (set_number x)) bs in
+      subst P (ap (unmarked ms) known ∙ sym (map-unmarked (λ f. claim_mentions x (claim_in nodes f)) ms old.list)) (moved (set_number x) (omega (arith, number_below x h, whole)));
 }
 
 -- The same with what stood before named anew.

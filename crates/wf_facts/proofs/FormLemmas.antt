@@ -1,5 +1,5 @@
 -- What the numbers of a typed package are.
-use Rattle.std.proofs.Common.{◌≡◌, ℕ, suc, ◌+◌, Bool, true, false, not, ◌&&◌, ◌||◌, List, [], ◌∷◌, length, map, Option, None, Some, refl, sym, ap, ◌∙◌, subst, arith}
+use Rattle.std.proofs.Common.{◌≡◌, ℕ, suc, ◌+◌, Bool, true, false, ◌&&◌, ◌||◌, List, [], ◌∷◌, length, map, Option, None, Some, refl, sym, ap, ◌∙◌, subst, arith}
 use Rattle.std.specs.Prelude.{if◌then◌else◌, nat_eq, is_some}
 use Rattle.std.proofs.lemmas.Bool.{and_parts, ne_eqb}
 use Rattle.wf_text.specs.declared.place.Place.{Place}
@@ -16,15 +16,15 @@ use Rattle.wf_ast.specs.declared.resolved.Expr.{Expr}
 use Rattle.wf_ast.specs.declared.resolved.Expr.TheVariants as exprs
 use Rattle.wf_ast.specs.declared.typed_nodes.TypedNodes.{TypedNodes}
 use Rattle.wf_ast.specs.Operators.{same_op}
-use Rattle.wf_ast.specs.TypedTree.{Path, local, field, arg, Arith, plus, NumTree, number, read, element, link, convert, length_of, asked, ValueTree, numeric, elements, io}
+use Rattle.wf_ast.specs.TypedTree.{Path, local, field, arg, Arith, plus, NumTree, number, link, ValueTree, elements, io}
 use Rattle.wf_ast.specs.TypedTrees.{Sort, arithmetic, ordering, joining, sort_of, made, made_or_number, named, num_chain, chain_of, answer_of, tree_of, num_in, type_of_node, constant_of_node, place_of_node, signs_of_node}
 use Rattle.wf_ast.specs.TypedInvariant.{is_expr, is_numeric, is_logical, is_state, is_list, is_io, is_tree_of, is_given, kind_fits, node_fits, chain_fits, has_kind}
 use Rattle.wf_ast.specs.WellTyped.{same_mark}
 use Rattle.wf_ast.specs.Same.{same_arith}
-use Rattle.wf_facts_exprs.specs.Claims.{SideTree, sum_of, tree_of_side, length_in, is_number_at}
+use Rattle.wf_facts_exprs.specs.Claims.{sum_of, tree_of_side, length_in, is_number_at}
 use Rattle.wf_facts.specs.declared.forms.Form.{Form}
 use Rattle.wf_facts.specs.declared.forms.Form.TheVariants as forms
-use Rattle.wf_facts.specs.Forms.{form_of, form_of_node, form_of_chain, form_of_method, number_in}
+use Rattle.wf_facts.specs.Forms.{form_of, form_of_node, form_of_method, number_in}
 use Rattle.wf_facts.proofs.MentioningLemmas.{node_kind}
 
 -- A type has one kind.

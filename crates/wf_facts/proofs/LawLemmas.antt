@@ -1,23 +1,22 @@
 -- What statements do to a list of facts keeps truth.
-use Rattle.std.proofs.Common.{◌≡◌, ℕ, ◌+◌, ◌-◌, ◌<◌, ◌≤◌, Bool, true, false, not, ◌&&◌, ◌||◌, List, [], ◌∷◌, ◌++◌, Option, Some, None, refl, sym, ap, ◌∙◌, subst, arith}
-use Rattle.std.specs.Prelude.{filter, option_and_then, option_map, if◌then◌else◌, nat_eq, nat_lt, nat_le}
-use Rattle.std.specs.List.{filter_map}
-use Rattle.std.proofs.lemmas.Bool.{and_parts, or_parts, or_cases}
+use Rattle.std.proofs.Common.{◌≡◌, ℕ, ◌+◌, ◌-◌, ◌≤◌, Bool, true, false, not, ◌&&◌, ◌||◌, List, [], ◌∷◌, ◌++◌, Option, Some, None, refl, sym, ap, ◌∙◌, subst, arith}
+use Rattle.std.specs.Prelude.{option_and_then, option_map, if◌then◌else◌, nat_lt, nat_le}
+use Rattle.std.proofs.lemmas.Bool.{and_parts, or_parts}
 use Rattle.std.proofs.lemmas.Bool.Decides.{nat_tests}
 use Rattle.wf_text.specs.declared.place.Place.{Place}
 use Rattle.wf_ast.specs.declared.things.Thing.{Thing}
-use Rattle.wf_ast.specs.TypedTree.{NumTree, number, read, Order, less, at_most, equal, differs, at_least, greater, CondTree, truth, flag, compare, same_status, junction, negation, closed, has_category}
+use Rattle.wf_ast.specs.TypedTree.{NumTree, number, Order, less, at_most, equal, differs, at_least, greater, CondTree, truth, flag, compare, same_status, junction, negation, closed, has_category}
 use Rattle.wf_ast.specs.TypedTrees.{no_place}
 use Rattle.wf_ast.specs.Value.{State, value, truth_of, compares, same_truth, only_if}
-use Rattle.wf_ast.specs.Mentions.{num_mentions, cond_mentions, AgreeBut}
+use Rattle.wf_ast.specs.Mentions.{num_mentions, AgreeBut}
 use Rattle.wf_ast.proofs.Depends.{value_depends, cond_depends}
 use Rattle.wf_facts_exprs.specs.Claims.{SideTree, single, sum, Claim, compared, stands, side_value, claim_truth, AllTrue, side_mentions, claim_mentions, is_among, complement, flip, with_answer, turned, facts_of}
-use Rattle.wf_facts_exprs.proofs.ClaimLemmas.{Compared, compared-parts, some_of}
+use Rattle.wf_facts_exprs.proofs.ClaimLemmas.{compared-parts, some_of}
 use Rattle.wf_facts.specs.declared.changes.Change.{Change}
 use Rattle.wf_facts.specs.declared.changes.Change.TheVariants.{Raised, Lowered, Shortened}
 use Rattle.wf_facts.specs.declared.forms.Form.{Form}
 use Rattle.wf_facts.specs.Forms.{form_of}
-use Rattle.wf_facts.specs.FactLists.{added, all_added, with_condition, without, common, changed, still_known, moves_with, moved_number, in_64_bits, is_variable, is_io_length, is_least}
+use Rattle.wf_facts.specs.FactLists.{added, all_added, with_condition, without, common, changed, still_known, moves_with, moved_number, in_64_bits, is_io_length, is_least}
 use Rattle.wf_facts.specs.Changes.{Becomes, speaks_of, TakesPlace}
 
 -- A claim's truth depends only on what the claim mentions.

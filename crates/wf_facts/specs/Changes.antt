@@ -1,5 +1,5 @@
 -- What the changes of a statement stand for, over states of whole numbers.
-use Rattle.std.specs.Prelude.{◌≡◌, ℕ, ◌+◌, ◌≤◌, Bool, true, false, Option, None, Some}
+use Rattle.std.specs.Prelude.{◌≡◌, ℕ, ◌+◌, ◌≤◌, Bool, true, None, Some}
 use Rattle.wf_ast.specs.declared.things.Thing.{Thing}
 use Rattle.wf_ast.specs.TypedTree.{NumTree}
 use Rattle.wf_ast.specs.Value.{State, value}

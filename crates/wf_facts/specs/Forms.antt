@@ -1,5 +1,5 @@
 -- What a number is, as far as facts tell numbers apart.
-use Rattle.std.specs.Prelude.{ℕ, Bool, true, false, not, ◌&&◌, ◌||◌, List, length, Option, None, Some, if◌then◌else◌, nat_eq}
+use Rattle.std.specs.Prelude.{ℕ, Bool, true, false, not, ◌&&◌, length, Option, None, Some, if◌then◌else◌, nat_eq}
 use Rattle.wf_base.specs.declared.base_methods.BaseSig.{BaseSig}
 use Rattle.wf_base.specs.declared.base_methods.BaseSig.TheVariants as sigs
 use Rattle.wf_ast.specs.declared.operators.Op.{Op}

@@ -128,5 +128,9 @@ fn thing_at(k: usize) -> Thing
     if k == 257 {
         return Thing::Args;
     }
-    if k == 258 { Thing::Element } else { Thing::SliceLocals }
+    if k == 258 {
+        Thing::Element
+    } else {
+        Thing::SliceLocals
+    }
 }

@@ -121,7 +121,11 @@ fn moved_number(change: Change, n: u128) -> Option<u64>
     match change {
         Change::Raised(k) => in_64_bits(n + k as u128),
         Change::Lowered(k) | Change::Shortened(Some(k)) => {
-            if k as u128 <= n { in_64_bits(n - k as u128) } else { None }
+            if k as u128 <= n {
+                in_64_bits(n - k as u128)
+            } else {
+                None
+            }
         }
         Change::Shortened(None) => None,
     }
@@ -130,5 +134,9 @@ fn moved_number(change: Change, n: u128) -> Option<u64>
 fn in_64_bits(n: u128) -> Option<u64>
     ensures { result ≡ number_in_64_bits n }
 {
-    if n < 18446744073709551616 { Some(n as u64) } else { None }
+    if n < 18446744073709551616 {
+        Some(n as u64)
+    } else {
+        None
+    }
 }

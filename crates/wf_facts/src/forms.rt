@@ -53,7 +53,11 @@ fn node_form(expr: &Expr) -> Form
 fn chain_form(op: Op, operands: usize) -> Form
     ensures { result ≡ form_of_chain op operands }
 {
-    if op as u8 == Op::Add as u8 && operands == 2 { Form::Sum } else { Form::Other }
+    if op as u8 == Op::Add as u8 && operands == 2 {
+        Form::Sum
+    } else {
+        Form::Other
+    }
 }
 
 fn method_form(sig: BaseSig) -> Form

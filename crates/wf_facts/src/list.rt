@@ -60,7 +60,11 @@ impl Facts {
     pub fn get(&self, i: usize) -> Option<Fact>
         ensures { result ≡ slice_get self.now.list i }
     {
-        if i < self.list.len() { Some(self.list[i]) } else { None }
+        if i < self.list.len() {
+            Some(self.list[i])
+        } else {
+            None
+        }
     }
 
     /// The facts in order.

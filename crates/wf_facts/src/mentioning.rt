@@ -16,7 +16,8 @@ pub(crate) fn fact_mentions(t: &Typed, f: Fact, x: Thing) -> bool
     ensures { result ≡ claim_mentions x (claim_in t.now f) }
 {
     match f {
-        Fact::Compare { left, right, .. } => side_mentions(t, left, x) || side_mentions(t, right, x),
+        Fact::Compare { left, right, .. } => side_mentions(t, left, x)
+            || side_mentions(t, right, x),
         Fact::Cond { expr, .. } => condition_mentions(t, expr, x),
     }
 }

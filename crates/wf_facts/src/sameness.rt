@@ -16,9 +16,11 @@ pub(crate) fn same_fact(t: &Typed, f: Fact, g: Fact) -> bool
 {
     match f {
         Fact::Compare { left, op, right } => match g {
-            Fact::Compare { left: l, op: o, right: r } => {
-                same_cmp(op, o) && (same_side(t, left, l) && same_side(t, right, r))
-            }
+            Fact::Compare {
+                left: l,
+                op: o,
+                right: r,
+            } => { same_cmp(op, o) && (same_side(t, left, l) && same_side(t, right, r)) }
             Fact::Cond { .. } => false,
         },
         Fact::Cond { expr, answer } => match g {

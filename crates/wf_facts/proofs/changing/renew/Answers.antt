@@ -1,4 +1,4 @@
-use Rattle.std.proofs.Common.{◌<◌, length, sym, ◌∙◌, arith}
+use Rattle.std.proofs.Common.{sym, arith}
 use Rattle.wf_facts.proofs.ChangeLemmas.{Renews-unmeant, Renews-kept, Renews-lost, Renews-all}
 use Rattle.wf_facts.proofs.changing.renew.Goals as goal
 

@@ -1,4 +1,4 @@
-use Rattle.std.proofs.Common.{◌≡◌, length, ap, sym, ◌∙◌}
+use Rattle.std.proofs.Common.{length, ap, ◌∙◌}
 use Rattle.wf_facts_exprs.specs.Claims.{claims_in}
 use Rattle.wf_facts.specs.Sets.{members, unmarked}
 use Rattle.wf_facts.specs.IndexedFacts.{set_of}

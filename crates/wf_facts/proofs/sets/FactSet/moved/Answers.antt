@@ -1,4 +1,4 @@
-use Rattle.std.proofs.Common.{◌≡◌, ◌<◌, ◌≤◌, refl, sym, ◌∙◌, arith}
+use Rattle.std.proofs.Common.{refl, sym, ◌∙◌, arith}
 use Rattle.wf_facts.proofs.SetLemmas.{stays_behind, Moves-dropped, Moves-kept}
 use Rattle.wf_facts.proofs.sets.FactSet.moved.Goals as goal
 
