@@ -1,5 +1,6 @@
 pub mod AddLemmas
 pub mod ChangeLemmas
+pub mod CommonLaws
 pub mod DropLemmas
 pub mod FormLemmas
 pub mod LawLemmas

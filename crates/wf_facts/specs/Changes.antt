@@ -1,14 +1,21 @@
 -- What the changes of a statement stand for, over states of whole numbers.
-use Rattle.std.specs.Prelude.{◌≡◌, ℕ, ◌+◌, ◌≤◌, Bool, true, None, Some}
+use Rattle.std.specs.Prelude.{◌≡◌, ℕ, ◌+◌, ◌≤◌, Bool, true, false, None, Some}
 use Rattle.wf_ast.specs.declared.things.Thing.{Thing}
 use Rattle.wf_ast.specs.TypedTree.{NumTree}
 use Rattle.wf_ast.specs.Value.{State, value}
 use Rattle.wf_ast.specs.Mentions.{num_mentions, AgreeBut}
+use Rattle.wf_facts_exprs.specs.Claims.{Claim, compared, stands, single}
 use Rattle.wf_facts.specs.declared.changes.Change.{Change}
 use Rattle.wf_facts.specs.declared.changes.Change.TheVariants.{Raised, Lowered, Shortened}
 use Rattle.wf_facts.specs.declared.forms.Form.{Form}
 use Rattle.wf_facts.specs.Forms.{form_of}
 use Rattle.wf_facts.specs.FactLists.{is_variable, is_io_length}
+
+-- No side of the claim is a sum of two as a whole number, which no condition makes.
+abbrev pub has_no_sum : Claim → Bool
+has_no_sum (compared (single a) op (single b)) = true
+has_no_sum (stands c answer) = true
+has_no_sum f = false
 
 -- How a number before a change and the one after it stand to each other.
 abbrev pub Becomes : Change → (before after : ℕ) → Type 0

@@ -2,14 +2,17 @@
 // that does nothing.
 
 ghost use Rattle.std.specs.Prelude.{◌≡◌, true, List, Some, Bool};
+ghost use Rattle.std.specs.List.{list_all};
 ghost use Rattle.wf_ast.specs.declared.things.Thing.{Thing};
 ghost use Rattle.wf_ast.specs.TypedTree.{CondTree};
 ghost use Rattle.wf_ast.specs.Value.{State, truth_of};
 ghost use Rattle.wf_ast.specs.Mentions.{AgreeBut};
+ghost use Rattle.wf_ast.specs.WellTyped.{Context};
+ghost use Rattle.wf_facts_exprs.specs.LawfulState.{well_claims};
 ghost use Rattle.wf_facts_exprs.specs.Claims.{Claim, AllTrue, claim_truth};
 ghost use Rattle.wf_facts.specs.declared.changes.Change.{Change};
 ghost use Rattle.wf_facts.specs.FactLists.{added, with_condition, without, common, changed};
-ghost use Rattle.wf_facts.specs.Changes.{TakesPlace};
+ghost use Rattle.wf_facts.specs.Changes.{TakesPlace, has_no_sum};
 
 /// A true fact joins true facts, and so do those of a condition that has the answer.
 pub fn what_is_added_is_true()
@@ -27,7 +30,9 @@ pub fn what_is_still_known_is_true()
     ensures { (x : Thing) (change : Change) (s s' : State) (fs : List Claim) → TakesPlace x change s s' → AllTrue s fs → AllTrue s' (changed x change fs) }
 {}
 
-/// The facts that two lists have in common are true where all of the first list are.
+/// The facts that two lists have in common are true where all of either list are. Of the second list it says so for well
+/// typed facts that a method's conditions make.
 pub fn what_lists_have_in_common_is_true()
-    ensures { (s : State) (fs others : List Claim) → AllTrue s fs → AllTrue s (common fs others) }
+    ensures first { (s : State) (fs others : List Claim) → AllTrue s fs → AllTrue s (common fs others) }
+    ensures second { (c : Context) (s : State) (fs others : List Claim) → well_claims c fs ≡ true → well_claims c others ≡ true → list_all has_no_sum fs ≡ true → list_all has_no_sum others ≡ true → AllTrue s others → AllTrue s (common fs others) }
 {}
