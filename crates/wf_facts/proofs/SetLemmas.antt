@@ -1,5 +1,5 @@
 -- Sets of places: how their members change.
-use Rattle.std.proofs.Common.{◌≡◌, ℕ, zero, suc, ◌+◌, ◌*◌, ◌/◌, ◌%◌, ◌^◌, ◌<◌, ◌≤◌, Bool, true, false, ◌&&◌, ◌||◌, ◌⊎◌, inl, inr, List, [], ◌∷◌, ◌++◌, length, get_or, take, refl, sym, ap, ◌∙◌, arith, add-one, length-append}
+use Rattle.std.proofs.Common.{subst, ◌≡◌, ℕ, zero, suc, ◌+◌, ◌*◌, ◌/◌, ◌%◌, ◌^◌, ◌<◌, ◌≤◌, Bool, true, false, ◌&&◌, ◌||◌, ◌⊎◌, inl, inr, List, [], ◌∷◌, ◌++◌, length, get_or, take, refl, sym, ap, ◌∙◌, arith, add-one, length-append}
 use Rattle.std.specs.Prelude.{nat_eq, slice_index, slice_set, bit_and, bit_or, replicate}
 use Rattle.std.specs.Int.{w64}
 use Rattle.std.proofs.lemmas.Nat.Bits.{bit_at-zero, shr_and_one, bit_at_set_same, bit_at_set_other}
@@ -172,3 +172,24 @@ members_front words ms set (suc n) h few =
 
 pub members_known : (words : List ℕ) (ms : List Bool) → IsSetOf words ms → (n : ℕ) → n ≡ length ms → n ≤ 512 → members words n ≡ ms
 members_known words ms set n e few = members_front words ms set n (omega (arith, e)) few ∙ take_all n ms (omega (arith, e))
+
+-- An empty set stays empty.
+unmarked-none : (ms xs : List Bool) → ((i : ℕ) → marked xs i ≡ false) → (i : ℕ) → marked (unmarked ms xs) i ≡ false
+unmarked-none [] xs h i = h i
+unmarked-none (m ∷ ms) [] h i = refl
+unmarked-none (true ∷ ms) (x ∷ xs) h i = unmarked-none ms xs (λ j. h (suc j)) i
+unmarked-none (false ∷ ms) (x ∷ xs) h zero = h zero
+unmarked-none (false ∷ ms) (x ∷ xs) h (suc i) = unmarked-none ms xs (λ j. h (suc j)) i
+
+members-none : (n i : ℕ) → marked (members (zeros 8) n) i ≡ false
+members-none zero i = refl
+members-none (suc n) i = by (cases_eq i (length (members (zeros 8) n))) (members-none n i)
+  where
+    by : (i ≡ length (members (zeros 8) n)) ⊎ (i ≡ length (members (zeros 8) n) → ⊥) → marked (members (zeros 8) n) i ≡ false → marked (members (zeros 8) n ++ member (zeros 8) n ∷ []) i ≡ false
+    by (inl e) before = ap (marked (members (zeros 8) n ++ member (zeros 8) n ∷ [])) e ∙ marked_here (members (zeros 8) n) (member (zeros 8) n) ∙ none_in_zeros n
+    by (inr e) before = marked_other (members (zeros 8) n) (member (zeros 8) n) i e ∙ before
+
+pub empty_moved : (dropped own empty : List ℕ) (n : ℕ) → own ≡ zeros 8 → IsSetOf empty [] → IsSetOf empty (unmarked (members dropped n) (members own n))
+empty_moved dropped own empty n none set =
+    let P : List ℕ → Type 0 = λ ws. IsSetOf empty (unmarked (members dropped n) (members ws n)) in
+    subst P (sym none) (record { at = λ i h. set.at i h ∙ sym (unmarked-none (members dropped n) (members (zeros 8) n) (λ j. members-none n j) i) })

@@ -1,7 +1,9 @@
 // What is still known of a number once it has changed.
 
-ghost use Rattle.std.specs.Prelude.{◌≡◌, ℕ, ◌≤◌, ◌<◌, ◌^◌, length, true, option_map, IfSome};
+ghost use Rattle.std.specs.Prelude.{◌≡◌, ℕ, ◌≤◌, ◌<◌, ◌^◌, length, true, option_map, IfSome, if◌then◌else◌};
 ghost use Rattle.wf_ast.specs.declared.things.Thing.{Thing};
+ghost use Rattle.wf_ast.specs.declared.things.Thing.TheVariants as things;
+ghost use Rattle.wf_facts.specs.declared.changes.Change.TheVariants as changes;
 ghost use Rattle.wf_facts_exprs.specs.declared.facts.Fact.TheVariants as facts;
 ghost use Rattle.wf_facts_exprs.specs.Claims.{claim_in, claims_in, claim_mentions, is_fact, AreFacts, order_of};
 ghost use Rattle.wf_facts.specs.FactLists.{changed, in_64_bits as number_in_64_bits, moved_number as number_moved, moves_with as order_moves_with, is_variable as form_is_variable, is_io_length as form_is_io_length, is_least as order_is_least, still_known as claim_still_known};
@@ -12,10 +14,35 @@ use crate::changes::Change;
 use crate::forms::{Form, side_form, side_number};
 use crate::list::Facts;
 use crate::sets::FactSet;
-use wf_ast::{Thing, Typed};
+use wf_ast::{ArgId, Thing, Typed};
 use wf_facts_exprs::{Cmp, Fact, Side};
 
 impl Facts {
+    /// A variable grows, or without `up` shrinks, by a constant: a comparison with a number goes on with the number that has
+    /// grown or shrunk likewise, and is dropped where that isn't one of 64 bits; so are all other facts that mention it.
+    pub fn shift(&mut self, t: &Typed, x: Thing, k: u64, up: bool)
+        requires few { IsNamedInSets x }
+        requires over { IsOver t.now self.old }
+        ensures over { IsOver t.now self.new }
+        ensures claims { claims_in t.now self.new.list ≡ changed x (if up then changes.Raised k else changes.Lowered k) (claims_in t.now self.old.list) }
+    {
+        if up {
+            self.change(t, x, Change::Raised(k));
+        } else {
+            self.change(t, x, Change::Lowered(k));
+        }
+    }
+
+    /// The length of a reader or a writer shrinks by at most `k`, or by what isn't known: that it is at least a number, or
+    /// above one, goes on with the number less `k` where `k` doesn't exceed it; all other facts that mention it are dropped.
+    pub fn lower_length(&mut self, t: &Typed, io: ArgId, k: Option<u64>)
+        requires over { IsOver t.now self.old }
+        ensures over { IsOver t.now self.new }
+        ensures claims { claims_in t.now self.new.list ≡ changed (things.Arg io) (changes.Shortened k) (claims_in t.now self.old.list) }
+    {
+        self.change(t, Thing::Arg(io), Change::Shortened(k));
+    }
+
     /// Takes the facts that mention a thing along with its change, and drops those of which nothing is known any more.
     /// The order of all stays.
     pub fn change(&mut self, t: &Typed, x: Thing, change: Change)

@@ -1,6 +1,6 @@
 // Sets of facts of a list, which hold 512 places.
 
-ghost use Rattle.std.specs.Prelude.{◌≡◌, ℕ, ◌<◌, ◌≤◌, ◌&&◌, ◌||◌, [], nat_eq};
+ghost use Rattle.std.specs.Prelude.{◌≡◌, ℕ, ◌<◌, ◌≤◌, ◌↔◌, ◌&&◌, ◌||◌, [], nat_eq, replicate, IsTrue};
 ghost use Rattle.wf_facts.specs.Sets.{member, members, IsSetOf, unmarked};
 
 /// A set of places of a list: bit `i mod 64` of word `i / 64` is that of place `i`.
@@ -43,11 +43,21 @@ impl FactSet {
         }
     }
 
+    // Whether no place is in the set.
+    fn is_empty(&self) -> bool
+        ensures { IsTrue result ↔ (self.now.words ≡ replicate 8 0) }
+    {
+        self.words == [0; 8]
+    }
+
     /// The places among the first `n` that this set has once those of `dropped` are gone and the others move up.
     pub fn moved(&self, dropped: &FactSet, n: usize) -> FactSet
         requires { n ≤ 512 }
         ensures { IsSetOf result.words (unmarked (members dropped.now.words n) (members self.now.words n)) }
     {
+        if self.is_empty() {
+            return FactSet::new();
+        }
         let mut moved = FactSet::new();
         let mut stays = 0;
         for i in 0..n {
