@@ -1,14 +1,14 @@
 -- What two lists have in common is true where the second is.
-use Rattle.std.proofs.Common.{◌≡◌, Bool, true, false, ◌&&◌, ◌||◌, ◌⊎◌, inl, inr, List, [], ◌∷◌, Some, refl, sym, ap, ◌∙◌}
-use Rattle.std.specs.Prelude.{option_and_then, option_map, nat_eq}
+use Rattle.std.proofs.Common.{◌≡◌, Bool, true, false, ◌⊎◌, inl, inr, List, [], ◌∷◌, Some, refl, sym, ap, ◌∙◌}
+use Rattle.std.specs.Prelude.{option_and_then, option_map}
 use Rattle.std.specs.List.{list_all}
 use Rattle.std.proofs.lemmas.Bool.{and_parts, or_cases, eqb-true}
 use Rattle.wf_ast.specs.TypedTree.{NumTree, number, Order, less, at_most, equal, differs, at_least, greater}
 use Rattle.wf_ast.specs.Value.{State, value, compares, same_truth}
-use Rattle.wf_ast.specs.Same.{same_num, same_cond, same_order}
+use Rattle.wf_ast.specs.Same.{same_num, same_order}
 use Rattle.wf_ast.specs.WellTyped.{Context}
 use Rattle.wf_ast.proofs.SameValue.{number_same, cond_same}
-use Rattle.wf_facts_exprs.specs.Claims.{single, sum, Claim, compared, stands, same_claim, is_among, claim_truth, AllTrue}
+use Rattle.wf_facts_exprs.specs.Claims.{single, Claim, compared, stands, same_claim, is_among, claim_truth, AllTrue}
 use Rattle.wf_facts_exprs.specs.LawfulState.{well_side, well_claim, well_claims}
 use Rattle.wf_facts.specs.FactLists.{common}
 use Rattle.wf_facts.specs.Changes.{has_no_sum}
