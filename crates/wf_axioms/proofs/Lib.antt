@@ -1,0 +1,2 @@
+pub mod AxiomTable
+pub mod Truth

@@ -1,0 +1,9 @@
+// The axioms: comparisons that are given where their premises are.
+#![tactic(auto)]
+
+mod axioms;
+mod finding;
+pub mod laws;
+
+pub use axioms::{Axiom, Letter, Term, goal_of, premises_of, text_of_axiom};
+pub use finding::axiom;

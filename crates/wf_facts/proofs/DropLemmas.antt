@@ -1,0 +1,238 @@
+-- Facts leave the list, and all sets move with it.
+use Rattle.std.proofs.Common.{◌≡◌, ℕ, zero, suc, ◌+◌, ◌<◌, ◌≤◌, Bool, true, false, ◌&&◌, ◌||◌, ◌⊎◌, inl, inr, List, [], ◌∷◌, ◌++◌, length, get_or, take, drop, map, refl, sym, ap, ◌∙◌, subst, arith, add-one}
+use Rattle.std.specs.Prelude.{slice_set, All, nat_eq}
+use Rattle.std.proofs.lemmas.Bool.{cases_eq}
+use Rattle.std.proofs.lemmas.Bool.Decides.{nat_tests}
+use Rattle.std.proofs.lemmas.List.{append-nil, take_more, take_more_set, get_or-drop, drop-drop, drop-set-lt, length-set, length-take-le, take_all, get_or_default, map-append}
+use Rattle.std.proofs.lemmas.List.Elements.{All-nil, All-cons, All-head, All-tail}
+use Rattle.wf_ast.specs.declared.things.Thing.{Thing}
+use Rattle.wf_ast.specs.declared.things.Thing.TheVariants as things
+use Rattle.wf_ast.specs.declared.typed_nodes.TypedNodes.{TypedNodes}
+use Rattle.wf_facts_exprs.specs.declared.facts.Fact.{Fact}
+use Rattle.wf_facts_exprs.specs.Claims.{claim_in, claims_in, claim_mentions, is_fact, AreFacts}
+use Rattle.wf_facts.specs.declared.sets.FactSet.{FactSet}
+use Rattle.wf_facts.specs.Sets.{member, members, IsSetOf, unmarked}
+use Rattle.wf_facts.specs.FactLists.{without}
+use Rattle.wf_facts.specs.IndexedFacts.{FactList, IsOver, has_set, set_number, set_of, mentioning, words_at}
+use Rattle.wf_facts.proofs.SetLemmas.{length-members, unmarked-push, unmarked_none, unmarked_one, members_known, IsSetOf-put}
+
+-- What stays of the first `i` stands in front, and the rest is as it was.
+pub record Closes {X : Type 0} (dropped : List ℕ) (xs ys : List X) (stay i : ℕ) : Type 0 where
+  pub front : take stay ys ≡ unmarked (members dropped i) (take i xs)
+  pub rest : drop i ys ≡ drop i xs
+  pub behind : stay ≤ i
+  pub long : length ys ≡ length xs
+
+pub item_at : {X : Type 0} (xs : List X) (i : ℕ) → i < length xs → (x : X) × (x ≡ get_or xs i x)
+item_at [] i h = absurd (omega (arith, h))
+item_at (x ∷ xs) zero h = (x, refl)
+item_at (x ∷ xs) (suc i) h = item_at xs i (omega (arith, h))
+
+module _ {X : Type 0} (dropped : List ℕ) (xs ys : List X) (stay i : ℕ) (c : Closes dropped xs ys stay i) (within : i < length xs) (x : X) (is : x ≡ get_or ys i x) where
+  same_item : x ≡ get_or xs i x
+  same_item =
+      let z : i + 0 ≡ i = omega arith in
+      let P : ℕ → Type 0 = λ n. get_or ys n x ≡ get_or xs n x in
+      is ∙ subst P z (sym (get_or-drop i ys 0 x) ∙ ap (λ zs. get_or zs 0 x) c.rest ∙ get_or-drop i xs 0 x)
+
+  rest_on : drop (i + 1) ys ≡ drop (i + 1) xs
+  rest_on = sym (drop-drop 1 i ys) ∙ ap (drop 1) c.rest ∙ drop-drop 1 i xs
+
+  front_on : unmarked (members dropped (i + 1)) (take (i + 1) xs) ≡ unmarked (members dropped i) (take i xs) ++ unmarked (member dropped i ∷ []) (x ∷ [])
+  front_on =
+      let e : length (members dropped i) ≡ length (take i xs) = length-members dropped i ∙ sym (length-take-le i xs (omega (arith, within))) in
+      let t : take (i + 1) xs ≡ take i xs ++ x ∷ [] = take_more xs i x within ∙ ap (λ y. take i xs ++ y ∷ []) (sym same_item) in
+      rw t (rw (add-one i) (unmarked-push (members dropped i) (take i xs) (member dropped i) x e))
+
+  dropped_on : member dropped i ≡ true → Closes dropped xs ys stay (i + 1)
+  dropped_on h = record {
+    front = c.front ∙ sym (front_on ∙ rw (unmarked_none (member dropped i) x h) (append-nil _));
+    rest = rest_on;
+    behind = omega (arith, c.behind);
+    long = c.long;
+  }
+
+  kept_on : member dropped i ≡ false → Closes dropped xs (slice_set ys stay x) (stay + 1) (i + 1)
+  kept_on h = record {
+    front = take_more_set ys stay x (omega (arith, c.behind, c.long, within)) ∙ ap (λ zs. zs ++ x ∷ []) c.front ∙ sym (front_on ∙ rw (unmarked_one (member dropped i) x h) refl);
+    rest = drop-set-lt (i + 1) ys stay x (omega (arith, c.behind)) ∙ rest_on;
+    behind = omega (arith, c.behind);
+    long = length-set ys stay x ∙ c.long;
+  }
+
+module _ {X : Type 0} (dropped : List ℕ) (xs ys : List X) (stay i : ℕ) (c : Closes dropped xs ys stay i) (within : i < length ys) where
+  inside : i < length xs
+  inside = omega (arith, within, c.long)
+
+  pub Closes-dropped : member dropped i ≡ true → Closes dropped xs ys stay (i + 1)
+  Closes-dropped h = let it = item_at ys i within in dropped_on dropped xs ys stay i c inside it.0 it.1 h
+
+  pub Closes-kept : (d : X) → member dropped i ≡ false → Closes dropped xs (slice_set ys stay (get_or ys i d)) (stay + 1) (i + 1)
+  Closes-kept d h = kept_on dropped xs ys stay i c inside (get_or ys i d) (get_or_default ys i d (get_or ys i d) within) h
+
+pub Closes-all : {X : Type 0} (dropped : List ℕ) (xs ys : List X) (stay i : ℕ) → Closes dropped xs ys stay i → length xs ≤ i → i ≤ length xs → take stay ys ≡ unmarked (members dropped (length xs)) xs
+Closes-all dropped xs ys stay i c h k =
+    let e : i ≡ length xs = omega (arith, h, k) in
+    let P : ℕ → Type 0 = λ n. take stay ys ≡ unmarked (members dropped n) (take n xs) in
+    subst P e c.front ∙ ap (unmarked (members dropped (length xs))) (take_all (length xs) xs (omega arith))
+
+-- Sets by place.
+pub words_read : (sets : List FactSet) (k : ℕ) (s : FactSet) → k < length sets → s ≡ get_or sets k s → words_at sets k ≡ s.words
+words_read [] k s h is = absurd (omega (arith, h))
+words_read (r ∷ sets) zero s h is = ap (λ q. q.words) (sym is)
+words_read (r ∷ sets) (suc k) s h is = words_read sets k s (omega (arith, h)) is
+
+pub words_got : (sets : List FactSet) (k : ℕ) (d : FactSet) → k < length sets → words_at sets k ≡ (get_or sets k d).words
+words_got [] k d h = absurd (omega (arith, h))
+words_got (r ∷ sets) zero d h = refl
+words_got (r ∷ sets) (suc k) d h = words_got sets k d (omega (arith, h))
+
+pub words_set : (sets : List FactSet) (k : ℕ) (s : FactSet) → k < length sets → words_at (slice_set sets k s) k ≡ s.words
+words_set [] k s h = absurd (omega (arith, h))
+words_set (r ∷ sets) zero s h = refl
+words_set (r ∷ sets) (suc k) s h = words_set sets k s (omega (arith, h))
+
+pub words_set_other : (sets : List FactSet) (k j : ℕ) (s : FactSet) → (j ≡ k → ⊥) → words_at (slice_set sets k s) j ≡ words_at sets j
+words_set_other [] k j s h = refl
+words_set_other (r ∷ sets) zero zero s h = absurd (h refl)
+words_set_other (r ∷ sets) zero (suc j) s h = refl
+words_set_other (r ∷ sets) (suc k) zero s h = refl
+words_set_other (r ∷ sets) (suc k) (suc j) s h = words_set_other sets k j s (λ e. h (ap suc e))
+
+-- The sets up to `i` have moved, and the others stand as they were.
+pub record MovesSets (dropped : List ℕ) (n : ℕ) (xs ys : List FactSet) (i : ℕ) : Type 0 where
+  pub done : (k : ℕ) → k < i → IsSetOf (words_at ys k) (unmarked (members dropped n) (members (words_at xs k) n))
+  pub rest : (k : ℕ) → i ≤ k → words_at ys k ≡ words_at xs k
+  pub long : length ys ≡ length xs
+
+pub MovesSets-more : (dropped : List ℕ) (n : ℕ) (xs ys : List FactSet) (i : ℕ) → MovesSets dropped n xs ys i → i < length ys → (old : List ℕ) (moved : FactSet) → words_at ys i ≡ old
+    → IsSetOf moved.words (unmarked (members dropped n) (members old n)) → MovesSets dropped n xs (slice_set ys i moved) (i + 1)
+MovesSets-more dropped n xs ys i m within old moved is set = record {
+  done = λ k h. by k h (cases_eq k i);
+  rest = λ k h. words_set_other ys i k moved (λ e. absurd (omega (arith, e, h))) ∙ m.rest k (omega (arith, h));
+  long = length-set ys i moved ∙ m.long;
+}
+  where
+    own : old ≡ words_at xs i
+    own = sym is ∙ m.rest i (omega arith)
+
+    by : (k : ℕ) → k < i + 1 → (k ≡ i) ⊎ (k ≡ i → ⊥) → IsSetOf (words_at (slice_set ys i moved) k) (unmarked (members dropped n) (members (words_at xs k) n))
+    by k h (inl e) =
+        let P : List ℕ → Type 0 = λ ws. IsSetOf ws (unmarked (members dropped n) (members (words_at xs i) n)) in
+        let Q : List ℕ → Type 0 = λ ws. IsSetOf moved.words (unmarked (members dropped n) (members ws n)) in
+        let R : ℕ → Type 0 = λ j. IsSetOf (words_at (slice_set ys i moved) j) (unmarked (members dropped n) (members (words_at xs j) n)) in
+        subst R (sym e) (subst P (sym (words_set ys i moved within)) (subst Q own set))
+    by k h (inr e) =
+        let P : List ℕ → Type 0 = λ ws. IsSetOf ws (unmarked (members dropped n) (members (words_at xs k) n)) in
+        subst P (sym (words_set_other ys i k moved e)) (m.done k (omega (arith, h, e)))
+
+-- What stays has the marks that stay.
+map-unmarked : {X Y : Type 0} (f : X → Y) (ms : List Bool) (xs : List X) → map f (unmarked ms xs) ≡ unmarked ms (map f xs)
+map-unmarked f [] xs = refl
+map-unmarked f (m ∷ ms) [] = refl
+map-unmarked f (true ∷ ms) (x ∷ xs) = map-unmarked f ms xs
+map-unmarked f (false ∷ ms) (x ∷ xs) = ap (λ ys. f x ∷ ys) (map-unmarked f ms xs)
+
+facts-unmarked : (nodes : TypedNodes) (ms : List Bool) (fs : List Fact) → AreFacts nodes fs → AreFacts nodes (unmarked ms fs)
+facts-unmarked nodes [] fs h = h
+facts-unmarked nodes (m ∷ ms) [] h = h
+facts-unmarked nodes (true ∷ ms) (f ∷ fs) h = facts-unmarked nodes ms fs (All-tail (λ g. is_fact nodes g ≡ true) f fs h)
+facts-unmarked nodes (false ∷ ms) (f ∷ fs) h =
+    All-cons (λ g. is_fact nodes g ≡ true) f (unmarked ms fs) (All-head (λ g. is_fact nodes g ≡ true) f fs h) (facts-unmarked nodes ms fs (All-tail (λ g. is_fact nodes g ≡ true) f fs h))
+
+pub length-mentioning : (nodes : TypedNodes) (x : Thing) (fs : List Fact) → length fs ≡ length (mentioning nodes x fs)
+length-mentioning nodes x [] = refl
+length-mentioning nodes x (f ∷ fs) = ap suc (length-mentioning nodes x fs)
+
+pub number_below : (x : Thing) → has_set x ≡ true → set_number x < 260
+number_below (things.Local x) h = grind (arith, nat_tests, h)
+number_below things.This h = omega arith
+number_below things.Args h = omega arith
+number_below things.Element h = omega arith
+number_below things.SliceLocals h = omega arith
+number_below (things.Field x) h = absurd (cc (h))
+number_below (things.Arg x) h = absurd (cc (h))
+
+pub IsOver-dropped : (nodes : TypedNodes) (old : FactList) (dropped : List ℕ) (sets : List FactSet) → length old.list ≤ 512 → length old.sets ≡ 260
+    → ((k : ℕ) → k < length old.sets → IsSetOf (words_at sets k) (unmarked (members dropped (length old.list)) (members (words_at old.sets k) (length old.list))))
+    → IsOver nodes old → IsOver nodes (record { list = unmarked (members dropped (length old.list)) old.list; sets = sets })
+IsOver-dropped nodes old dropped sets few whole moved over = record {
+  facts = facts-unmarked nodes (members dropped (length old.list)) old.list over.facts;
+  sets = λ x h.
+      let ms = members dropped (length old.list) in
+      let known : members (set_of old x) (length old.list) ≡ mentioning nodes x old.list =
+      members_known (set_of old x) (mentioning nodes x old.list) (over.sets x h) (length old.list) (length-mentioning nodes x old.list) few in
+      let P : List Bool → Type 0 = λ bs. IsSetOf (words_at sets (set_number x)) bs in
+      subst P (ap (unmarked ms) known ∙ sym (map-unmarked (λ f. claim_mentions x (claim_in nodes f)) ms old.list)) (moved (set_number x) (omega (arith, number_below x h, whole)));
+}
+
+-- The same with what stood before named anew.
+pub IsOver-left : (nodes : TypedNodes) (old : FactList) (dropped : List ℕ) (list : List Fact) (before sets kept : List FactSet) (n : ℕ) → n ≡ length old.list → before ≡ old.sets → kept ≡ sets
+    → length old.list ≤ 512 → length old.sets ≡ 260 → list ≡ unmarked (members dropped (length old.list)) old.list
+    → ((k : ℕ) → k < length before → IsSetOf (words_at sets k) (unmarked (members dropped n) (members (words_at before k) n)))
+    → IsOver nodes old → IsOver nodes (record { list = list; sets = kept })
+IsOver-left nodes old dropped list before sets kept n count same kept_is few whole left moved over =
+    let P : List FactSet → Type 0 = λ bs. (k : ℕ) → k < length bs → IsSetOf (words_at sets k) (unmarked (members dropped n) (members (words_at bs k) n)) in
+    let Q : ℕ → Type 0 = λ m. (k : ℕ) → k < length old.sets → IsSetOf (words_at sets k) (unmarked (members dropped m) (members (words_at old.sets k) m)) in
+    let R : List Fact → Type 0 = λ fs. IsOver nodes (record { list = fs; sets = kept }) in
+    let S : List FactSet → Type 0 = λ ss. IsOver nodes (record { list = unmarked (members dropped (length old.list)) old.list; sets = ss }) in
+    subst R (sym left) (subst S (sym kept_is) (IsOver-dropped nodes old dropped sets few whole (subst Q count (subst P same moved)) over))
+
+-- The set that stands for a thing.
+pub set_found : (known : FactList) (list : List Fact) (sets : List FactSet) → record { list = list; sets = sets } ≡ known → length sets ≡ 260 → (x : Thing) → has_set x ≡ true
+    → (k : ℕ) → k ≡ set_number x → (s : FactSet) → s ≡ get_or sets k s → s.words ≡ set_of known x
+set_found known list sets seen whole x h k is s read =
+    sym (words_read sets k s (omega (arith, number_below x h, is, whole)) read) ∙ ap (words_at sets) is ∙ ap (λ f. words_at f.sets (set_number x)) seen
+
+pub set_known : (nodes : TypedNodes) (known : FactList) (list : List Fact) (sets : List FactSet) → record { list = list; sets = sets } ≡ known → length sets ≡ 260 → (x : Thing) → has_set x ≡ true
+    → IsOver nodes known → (k : ℕ) → k ≡ set_number x → (s : FactSet) → s ≡ get_or sets k s → IsSetOf s.words (mentioning nodes x known.list)
+set_known nodes known list sets seen whole x h over k is s read =
+    let P : List ℕ → Type 0 = λ ws. IsSetOf ws (mentioning nodes x known.list) in
+    subst P (sym (set_found known list sets seen whole x h k is s read)) (over.sets x h)
+
+claims-unmarked : (nodes : TypedNodes) (x : Thing) (fs : List Fact) → claims_in nodes (unmarked (mentioning nodes x fs) fs) ≡ without x (claims_in nodes fs)
+claims-unmarked nodes x [] = refl
+claims-unmarked nodes x (f ∷ fs) = by (claim_mentions x (claim_in nodes f)) refl (claims-unmarked nodes x fs)
+  where
+    by : (b : Bool) → claim_mentions x (claim_in nodes f) ≡ b → claims_in nodes (unmarked (mentioning nodes x fs) fs) ≡ without x (claims_in nodes fs)
+        → claims_in nodes (unmarked (mentioning nodes x (f ∷ fs)) (f ∷ fs)) ≡ without x (claims_in nodes (f ∷ fs))
+    by true h rest = rw h rest
+    by false h rest = rw h (ap (λ cs. claim_in nodes f ∷ cs) rest)
+
+-- The facts that a set of what mentions a thing drops.
+pub claims-dropped : (nodes : TypedNodes) (x : Thing) (words : List ℕ) (fs : List Fact) → length fs ≤ 512 → IsSetOf words (mentioning nodes x fs)
+    → claims_in nodes (unmarked (members words (length fs)) fs) ≡ without x (claims_in nodes fs)
+claims-dropped nodes x words fs few set =
+    let known = members_known words (mentioning nodes x fs) set (length fs) (length-mentioning nodes x fs) few in
+    ap (λ ms. claims_in nodes (unmarked ms fs)) known ∙ claims-unmarked nodes x fs
+
+-- The empty list.
+pub empty_words : (sets : List FactSet) (k : ℕ) → All (λ s. IsSetOf s.words []) sets → k < length sets → IsSetOf (words_at sets k) []
+empty_words [] k all h = absurd (omega (arith, h))
+empty_words (s ∷ sets) zero all h = All-head (λ s. IsSetOf s.words []) s sets all
+empty_words (s ∷ sets) (suc k) all h = empty_words sets k (All-tail (λ s. IsSetOf s.words []) s sets all) (omega (arith, h))
+
+IsOver-empty : (nodes : TypedNodes) (sets : List FactSet) → All (λ s. IsSetOf s.words []) sets → length sets ≡ 260 → IsOver nodes (record { list = []; sets = sets })
+IsOver-empty nodes sets all whole = record {
+  facts = All-nil (λ f. is_fact nodes f ≡ true);
+  sets = λ x h. empty_words sets (set_number x) all (omega (arith, number_below x h, whole));
+}
+
+pub IsOver-new : (nodes : TypedNodes) (list : List Fact) (sets : List FactSet) → list ≡ [] → All (λ s. IsSetOf s.words []) sets → length sets ≡ 260 → IsOver nodes (record { list = list; sets = sets })
+IsOver-new nodes list sets none all whole = let P : List Fact → Type 0 = λ fs. IsOver nodes (record { list = fs; sets = sets }) in subst P (sym none) (IsOver-empty nodes sets all whole)
+
+-- One more fact of a list is looked at.
+pub mentioning-more : (nodes : TypedNodes) (x : Thing) (fs : List Fact) (i : ℕ) (d : Fact) → i < length fs
+    → mentioning nodes x (take (i + 1) fs) ≡ mentioning nodes x (take i fs) ++ claim_mentions x (claim_in nodes (get_or fs i d)) ∷ []
+mentioning-more nodes x fs i d h =
+    ap (mentioning nodes x) (take_more fs i d h) ∙ map-append (λ f. claim_mentions x (claim_in nodes f)) (take i fs) (get_or fs i d ∷ [])
+
+pub meant-more : (nodes : TypedNodes) (x : Thing) (fs : List Fact) (i : ℕ) (d : Fact) → i < length fs → (words written : List ℕ) → IsSetOf words (mentioning nodes x (take i fs))
+    → (b : Bool) → b ≡ claim_mentions x (claim_in nodes (get_or fs i d)) → ((k : ℕ) → k < 512 → member written k ≡ ((nat_eq k i && b) || member words k))
+    → IsSetOf written (mentioning nodes x (take (i + 1) fs))
+meant-more nodes x fs i d h words written set b is put =
+    let e : length (mentioning nodes x (take i fs)) ≡ i = sym (length-mentioning nodes x (take i fs)) ∙ length-take-le i fs (omega (arith, h)) in
+    let Q : ℕ → Type 0 = λ n. (k : ℕ) → k < 512 → member written k ≡ ((nat_eq k n && b) || member words k) in
+    let P : List Bool → Type 0 = IsSetOf written in
+    subst P (ap (λ c. mentioning nodes x (take i fs) ++ c ∷ []) is ∙ sym (mentioning-more nodes x fs i d h))
+    (IsSetOf-put words written (mentioning nodes x (take i fs)) b set (subst Q (sym e) put))

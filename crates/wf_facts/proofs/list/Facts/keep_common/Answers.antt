@@ -1,0 +1,13 @@
+use Rattle.std.proofs.Common.{ap, ◌∙◌}
+use Rattle.wf_facts_exprs.specs.Claims.{claims_in}
+use Rattle.wf_facts.proofs.AddLemmas.{claims-common}
+use Rattle.wf_facts.proofs.list.Facts.keep_common.Goals as goal
+
+pub returns-clause-over : goal.returns-clause-over
+returns-clause-over c = c.drop_set.ensures.over c.args.t.now c.requires.over
+
+pub returns-clause-claims : goal.returns-clause-claims
+returns-clause-claims c =
+    ap (claims_in c.args.t.now) c.drop_set.ensures.list
+    ∙ claims-common c.args.t.now c.args.self.now.list c.args.other.now.list c.as_slice.result.now c.as_slice-2.result.now c.lacking-dropped.result.words
+    (c.as_slice.ensures.value ∙ ap (λ f. f.list) c.self.view_is) (c.as_slice-2.ensures.value ∙ ap (λ f. f.list) c.other.view_is) c.drop_set.ensures.few c.lacking-dropped.ensures

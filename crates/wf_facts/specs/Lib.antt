@@ -1,0 +1,5 @@
+pub mod Changes
+pub mod FactLists
+pub mod Forms
+pub mod IndexedFacts
+pub mod Sets

@@ -1,0 +1,136 @@
+// Facts come into the list.
+
+ghost use Rattle.std.specs.Prelude.{◌≡◌, ℕ, ◌<◌, ◌≤◌, ◌&&◌, ◌||◌, not, true, false, length, map, nat_eq, OnOk, OnErr, IfOk};
+ghost use Rattle.wf_facts_exprs.specs.Claims.{claim_in, claims_in, claim_mentions, is_among, is_fact, AreFacts};
+ghost use Rattle.wf_facts.specs.FactLists.{added, common};
+ghost use Rattle.wf_facts.specs.IndexedFacts.{IsOver, IsFullFor, words_at, thing_of};
+ghost use Rattle.wf_facts.specs.Sets.{IsSetOf, member};
+
+use crate::list::{Facts, SETS};
+use crate::mentioning::fact_mentions;
+use crate::sameness::same_fact;
+use crate::sets::FactSet;
+use std::alloc::Global;
+use wf_ast::{LocalId, Thing, Typed};
+use wf_facts_exprs::Fact;
+use wf_text::NoMemory;
+
+/// The answer of a call that would add a fact to a list of 512.
+#[derive(Clone, Copy, PartialEq, Eq)]
+pub struct Full;
+
+impl Facts {
+    /// Whether a fact stands in the list: one that claims the same.
+    pub fn stands(&self, t: &Typed, f: Fact) -> bool
+        requires fact { is_fact t.now f ≡ true }
+        requires over { IsOver t.now self.now }
+        ensures { result ≡ is_among (claims_in t.now self.now.list) (claim_in t.now f) }
+    {
+        stands_in(t, self.list.as_slice(), f)
+    }
+
+    /// Adds a fact at the end, unless it stands already; of a fact made twice the first stays. `Full` comes exactly where
+    /// 512 others stand, and the list then stays as it was.
+    pub fn push(&mut self, t: &Typed, f: Fact) -> Result<(), Full>
+        requires fact { is_fact t.now f ≡ true }
+        requires over { IsOver t.now self.old }
+        ensures over { IsOver t.now self.new }
+        ensures ok { OnOk result (claims_in t.now self.new.list ≡ added (claims_in t.now self.old.list) (claim_in t.now f)) }
+        ensures room { OnOk result (length self.new.list ≤ 512) }
+        ensures full { OnErr result (IsFullFor t.now self.old f × (self.new ≡ self.old)) }
+    {
+        if self.stands(t, f) {
+            return Ok(());
+        }
+        let n = self.list.len();
+        if n == 512 {
+            return Err(Full);
+        }
+        self.list.push_reserved(f);
+        mark(t, f, n, self.sets.as_mut_slice());
+        Ok(())
+    }
+
+    /// Keeps the facts that also stand in another list, in order.
+    pub fn keep_common(&mut self, t: &Typed, other: &Facts)
+        requires over { IsOver t.now self.old }
+        requires others { IsOver t.now other.now }
+        ensures over { IsOver t.now self.new }
+        ensures claims { claims_in t.now self.new.list ≡ common (claims_in t.now self.old.list) (claims_in t.now other.now.list) }
+    {
+        let dropped = lacking(t, self.list.as_slice(), other.list.as_slice());
+        self.drop_set(&dropped);
+    }
+
+    /// The same list once more, with its sets.
+    pub fn copy(&self, alloc: Global) -> Result<Facts, NoMemory>
+        ensures { IfOk result (λ copy. copy ≡ self.now) }
+    {
+        let mut list = Vec::with_capacity(alloc, 512)?;
+        list.extend_from_slice(self.list.as_slice())?;
+        let mut sets = Vec::with_capacity(alloc, SETS)?;
+        sets.extend_from_slice(self.sets.as_slice())?;
+        Ok(Facts { list, sets })
+    }
+}
+
+// Whether a fact stands in a list.
+fn stands_in(t: &Typed, list: &[Fact], f: Fact) -> bool
+    requires fact { is_fact t.now f ≡ true }
+    requires facts { AreFacts t.now list.now }
+    ensures { result ≡ is_among (claims_in t.now list.now) (claim_in t.now f) }
+{
+    for i in 0..list.len() {
+        if same_fact(t, list[i], f) {
+            return true;
+        }
+    }
+    false
+}
+
+// The facts of a list that don't stand in another.
+fn lacking(t: &Typed, list: &[Fact], others: &[Fact]) -> FactSet
+    requires few { length list.now ≤ 512 }
+    requires facts { AreFacts t.now list.now }
+    requires others { AreFacts t.now others.now }
+    ensures { IsSetOf result.words (map (λ f. not (is_among (claims_in t.now others.now) (claim_in t.now f))) list.now) }
+{
+    let mut lacking = FactSet::new();
+    for i in 0..list.len() {
+        lacking.put(i, !stands_in(t, others, list[i]));
+    }
+    lacking
+}
+
+// Puts fact `n` into the set of each thing that it mentions.
+fn mark(t: &Typed, f: Fact, n: usize, sets: &mut [FactSet])
+    requires fact { is_fact t.now f ≡ true }
+    requires place { n < 512 }
+    requires whole { length sets.old ≡ 260 }
+    ensures { (k : ℕ) → k < 260 → (j : ℕ) → j < 512 → member (words_at sets.new k) j ≡ ((nat_eq j n && claim_mentions (thing_of k) (claim_in t.now f)) || member (words_at sets.old k) j) }
+{
+    for k in 0..sets.len() {
+        sets[k].put(n, fact_mentions(t, f, thing_at(k)));
+    }
+}
+
+// The thing whose set stands at a place.
+fn thing_at(k: usize) -> Thing
+    requires { k < 260 }
+    ensures { result ≡ thing_of k }
+{
+    if k < 256 {
+        return Thing::Local(LocalId(k as u32));
+    }
+    if k == 256 {
+        return Thing::This;
+    }
+    if k == 257 {
+        return Thing::Args;
+    }
+    if k == 258 {
+        Thing::Element
+    } else {
+        Thing::SliceLocals
+    }
+}

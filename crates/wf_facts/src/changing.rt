@@ -1,0 +1,169 @@
+// What is still known of a number once it has changed.
+
+ghost use Rattle.std.specs.Prelude.{◌≡◌, ℕ, ◌≤◌, ◌<◌, ◌^◌, length, true, option_map, IfSome, if◌then◌else◌};
+ghost use Rattle.wf_ast.specs.declared.things.Thing.{Thing};
+ghost use Rattle.wf_ast.specs.declared.things.Thing.TheVariants as things;
+ghost use Rattle.wf_facts.specs.declared.changes.Change.TheVariants as changes;
+ghost use Rattle.wf_facts_exprs.specs.declared.facts.Fact.TheVariants as facts;
+ghost use Rattle.wf_facts_exprs.specs.Claims.{claim_in, claims_in, claim_mentions, is_fact, AreFacts, order_of};
+ghost use Rattle.wf_facts.specs.FactLists.{changed, in_64_bits as number_in_64_bits, moved_number as number_moved, moves_with as order_moves_with, is_variable as form_is_variable, is_io_length as form_is_io_length, is_least as order_is_least, still_known as claim_still_known};
+ghost use Rattle.wf_facts.specs.IndexedFacts.{IsOver, IsNamedInSets, mentioning};
+ghost use Rattle.wf_facts.specs.Sets.{IsSetOf, members, unmarked};
+
+use crate::changes::Change;
+use crate::forms::{Form, side_form, side_number};
+use crate::list::Facts;
+use crate::sets::FactSet;
+use wf_ast::{ArgId, Thing, Typed};
+use wf_facts_exprs::{Cmp, Fact, Side};
+
+impl Facts {
+    /// A variable grows, or without `up` shrinks, by a constant: a comparison with a number goes on with the number that has
+    /// grown or shrunk likewise, and is dropped where that isn't one of 64 bits; so are all other facts that mention it.
+    pub fn shift(&mut self, t: &Typed, x: Thing, k: u64, up: bool)
+        requires few { IsNamedInSets x }
+        requires over { IsOver t.now self.old }
+        ensures over { IsOver t.now self.new }
+        ensures claims { claims_in t.now self.new.list ≡ changed x (if up then changes.Raised k else changes.Lowered k) (claims_in t.now self.old.list) }
+    {
+        if up {
+            self.change(t, x, Change::Raised(k));
+        } else {
+            self.change(t, x, Change::Lowered(k));
+        }
+    }
+
+    /// The length of a reader or a writer shrinks by at most `k`, or by what isn't known: that it is at least a number, or
+    /// above one, goes on with the number less `k` where `k` doesn't exceed it; all other facts that mention it are dropped.
+    pub fn lower_length(&mut self, t: &Typed, io: ArgId, k: Option<u64>)
+        requires over { IsOver t.now self.old }
+        ensures over { IsOver t.now self.new }
+        ensures claims { claims_in t.now self.new.list ≡ changed (things.Arg io) (changes.Shortened k) (claims_in t.now self.old.list) }
+    {
+        self.change(t, Thing::Arg(io), Change::Shortened(k));
+    }
+
+    /// Takes the facts that mention a thing along with its change, and drops those of which nothing is known any more.
+    /// The order of all stays.
+    pub fn change(&mut self, t: &Typed, x: Thing, change: Change)
+        requires few { IsNamedInSets x }
+        requires over { IsOver t.now self.old }
+        ensures over { IsOver t.now self.new }
+        ensures claims { claims_in t.now self.new.list ≡ changed x change (claims_in t.now self.old.list) }
+    {
+        let meant = self.meant(t, x);
+        let dropped = renew(t, self.list.as_mut_slice(), &meant, change);
+        self.drop_set(&dropped);
+    }
+}
+
+// Takes along the facts of a set with what they mention, and answers those of which nothing is known any more.
+fn renew(t: &Typed, list: &mut [Fact], meant: &FactSet, change: Change) -> FactSet
+    requires few { length list.old ≤ 512 }
+    requires facts { AreFacts t.now list.old }
+    ensures facts { AreFacts t.now list.new }
+    ensures same { (x : Thing) → mentioning t.now x list.new ≡ mentioning t.now x list.old }
+    ensures claims { (x : Thing) → IsSetOf meant.now.words (mentioning t.now x list.old) → claims_in t.now (unmarked (members result.words (length list.old)) list.new) ≡ changed x change (claims_in t.now list.old) }
+{
+    let mut dropped = FactSet::new();
+    for i in 0..list.len() {
+        if !meant.has(i) {
+            continue;
+        }
+        let Some(f) = still_known(t, list[i], change) else {
+            dropped.insert(i);
+            continue;
+        };
+        list[i] = f;
+    }
+    dropped
+}
+
+/// What is still known by a fact that mentions what has changed.
+pub(crate) fn still_known(t: &Typed, f: Fact, change: Change) -> Option<Fact>
+    requires { is_fact t.now f ≡ true }
+    ensures claims { option_map (λ g. claim_in t.now g) result ≡ claim_still_known change (claim_in t.now f) }
+    ensures facts { IfSome result (λ g. is_fact t.now g ≡ true) }
+    ensures same { IfSome result (λ g. (x : Thing) → claim_mentions x (claim_in t.now g) ≡ claim_mentions x (claim_in t.now f)) }
+{
+    match f {
+        Fact::Compare { left, op, right } => comparison_known(t, left, op, right, change),
+        Fact::Cond { .. } => None,
+    }
+}
+
+fn comparison_known(t: &Typed, left: Side, op: Cmp, right: Side, change: Change) -> Option<Fact>
+    requires { is_fact t.now (facts.Compare left op right) ≡ true }
+    ensures claims { option_map (λ g. claim_in t.now g) result ≡ claim_still_known change (claim_in t.now (facts.Compare left op right)) }
+    ensures facts { IfSome result (λ g. is_fact t.now g ≡ true) }
+    ensures same { IfSome result (λ g. (x : Thing) → claim_mentions x (claim_in t.now g) ≡ claim_mentions x (claim_in t.now (facts.Compare left op right))) }
+{
+    let Some(n) = side_number(t, right) else {
+        return None;
+    };
+    if !moves_with(change, side_form(t, left), op) {
+        return None;
+    }
+    let Some(number) = moved_number(change, n) else {
+        return None;
+    };
+    Some(Fact::Compare {
+        left,
+        op,
+        right: Side::Num(number),
+    })
+}
+
+fn moves_with(change: Change, form: Form, op: Cmp) -> bool
+    ensures { result ≡ order_moves_with change form (order_of op) }
+{
+    match change {
+        Change::Raised(_) | Change::Lowered(_) => is_variable(form),
+        Change::Shortened(_) => is_io_length(form) && is_least(op),
+    }
+}
+
+fn is_variable(form: Form) -> bool
+    ensures { result ≡ form_is_variable form }
+{
+    matches!(form, Form::Variable)
+}
+
+fn is_io_length(form: Form) -> bool
+    ensures { result ≡ form_is_io_length form }
+{
+    matches!(form, Form::IoLength)
+}
+
+fn is_least(op: Cmp) -> bool
+    ensures { result ≡ order_is_least (order_of op) }
+{
+    matches!(op, Cmp::Ge | Cmp::Gt)
+}
+
+fn moved_number(change: Change, n: u128) -> Option<u64>
+    requires { n < 2 ^ 65 }
+    ensures { result ≡ number_moved change n }
+{
+    match change {
+        Change::Raised(k) => in_64_bits(n + k as u128),
+        Change::Lowered(k) | Change::Shortened(Some(k)) => {
+            if k as u128 <= n {
+                in_64_bits(n - k as u128)
+            } else {
+                None
+            }
+        }
+        Change::Shortened(None) => None,
+    }
+}
+
+fn in_64_bits(n: u128) -> Option<u64>
+    ensures { result ≡ number_in_64_bits n }
+{
+    if n < 18446744073709551616 {
+        Some(n as u64)
+    } else {
+        None
+    }
+}

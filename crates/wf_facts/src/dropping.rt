@@ -1,0 +1,94 @@
+// Facts leave the list, and all sets move with it.
+
+ghost use Rattle.std.specs.Prelude.{◌≡◌, ◌≤◌, ◌<◌, ℕ, length, take, true, false};
+ghost use Rattle.wf_ast.specs.declared.typed_nodes.TypedNodes.{TypedNodes};
+ghost use Rattle.wf_facts_exprs.specs.Claims.{claims_in};
+ghost use Rattle.wf_facts.specs.FactLists.{without};
+ghost use Rattle.wf_facts.specs.IndexedFacts.{IsOver, IsNamedInSets, has_set as thing_has_set, set_of, mentioning, words_at};
+ghost use Rattle.wf_facts.specs.Sets.{member, members, IsSetOf, unmarked};
+
+use crate::list::{Facts, has_set, set_number};
+use crate::mentioning::fact_mentions;
+use crate::sets::FactSet;
+use wf_ast::{Thing, Typed};
+use wf_facts_exprs::Fact;
+
+impl Facts {
+    /// Drops the facts that mention a thing, as its set tells them, and keeps the order of the others. It is handed no
+    /// tree, so it works from the sets alone; all sets move with the list.
+    pub fn drop_indexed(&mut self, x: Thing)
+        requires { thing_has_set x ≡ true }
+        ensures list { self.new.list ≡ unmarked (members (set_of self.old x) (length self.old.list)) self.old.list }
+        ensures over { (nodes : TypedNodes) → IsOver nodes self.old → IsOver nodes self.new }
+        ensures claims { (nodes : TypedNodes) → IsOver nodes self.old → claims_in nodes self.new.list ≡ without x (claims_in nodes self.old.list) }
+    {
+        let dropped = self.sets[set_number(x)];
+        self.drop_set(&dropped);
+    }
+
+    /// Drops the facts that mention a thing, as the tree tells them, and keeps the order of the others.
+    pub fn drop_mentions(&mut self, t: &Typed, x: Thing)
+        requires few { IsNamedInSets x }
+        requires over { IsOver t.now self.old }
+        ensures over { IsOver t.now self.new }
+        ensures claims { claims_in t.now self.new.list ≡ without x (claims_in t.now self.old.list) }
+    {
+        let dropped = self.meant(t, x);
+        self.drop_set(&dropped);
+    }
+
+    // The set of the facts that mention a thing: the one that stands, or for a field and an argument one that is made.
+    pub(crate) fn meant(&self, t: &Typed, x: Thing) -> FactSet
+        requires few { IsNamedInSets x }
+        requires over { IsOver t.now self.now }
+        ensures { IsSetOf result.words (mentioning t.now x self.now.list) }
+    {
+        if has_set(x) {
+            return self.sets[set_number(x)];
+        }
+        let list = self.list.as_slice();
+        let mut meant = FactSet::new();
+        for i in 0..list.len() {
+            meant.put(i, fact_mentions(t, list[i], x));
+        }
+        meant
+    }
+
+    // Drops the facts of a set, and moves all sets with them.
+    pub(crate) fn drop_set(&mut self, dropped: &FactSet)
+        ensures few { length self.old.list ≤ 512 }
+        ensures list { self.new.list ≡ unmarked (members dropped.now.words (length self.old.list)) self.old.list }
+        ensures over { (nodes : TypedNodes) → IsOver nodes self.old → IsOver nodes self.new }
+    {
+        let n = self.list.len();
+        let stay = close_up(self.list.as_mut_slice(), dropped);
+        self.list.truncate(stay);
+        move_sets(self.sets.as_mut_slice(), dropped, n);
+    }
+}
+
+// Moves the facts that aren't of the set to the front, and answers how many they are.
+fn close_up(list: &mut [Fact], dropped: &FactSet) -> usize
+    requires { length list.old ≤ 512 }
+    ensures { take result list.new ≡ unmarked (members dropped.now.words (length list.old)) list.old }
+{
+    let mut stay = 0;
+    for i in 0..list.len() {
+        if dropped.has(i) {
+            continue;
+        }
+        list[stay] = list[i];
+        stay += 1;
+    }
+    stay
+}
+
+// Moves the places in each set once those of `dropped` leave a list of `n`.
+fn move_sets(sets: &mut [FactSet], dropped: &FactSet, n: usize)
+    requires { n ≤ 512 }
+    ensures { (k : ℕ) → k < length sets.old → IsSetOf (words_at sets.new k) (unmarked (members dropped.now.words n) (members (words_at sets.old k) n)) }
+{
+    for k in 0..sets.len() {
+        sets[k] = sets[k].moved(dropped, n);
+    }
+}

@@ -1,0 +1,20 @@
+// What is known at a place of a method: a list of facts, with the sets of those that mention a local, a field, an
+// argument, an element or a slice.
+#![tactic(auto)]
+
+mod adding;
+mod changes;
+mod changing;
+mod dropping;
+mod forms;
+pub mod laws;
+mod list;
+mod mentioning;
+mod sameness;
+mod sets;
+
+pub use adding::Full;
+pub use changes::Change;
+pub use forms::Form;
+pub use list::Facts;
+pub use sets::FactSet;

@@ -1,0 +1,113 @@
+// The list of facts with its sets.
+
+ghost use Rattle.std.specs.Prelude.{◌≡◌, ◌≤◌, ℕ, length, slice_get, true, false, [], IfOk, IfSome, IsNone, ◌↔◌};
+ghost use Rattle.wf_ast.specs.declared.typed_nodes.TypedNodes.{TypedNodes};
+ghost use Rattle.wf_facts.specs.IndexedFacts.{FactList, IsOver, IsNamedInSets, has_set as thing_has_set, set_number as number_of_set, mentioning, words_at};
+ghost use Rattle.wf_facts.specs.Sets.{IsSetOf};
+
+use crate::sets::FactSet;
+use std::alloc::Global;
+use std::marker::Model;
+use wf_ast::{Thing, Typed};
+use wf_facts_exprs::Fact;
+use wf_text::NoMemory;
+
+/// At most 512 facts in order, and beside them, for each local and for `This`, `Args`, `Element` and `SliceLocals`, the
+/// set of those that mention it.
+#[derive(Drop)]
+pub struct Facts {
+    pub(crate) list: Vec<Fact>,
+    pub(crate) sets: Vec<FactSet>,
+}
+
+impl Model for Facts {
+    ghost use Rattle.std.specs.Prelude.{vec_capacity, length};
+    ghost use Rattle.wf_facts.specs.IndexedFacts.{FactList, HasRoom};
+
+    ghost Value = { FactList };
+
+    ghost view = { λ f. record { list = f.list.items; sets = f.sets.items } };
+
+    ghost invariant = { λ f. HasRoom (length f.list.items) (vec_capacity f.list) (length f.sets.items) };
+}
+
+/// How many sets there are: one for each local that a method may have, and four more.
+pub(crate) const SETS: usize = 260;
+
+impl Facts {
+    /// The empty list, with room for 512 facts.
+    pub fn new(alloc: Global) -> Result<Facts, NoMemory>
+        ensures empty { IfOk result (λ facts. facts.list ≡ []) }
+        ensures over { IfOk result (λ facts. (nodes : TypedNodes) → IsOver nodes facts) }
+    {
+        let list = Vec::with_capacity(alloc, 512)?;
+        let mut sets = Vec::with_capacity(alloc, SETS)?;
+        for place in 0..SETS {
+            sets.push_reserved(FactSet::new());
+        }
+        Ok(Facts { list, sets })
+    }
+
+    /// How many facts stand in the list.
+    pub fn len(&self) -> usize
+        ensures value { result ≡ length self.now.list }
+        ensures few { result ≤ 512 }
+    {
+        self.list.len()
+    }
+
+    /// The fact at place `i`, and None exactly from the length on.
+    pub fn get(&self, i: usize) -> Option<Fact>
+        ensures { result ≡ slice_get self.now.list i }
+    {
+        if i < self.list.len() {
+            Some(self.list[i])
+        } else {
+            None
+        }
+    }
+
+    /// The facts in order.
+    pub fn as_slice(&self) -> &[Fact]
+        ensures { result.now ≡ self.now.list }
+    {
+        self.list.as_slice()
+    }
+
+    /// The set of the facts that mention a thing: bit `i mod 64` of word `i / 64` is that of fact `i`. None exactly for a
+    /// field and an argument, which have no sets. It takes no memory.
+    pub fn about(&self, t: &Typed, x: Thing) -> Option<&[u64; 8]>
+        requires few { IsNamedInSets x }
+        requires over { IsOver t.now self.now }
+        ensures some { IfSome result (λ words. IsSetOf words.now (mentioning t.now x self.now.list)) }
+        ensures none { IsNone result ↔ (thing_has_set x ≡ false) }
+    {
+        if !has_set(x) {
+            return None;
+        }
+        Some(&self.sets[set_number(x)].words)
+    }
+}
+
+// Whether a thing has a set.
+pub(crate) fn has_set(x: Thing) -> bool
+    requires { IsNamedInSets x }
+    ensures { result ≡ thing_has_set x }
+{
+    !matches!(x, Thing::Field(_) | Thing::Arg(_))
+}
+
+// The place of a thing's set.
+pub(crate) fn set_number(x: Thing) -> usize
+    requires { thing_has_set x ≡ true }
+    ensures { result ≡ number_of_set x }
+{
+    match x {
+        Thing::Local(n) => n.0 as usize,
+        Thing::This => 256,
+        Thing::Args => 257,
+        Thing::Element => 258,
+        Thing::SliceLocals => 259,
+        _ => unreachable!(),
+    }
+}

@@ -1,0 +1,47 @@
+// When two facts are one.
+
+ghost use Rattle.std.specs.Prelude.{◌≡◌, true};
+ghost use Rattle.wf_ast.specs.TypedTrees.{tree_of, cond_in};
+ghost use Rattle.wf_ast.specs.Same.{same_cond, same_order};
+ghost use Rattle.wf_facts_exprs.specs.Claims.{claim_in, same_claim, is_fact, is_condition_at, order_of};
+
+use wf_ast::{ExprId, Typed, same};
+use wf_facts_exprs::{Cmp, Fact, same_side};
+
+/// Whether two facts claim the same: the same comparison of the same sides, or the same condition with the same answer.
+pub(crate) fn same_fact(t: &Typed, f: Fact, g: Fact) -> bool
+    requires first { is_fact t.now f ≡ true }
+    requires second { is_fact t.now g ≡ true }
+    ensures { result ≡ same_claim (claim_in t.now f) (claim_in t.now g) }
+{
+    match f {
+        Fact::Compare { left, op, right } => match g {
+            Fact::Compare {
+                left: l,
+                op: o,
+                right: r,
+            } => { same_cmp(op, o) && (same_side(t, left, l) && same_side(t, right, r)) }
+            Fact::Cond { .. } => false,
+        },
+        Fact::Cond { expr, answer } => match g {
+            Fact::Compare { .. } => false,
+            Fact::Cond { expr: e, answer: a } => answer == a && same_condition(t, expr, e),
+        },
+    }
+}
+
+fn same_cmp(op: Cmp, other: Cmp) -> bool
+    ensures { result ≡ same_order (order_of op) (order_of other) }
+{
+    op as u8 == other as u8
+}
+
+fn same_condition(t: &Typed, e: ExprId, other: ExprId) -> bool
+    requires first { is_condition_at t.now e ≡ true }
+    requires second { is_condition_at t.now other ≡ true }
+    ensures { result ≡ same_cond (cond_in (tree_of t.now e)) (cond_in (tree_of t.now other)) }
+{
+    let _node = t.expr(e);
+    let _other = t.expr(other);
+    same(t, e, other)
+}

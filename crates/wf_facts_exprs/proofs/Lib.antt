@@ -1,0 +1,7 @@
+pub mod AlikeLemmas
+pub mod ClaimLemmas
+pub mod OperatorLemmas
+pub mod PassLemmas
+pub mod Peeks
+pub mod ShapeLemmas
+pub mod Soundness

@@ -1,0 +1,14 @@
+//! What a list of facts says of an expression: the facts themselves, which range a number has under a list, which
+//! conditions a list gives, and which demands the value of an expression makes. Nothing here takes memory.
+#![tactic(auto)]
+
+pub mod facts;
+mod given;
+pub mod laws;
+mod meeting;
+mod operators;
+mod shapes;
+mod sides;
+
+pub use facts::{Cmp, Fact, Side};
+pub use sides::same_side;

@@ -1,0 +1,225 @@
+//! What a range is met with: the facts that compare the same tree with a number.
+
+ghost use Rattle.std.specs.Prelude.{◌≡◌, ◌<◌, ◌^◌, length, IsTrue, nat_lt, IfSome};
+ghost use Rattle.wf_num.specs.Ranges.{IsSmall};
+ghost use Rattle.wf_ast.specs.TypedTrees.{num_in, tree_of};
+ghost use Rattle.wf_ast.specs.Same.{same_num};
+ghost use Rattle.wf_facts_exprs.specs.Claims.{AreFacts, claim_in, claims_in, is_fact, is_number_at, is_side, order_of, side_in, tree_of_side};
+ghost use Rattle.wf_facts_exprs.specs.RangeOf.{non_empty as some_numbers, below as range_below, from_on as range_from_on, met, met_by, number_of_side, passed, up_to as range_up_to};
+ghost use Rattle.wf_facts_exprs.specs.Operands.{pass_of};
+ghost use Rattle.wf_facts_exprs.specs.Shapes.{shape_fits, shape_tree};
+
+use crate::facts::{Cmp, Fact, Side};
+use crate::shapes::{Shape, same_shapes, shape_of};
+use wf_ast::{ExprId, Typed};
+use wf_num::Range;
+
+/// The two passes over the facts: first over all comparisons but `<>`, then over `<>`.
+#[derive(Clone, Copy)]
+pub(crate) enum Pass {
+    Narrow,
+    Thin,
+}
+
+/// A range met with all facts about a tree.
+#[tactic(auto, unfolding(crate::specs::RangeOf::met))]
+pub(crate) fn meet_facts(t: &Typed, facts: &[Fact], shape: Shape, r: Range) -> Range
+    requires known { AreFacts t.now facts.now }
+    requires shape { IsTrue (shape_fits t.now shape) }
+    ensures met { result ≡ met (claims_in t.now facts.now) (shape_tree t.now shape) r }
+    ensures small { IsSmall r → IsSmall result }
+{
+    let narrow = meet_by(t, facts, Pass::Narrow, shape, r);
+    meet_by(t, facts, Pass::Thin, shape, narrow)
+}
+
+// The facts of one pass, in order.
+fn meet_by(t: &Typed, facts: &[Fact], pass: Pass, shape: Shape, r: Range) -> Range
+    requires known { AreFacts t.now facts.now }
+    requires shape { IsTrue (shape_fits t.now shape) }
+    ensures met { result ≡ passed (pass_of pass) (claims_in t.now facts.now) (shape_tree t.now shape) r }
+    ensures small { IsSmall r → IsSmall result }
+{
+    let mut met = r;
+    for fact in facts {
+        met = meet_fact(t, *fact, pass, shape, met);
+    }
+    met
+}
+
+fn meet_fact(t: &Typed, fact: Fact, pass: Pass, shape: Shape, r: Range) -> Range
+    requires known { IsTrue (is_fact t.now fact) }
+    requires shape { IsTrue (shape_fits t.now shape) }
+    ensures met { result ≡ met_by (pass_of pass) (claim_in t.now fact) (shape_tree t.now shape) r }
+    ensures small { IsSmall r → IsSmall result }
+{
+    match fact {
+        Fact::Compare { left, op, right } => match number_of(t, right) {
+            Some(n) => {
+                if is_side_of(t, left, shape) {
+                    meet_number(pass, op, n, r)
+                } else {
+                    r
+                }
+            }
+            None => r,
+        },
+        Fact::Cond { .. } => r,
+    }
+}
+
+/// The number that a side is.
+pub(crate) fn number_of(t: &Typed, side: Side) -> Option<u128>
+    requires { IsTrue (is_side t.now side) }
+    ensures number { result ≡ number_of_side (side_in t.now side) }
+    ensures few { IfSome result (λ n. n < 2 ^ 66) }
+{
+    match side {
+        Side::Expr(e) => number_at(t, e),
+        Side::Sum(a, b) => number_of_sum(t, a, b),
+        Side::Length(e) => no_number(t, e),
+        Side::Num(n) => Some(n as u128),
+    }
+}
+
+fn number_at(t: &Typed, e: ExprId) -> Option<u128>
+    requires { IsTrue (is_number_at t.now e) }
+    ensures number { result ≡ number_of_side (side_in t.now (Side.Expr e)) }
+    ensures few { IfSome result (λ n. n < 2 ^ 66) }
+{
+    let _expr = t.expr(e);
+    match t.constant(e) {
+        Some(n) => Some(n as u128),
+        None => None,
+    }
+}
+
+fn number_of_sum(t: &Typed, a: ExprId, b: ExprId) -> Option<u128>
+    requires { IsTrue (is_side t.now (Side.Sum a b)) }
+    ensures number { result ≡ number_of_side (side_in t.now (Side.Sum a b)) }
+    ensures few { IfSome result (λ n. n < 2 ^ 66) }
+{
+    let _left = t.expr(a);
+    let _right = t.expr(b);
+    match (t.constant(a), t.constant(b)) {
+        (Some(m), Some(n)) => Some(m as u128 + n as u128),
+        (Some(_), None) => None,
+        (None, Some(_)) => None,
+        (None, None) => None,
+    }
+}
+
+// A length is no number.
+fn no_number(t: &Typed, e: ExprId) -> Option<u128>
+    requires { IsTrue (is_side t.now (Side.Length e)) }
+    ensures number { result ≡ number_of_side (side_in t.now (Side.Length e)) }
+    ensures few { IfSome result (λ n. n < 2 ^ 66) }
+{
+    let _expr = t.expr(e);
+    None
+}
+
+pub(crate) fn is_side_of(t: &Typed, side: Side, shape: Shape) -> bool
+    requires side { IsTrue (is_side t.now side) }
+    requires shape { IsTrue (shape_fits t.now shape) }
+    ensures { result ≡ same_num (tree_of_side (side_in t.now side)) (shape_tree t.now shape) }
+{
+    same_shapes(t, shape_of(t, side), shape)
+}
+
+// What one comparison with a number leaves of a range, in one of the passes.
+fn meet_number(pass: Pass, op: Cmp, n: u128, r: Range) -> Range
+    requires { n < 2 ^ 66 }
+    ensures met { result ≡ pass_of pass (order_of op) n r }
+    ensures small { IsSmall r → IsSmall result }
+{
+    match pass {
+        Pass::Narrow => narrowed(op, n, r),
+        Pass::Thin => thinned(op, n, r),
+    }
+}
+
+fn narrowed(op: Cmp, n: u128, r: Range) -> Range
+    requires { n < 2 ^ 66 }
+    ensures met { result ≡ pass_of Pass.Narrow (order_of op) n r }
+    ensures small { IsSmall r → IsSmall result }
+{
+    match op {
+        Cmp::Lt => below(n, r),
+        Cmp::Le => up_to(n, r),
+        Cmp::Eq => r.meet(Range {
+            lo: n as i128,
+            hi: n,
+        }),
+        Cmp::Ne => r,
+        Cmp::Ge => from_on(n, r),
+        Cmp::Gt => from_on(n + 1, r),
+    }
+}
+
+fn thinned(op: Cmp, n: u128, r: Range) -> Range
+    requires { n < 2 ^ 66 }
+    ensures met { result ≡ pass_of Pass.Thin (order_of op) n r }
+    ensures small { IsSmall r → IsSmall result }
+{
+    match op {
+        Cmp::Ne => without(n, r),
+        Cmp::Lt => r,
+        Cmp::Le => r,
+        Cmp::Eq => r,
+        Cmp::Ge => r,
+        Cmp::Gt => r,
+    }
+}
+
+// `<>` removes a number where it is an end.
+fn without(n: u128, r: Range) -> Range
+    requires { n < 2 ^ 66 }
+    ensures met { result ≡ pass_of Pass.Thin (order_of Cmp.Ne) n r }
+    ensures small { IsSmall r → IsSmall result }
+{
+    let m = n as i128;
+    if r.lo <= m && m <= r.lo {
+        return from_on(n + 1, r);
+    }
+    if r.hi == n { below(n, r) } else { r }
+}
+
+fn up_to(n: u128, r: Range) -> Range
+    ensures met { result ≡ range_up_to n r }
+    ensures small { IsSmall r → IsSmall result }
+{
+    non_empty(Range {
+        lo: r.lo,
+        hi: r.hi.min(n),
+    })
+}
+
+fn from_on(n: u128, r: Range) -> Range
+    requires { n < 2 ^ 67 }
+    ensures met { result ≡ range_from_on n r }
+    ensures small { IsSmall r → IsSmall result }
+{
+    non_empty(Range {
+        lo: r.lo.max(n as i128),
+        hi: r.hi,
+    })
+}
+
+fn below(n: u128, r: Range) -> Range
+    ensures met { result ≡ range_below n r }
+    ensures small { IsSmall r → IsSmall result }
+{
+    if n == 0 {
+        Range::EMPTY
+    } else {
+        up_to(n - 1, r)
+    }
+}
+
+fn non_empty(r: Range) -> Range
+    ensures met { result ≡ some_numbers r }
+    ensures small { IsSmall r → IsSmall result }
+{
+    if r.is_empty() { Range::EMPTY } else { r }
+}
