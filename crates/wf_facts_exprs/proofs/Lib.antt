@@ -1,5 +1,7 @@
 pub mod AlikeLemmas
+pub mod ChainLemmas
 pub mod ClaimLemmas
+pub mod JudgeLemmas
 pub mod OperatorLemmas
 pub mod PassLemmas
 pub mod Peeks

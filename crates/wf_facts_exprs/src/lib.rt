@@ -4,6 +4,7 @@
 
 pub mod facts;
 mod given;
+mod judging;
 pub mod laws;
 mod meeting;
 mod operators;
