@@ -17,11 +17,11 @@ use Rattle.wf_ast.specs.WellTyped.{same_mark}
 use Rattle.wf_ast.specs.declared.numbers.ExprId.{ExprId}
 use Rattle.wf_ast.specs.declared.operators.Op.{Op}
 use Rattle.wf_ast.specs.declared.typed_nodes.TypedNodes.{TypedNodes}
-use Rattle.wf_ast.specs.TypedTree.{Arith, plus, Order, NumTree, link, SliceTree, EndTree, ValueTree}
-use Rattle.wf_ast.specs.TypedTrees.{Sort, arithmetic, ordering, joining, sort_of, first_sign, num_in, slice_in, tree_of, type_of_node}
-use Rattle.wf_facts_exprs.specs.Claims.{Claim, is_number_at}
+use Rattle.wf_ast.specs.TypedTree.{Arith, plus, Order, NumTree, link, SliceTree, EndTree, CondTree, ValueTree}
+use Rattle.wf_ast.specs.TypedTrees.{Sort, arithmetic, ordering, joining, sort_of, first_sign, num_in, slice_in, cond_in, tree_of, type_of_node}
+use Rattle.wf_facts_exprs.specs.Claims.{Claim, is_number_at, is_condition_at}
 use Rattle.wf_facts_exprs.specs.RangeOf.{narrowed, thinned, operator_range, is_ordered, length_range, rule_range, range_of}
-use Rattle.wf_facts_exprs.specs.Demands.{demand, or_else, operand_demand, num_refusal, slice_refusal, end_refusal, ends_demand, unless_refused}
+use Rattle.wf_facts_exprs.specs.Demands.{demand, or_else, operand_demand, num_refusal, slice_refusal, end_refusal, ends_demand, cond_refusal, unless_refused}
 use Rattle.wf_facts_exprs.specs.declared.meeting.Pass.{Pass}
 use Rattle.wf_facts_exprs.specs.declared.meeting.Pass.TheVariants.{Narrow, Thin}
 
@@ -143,3 +143,18 @@ ends_refusal fs at cells from to = or_else (end_refusal fs from) (or_else (end_r
 -- The tree of an operand by its place.
 abbrev pub part_number : TypedNodes → List ExprId → ℕ → NumTree
 part_number nodes es i = node_number nodes (slice_index_or es i (record { 0 = 0 }))
+
+-- Conditions: the tree of one, an operator that joins them, and the first demand of several in order.
+abbrev pub node_cond : TypedNodes → ExprId → CondTree
+node_cond nodes e = cond_in (tree_of nodes e)
+
+abbrev pub is_joining : Sort → Bool
+is_joining (joining both) = true
+is_joining sort = false
+
+abbrev pub conds_refusal : List Claim → TypedNodes → List ExprId → Option Refusal
+conds_refusal fs nodes [] = None
+conds_refusal fs nodes (e ∷ es) = or_else (cond_refusal fs (node_cond nodes e)) (conds_refusal fs nodes es)
+
+abbrev pub is_condition_below : TypedNodes → (e part : ExprId) → Bool
+is_condition_below nodes e p = nat_lt p.0 e.0 && is_condition_at nodes p

@@ -2,12 +2,16 @@
 //! conditions a list gives, and which demands the value of an expression makes. Nothing here takes memory.
 #![tactic(auto)]
 
+mod conditions;
 pub mod facts;
 mod given;
 mod judging;
 pub mod laws;
 mod meeting;
 mod operators;
+mod ranges;
 mod shapes;
 
+pub use conditions::check_value;
 pub use facts::{Cmp, Fact, Side};
+pub use ranges::{gives_sides, range_of};
