@@ -1,6 +1,6 @@
 -- What the code's parts answer: operators by their signs, the passes over facts by name, and the demands and the range of
 -- an expression together, so that no part is looked at twice.
-use Rattle.std.specs.Prelude.{ℕ, Bool, true, false, ◌&&◌, nat_lt, slice_index_or, List, [], ◌∷◌, Option, None, Some, Result, Ok, Err}
+use Rattle.std.specs.Prelude.{ℕ, Bool, true, false, ◌&&◌, ◌||◌, nat_lt, slice_index_or, List, [], ◌∷◌, Option, None, Some, Result, Ok, Err}
 use Rattle.wf_text.specs.declared.place.Place.{Place}
 use Rattle.wf_text.specs.declared.rules.Rule.TheVariants.{B1}
 use Rattle.wf_text.specs.declared.rules.Refusal.{Refusal}
@@ -9,15 +9,17 @@ use Rattle.wf_num.specs.Ranges.{fits_width, exact_range, width_range}
 use Rattle.wf_base.specs.declared.marks.Mark.TheVariants.{Pure}
 use Rattle.wf_base.specs.declared.base_methods.BaseSig.{BaseSig}
 use Rattle.wf_base.specs.declared.base_methods.Gives.{Gives}
-use Rattle.wf_base.specs.declared.base_methods.Gives.TheVariants as gives
+use Rattle.wf_base.specs.declared.base_methods.Gives.TheVariants as answers
 use Rattle.wf_base.specs.BaseTable.{row_of}
 use Rattle.wf_ast.specs.declared.types.Ty.{Ty}
 use Rattle.wf_ast.specs.declared.types.Ty.TheVariants as types
 use Rattle.wf_ast.specs.WellTyped.{same_mark}
+use Rattle.wf_ast.specs.Value.{same_truth}
+use Rattle.wf_facts_exprs.specs.Given.{gives}
 use Rattle.wf_ast.specs.declared.numbers.ExprId.{ExprId}
 use Rattle.wf_ast.specs.declared.operators.Op.{Op}
 use Rattle.wf_ast.specs.declared.typed_nodes.TypedNodes.{TypedNodes}
-use Rattle.wf_ast.specs.TypedTree.{Arith, plus, Order, NumTree, link, SliceTree, EndTree, CondTree, ValueTree}
+use Rattle.wf_ast.specs.TypedTree.{Arith, plus, Order, equal, NumTree, link, SliceTree, EndTree, CondTree, ValueTree}
 use Rattle.wf_ast.specs.TypedTrees.{Sort, arithmetic, ordering, joining, sort_of, first_sign, num_in, slice_in, cond_in, tree_of, type_of_node}
 use Rattle.wf_facts_exprs.specs.Claims.{Claim, is_number_at, is_condition_at}
 use Rattle.wf_facts_exprs.specs.RangeOf.{narrowed, thinned, operator_range, is_ordered, length_range, rule_range, range_of}
@@ -119,8 +121,8 @@ rule_of_length nodes e = length_rule (type_of_node nodes e.0) (tree_of nodes e)
 
 -- The method answers a number.
 abbrev pub is_num : Gives → Bool
-is_num (gives.Num width) = true
-is_num gives = false
+is_num (answers.Num width) = true
+is_num answer = false
 
 abbrev pub gives_number : BaseSig → Bool
 gives_number sig = is_num (row_of sig).gives && same_mark (row_of sig).mark Pure
@@ -158,3 +160,20 @@ conds_refusal fs nodes (e ∷ es) = or_else (cond_refusal fs (node_cond nodes e)
 
 abbrev pub is_condition_below : TypedNodes → (e part : ExprId) → Bool
 is_condition_below nodes e p = nat_lt p.0 e.0 && is_condition_at nodes p
+
+-- `and` with yes and `or` with no need all of their operands; the order of a comparison.
+abbrev pub joins_all : Sort → (answer : Bool) → Bool
+joins_all (joining both) answer = same_truth both answer
+joins_all sort answer = false
+
+abbrev pub order_in : Sort → Order
+order_in (ordering op) = op
+order_in sort = equal
+
+abbrev pub all_given : List Claim → TypedNodes → List ExprId → (answer : Bool) → Bool
+all_given fs nodes [] answer = true
+all_given fs nodes (e ∷ es) answer = gives fs (node_cond nodes e) answer && all_given fs nodes es answer
+
+abbrev pub any_given : List Claim → TypedNodes → List ExprId → (answer : Bool) → Bool
+any_given fs nodes [] answer = false
+any_given fs nodes (e ∷ es) answer = gives fs (node_cond nodes e) answer || any_given fs nodes es answer

@@ -119,13 +119,13 @@ fn check_operands(
     }
 }
 
-fn joins(op: Op) -> bool
+pub(crate) fn joins(op: Op) -> bool
     ensures { result ≡ is_joining (sort_of op) }
 {
     matches!(op, Op::And | Op::Or)
 }
 
-fn is_number(t: &Typed, e: ExprId) -> bool
+pub(crate) fn is_number(t: &Typed, e: ExprId) -> bool
     requires { IsTrue (is_expr t.now e) }
     ensures { result ≡ is_numeric (type_of_node t.now e.0) }
 {

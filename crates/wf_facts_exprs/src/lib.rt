@@ -5,6 +5,7 @@
 mod conditions;
 pub mod facts;
 mod given;
+mod giving;
 mod judging;
 pub mod laws;
 mod meeting;
@@ -14,4 +15,5 @@ mod shapes;
 
 pub use conditions::check_value;
 pub use facts::{Cmp, Fact, Side};
+pub use giving::gives;
 pub use ranges::{gives_sides, range_of};
