@@ -1,5 +1,9 @@
 pub mod AlikeLemmas
+pub mod ChainLemmas
 pub mod ClaimLemmas
+pub mod ConditionLemmas
+pub mod GivenLemmas
+pub mod JudgeLemmas
 pub mod OperatorLemmas
 pub mod PassLemmas
 pub mod Peeks

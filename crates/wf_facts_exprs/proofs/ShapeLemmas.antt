@@ -255,3 +255,15 @@ length-number nodes e (types.Slice width) (elements t) = refl
 length-number nodes e (types.Array width lo hi n) (elements t) = refl
 length-number nodes e (types.Part s) (elements t) = refl
 length-number nodes e ty t = refl
+
+pub sum-left : (t u : NumTree) → is_constant t ≡ false → sum_of t u ≡ sum t u
+sum-left (number at n) u h = absurd (cc (h))
+sum-left t u h = refl
+
+pub sum-right : (t u : NumTree) → is_constant u ≡ false → sum_of t u ≡ sum t u
+sum-right t (number at n) h = absurd (cc (h))
+sum-right (number at n) u h = refl
+sum-right t u h = refl
+
+pub constant_seen : (nodes : TypedNodes) (e : ExprId) (x : Expr) → Lent nodes e x → (n : ℕ) → constant_of_node nodes e.0 ≡ Some n → num_in (tree_of nodes e) ≡ number (place_of_node nodes e.0) n
+constant_seen nodes e x it n is = ap num_in (tree_at nodes e x it (Some n) is)

@@ -1,19 +1,29 @@
 -- What the code's parts answer: operators by their signs, the passes over facts by name, and the demands and the range of
 -- an expression together, so that no part is looked at twice.
-use Rattle.std.specs.Prelude.{ℕ, Bool, true, false, List, [], ◌∷◌, Option, None, Some, Result, Ok, Err}
+use Rattle.std.specs.Prelude.{ℕ, Bool, true, false, ◌&&◌, ◌||◌, nat_lt, slice_index_or, List, [], ◌∷◌, Option, None, Some, Result, Ok, Err}
 use Rattle.wf_text.specs.declared.place.Place.{Place}
 use Rattle.wf_text.specs.declared.rules.Rule.TheVariants.{B1}
 use Rattle.wf_text.specs.declared.rules.Refusal.{Refusal}
 use Rattle.wf_num.specs.declared.ranges.Range.{Range}
-use Rattle.wf_num.specs.Ranges.{fits_width}
+use Rattle.wf_num.specs.Ranges.{fits_width, exact_range, width_range}
+use Rattle.wf_base.specs.declared.marks.Mark.TheVariants.{Pure}
+use Rattle.wf_base.specs.declared.base_methods.BaseSig.{BaseSig}
+use Rattle.wf_base.specs.declared.base_methods.Gives.{Gives}
+use Rattle.wf_base.specs.declared.base_methods.Gives.TheVariants as answers
+use Rattle.wf_base.specs.BaseTable.{row_of}
+use Rattle.wf_ast.specs.declared.types.Ty.{Ty}
+use Rattle.wf_ast.specs.declared.types.Ty.TheVariants as types
+use Rattle.wf_ast.specs.WellTyped.{same_mark}
+use Rattle.wf_ast.specs.Value.{same_truth}
+use Rattle.wf_facts_exprs.specs.Given.{gives}
 use Rattle.wf_ast.specs.declared.numbers.ExprId.{ExprId}
 use Rattle.wf_ast.specs.declared.operators.Op.{Op}
 use Rattle.wf_ast.specs.declared.typed_nodes.TypedNodes.{TypedNodes}
-use Rattle.wf_ast.specs.TypedTree.{Arith, plus, Order, NumTree, link, SliceTree}
-use Rattle.wf_ast.specs.TypedTrees.{Sort, arithmetic, ordering, joining, sort_of, first_sign, num_in, slice_in, tree_of}
-use Rattle.wf_facts_exprs.specs.Claims.{Claim}
-use Rattle.wf_facts_exprs.specs.RangeOf.{narrowed, thinned, operator_range, is_ordered, rule_range, range_of}
-use Rattle.wf_facts_exprs.specs.Demands.{demand, or_else, operand_demand, num_refusal, slice_refusal, unless_refused}
+use Rattle.wf_ast.specs.TypedTree.{Arith, plus, Order, equal, NumTree, link, SliceTree, EndTree, CondTree, ValueTree}
+use Rattle.wf_ast.specs.TypedTrees.{Sort, arithmetic, ordering, joining, sort_of, first_sign, num_in, slice_in, cond_in, tree_of, type_of_node}
+use Rattle.wf_facts_exprs.specs.Claims.{Claim, is_number_at, is_condition_at}
+use Rattle.wf_facts_exprs.specs.RangeOf.{narrowed, thinned, operator_range, is_ordered, length_range, rule_range, range_of}
+use Rattle.wf_facts_exprs.specs.Demands.{demand, or_else, operand_demand, num_refusal, slice_refusal, end_refusal, ends_demand, cond_refusal, unless_refused}
 use Rattle.wf_facts_exprs.specs.declared.meeting.Pass.{Pass}
 use Rattle.wf_facts_exprs.specs.declared.meeting.Pass.TheVariants.{Narrow, Thin}
 
@@ -95,3 +105,75 @@ chain_on fs at op bits joined first r [] signs = Ok r
 chain_on fs at op bits joined first r (t ∷ ts) signs =
     and_then_range (one_more fs op bits (first_sign at signs) (is_ordered fs joined first t) (is_last ts) r t)
     (λ s. chain_on fs at op bits true first s ts (rest_signs signs))
+
+-- The range of a variable's length by its type, and that of any length by its rule.
+abbrev pub variable_range : Ty → Range
+variable_range (types.Array width lo hi count) = exact_range count
+variable_range ty = width_range 64
+
+abbrev pub length_rule : Ty → ValueTree → Range
+length_rule types.Reader t = width_range 64
+length_rule types.Writer t = width_range 64
+length_rule ty t = length_range (slice_in t)
+
+abbrev pub rule_of_length : TypedNodes → ExprId → Range
+rule_of_length nodes e = length_rule (type_of_node nodes e.0) (tree_of nodes e)
+
+-- The method answers a number.
+abbrev pub is_num : Gives → Bool
+is_num (answers.Num width) = true
+is_num answer = false
+
+abbrev pub gives_number : BaseSig → Bool
+gives_number sig = is_num (row_of sig).gives && same_mark (row_of sig).mark Pure
+
+-- The ends of a slice stand in front of it, and are numbers.
+abbrev pub end_fits : TypedNodes → (e end : ExprId) → Bool
+end_fits nodes e i = nat_lt i.0 e.0 && is_number_at nodes i
+
+abbrev pub optional_end_fits : TypedNodes → ExprId → Option ExprId → Bool
+optional_end_fits nodes e None = true
+optional_end_fits nodes e (Some i) = end_fits nodes e i
+
+abbrev pub ends_fit : TypedNodes → ExprId → (from to : Option ExprId) → Bool
+ends_fit nodes e from to = optional_end_fits nodes e from && optional_end_fits nodes e to
+
+-- The demands of a slice behind those of what is sliced.
+abbrev pub ends_refusal : List Claim → Place → SliceTree → (from to : EndTree) → Option Refusal
+ends_refusal fs at cells from to = or_else (end_refusal fs from) (or_else (end_refusal fs to) (ends_demand fs at cells from to))
+
+-- The tree of an operand by its place.
+abbrev pub part_number : TypedNodes → List ExprId → ℕ → NumTree
+part_number nodes es i = node_number nodes (slice_index_or es i (record { 0 = 0 }))
+
+-- Conditions: the tree of one, an operator that joins them, and the first demand of several in order.
+abbrev pub node_cond : TypedNodes → ExprId → CondTree
+node_cond nodes e = cond_in (tree_of nodes e)
+
+abbrev pub is_joining : Sort → Bool
+is_joining (joining both) = true
+is_joining sort = false
+
+abbrev pub conds_refusal : List Claim → TypedNodes → List ExprId → Option Refusal
+conds_refusal fs nodes [] = None
+conds_refusal fs nodes (e ∷ es) = or_else (cond_refusal fs (node_cond nodes e)) (conds_refusal fs nodes es)
+
+abbrev pub is_condition_below : TypedNodes → (e part : ExprId) → Bool
+is_condition_below nodes e p = nat_lt p.0 e.0 && is_condition_at nodes p
+
+-- `and` with yes and `or` with no need all of their operands; the order of a comparison.
+abbrev pub joins_all : Sort → (answer : Bool) → Bool
+joins_all (joining both) answer = same_truth both answer
+joins_all sort answer = false
+
+abbrev pub order_in : Sort → Order
+order_in (ordering op) = op
+order_in sort = equal
+
+abbrev pub all_given : List Claim → TypedNodes → List ExprId → (answer : Bool) → Bool
+all_given fs nodes [] answer = true
+all_given fs nodes (e ∷ es) answer = gives fs (node_cond nodes e) answer && all_given fs nodes es answer
+
+abbrev pub any_given : List Claim → TypedNodes → List ExprId → (answer : Bool) → Bool
+any_given fs nodes [] answer = false
+any_given fs nodes (e ∷ es) answer = gives fs (node_cond nodes e) answer || any_given fs nodes es answer

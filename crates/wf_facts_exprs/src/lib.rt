@@ -2,13 +2,20 @@
 //! conditions a list gives, and which demands the value of an expression makes. Nothing here takes memory.
 #![tactic(auto)]
 
+mod conditions;
 pub mod facts;
 mod given;
+mod giving;
+mod judging;
 pub mod laws;
 mod meeting;
 mod operators;
+mod ranges;
 mod shapes;
 mod sides;
 
+pub use conditions::check_value;
 pub use facts::{Cmp, Fact, Side};
+pub use giving::gives;
+pub use ranges::{gives_sides, range_of};
 pub use sides::same_side;

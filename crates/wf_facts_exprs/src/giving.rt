@@ -1,0 +1,210 @@
+//! Which conditions a list of facts gives.
+
+ghost use Rattle.std.specs.Prelude.{◌≡◌, ◌&&◌, ◌||◌, length, map, false, true, nat_lt, IsTrue, None};
+ghost use Rattle.std.specs.List.{list_all};
+ghost use Rattle.wf_ast.specs.Same.{same_cond};
+ghost use Rattle.wf_ast.specs.TypedTrees.{chain_of, place_of_node, signs_of_node, sort_of, tree_of, type_of_node};
+ghost use Rattle.wf_ast.specs.TypedInvariant.{chain_fits};
+ghost use Rattle.wf_facts_exprs.specs.Claims.{AreFacts, claim_in, claims_in, is_condition_at, is_fact, is_number_at, order_of, same_claim, single, stands as standing_claim, with_answer};
+ghost use Rattle.wf_facts_exprs.specs.Demands.{cond_refusal, num_refusal};
+ghost use Rattle.wf_facts_exprs.specs.Given.{gives as given, gives_sides as sides_given, is_standing};
+ghost use Rattle.wf_facts_exprs.specs.Operands.{all_given, any_given, conds_refusal, is_condition_below, is_joining, joins_all, node_cond, node_number, order_in};
+
+use crate::conditions::{is_number, joins};
+use crate::facts::{Cmp, Fact, Side};
+use crate::ranges::gives_sides;
+use crate::shapes::look_at;
+use wf_ast::{Expr, ExprId, Op, Typed, same};
+
+/// Whether the facts give that a condition, whose demands are met, has this answer: `true` is yes, `false` is no. All
+/// operands of `and` with yes, and of `or` with no, have to be given; of `and` with no, and of `or` with yes, one of them,
+/// or the condition itself stands among the facts. It takes no memory, and recurses as deep as brackets nest.
+#[cycle(giving)]
+pub fn gives(t: &Typed, facts: &[Fact], e: ExprId, answer: bool) -> bool
+    requires known { AreFacts t.now facts.now }
+    requires node { IsTrue (is_condition_at t.now e) }
+    requires fine { cond_refusal (claims_in t.now facts.now) (node_cond t.now e) ≡ None }
+    ensures { result ≡ given (claims_in t.now facts.now) (node_cond t.now e) answer }
+{
+    let expr = t.expr(e);
+    match t.constant(e) {
+        Some(_) => unreachable!(),
+        None => match expr {
+            Expr::Chain { op, parts } => gives_chain(t, facts, e, *op, parts.as_slice(), answer),
+            Expr::Not(of) => gives(t, facts, *of, !answer),
+            Expr::Truth(value) => *value == answer || stands(t, facts, e, answer),
+            Expr::Local(_) => stands(t, facts, e, answer),
+            Expr::Field(_) => stands(t, facts, e, answer),
+            Expr::Arg(_) => stands(t, facts, e, answer),
+            Expr::Base { .. } => stands(t, facts, e, answer),
+            Expr::Number(_) | Expr::Const(_) | Expr::Status(_) => unreachable!(),
+            Expr::Index { .. } | Expr::Cut { .. } | Expr::Convert { .. } => unreachable!(),
+        },
+    }
+}
+
+#[cycle(giving)]
+fn gives_chain(t: &Typed, facts: &[Fact], e: ExprId, op: Op, parts: &[ExprId], answer: bool) -> bool
+    requires known { AreFacts t.now facts.now }
+    requires node { IsTrue (is_condition_at t.now e) }
+    requires tree { tree_of t.now e ≡ chain_of (place_of_node t.now e.0) (signs_of_node t.now e.0) (type_of_node t.now e.0) (sort_of op) (map (tree_of t.now) parts.now) }
+    requires fits { IsTrue (chain_fits t.now (sort_of op) parts.now (type_of_node t.now e.0)) }
+    requires below { IsTrue (list_all (λ p. nat_lt p.0 e.0) parts.now) }
+    requires fine { cond_refusal (claims_in t.now facts.now) (node_cond t.now e) ≡ None }
+    ensures { result ≡ given (claims_in t.now facts.now) (node_cond t.now e) answer }
+{
+    if !joins(op) {
+        gives_comparison(t, facts, e, op, parts, answer)
+    } else if needs_all(op, answer) {
+        gives_all(t, facts, e, parts, answer)
+    } else {
+        gives_any(t, facts, e, parts, answer) || stands(t, facts, e, answer)
+    }
+}
+
+// `and` with yes and `or` with no.
+fn needs_all(op: Op, answer: bool) -> bool
+    ensures { result ≡ joins_all (sort_of op) answer }
+{
+    match op {
+        Op::And => answer,
+        Op::Or => !answer,
+        Op::Add | Op::Mul | Op::BitAnd | Op::BitOr | Op::BitXor | Op::Sub | Op::Div => false,
+        Op::Rem | Op::Shl | Op::Shr | Op::Same | Op::Differs | Op::Less => false,
+        Op::LessOrSame | Op::Greater | Op::GreaterOrSame | Op::ModAdd | Op::ModSub => false,
+        Op::ModMul | Op::ModShl | Op::SatAdd | Op::SatSub => false,
+    }
+}
+
+#[cycle(giving)]
+fn gives_all(t: &Typed, facts: &[Fact], e: ExprId, parts: &[ExprId], answer: bool) -> bool
+    requires known { AreFacts t.now facts.now }
+    requires parts { IsTrue (list_all (is_condition_below t.now e) parts.now) }
+    requires fine { conds_refusal (claims_in t.now facts.now) t.now parts.now ≡ None }
+    ensures { result ≡ all_given (claims_in t.now facts.now) t.now parts.now answer }
+{
+    for i in 0..parts.len() {
+        if !gives(t, facts, parts[i], answer) {
+            return false;
+        }
+    }
+    true
+}
+
+#[cycle(giving)]
+fn gives_any(t: &Typed, facts: &[Fact], e: ExprId, parts: &[ExprId], answer: bool) -> bool
+    requires known { AreFacts t.now facts.now }
+    requires parts { IsTrue (list_all (is_condition_below t.now e) parts.now) }
+    requires fine { conds_refusal (claims_in t.now facts.now) t.now parts.now ≡ None }
+    ensures { result ≡ any_given (claims_in t.now facts.now) t.now parts.now answer }
+{
+    for i in 0..parts.len() {
+        if gives(t, facts, parts[i], answer) {
+            return true;
+        }
+    }
+    false
+}
+
+// Numbers are compared by the two rules; statuses stand or not.
+fn gives_comparison(
+    t: &Typed,
+    facts: &[Fact],
+    e: ExprId,
+    op: Op,
+    parts: &[ExprId],
+    answer: bool,
+) -> bool
+    requires known { AreFacts t.now facts.now }
+    requires node { IsTrue (is_condition_at t.now e) }
+    requires tree { tree_of t.now e ≡ chain_of (place_of_node t.now e.0) (signs_of_node t.now e.0) (type_of_node t.now e.0) (sort_of op) (map (tree_of t.now) parts.now) }
+    requires fits { IsTrue (chain_fits t.now (sort_of op) parts.now (type_of_node t.now e.0)) }
+    requires below { IsTrue (list_all (λ p. nat_lt p.0 e.0) parts.now) }
+    requires compares { is_joining (sort_of op) ≡ false }
+    requires fine { cond_refusal (claims_in t.now facts.now) (node_cond t.now e) ≡ None }
+    ensures { result ≡ given (claims_in t.now facts.now) (node_cond t.now e) answer }
+{
+    look_at(t, parts[0]);
+    if is_number(t, parts[0]) {
+        gives_numbers(t, facts, parts[0], compared_by(op, answer), parts[1])
+    } else {
+        stands(t, facts, e, answer)
+    }
+}
+
+fn gives_numbers(t: &Typed, facts: &[Fact], a: ExprId, op: Cmp, b: ExprId) -> bool
+    requires known { AreFacts t.now facts.now }
+    requires left { IsTrue (is_number_at t.now a) }
+    requires right { IsTrue (is_number_at t.now b) }
+    requires left_fine { num_refusal (claims_in t.now facts.now) false (node_number t.now a) ≡ None }
+    requires right_fine { num_refusal (claims_in t.now facts.now) false (node_number t.now b) ≡ None }
+    ensures { result ≡ sides_given (claims_in t.now facts.now) (single (node_number t.now a)) (order_of op) (single (node_number t.now b)) }
+{
+    gives_sides(t, facts, Side::Expr(a), op, Side::Expr(b))
+}
+
+// The comparison, or with no its complement.
+fn compared_by(op: Op, answer: bool) -> Cmp
+    requires { is_joining (sort_of op) ≡ false }
+    ensures { order_of result ≡ with_answer answer (order_in (sort_of op)) }
+{
+    match op {
+        Op::Same => if answer { Cmp::Eq } else { Cmp::Ne },
+        Op::Differs => if answer { Cmp::Ne } else { Cmp::Eq },
+        Op::Less => if answer { Cmp::Lt } else { Cmp::Ge },
+        Op::LessOrSame => if answer { Cmp::Le } else { Cmp::Gt },
+        Op::Greater => if answer { Cmp::Gt } else { Cmp::Le },
+        Op::GreaterOrSame => if answer { Cmp::Ge } else { Cmp::Lt },
+        Op::Add | Op::Mul | Op::BitAnd | Op::BitOr | Op::BitXor | Op::And | Op::Or => unordered(
+            answer,
+        ),
+        Op::Sub | Op::Div | Op::Rem | Op::Shl | Op::Shr | Op::ModAdd | Op::ModSub => unordered(
+            answer,
+        ),
+        Op::ModMul | Op::ModShl | Op::SatAdd | Op::SatSub => unordered(answer),
+    }
+}
+
+fn unordered(answer: bool) -> Cmp
+    ensures { order_of result ≡ with_answer answer (order_of Cmp.Eq) }
+{
+    if answer { Cmp::Eq } else { Cmp::Ne }
+}
+
+// Whether the condition itself stands among the facts, with this answer.
+fn stands(t: &Typed, facts: &[Fact], e: ExprId, answer: bool) -> bool
+    requires known { AreFacts t.now facts.now }
+    requires node { IsTrue (is_condition_at t.now e) }
+    ensures { result ≡ is_standing (claims_in t.now facts.now) (node_cond t.now e) answer }
+{
+    for fact in facts {
+        if is_fact_of(t, *fact, e, answer) {
+            return true;
+        }
+    }
+    false
+}
+
+fn is_fact_of(t: &Typed, fact: Fact, e: ExprId, answer: bool) -> bool
+    requires known { IsTrue (is_fact t.now fact) }
+    requires node { IsTrue (is_condition_at t.now e) }
+    ensures { result ≡ same_claim (claim_in t.now fact) (standing_claim (node_cond t.now e) answer) }
+{
+    match fact {
+        Fact::Compare { .. } => false,
+        Fact::Cond {
+            expr,
+            answer: known,
+        } => known == answer && same_conditions(t, expr, e),
+    }
+}
+
+fn same_conditions(t: &Typed, a: ExprId, b: ExprId) -> bool
+    requires left { IsTrue (is_condition_at t.now a) }
+    requires right { IsTrue (is_condition_at t.now b) }
+    ensures { result ≡ same_cond (node_cond t.now a) (node_cond t.now b) }
+{
+    look_at(t, a);
+    look_at(t, b);
+    same(t, a, b)
+}

@@ -1,0 +1,106 @@
+//! The range of an expression under a list of facts, and what the list gives of two sides.
+
+ghost use Rattle.std.specs.Prelude.{◌≡◌, ◌<◌, ◌^◌, false, IsTrue, None};
+ghost use Rattle.wf_num.specs.Ranges.{IsSmall, exact_range};
+ghost use Rattle.wf_ast.specs.TypedTree.{number};
+ghost use Rattle.wf_ast.specs.TypedTrees.{no_place};
+ghost use Rattle.wf_facts_exprs.specs.Claims.{AreFacts, claims_in, is_number_at, is_side, order_of, side_in};
+ghost use Rattle.wf_facts_exprs.specs.RangeOf.{met, range_of as range_under, side_range};
+ghost use Rattle.wf_facts_exprs.specs.Given.{gives_sides as sides_given};
+ghost use Rattle.wf_facts_exprs.specs.Demands.{num_refusal, side_refusal};
+ghost use Rattle.wf_facts_exprs.specs.Operands.{node_number};
+
+use crate::facts::{Cmp, Fact, Side};
+use crate::given::{Ranged, gives_ranged};
+use crate::judging::{judge, length_side, number_range};
+use crate::meeting::meet_facts;
+use crate::shapes::Shape;
+use wf_ast::{ExprId, Typed};
+use wf_num::Range;
+
+/// The range of a number whose demands are met under these facts.
+pub fn range_of(t: &Typed, facts: &[Fact], e: ExprId) -> Range
+    requires known { AreFacts t.now facts.now }
+    requires node { IsTrue (is_number_at t.now e) }
+    requires fine { num_refusal (claims_in t.now facts.now) false (node_number t.now e) ≡ None }
+    ensures range { result ≡ range_under (claims_in t.now facts.now) (node_number t.now e) }
+    ensures small { IsSmall result }
+{
+    match judge(t, facts, e) {
+        Ok(range) => range,
+        Err(_) => unreachable!(),
+    }
+}
+
+/// Whether the facts give that two sides, whose demands are met, compare so: by a fact that compares them, or by their
+/// ranges.
+pub fn gives_sides(t: &Typed, facts: &[Fact], left: Side, op: Cmp, right: Side) -> bool
+    requires known { AreFacts t.now facts.now }
+    requires left { IsTrue (is_side t.now left) }
+    requires right { IsTrue (is_side t.now right) }
+    requires left_fine { side_refusal (claims_in t.now facts.now) (side_in t.now left) ≡ None }
+    requires right_fine { side_refusal (claims_in t.now facts.now) (side_in t.now right) ≡ None }
+    ensures { result ≡ sides_given (claims_in t.now facts.now) (side_in t.now left) (order_of op) (side_in t.now right) }
+{
+    gives_ranged(
+        t,
+        facts,
+        with_range(t, facts, left),
+        op,
+        with_range(t, facts, right),
+    )
+}
+
+// A side with its range.
+fn with_range(t: &Typed, facts: &[Fact], side: Side) -> Ranged
+    requires known { AreFacts t.now facts.now }
+    requires side { IsTrue (is_side t.now side) }
+    requires fine { side_refusal (claims_in t.now facts.now) (side_in t.now side) ≡ None }
+    ensures side { result.side ≡ side }
+    ensures range { result.range ≡ side_range (claims_in t.now facts.now) (side_in t.now side) }
+{
+    match side {
+        Side::Expr(e) => Ranged {
+            side: Side::Expr(e),
+            range: range_of(t, facts, e),
+        },
+        Side::Sum(a, b) => Ranged {
+            side: Side::Sum(a, b),
+            range: sum_range(t, facts, a, b),
+        },
+        Side::Length(on) => length_side(t, facts, on),
+        Side::Num(n) => Ranged {
+            side: Side::Num(n),
+            range: number_range(t, facts, n),
+        },
+    }
+}
+
+// The range of a sum is the sum of the ranges; two constants are one number.
+fn sum_range(t: &Typed, facts: &[Fact], a: ExprId, b: ExprId) -> Range
+    requires known { AreFacts t.now facts.now }
+    requires side { IsTrue (is_side t.now (Side.Sum a b)) }
+    requires fine { side_refusal (claims_in t.now facts.now) (side_in t.now (Side.Sum a b)) ≡ None }
+    ensures { result ≡ side_range (claims_in t.now facts.now) (side_in t.now (Side.Sum a b)) }
+{
+    let _left = t.expr(a);
+    let _right = t.expr(b);
+    match (t.constant(a), t.constant(b)) {
+        (Some(m), Some(n)) => constant_range(t, facts, m as u128 + n as u128),
+        (Some(_), None) => range_of(t, facts, a).add(range_of(t, facts, b)),
+        (None, Some(_)) => range_of(t, facts, a).add(range_of(t, facts, b)),
+        (None, None) => range_of(t, facts, a).add(range_of(t, facts, b)),
+    }
+}
+
+fn constant_range(t: &Typed, facts: &[Fact], n: u128) -> Range
+    requires known { AreFacts t.now facts.now }
+    requires few { n < 2 ^ 66 }
+    ensures { result ≡ met (claims_in t.now facts.now) (number no_place n) (exact_range n) }
+{
+    let exact = Range {
+        lo: n as i128,
+        hi: n,
+    };
+    meet_facts(t, facts, Shape::Number(n), exact)
+}
