@@ -1,9 +1,8 @@
 -- What a list says of a tree it says of every tree that is alike.
-use Rattle.std.proofs.Common.{◌≡◌, ℕ, Bool, true, false, ◌&&◌, ◌||◌, List, [], ◌∷◌, Option, Some, None, refl, sym, ap, ◌∙◌, subst}
+use Rattle.std.proofs.Common.{◌≡◌, ℕ, ◌&&◌, ◌||◌, List, [], ◌∷◌, refl, sym, ap, ◌∙◌}
 use Rattle.wf_num.specs.declared.ranges.Range.{Range}
 use Rattle.wf_ast.specs.TypedTree.{Order, NumTree}
-use Rattle.wf_ast.specs.Same.{same_num}
-use Rattle.wf_facts_exprs.specs.Claims.{SideTree, Claim, compared, stands, tree_of_side, same_side, flip}
+use Rattle.wf_facts_exprs.specs.Claims.{SideTree, Claim, compared, stands, tree_of_side, flip}
 use Rattle.wf_facts_exprs.specs.RangeOf.{claim_gives, first_rule, allows_no_more, met_with, met_by, passed, met, narrowed, thinned, number_of_side}
 use Rattle.wf_facts_exprs.specs.Shapes.{Alike}
 

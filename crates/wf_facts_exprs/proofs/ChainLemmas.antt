@@ -1,5 +1,5 @@
 -- A chain is judged from the left, one operand after the other.
-use Rattle.std.proofs.Common.{◌≡◌, ℕ, zero, suc, ◌+◌, ◌-◌, ◌<◌, ◌≤◌, Bool, true, false, not, ◌&&◌, List, [], ◌∷◌, length, map, drop, Option, Some, None, nat_lt, nat_eq, refl, sym, ap, ◌∙◌, subst, arith}
+use Rattle.std.proofs.Common.{◌≡◌, ℕ, zero, suc, ◌+◌, ◌-◌, ◌<◌, ◌≤◌, Bool, true, false, List, [], ◌∷◌, length, map, drop, Option, Some, None, nat_lt, nat_eq, refl, sym, ap, ◌∙◌, arith}
 use Rattle.std.specs.Prelude.{slice_index_or, Result, Ok, Err}
 use Rattle.std.specs.List.{list_all}
 use Rattle.std.proofs.Math.Seq.{drop-cons}
@@ -13,15 +13,14 @@ use Rattle.wf_num.specs.Ranges.{fits_width}
 use Rattle.wf_ast.specs.declared.numbers.ExprId.{ExprId}
 use Rattle.wf_ast.specs.declared.types.Ty.{Ty}
 use Rattle.wf_ast.specs.declared.typed_nodes.TypedNodes.{TypedNodes}
-use Rattle.wf_ast.specs.TypedTree.{Arith, NumTree, link, ValueTree}
+use Rattle.wf_ast.specs.TypedTree.{Arith, NumTree, link}
 use Rattle.wf_ast.specs.TypedTrees.{Sort, arithmetic, ordering, joining, num_in, num_chain, chain_of, first_sign, num_type, tree_of}
-use Rattle.wf_ast.specs.TypedInvariant.{chain_fits, is_numeric, is_logical}
-use Rattle.wf_facts_exprs.specs.Claims.{Claim, single}
+use Rattle.wf_facts_exprs.specs.Claims.{Claim}
 use Rattle.wf_facts_exprs.specs.RangeOf.{rule_range, part_range, range_of, is_ordered, operator_range}
 use Rattle.wf_facts_exprs.specs.Demands.{demand, or_else, operand_demand, num_refusal, unless_refused}
-use Rattle.wf_facts_exprs.specs.Operands.{arith_in, is_arithmetic, rule_refusal, ruled, judged, node_number, after, rest_signs, is_last, part_demand, one_more, and_then_range, chain_on, part_number}
+use Rattle.wf_facts_exprs.specs.Operands.{arith_in, is_arithmetic, rule_refusal, ruled, judged, node_number, rest_signs, is_last, part_demand, one_more, and_then_range, chain_on, part_number}
 use Rattle.wf_facts_exprs.proofs.PassLemmas.{both_of}
-use Rattle.wf_facts_exprs.proofs.JudgeLemmas.{answer-ok, answer-err, after-or, or-none, numeric-not-logical}
+use Rattle.wf_facts_exprs.proofs.JudgeLemmas.{answer-ok, answer-err, after-or, or-none}
 
 end-chain : (q : Option Refusal) (s : Range) → and_then_range (unless_refused q s) (λ r. Ok r) ≡ unless_refused q s
 end-chain None s = refl

@@ -1,20 +1,19 @@
 -- What true claims say of the values of sides, and so of a range that is met with them.
-use Rattle.std.proofs.Common.{◌≡◌, ℕ, ℤ, pos, negsuc, zero, suc, ◌+◌, ◌-◌, ◌^◌, ◌<◌, ◌≤◌, ◌≤ℤ◌, ◌⊎◌, inl, inr, Bool, true, false, not, ◌&&◌, ◌||◌, List, [], ◌∷◌, Option, Some, None, nat_lt, nat_eq, refl, sym, ap, ◌∙◌, subst, arith}
+use Rattle.std.proofs.Common.{◌≡◌, ℕ, ℤ, pos, ◌+◌, ◌^◌, ◌<◌, inl, inr, Bool, true, false, not, ◌&&◌, ◌||◌, List, [], ◌∷◌, Option, Some, None, nat_lt, refl, sym, ap, ◌∙◌, subst, arith}
 use Rattle.std.specs.Prelude.{if◌then◌else◌, option_and_then, option_map}
-use Rattle.std.proofs.lemmas.Int.{ints}
 use Rattle.wf_num.specs.declared.ranges.Range.{Range}
 use Rattle.wf_num.specs.Ranges.{Holds, HoldsInt}
-use Rattle.wf_ast.specs.TypedTree.{Arith, plus, minus, times, divided, remainder, shift_left, shift_right, bits_and, bits_or, bits_xor, mod_plus, mod_minus, mod_times, mod_shift_left, sat_plus, sat_minus, Order, less, at_most, equal, differs, at_least, greater, NumTree, number, read, element, link, convert, length_of, asked, CondTree}
+use Rattle.wf_ast.specs.TypedTree.{Arith, plus, Order, NumTree, number, read, element, link, convert, length_of, asked}
 use Rattle.wf_ast.specs.TypedTrees.{no_place}
-use Rattle.wf_ast.specs.Value.{State, value, applied, fitted, compares, same_truth, truth_of}
-use Rattle.wf_ast.specs.Same.{same_num, same_arith, same_width, arith_number}
+use Rattle.wf_ast.specs.Value.{State, value, applied, fitted, compares}
+use Rattle.wf_ast.specs.Same.{same_num}
 use Rattle.wf_ast.specs.WellTyped.{Context, is_width, fits, is_shift, continues, is_constant, is_whole_number, well_part, well_num}
 use Rattle.wf_ast.proofs.SameValue.{number_same}
 use Rattle.wf_facts_exprs.specs.Claims.{SideTree, single, sum, Claim, compared, stands, tree_of_side, same_side, side_value, claim_truth, AllTrue, flip}
-use Rattle.wf_facts_exprs.specs.RangeOf.{claim_gives, first_rule, allows_no_more, narrowed, thinned, number_of_side, met_with, met_by, passed, met, met_unless}
+use Rattle.wf_facts_exprs.specs.RangeOf.{claim_gives, first_rule, allows_no_more, narrowed, thinned, number_of_side, met_with, met_by, passed, met}
 use Rattle.wf_facts_exprs.specs.LawfulState.{well_side, well_claim, well_claims}
 use Rattle.wf_facts_exprs.proofs.OperatorLemmas.{result_of}
-use Rattle.wf_facts_exprs.proofs.PassLemmas.{equal_numbers, lt_from, or_cases, both_of, allowed, compares-flip, natural, whole, narrowed-holds, thinned-holds, narrowed-small, thinned-small}
+use Rattle.wf_facts_exprs.proofs.PassLemmas.{equal_numbers, or_cases, both_of, allowed, compares-flip, natural, whole, narrowed-holds, thinned-holds, narrowed-small, thinned-small}
 
 pub some_of : (m n : ℕ) → Some m ≡ Some n → m ≡ n
 some_of m n h = cc

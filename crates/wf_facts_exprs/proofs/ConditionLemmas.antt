@@ -1,5 +1,5 @@
 -- The demands of conditions that stand in a chain.
-use Rattle.std.proofs.Common.{◌≡◌, ℕ, zero, suc, ◌<◌, ◌≤◌, Bool, true, false, not, ◌&&◌, ◌||◌, List, [], ◌∷◌, length, map, drop, Option, Some, None, nat_lt, nat_eq, refl, sym, ap, ◌∙◌, subst, arith}
+use Rattle.std.proofs.Common.{◌≡◌, ℕ, zero, suc, ◌<◌, ◌≤◌, Bool, true, false, ◌&&◌, ◌||◌, List, [], ◌∷◌, length, map, drop, Option, Some, None, nat_lt, refl, sym, ◌∙◌, arith}
 use Rattle.std.specs.Prelude.{slice_index_or}
 use Rattle.std.specs.List.{list_all}
 use Rattle.std.proofs.lemmas.Bool.Decides.{nat_tests}
@@ -9,13 +9,13 @@ use Rattle.wf_ast.specs.declared.numbers.ExprId.{ExprId}
 use Rattle.wf_ast.specs.declared.types.Ty.{Ty}
 use Rattle.wf_ast.specs.declared.types.Ty.TheVariants as types
 use Rattle.wf_ast.specs.declared.typed_nodes.TypedNodes.{TypedNodes}
-use Rattle.wf_ast.specs.TypedTree.{NumTree, CondTree, junction, ValueTree, numeric, logical, state, elements, io, lost, Order, less, at_most, equal, differs, at_least, greater}
+use Rattle.wf_ast.specs.TypedTree.{CondTree, junction, ValueTree, numeric, state, Order, less, at_most, equal, differs, at_least, greater}
 use Rattle.wf_ast.specs.TypedTrees.{Sort, arithmetic, ordering, joining, num_in, cond_in, cond_chain, chain_of, comparison, first_sign, tree_of, type_of_node}
-use Rattle.wf_ast.specs.TypedInvariant.{is_expr, is_numeric, is_logical, is_state, is_tree_of, chain_fits, compares_kinds}
-use Rattle.wf_facts_exprs.specs.Claims.{Claim, is_number_at, is_condition_at}
+use Rattle.wf_ast.specs.TypedInvariant.{is_expr, is_numeric, is_logical, is_tree_of, chain_fits, compares_kinds}
+use Rattle.wf_facts_exprs.specs.Claims.{Claim, is_number_at}
 use Rattle.wf_facts_exprs.specs.Demands.{or_else, num_refusal, cond_refusal}
 use Rattle.wf_facts_exprs.specs.Operands.{node_cond, node_number, is_joining, conds_refusal, is_condition_below}
-use Rattle.wf_facts_exprs.proofs.PassLemmas.{both_of, or_cases}
+use Rattle.wf_facts_exprs.proofs.PassLemmas.{both_of}
 use Rattle.wf_facts_exprs.proofs.JudgeLemmas.{or-none, numeric-not-logical}
 
 or-again : (p q r : Option Refusal) → or_else (or_else p q) r ≡ or_else p (or_else q r)

@@ -1,5 +1,5 @@
 -- What is given of conditions that stand in a chain.
-use Rattle.std.proofs.Common.{◌≡◌, ℕ, zero, suc, ◌<◌, ◌≤◌, Bool, true, false, not, ◌&&◌, ◌||◌, List, [], ◌∷◌, length, map, drop, Option, Some, None, nat_lt, nat_eq, refl, sym, ap, ◌∙◌, subst, arith}
+use Rattle.std.proofs.Common.{◌≡◌, ℕ, zero, suc, ◌<◌, Bool, true, false, not, ◌&&◌, ◌||◌, List, [], ◌∷◌, length, map, Option, Some, None, refl, sym, ap, ◌∙◌, arith}
 use Rattle.std.specs.Prelude.{slice_index_or, if◌then◌else◌}
 use Rattle.wf_text.specs.declared.place.Place.{Place}
 use Rattle.wf_text.specs.declared.rules.Refusal.{Refusal}
@@ -7,9 +7,9 @@ use Rattle.wf_ast.specs.declared.numbers.ExprId.{ExprId}
 use Rattle.wf_ast.specs.declared.types.Ty.{Ty}
 use Rattle.wf_ast.specs.declared.types.Ty.TheVariants as types
 use Rattle.wf_ast.specs.declared.typed_nodes.TypedNodes.{TypedNodes}
-use Rattle.wf_ast.specs.TypedTree.{CondTree, compare, junction, ValueTree, numeric, logical, state, elements, io, lost, Order, less, at_most, equal, differs, at_least, greater}
+use Rattle.wf_ast.specs.TypedTree.{CondTree, junction, ValueTree, numeric, state, Order, less, at_most, equal, differs, at_least, greater}
 use Rattle.wf_ast.specs.TypedTrees.{Sort, arithmetic, ordering, joining, num_in, cond_in, cond_chain, chain_of, comparison, first_sign, tree_of, type_of_node}
-use Rattle.wf_ast.specs.TypedInvariant.{is_numeric, is_logical, is_state, is_tree_of, chain_fits, compares_kinds}
+use Rattle.wf_ast.specs.TypedInvariant.{is_numeric, is_logical, is_tree_of, chain_fits, compares_kinds}
 use Rattle.wf_ast.specs.Value.{same_truth}
 use Rattle.wf_facts_exprs.specs.Claims.{Claim, single, with_answer}
 use Rattle.wf_facts_exprs.specs.Demands.{or_else, cond_refusal}

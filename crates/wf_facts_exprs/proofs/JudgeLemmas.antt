@@ -1,11 +1,9 @@
 -- What the code's parts answer is what the definitions say.
-use Rattle.std.proofs.Common.{◌≡◌, ℕ, zero, suc, ◌+◌, ◌-◌, ◌^◌, ◌<◌, ◌≤◌, ◌⊎◌, inl, inr, Bool, true, false, not, ◌&&◌, ◌||◌, List, [], ◌∷◌, length, map, drop, Option, Some, None, nat_lt, nat_eq, refl, sym, ap, ◌∙◌, subst, arith}
-use Rattle.std.specs.Prelude.{if◌then◌else◌, slice_index_or, Result, Ok, Err}
+use Rattle.std.proofs.Common.{◌≡◌, ℕ, zero, suc, ◌-◌, ◌<◌, ◌≤◌, Bool, true, false, ◌&&◌, ◌||◌, List, [], ◌∷◌, length, map, drop, Option, Some, None, nat_lt, refl, sym, ap, ◌∙◌, subst, arith}
+use Rattle.std.specs.Prelude.{Result, Ok, Err}
 use Rattle.std.specs.List.{list_all}
-use Rattle.std.proofs.Math.Seq.{drop-cons}
 use Rattle.std.proofs.lemmas.Bool.Decides.{nat_tests}
 use Rattle.wf_text.specs.declared.place.Place.{Place}
-use Rattle.wf_text.specs.declared.rules.Rule.{Rule}
 use Rattle.wf_text.specs.declared.rules.Rule.TheVariants.{B1, B2, B3, B9}
 use Rattle.wf_text.specs.declared.rules.Refusal.{Refusal}
 use Rattle.wf_num.specs.declared.ranges.Range.{Range}
@@ -17,19 +15,19 @@ use Rattle.wf_ast.specs.declared.numbers.ExprId.{ExprId}
 use Rattle.wf_ast.specs.declared.types.Ty.{Ty}
 use Rattle.wf_ast.specs.declared.types.Ty.TheVariants as types
 use Rattle.wf_ast.specs.declared.typed_nodes.TypedNodes.{TypedNodes}
-use Rattle.wf_ast.specs.TypedTree.{Arith, plus, Order, less, at_most, at_least, NumType, NumTree, number, read, element, link, convert, length_of, asked, reader_length, peek, SliceTree, EndTree, absent, present, ValueTree, numeric, elements, io, lost}
+use Rattle.wf_ast.specs.TypedTree.{Arith, Order, less, at_most, at_least, NumType, NumTree, number, read, element, link, convert, length_of, asked, reader_length, peek, SliceTree, absent, present, ValueTree, elements, io}
 use Rattle.wf_ast.specs.TypedTrees.{Sort, arithmetic, ordering, joining, no_place, num_in, slice_in, io_in, num_chain, chain_of, first_sign, num_type, tree_of, type_of_node, place_of_node}
 use Rattle.wf_ast.specs.TypedInvariant.{is_expr, is_numeric, is_logical, is_list, is_io, is_tree_of, chain_fits}
 use Rattle.wf_ast.specs.Same.{same_num}
-use Rattle.wf_facts_exprs.specs.Claims.{SideTree, single, Claim, tree_of_side, length_in, side_in, is_number_at}
+use Rattle.wf_facts_exprs.specs.Claims.{single, Claim, length_in, side_in, is_number_at}
 use Rattle.wf_facts_exprs.specs.declared.facts.Side.{Side}
 use Rattle.wf_facts_exprs.specs.declared.facts.Side.TheVariants as sides
-use Rattle.wf_facts_exprs.specs.RangeOf.{first_rule, met, rule_range, part_range, range_of, side_range, type_range, length_range, is_ordered, operator_range}
+use Rattle.wf_facts_exprs.specs.RangeOf.{first_rule, met, rule_range, range_of, side_range, type_range, operator_range}
 use Rattle.wf_facts_exprs.specs.Given.{second_rule, gives_sides}
 use Rattle.wf_facts_exprs.specs.Demands.{demand, or_else, operand_demand, num_refusal, slice_refusal, unless_refused}
-use Rattle.wf_facts_exprs.specs.Operands.{is_arithmetic, arith_in, rule_refusal, width_demand, ruled, judged, judged_slice, is_operator, node_number, node_slice, after, rest_signs, is_last, part_demand, one_more, and_then_range, chain_on, part_number, length_rule, ends_refusal}
+use Rattle.wf_facts_exprs.specs.Operands.{is_arithmetic, rule_refusal, width_demand, ruled, judged, judged_slice, is_operator, node_slice, after, part_demand, one_more, length_rule, ends_refusal}
 use Rattle.wf_facts_exprs.specs.Shapes.{Alike}
-use Rattle.wf_facts_exprs.proofs.PassLemmas.{both_of, or_cases}
+use Rattle.wf_facts_exprs.proofs.PassLemmas.{both_of}
 use Rattle.wf_facts_exprs.proofs.AlikeLemmas.{swapped, first-alike, met-alike}
 use Rattle.wf_facts_exprs.proofs.ShapeLemmas.{alike_self, asked_alike, length_alike, length_in-alike}
 

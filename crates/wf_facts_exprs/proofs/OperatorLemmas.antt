@@ -1,21 +1,17 @@
 -- The range of an operator holds its value before it is fitted into a width, and where the range lies in the width the
 -- operator isn't stuck.
-use Rattle.std.proofs.Common.{◌≡◌, ℕ, ℤ, pos, negsuc, zero, suc, ◌+◌, ◌-◌, ◌*◌, ◌/◌, ◌%◌, ◌^◌, ◌<◌, ◌≤◌, ◌≤ℤ◌, ◌-ℤ◌, ◌⊎◌, inl, inr, min, max, Bool, true, false, not, ◌&&◌, ◌||◌, Option, Some, None, nat_lt, nat_eq, refl, sym, ap, ◌∙◌, subst, arith, bit_and, bit_or, bit_xor}
-use Rattle.std.specs.Prelude.{if◌then◌else◌, int_lt, int_le, nat_le}
-use Rattle.std.specs.Int.{int_max}
+use Rattle.std.proofs.Common.{◌≡◌, ℕ, ℤ, pos, negsuc, zero, suc, ◌+◌, ◌-◌, ◌*◌, ◌/◌, ◌%◌, ◌^◌, ◌<◌, ◌≤◌, ◌≤ℤ◌, ◌-ℤ◌, ◌⊎◌, inl, inr, min, Bool, true, false, Option, Some, None, nat_lt, refl, sym, ap, ◌∙◌, subst, arith, bit_and, bit_or, bit_xor}
+use Rattle.std.specs.Prelude.{if◌then◌else◌, int_le, nat_le}
 use Rattle.std.proofs.lemmas.Int.{ints, clamps}
-use Rattle.std.proofs.lemmas.Bool.{cases_lt}
 use Rattle.std.proofs.lemmas.Bool.Decides.{nat_tests}
 use Rattle.std.proofs.Math.Nat.{mod-eq_of_lt, add-mod_right}
 use Rattle.std.proofs.lemmas.Nat.{mod_below, pow_pos}
 use Rattle.wf_num.specs.declared.ranges.Range.{Range}
-use Rattle.wf_num.specs.Ranges.{range, nothing, is_empty, low, Holds, HoldsInt, width_range, fits_width, add_ranges, sub_ranges, mul_ranges, shl_ranges}
-use Rattle.wf_num.specs.Ranges as ranges
-use Rattle.wf_num.proofs.RangeLaws.{some, low-le, Holds-add, HoldsInt-sub, Holds-mul, Holds-div, Holds-rem, Holds-shl, Holds-shr, Holds-xor, Holds-tight, Holds-width, fits-Holds}
+use Rattle.wf_num.specs.Ranges.{is_empty, low, Holds, HoldsInt, width_range, fits_width, add_ranges, mul_ranges, shl_ranges}
+use Rattle.wf_num.proofs.RangeLaws.{some, Holds-add, HoldsInt-sub, Holds-mul, Holds-div, Holds-rem, Holds-shl, Holds-shr, Holds-xor, Holds-tight, Holds-width, fits-Holds}
 use Rattle.wf_ast.specs.TypedTree.{Arith, plus, minus, times, divided, remainder, shift_left, shift_right, bits_and, bits_or, bits_xor, mod_plus, mod_minus, mod_times, mod_shift_left, sat_plus, sat_minus}
 use Rattle.wf_ast.specs.Value.{applied, fitted, only_if}
 use Rattle.wf_ast.specs.WellTyped.{is_shift}
-use Rattle.wf_text.specs.declared.rules.Refusal.{Refusal}
 use Rattle.wf_text.specs.declared.place.Place.{Place}
 use Rattle.wf_facts_exprs.specs.RangeOf.{difference, wrapped, cut_off, operator_range}
 use Rattle.wf_facts_exprs.specs.Demands.{demand, is_divisor, is_below, operand_demand}

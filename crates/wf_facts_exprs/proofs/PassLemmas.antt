@@ -1,16 +1,16 @@
 -- What a range holds, it holds still once it was met with what is true of the number.
-use Rattle.std.proofs.Common.{◌≡◌, ℕ, ℤ, pos, negsuc, zero, suc, ◌+◌, ◌-◌, ◌^◌, ◌<◌, ◌≤◌, ◌≤ℤ◌, ◌-ℤ◌, ◌⊎◌, inl, inr, min, max, Bool, true, false, not, ◌&&◌, ◌||◌, nat_lt, nat_eq, refl, sym, ap, ◌∙◌, subst, arith}
+use Rattle.std.proofs.Common.{◌≡◌, ℕ, pos, ◌+◌, ◌-◌, ◌<◌, ◌≤◌, ◌⊎◌, inl, inr, min, Bool, true, false, not, ◌&&◌, ◌||◌, nat_lt, nat_eq, refl, sym, ◌∙◌, subst, arith}
 use Rattle.std.specs.Prelude.{if◌then◌else◌, int_lt, int_le}
 use Rattle.std.specs.Int.{int_max}
 use Rattle.std.proofs.lemmas.Int.{ints, clamps}
 use Rattle.std.proofs.lemmas.Bool.{cases_lt}
 use Rattle.std.proofs.lemmas.Bool.Decides.{nat_tests}
 use Rattle.wf_num.specs.declared.ranges.Range.{Range}
-use Rattle.wf_num.specs.Ranges.{range, nothing, is_empty, Holds, HoldsInt, exact_range, meet_ranges}
+use Rattle.wf_num.specs.Ranges.{range, nothing, is_empty, Holds, HoldsInt, exact_range}
 use Rattle.wf_num.proofs.RangeLaws.{some, Holds-meet, Holds-exact}
 use Rattle.wf_ast.specs.TypedTree.{Order, less, at_most, equal, differs, at_least, greater}
 use Rattle.wf_ast.specs.Value.{compares}
-use Rattle.wf_facts_exprs.specs.Claims.{flip, complement, with_answer}
+use Rattle.wf_facts_exprs.specs.Claims.{flip, complement}
 use Rattle.wf_facts_exprs.specs.RangeOf.{non_empty, up_to, from_on, below, narrowed, is_low_end, without, thinned, allows_less, allows_equal, allows_greater, implies, allows_no_more}
 use Rattle.wf_facts_exprs.specs.Given.{decided, second_rule}
 

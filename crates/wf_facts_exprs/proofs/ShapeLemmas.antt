@@ -1,6 +1,6 @@
 -- The shapes of sides, from the nodes that they name.
-use Rattle.std.proofs.Common.{◌≡◌, ℕ, zero, suc, ◌+◌, ◌<◌, ◌⊎◌, inl, inr, Bool, true, false, not, ◌&&◌, ◌||◌, List, [], ◌∷◌, length, map, Option, Some, None, nat_lt, nat_eq, refl, sym, ap, ◌∙◌, subst, arith}
-use Rattle.std.specs.Prelude.{slice_get, slice_index_or, IsTrue}
+use Rattle.std.proofs.Common.{◌≡◌, ℕ, ◌<◌, Bool, true, false, ◌&&◌, List, [], ◌∷◌, length, map, Option, Some, None, nat_lt, refl, sym, ap, subst, arith}
+use Rattle.std.specs.Prelude.{slice_index_or}
 use Rattle.std.specs.List.{list_all}
 use Rattle.std.proofs.lemmas.Bool.Decides.{nat_tests}
 use Rattle.wf_text.specs.declared.place.Place.{Place}
@@ -14,16 +14,16 @@ use Rattle.wf_ast.specs.declared.types.Ty.TheVariants as types
 use Rattle.wf_ast.specs.declared.resolved.Expr.{Expr}
 use Rattle.wf_ast.specs.declared.resolved.Expr.TheVariants as exprs
 use Rattle.wf_ast.specs.declared.typed_nodes.TypedNodes.{TypedNodes}
-use Rattle.wf_ast.specs.TypedTree.{Arith, plus, NumTree, number, read, element, link, convert, length_of, asked, reader_length, writer_length, reader_position, writer_position, peek, SliceTree, ValueTree, numeric, logical, state, elements, io, lost, local, field, arg, equal, differs, Order}
-use Rattle.wf_ast.specs.TypedTrees.{Sort, arithmetic, ordering, joining, sort_of, no_place, num_in, slice_in, io_in, named, num_chain, chain_of, comparison, answer_of, made, made_or_number, tree_of, type_of_node, constant_of_node, place_of_node, signs_of_node, num_type}
-use Rattle.wf_ast.specs.TypedInvariant.{is_expr, is_numeric, is_list, is_io, is_tree_of, all_numeric, chain_fits, kind_fits, node_fits, parts_fit}
+use Rattle.wf_ast.specs.TypedTree.{Arith, plus, NumTree, number, link, length_of, asked, reader_length, writer_length, SliceTree, ValueTree, state, elements, io, local, field, arg, equal, differs, Order}
+use Rattle.wf_ast.specs.TypedTrees.{Sort, arithmetic, ordering, joining, sort_of, no_place, num_in, slice_in, io_in, named, num_chain, chain_of, comparison, answer_of, made, tree_of, type_of_node, constant_of_node, place_of_node, signs_of_node, num_type}
+use Rattle.wf_ast.specs.TypedInvariant.{is_expr, is_numeric, is_list, is_tree_of, chain_fits, kind_fits}
 use Rattle.wf_ast.specs.Same.{same_num}
 use Rattle.wf_ast.specs.WellTyped.{is_constant}
 use Rattle.wf_ast.proofs.SameLaws.{Lent, tree_at, kinds_at}
 use Rattle.wf_ast.proofs.TreeKinds.{made_or_number_kind}
 use Rattle.wf_facts_exprs.specs.Claims.{single, sum, sum_of, tree_of_side, length_in, is_number_at}
 use Rattle.wf_facts_exprs.specs.RangeOf.{number_of_side}
-use Rattle.wf_facts_exprs.specs.Shapes.{Alike, is_plain, is_sum_of_two, shape_tree, shape_fits}
+use Rattle.wf_facts_exprs.specs.Shapes.{Alike, is_plain, is_sum_of_two}
 use Rattle.wf_facts_exprs.proofs.PassLemmas.{both_of, lt_from}
 
 -- ---- trees that are the same as the same trees

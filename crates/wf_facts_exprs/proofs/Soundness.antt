@@ -1,7 +1,7 @@
 -- Over every state in which values lie in their types and all claims of a list are true: a value whose demands are met
 -- isn't stuck and its range holds it, and what the list gives is true.
-use Rattle.std.proofs.Common.{◌≡◌, ℕ, ℤ, pos, negsuc, zero, suc, ◌+◌, ◌-◌, ◌*◌, ◌^◌, ◌<◌, ◌≤◌, ◌≤ℤ◌, ◌⊎◌, inl, inr, Bool, true, false, not, ◌&&◌, ◌||◌, List, [], ◌∷◌, length, take, Option, Some, None, nat_lt, nat_eq, refl, sym, ap, ◌∙◌, subst, arith}
-use Rattle.std.specs.Prelude.{if◌then◌else◌, option_and_then, option_map, slice_get, nat_le, is_some}
+use Rattle.std.proofs.Common.{◌≡◌, ℕ, ℤ, pos, ◌+◌, ◌-◌, ◌^◌, ◌<◌, ◌≤◌, inl, inr, Bool, true, false, not, ◌&&◌, ◌||◌, List, [], ◌∷◌, Option, Some, None, nat_lt, nat_eq, refl, sym, ap, ◌∙◌, subst, arith}
+use Rattle.std.specs.Prelude.{if◌then◌else◌, option_map, slice_get, nat_le, is_some}
 use Rattle.std.proofs.lemmas.Int.{ints}
 use Rattle.std.proofs.lemmas.Nat.{pow_pos}
 use Rattle.std.proofs.lemmas.Bool.Decides.{nat_tests}
@@ -10,7 +10,7 @@ use Rattle.wf_text.specs.declared.rules.Refusal.{Refusal}
 use Rattle.wf_text.specs.declared.place.Place.{Place}
 use Rattle.wf_text.specs.StatusText.{category_of}
 use Rattle.wf_num.specs.declared.ranges.Range.{Range}
-use Rattle.wf_num.specs.Ranges.{range, is_empty, Holds, HoldsInt, fits_width, width_range, add_ranges}
+use Rattle.wf_num.specs.Ranges.{Holds, HoldsInt, fits_width}
 use Rattle.wf_num.proofs.RangeLaws.{some, powers, Holds-add, Holds-exact, Holds-width, fits-Holds}
 use Rattle.wf_base.specs.BaseOps.{Buffer}
 use Rattle.wf_base.specs.BaseOps as ops
@@ -21,15 +21,14 @@ use Rattle.wf_base.specs.declared.widths.Width.{Width}
 use Rattle.wf_base.specs.declared.widths.Width.TheVariants.{W8, W16, W32, W64}
 use Rattle.wf_ast.specs.declared.types.Ty.{Ty}
 use Rattle.wf_ast.specs.declared.types.Ty.TheVariants as types
-use Rattle.wf_ast.specs.TypedTree.{Path, arg, NumType, Arith, plus, divided, remainder, shift_left, shift_right, mod_shift_left, Order, less, at_most, at_least, Question, reader_length, reader_position, peek, writer_length, writer_position, NumTree, number, read, element, link, convert, length_of, asked, SliceTree, slice, array, cut, EndTree, absent, present, StatusTree, status, held, no_status, CondTree, truth, flag, compare, same_status, junction, negation, closed, has_category, ValueTree, numeric, logical, state, elements, io, lost}
-use Rattle.wf_ast.specs.TypedTrees.{no_place}
-use Rattle.wf_ast.specs.Value.{Span, State, value, span_of, end_value, applied, fitted, only_if, element_of, part_of, told, io_buffer, status_value, truth_of, value_of, same_truth, same_category, compares}
-use Rattle.wf_ast.specs.Same.{same_num, same_cond}
-use Rattle.wf_ast.specs.WellTyped.{Context, type_at, is_width, is_range, is_number, is_array, is_slice, is_flag, is_status, is_reader, is_writer, question_width, may_ask, fits, is_shift, element_type, same_num_type, is_constant, varies, is_whole_number, well_part, well_num, is_unrefined, well_slice, well_end, well_status, well_cond, fit_together, width_of}
+use Rattle.wf_ast.specs.TypedTree.{Path, arg, NumType, Arith, divided, remainder, shift_left, shift_right, mod_shift_left, Order, less, at_most, at_least, Question, reader_length, reader_position, peek, writer_length, writer_position, NumTree, number, read, element, link, convert, length_of, asked, SliceTree, slice, array, cut, EndTree, absent, present, StatusTree, status, held, no_status, CondTree, truth, flag, compare, same_status, junction, negation, closed, has_category, ValueTree, numeric, logical, state, elements, io, lost}
+use Rattle.wf_ast.specs.Value.{Span, State, value, span_of, end_value, applied, io_buffer, status_value, truth_of, value_of, same_truth, same_category, compares}
+use Rattle.wf_ast.specs.Same.{same_num}
+use Rattle.wf_ast.specs.WellTyped.{Context, type_at, is_width, is_range, is_slice, is_reader, is_writer, question_width, fits, is_shift, element_type, same_num_type, is_constant, is_whole_number, well_part, well_num, is_unrefined, well_slice, well_end, well_status, well_cond, fit_together, width_of}
 use Rattle.wf_ast.proofs.SameValue.{number_same, cond_same}
-use Rattle.wf_facts_exprs.specs.Claims.{SideTree, single, sum, Claim, compared, stands, tree_of_side, side_value, claim_truth, AllTrue, is_among, same_claim, with_answer, complement}
-use Rattle.wf_facts_exprs.specs.RangeOf.{first_rule, met, met_unless, rule_range, part_range, range_of, side_range, type_range, length_range, is_ordered, operator_range}
-use Rattle.wf_facts_exprs.specs.Given.{second_rule, gives_sides, is_standing, gives_part, gives}
+use Rattle.wf_facts_exprs.specs.Claims.{SideTree, single, sum, Claim, compared, stands, side_value, claim_truth, AllTrue, is_among, same_claim, with_answer}
+use Rattle.wf_facts_exprs.specs.RangeOf.{first_rule, met_unless, rule_range, part_range, range_of, side_range, type_range, length_range, is_ordered}
+use Rattle.wf_facts_exprs.specs.Given.{gives_sides, is_standing, gives_part}
 use Rattle.wf_facts_exprs.specs.Demands.{demand, or_else, is_divisor, is_below, operand_demand, question_demand, ends_demand, num_refusal, slice_refusal, end_refusal, cond_refusal, value_refusal, side_refusal}
 use Rattle.wf_facts_exprs.specs.LawfulState.{IsOf, HasElements, unrefined, IsLawful, well_side, well_claim, well_claims, well_value}
 use Rattle.wf_facts_exprs.proofs.PassLemmas.{equal_numbers, lt_from, to_lt, or_cases, both_of, natural, whole, second-true, compares-complement}

@@ -1,11 +1,11 @@
 -- What facts claim, over the typed trees: that two numbers compare in some way, or that a condition has an answer.
-use Rattle.std.specs.Prelude.{◌≡◌, ℕ, ◌+◌, Bool, true, false, not, ◌&&◌, ◌||◌, List, [], ◌∷◌, ◌++◌, map, Option, None, Some, option_and_then, option_map, if◌then◌else◌, All}
+use Rattle.std.specs.Prelude.{◌≡◌, ℕ, ◌+◌, Bool, true, false, not, ◌&&◌, ◌||◌, List, [], ◌∷◌, ◌++◌, map, Option, Some, option_and_then, option_map, if◌then◌else◌, All}
 use Rattle.wf_ast.specs.declared.numbers.ExprId.{ExprId}
 use Rattle.wf_ast.specs.declared.things.Thing.{Thing}
 use Rattle.wf_ast.specs.declared.types.Ty.{Ty}
 use Rattle.wf_ast.specs.declared.types.Ty.TheVariants as types
 use Rattle.wf_ast.specs.declared.typed_nodes.TypedNodes.{TypedNodes}
-use Rattle.wf_ast.specs.TypedTree.{NumTree, number, read, element, link, convert, length_of, asked, plus, Order, less, at_most, equal, differs, at_least, greater, reader_length, writer_length, CondTree, truth, flag, compare, same_status, junction, negation, closed, has_category, ValueTree, numeric, logical, state, elements, io, lost}
+use Rattle.wf_ast.specs.TypedTree.{NumTree, number, link, length_of, asked, plus, Order, less, at_most, equal, differs, at_least, greater, reader_length, writer_length, CondTree, truth, compare, junction, negation, ValueTree, elements, io}
 use Rattle.wf_ast.specs.TypedTrees.{no_place, no_number, num_in, cond_in, tree_of, type_of_node, place_of_node}
 use Rattle.wf_ast.specs.TypedInvariant.{is_expr, is_numeric, is_logical, is_list, is_io}
 use Rattle.wf_ast.specs.Value.{State, value, truth_of, compares, same_truth}

@@ -1,6 +1,6 @@
 -- The demands that the value of an expression makes: what has to be known so that it isn't stuck. They are looked at
 -- operands first, from the left; the first that isn't met is refused, with its rule, at its node's sign, bracket or name.
-use Rattle.std.specs.Prelude.{ℕ, Bool, true, false, ◌||◌, List, Option, None, Some, Result, Ok, Err, if◌then◌else◌, nat_lt, pos, int_le}
+use Rattle.std.specs.Prelude.{ℕ, Bool, true, false, ◌||◌, List, Option, None, Some, Result, Ok, Err, nat_lt, pos, int_le}
 use Rattle.wf_text.specs.declared.place.Place.{Place}
 use Rattle.wf_text.specs.declared.rules.Rule.{Rule}
 use Rattle.wf_text.specs.declared.rules.Rule.TheVariants.{B1, B2, B3, B4, B5, B9}
@@ -8,8 +8,7 @@ use Rattle.wf_text.specs.declared.rules.Refusal.{Refusal}
 use Rattle.wf_num.specs.declared.ranges.Range.{Range}
 use Rattle.wf_num.specs.Ranges.{is_empty, fits_width}
 use Rattle.wf_base.specs.BaseTable.{bytes_of, peek_width}
-use Rattle.wf_ast.specs.TypedTree.{Arith, divided, remainder, shift_left, shift_right, mod_shift_left, less, at_most, at_least, Question, reader_length, peek, NumTree, number, read, element, link, convert, length_of, asked, SliceTree, slice, array, cut, EndTree, absent, present, CondTree, compare, junction, negation, ValueTree, numeric, logical, state, elements, io, lost}
-use Rattle.wf_ast.specs.TypedTrees.{no_place}
+use Rattle.wf_ast.specs.TypedTree.{Arith, divided, remainder, shift_left, shift_right, mod_shift_left, less, at_most, at_least, Question, reader_length, peek, NumTree, number, read, element, link, convert, length_of, asked, SliceTree, slice, array, cut, EndTree, absent, present, CondTree, compare, junction, negation, ValueTree, numeric, logical, elements}
 use Rattle.wf_facts_exprs.specs.Claims.{SideTree, single, sum, Claim}
 use Rattle.wf_facts_exprs.specs.RangeOf.{part_range, range_of}
 use Rattle.wf_facts_exprs.specs.Given.{gives_sides}

@@ -1,8 +1,8 @@
 -- What a list of claims gives: comparisons by two rules, and conditions that stand.
-use Rattle.std.specs.Prelude.{◌≡◌, ℕ, Bool, true, false, not, ◌&&◌, ◌||◌, List, [], ◌∷◌, if◌then◌else◌, pos, int_lt, int_le}
+use Rattle.std.specs.Prelude.{Bool, false, not, ◌&&◌, ◌||◌, List, if◌then◌else◌, pos, int_lt, int_le}
 use Rattle.wf_num.specs.declared.ranges.Range.{Range}
 use Rattle.wf_num.specs.Ranges.{is_empty}
-use Rattle.wf_ast.specs.TypedTree.{Order, less, at_most, equal, differs, at_least, greater, CondTree, truth, flag, compare, same_status, junction, negation, closed, has_category}
+use Rattle.wf_ast.specs.TypedTree.{Order, less, at_most, equal, differs, at_least, greater, CondTree, truth, compare, junction, negation}
 use Rattle.wf_ast.specs.Value.{same_truth}
 use Rattle.wf_facts_exprs.specs.Claims.{SideTree, single, Claim, stands, is_among, with_answer}
 use Rattle.wf_facts_exprs.specs.RangeOf.{first_rule, side_range}

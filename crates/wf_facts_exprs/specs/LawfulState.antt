@@ -1,10 +1,10 @@
 -- The states of a method in which every variable has a value of its type.
-use Rattle.std.specs.Prelude.{◌≡◌, ℕ, ◌+◌, ◌^◌, ◌<◌, ◌≤◌, ◌-◌, Bool, true, false, ◌&&◌, ◌||◌, List, [], ◌∷◌, Option, Some, slice_get}
+use Rattle.std.specs.Prelude.{◌≡◌, ℕ, ◌+◌, ◌^◌, ◌<◌, ◌≤◌, ◌-◌, Bool, true, false, ◌&&◌, ◌||◌, List, [], ◌∷◌, Some, slice_get}
 use Rattle.wf_base.specs.BaseOps.{Buffer}
 use Rattle.wf_base.specs.BaseOps as ops
 use Rattle.wf_ast.specs.TypedTree.{Path, arg, NumType, ValueTree, numeric, logical, state, elements, io, lost}
-use Rattle.wf_ast.specs.Value.{Span, State, io_buffer}
-use Rattle.wf_ast.specs.WellTyped.{Context, type_at, is_range, is_number, is_array, is_slice, is_flag, is_status, is_reader, is_writer, is_constant, well_num, well_slice, well_cond, well_status}
+use Rattle.wf_ast.specs.Value.{Span, State}
+use Rattle.wf_ast.specs.WellTyped.{Context, type_at, is_number, is_array, is_slice, is_flag, is_status, is_reader, is_writer, is_constant, well_num, well_slice, well_cond, well_status}
 use Rattle.wf_facts_exprs.specs.Claims.{SideTree, single, sum, Claim, compared, stands}
 
 -- The number is one of the type's.

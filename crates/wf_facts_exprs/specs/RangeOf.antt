@@ -1,11 +1,11 @@
 -- The range that an expression has under a list of claims: the rule of its form gives a range, which is then met with
 -- each claim that compares the same tree with a number. What stands left of a joined operator, the part of a chain so
 -- far, is no expression of its own: its range is that of its rule alone.
-use Rattle.std.specs.Prelude.{ℕ, zero, ◌+◌, ◌-◌, ◌^◌, min, Bool, true, false, not, ◌&&◌, ◌||◌, List, [], ◌∷◌, Option, None, Some, if◌then◌else◌, nat_eq, pos, int_le}
+use Rattle.std.specs.Prelude.{ℕ, ◌+◌, ◌-◌, ◌^◌, min, Bool, true, false, not, ◌&&◌, ◌||◌, List, [], ◌∷◌, Option, None, Some, if◌then◌else◌, nat_eq, pos, int_le}
 use Rattle.std.specs.Int.{int_max}
 use Rattle.wf_num.specs.declared.ranges.Range.{Range}
 use Rattle.wf_num.specs.Ranges.{range, nothing, is_empty, low, exact_range, width_range, fits_width, add_ranges, sub_ranges, mul_ranges, div_ranges, rem_ranges, shl_ranges, shr_ranges, and_ranges, or_ranges, xor_ranges, meet_ranges}
-use Rattle.wf_ast.specs.TypedTree.{NumType, Arith, plus, minus, times, divided, remainder, shift_left, shift_right, bits_and, bits_or, bits_xor, mod_plus, mod_minus, mod_times, mod_shift_left, sat_plus, sat_minus, Order, less, at_most, equal, differs, at_least, greater, NumTree, number, read, element, link, convert, length_of, asked, SliceTree, slice, array, cut}
+use Rattle.wf_ast.specs.TypedTree.{NumType, Arith, plus, minus, times, divided, remainder, shift_left, shift_right, bits_and, bits_or, bits_xor, mod_plus, mod_minus, mod_times, mod_shift_left, sat_plus, sat_minus, Order, less, at_most, equal, differs, at_least, greater, NumTree, number, read, element, link, convert, length_of, asked, SliceTree, array}
 use Rattle.wf_ast.specs.Value.{compares}
 use Rattle.wf_ast.specs.Same.{same_num}
 use Rattle.wf_ast.specs.WellTyped.{question_width}

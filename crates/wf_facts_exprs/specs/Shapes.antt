@@ -6,7 +6,7 @@ use Rattle.wf_ast.specs.declared.operators.Op.{Op}
 use Rattle.wf_ast.specs.declared.operators.Op.TheVariants as ops
 use Rattle.wf_ast.specs.declared.numbers.ExprId.{ExprId}
 use Rattle.wf_ast.specs.declared.typed_nodes.TypedNodes.{TypedNodes}
-use Rattle.wf_ast.specs.TypedTree.{NumTree, number, read, element, link, convert, length_of, asked, plus, reader_length, writer_length}
+use Rattle.wf_ast.specs.TypedTree.{NumTree, number, link, length_of, asked, plus, reader_length, writer_length}
 use Rattle.wf_ast.specs.TypedTrees.{no_place, num_in, slice_in, io_in, tree_of, type_of_node}
 use Rattle.wf_ast.specs.TypedInvariant.{is_expr, is_list, is_io}
 use Rattle.wf_ast.specs.Same.{same_num}

@@ -1,7 +1,6 @@
-use Rattle.std.proofs.Common.{◌≡◌, ◌∙◌, sym, ap, arith, rules, true, length, ◌<◌}
-use Rattle.wf_ast.specs.declared.numbers.ExprId.{ExprId}
+use Rattle.std.proofs.Common.{◌∙◌, sym, ap, rules, length, ◌<◌}
 use Rattle.wf_ast.specs.TypedTree.{ValueTree}
-use Rattle.wf_ast.specs.TypedTrees.{cond_in, sort_of, tree_of, type_of_node, place_of_node, signs_of_node}
+use Rattle.wf_ast.specs.TypedTrees.{cond_in, sort_of, type_of_node, place_of_node, signs_of_node}
 use Rattle.wf_ast.specs.TypedInvariant.{is_expr}
 use Rattle.wf_facts_exprs.specs.Claims.{claims_in}
 use Rattle.wf_facts_exprs.specs.Demands.{cond_refusal, unless_refused}

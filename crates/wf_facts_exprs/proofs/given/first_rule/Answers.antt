@@ -1,4 +1,4 @@
-use Rattle.std.proofs.Common.{◌∙◌, sym}
+use Rattle.std.proofs.Common.{◌∙◌}
 use Rattle.wf_facts_exprs.specs.Claims.{claims_in, order_of, side_in, single}
 use Rattle.wf_facts_exprs.specs.Shapes.{shape_tree}
 use Rattle.wf_facts_exprs.proofs.AlikeLemmas.{first-alike}

@@ -1,16 +1,14 @@
-use Rattle.std.proofs.Common.{◌≡◌, ◌∙◌, sym, ap, subst, arith, rules, true, length, ◌<◌, ◌||◌, Option, None}
-use Rattle.wf_text.specs.declared.rules.Refusal.{Refusal}
+use Rattle.std.proofs.Common.{◌≡◌, ◌∙◌, sym, ap, arith, rules, true, length, ◌<◌, ◌||◌}
 use Rattle.std.specs.Prelude.{slice_index_or, nat_lt}
 use Rattle.wf_ast.specs.declared.numbers.ExprId.{ExprId}
 use Rattle.wf_ast.specs.TypedTree.{ValueTree}
 use Rattle.wf_ast.specs.TypedTrees.{cond_in, sort_of, tree_of, type_of_node, place_of_node, signs_of_node}
 use Rattle.wf_ast.specs.TypedInvariant.{is_expr}
-use Rattle.wf_facts_exprs.specs.Claims.{claims_in, is_condition_at, single, with_answer}
+use Rattle.wf_facts_exprs.specs.Claims.{claims_in, is_condition_at}
 use Rattle.wf_facts_exprs.specs.Demands.{cond_refusal}
-use Rattle.wf_facts_exprs.specs.Given.{gives, gives_sides, is_standing}
-use Rattle.wf_facts_exprs.specs.Operands.{node_number, order_in, part_number}
+use Rattle.wf_facts_exprs.specs.Given.{gives, is_standing}
 use Rattle.wf_facts_exprs.proofs.PassLemmas.{both_of, lt_from}
-use Rattle.wf_facts_exprs.specs.Operands.{any_given, conds_refusal, is_condition_below}
+use Rattle.wf_facts_exprs.specs.Operands.{any_given, is_condition_below}
 use Rattle.wf_facts_exprs.proofs.ChainLemmas.{item-true}
 use Rattle.wf_facts_exprs.proofs.ConditionLemmas.{joined-refusal, joined-conditions}
 use Rattle.wf_facts_exprs.proofs.GivenLemmas.{chain-all, chain-any, part-fine}

@@ -1,13 +1,11 @@
-use Rattle.std.proofs.Common.{◌≡◌, ◌∙◌, sym, ap, subst, arith, rules, true, length, ◌<◌, ◌||◌, Option, None}
-use Rattle.wf_text.specs.declared.rules.Refusal.{Refusal}
-use Rattle.wf_ast.specs.declared.numbers.ExprId.{ExprId}
+use Rattle.std.proofs.Common.{◌∙◌, sym, ap, length, ◌<◌}
 use Rattle.wf_ast.specs.TypedTree.{ValueTree}
-use Rattle.wf_ast.specs.TypedTrees.{cond_in, sort_of, tree_of, type_of_node, place_of_node, signs_of_node}
+use Rattle.wf_ast.specs.TypedTrees.{cond_in, sort_of, type_of_node, place_of_node, signs_of_node}
 use Rattle.wf_ast.specs.TypedInvariant.{is_expr}
-use Rattle.wf_facts_exprs.specs.Claims.{claims_in, single, with_answer}
+use Rattle.wf_facts_exprs.specs.Claims.{claims_in, single}
 use Rattle.wf_facts_exprs.specs.Demands.{cond_refusal}
 use Rattle.wf_facts_exprs.specs.Given.{gives, gives_sides, is_standing}
-use Rattle.wf_facts_exprs.specs.Operands.{node_number, order_in, part_number}
+use Rattle.wf_facts_exprs.specs.Operands.{part_number}
 use Rattle.wf_facts_exprs.proofs.PassLemmas.{both_of, lt_from}
 use Rattle.wf_facts_exprs.proofs.ConditionLemmas.{pair-parts, pair-refusal}
 use Rattle.wf_facts_exprs.proofs.GivenLemmas.{fine-parts, pair-given, pair-stands}

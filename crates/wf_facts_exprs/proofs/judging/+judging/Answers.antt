@@ -1,13 +1,11 @@
-use Rattle.std.proofs.Common.{◌≡◌, ◌∙◌, sym, ap, subst, refl, length, map, drop, true, false, ◌||◌, ◌<◌, ◌≤◌, ◌+◌, ◌-◌, ℕ, nat_lt, nat_eq, arith, rules}
+use Rattle.std.proofs.Common.{◌≡◌, ◌∙◌, sym, ap, subst, refl, length, map, true, false, ◌||◌, ◌<◌, ◌≤◌, ◌+◌, nat_lt, nat_eq, arith, rules}
 use Rattle.std.specs.List.{list_all}
 use Rattle.std.proofs.lemmas.Bool.Decides.{nat_tests}
 use Rattle.wf_num.specs.Ranges.{fits_width}
 use Rattle.wf_ast.specs.declared.numbers.ExprId.{ExprId}
 use Rattle.wf_ast.specs.declared.operators.Op.{Op}
-use Rattle.std.specs.Prelude.{Result, Ok, Err}
-use Rattle.wf_text.specs.declared.rules.Rule.TheVariants.{B1, B2, B3}
-use Rattle.wf_text.specs.declared.rules.Refusal.{Refusal}
-use Rattle.wf_num.specs.declared.ranges.Range.{Range}
+use Rattle.std.specs.Prelude.{Ok, Err}
+use Rattle.wf_text.specs.declared.rules.Rule.TheVariants.{B2}
 use Rattle.wf_ast.specs.TypedTree.{ValueTree, less, at_most, number}
 use Rattle.wf_ast.specs.TypedTrees.{chain_of, num_in, num_type, sort_of, tree_of, type_of_node, place_of_node, signs_of_node, no_place}
 use Rattle.wf_ast.specs.TypedInvariant.{chain_fits, is_expr}
@@ -19,7 +17,7 @@ use Rattle.wf_facts_exprs.specs.Operands.{arith_of, is_arithmetic, is_operator, 
 use Rattle.wf_facts_exprs.proofs.PassLemmas.{both_of, lt_from}
 use Rattle.wf_facts_exprs.proofs.ShapeLemmas.{number-below}
 use Rattle.wf_facts_exprs.proofs.ChainLemmas.{item-true, next_at, chain-stops, chain-goes-on, chain-ends, first-refused, chain-begins}
-use Rattle.wf_facts_exprs.proofs.JudgeLemmas.{answer-ok, judged-ok, judged-range, length-given, numbers-given, zero-given, element-ok, element-err, from-answer, up-to-answer, up-to-refused, between-answer, between-refused, next-refused, next-ok, next-err, next-small, is-arith, is-operator}
+use Rattle.wf_facts_exprs.proofs.JudgeLemmas.{judged-ok, judged-range, length-given, numbers-given, zero-given, element-ok, element-err, from-answer, up-to-answer, up-to-refused, between-answer, between-refused, next-refused, next-ok, next-err, next-small, is-arith, is-operator}
 use Rattle.wf_facts_exprs.proofs.judging.+judging.Goals as goal
 
 pub judge-returns-in-Ok-clause-answer : goal.judge-returns-in-Ok-clause-answer

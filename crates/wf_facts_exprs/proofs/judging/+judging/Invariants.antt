@@ -1,5 +1,4 @@
-use Rattle.std.proofs.Common.{◌≡◌, ◌+◌, ◌-◌, ◌*◌, ◌<◌, ◌≤◌, drop, map, nat_lt, false, length}
-use Rattle.std.specs.Prelude.{slice_index_or}
+use Rattle.std.proofs.Common.{◌≡◌, ◌+◌, ◌-◌, ◌*◌, ◌<◌, ◌≤◌, drop, map, nat_lt, length}
 use Rattle.wf_num.specs.Ranges.{IsSmall}
 use Rattle.wf_ast.specs.TypedTrees.{place_of_node, signs_of_node}
 use Rattle.wf_facts_exprs.specs.Claims.{claims_in}

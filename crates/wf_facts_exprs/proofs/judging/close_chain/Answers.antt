@@ -1,4 +1,4 @@
-use Rattle.std.proofs.Common.{◌≡◌, ◌∙◌, sym, ap, subst}
+use Rattle.std.proofs.Common.{◌≡◌, ◌∙◌, sym, ap}
 use Rattle.wf_text.specs.declared.rules.Rule.TheVariants.{B1}
 use Rattle.wf_num.specs.Ranges.{fits_width}
 use Rattle.wf_ast.specs.TypedTree.{ValueTree}

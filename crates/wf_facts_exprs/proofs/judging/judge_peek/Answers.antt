@@ -1,16 +1,12 @@
-use Rattle.std.proofs.Common.{◌≡◌, ◌∙◌, sym, ap, subst, ℕ}
-use Rattle.std.specs.Prelude.{Result, Ok, Err}
-use Rattle.wf_text.specs.declared.rules.Refusal.{Refusal}
+use Rattle.std.proofs.Common.{◌≡◌, ◌∙◌, sym, ap, subst}
+use Rattle.std.specs.Prelude.{Ok, Err}
 use Rattle.wf_text.specs.declared.rules.Rule.TheVariants.{B9}
-use Rattle.wf_num.specs.declared.ranges.Range.{Range}
 use Rattle.wf_num.specs.Ranges.{width_range}
 use Rattle.wf_base.specs.BaseTable.{bits_of, bytes_of, peek_width}
 use Rattle.wf_ast.specs.TypedTree.{ValueTree, reader_length, asked, number, at_least}
 use Rattle.wf_ast.specs.TypedTrees.{num_in, io_in, tree_of, place_of_node}
-use Rattle.wf_facts_exprs.specs.Claims.{claims_in, side_in, single}
-use Rattle.wf_facts_exprs.specs.declared.facts.Side.TheVariants as sides
+use Rattle.wf_facts_exprs.specs.Claims.{claims_in, single}
 use Rattle.wf_facts_exprs.specs.Given.{gives_sides}
-use Rattle.wf_facts_exprs.specs.RangeOf.{side_range}
 use Rattle.wf_facts_exprs.specs.Operands.{ruled}
 use Rattle.wf_facts_exprs.proofs.JudgeLemmas.{peek-given, peek-ok, peek-err}
 use Rattle.wf_facts_exprs.proofs.judging.judge_peek.Goals as goal

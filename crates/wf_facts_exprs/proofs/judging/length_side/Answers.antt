@@ -1,8 +1,8 @@
-use Rattle.std.proofs.Common.{◌≡◌, ◌∙◌, sym, ap}
+use Rattle.std.proofs.Common.{◌∙◌, ap}
 use Rattle.wf_ast.specs.TypedTrees.{tree_of, type_of_node}
 use Rattle.wf_ast.specs.TypedInvariant.{is_expr}
 use Rattle.wf_facts_exprs.specs.Claims.{claims_in, length_in}
-use Rattle.wf_facts_exprs.specs.RangeOf.{met, rule_range}
+use Rattle.wf_facts_exprs.specs.RangeOf.{met}
 use Rattle.wf_facts_exprs.specs.Shapes.{shape_tree}
 use Rattle.wf_facts_exprs.proofs.PassLemmas.{both_of}
 use Rattle.wf_facts_exprs.proofs.AlikeLemmas.{met-alike}

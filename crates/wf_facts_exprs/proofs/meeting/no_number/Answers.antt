@@ -1,4 +1,4 @@
-use Rattle.std.proofs.Common.{sym, ◌∙◌, Some, None}
+use Rattle.std.proofs.Common.{sym}
 use Rattle.wf_ast.specs.TypedTrees.{tree_of, type_of_node}
 use Rattle.wf_facts_exprs.proofs.ShapeLemmas.{length-number}
 use Rattle.wf_facts_exprs.proofs.meeting.no_number.Goals as goal

@@ -1,5 +1,4 @@
 use Rattle.std.proofs.Common.{◌≡◌, None, subst}
-use Rattle.wf_text.specs.declared.place.Place.{Place}
 use Rattle.wf_text.specs.declared.rules.Rule.TheVariants.{B4, B5}
 use Rattle.wf_ast.specs.declared.operators.Op.{Op}
 use Rattle.wf_ast.specs.TypedTrees.{no_place}

@@ -1,6 +1,6 @@
-use Rattle.std.proofs.Common.{◌≡◌, ◌∙◌, sym, ap, ◌+◌, Some, None}
+use Rattle.std.proofs.Common.{◌≡◌, ◌∙◌, sym, ap, ◌+◌}
 use Rattle.wf_num.specs.Ranges.{add_ranges, exact_range}
-use Rattle.wf_ast.specs.TypedTree.{NumTree, number}
+use Rattle.wf_ast.specs.TypedTree.{number}
 use Rattle.wf_ast.specs.TypedTrees.{no_place, num_in, tree_of, place_of_node}
 use Rattle.wf_facts_exprs.specs.Claims.{claims_in, sum_of}
 use Rattle.wf_facts_exprs.specs.RangeOf.{range_of, side_range}

@@ -1,4 +1,4 @@
-use Rattle.std.proofs.Common.{sym, ◌∙◌, refl, subst, ◌≡◌, true}
+use Rattle.std.proofs.Common.{sym, ◌∙◌, subst, ◌≡◌, true}
 use Rattle.std.specs.Prelude.{slice_index_or}
 use Rattle.wf_ast.specs.declared.numbers.ExprId.{ExprId}
 use Rattle.wf_ast.specs.TypedTree.{ValueTree, link, plus}

@@ -1,6 +1,6 @@
 use Rattle.std.proofs.Common.{sym, ◌∙◌, refl, subst, ◌≡◌, true}
 use Rattle.wf_ast.specs.declared.types.Ty.{Ty}
-use Rattle.wf_ast.specs.TypedTrees.{tree_of, type_of_node, slice_in, io_in, no_place}
+use Rattle.wf_ast.specs.TypedTrees.{tree_of, type_of_node, io_in, no_place}
 use Rattle.wf_ast.specs.TypedTree.{asked, reader_length, writer_length}
 use Rattle.wf_ast.specs.TypedInvariant.{is_list, is_tree_of}
 use Rattle.wf_facts_exprs.specs.Claims.{length_in}
