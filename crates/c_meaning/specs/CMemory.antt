@@ -5,7 +5,6 @@ use Rattle.std.specs.List.{list_any, list_all}
 use Rattle.wf_num.specs.declared.c_arithmetic.CTy.TheVariants.{Int, U32, U64}
 use Rattle.wf_num.specs.CArithmetic.{modulo}
 use Rattle.c_meaning.specs.CValues.{number, whole, is_nonzero, Pointer, Value, numeric, address, null_pointer}
-
 pub use Rattle.c_meaning.specs.declared.cells.CellType.{CellType}
 pub use Rattle.c_meaning.specs.declared.cells.CellType.TheVariants.{U8 as u8, U16 as u16, U32 as u32, U64 as u64, Flag as flag, Pointer as pointer}
 pub use Rattle.c_meaning.specs.declared.cells.Cell.{Cell}

@@ -8,7 +8,6 @@ use Rattle.c_text.specs.declared.kinds.CNumber.{CNumber}
 use Rattle.c_text.specs.declared.kinds.CNumber.TheVariants as literal
 use Rattle.c_text.specs.declared.kinds.COp.{COp}
 use Rattle.c_text.specs.declared.kinds.COp.TheVariants.{Add, Sub, Mul, Div, Rem, Shl, Shr, BitAnd, BitOr, BitXor, Lt, Le, Gt, Ge, Eq, Ne, Both, Either}
-
 pub use Rattle.c_meaning.specs.declared.values.Number.{Number}
 pub use Rattle.c_meaning.specs.declared.values.Pointer.{Pointer}
 pub use Rattle.c_meaning.specs.declared.values.Value.{Value}
