@@ -169,7 +169,7 @@ fn resolve_behind(
 
 // The struct that a method's declaration names, by number.
 fn owned_by(numbers: &PackageNumbers, owner: Name) -> StructId
-    ensures { result.0 ≡ or_zero (get nat_eq numbers.now.structs owner.text.0) }
+    ensures { result.0 ≡ or_zero (value_at numbers.now.structs owner.text.0) }
 {
     StructId(number_or(numbers.structs.get(&owner.text.0).copied()))
 }

@@ -34,8 +34,8 @@ numbers_later p k i (x ∷ xs) = by (p x) (numbers_later p k (i + 1) xs)
     by false r = ap (λ n. position_from p n xs) next ∙ r
 
 -- A variable behind those that a table tells.
-pub place_pushed : {S : Type 0} (old new : IndexMap ℕ ℕ S) (place : ℕ) (known : List Variable) (v : Variable) → place ≡ length known
-    → ((text : ℕ) → get nat_eq new text ≡ with_first nat_eq (get nat_eq old) v.name.text.0 place text) → TellsPlacesOf known old → TellsPlacesOf (known ++ v ∷ []) new
+pub place_pushed : {S : Type 0} (old new : NumberTable ℕ) (place : ℕ) (known : List Variable) (v : Variable) → place ≡ length known
+    → ((text : ℕ) → value_at new text ≡ with_first nat_eq (value_at old) v.name.text.0 place text) → TellsPlacesOf known old → TellsPlacesOf (known ++ v ∷ []) new
 place_pushed old new place known v e h t text =
     let count : place ≡ 0 + length known = omega (arith, e) in
     h text ∙ ap (λ o. option_or o (cond (nat_eq v.name.text.0 text) (Some place) None)) (t text)
@@ -43,8 +43,8 @@ place_pushed old new place known v e h t text =
     ∙ sym (position_pushed (λ w. is_spelt text w.name) 0 known v)
 
 -- The statuses of a package, of which none is passed.
-pub statuses_begun : {S : Type 0} (p : Parsed) (table : IndexMap ℕ ℕ S) → IsEmpty table → (text : ℕ)
-    → statuses_with (get nat_eq table) 10 (statuses_of (decls_made (expr_trees p.exprs) (stmt_trees p.exprs p.stmts) p.decls)) text ≡ option_map (λ n. 10 + n) (status_named (package_of p) text)
+pub statuses_begun : {S : Type 0} (p : Parsed) (table : NumberTable ℕ) → IsEmpty table → (text : ℕ)
+    → statuses_with (value_at table) 10 (statuses_of (decls_made (expr_trees p.exprs) (stmt_trees p.exprs p.stmts) p.decls)) text ≡ option_map (λ n. 10 + n) (status_named (package_of p) text)
 statuses_begun p table e text =
     let names = statuses_of (decls_made (expr_trees p.exprs) (stmt_trees p.exprs p.stmts) p.decls) in
     ap (λ o. option_or o (position_from (is_spelt text) 10 names)) (nothing_yet nat_eq table e text) ∙ numbers_later (is_spelt text) 10 0 names

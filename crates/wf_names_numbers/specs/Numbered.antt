@@ -14,13 +14,13 @@ use Rattle.wf_names_resolve.specs.Standing.{place_in, standing_by, standing_at}
 -- declarations with one name the first is meant.
 pub record TellsNumbers (d : Declared) (p : PackageNumbers) : Type 0 where
   pub tables : TellsPackage d p.tables
-  pub statuses : (text : ℕ) → get nat_eq p.statuses text ≡ option_map (λ n. 10 + n) (status_named d text)
-  pub structs : (text : ℕ) → get nat_eq p.structs text ≡ struct_named d text
+  pub statuses : (text : ℕ) → value_at p.statuses text ≡ option_map (λ n. 10 + n) (status_named d text)
+  pub structs : (text : ℕ) → value_at p.structs text ≡ struct_named d text
   pub fields : (owner text : ℕ) → get same_pair p.fields (owner, text) ≡ place_in (fields_of d owner) text
 
 -- A table tells the places of these variables.
-abbrev pub TellsPlacesOf : {S : Type 0} → List Variable → IndexMap ℕ ℕ S → Type 0
-TellsPlacesOf variables table = (text : ℕ) → get nat_eq table text ≡ place_in variables text
+abbrev pub TellsPlacesOf : {S : Type 0} → List Variable → NumberTable ℕ → Type 0
+TellsPlacesOf variables table = (text : ℕ) → value_at table text ≡ place_in variables text
 
 -- The tables of a scope tell what is known there besides, and the places of its constants, arguments and locals.
 pub record TellsPlaces (d : Declared) (scope : Scope) (s : ScopeNumbers) : Type 0 where

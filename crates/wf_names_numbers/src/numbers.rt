@@ -24,7 +24,7 @@ fn numbered(number: usize) -> Result<u32, NoMemory>
 }
 
 fn put_number(table: &mut IndexMap<u32, u32>, name: TextId, number: u32) -> Result<(), NoMemory>
-    ensures { OnOk result ((text : ℕ) → get nat_eq table.new text ≡ with_first nat_eq (get nat_eq table.old) name.0 number text) }
+    ensures { OnOk result ((text : ℕ) → value_at table.new text ≡ with_first nat_eq (value_at table.old) name.0 number text) }
 {
     if table.contains_key(&name.0) {
         return Ok(());
@@ -43,7 +43,7 @@ pub fn add_number(
     number: usize,
 ) -> Result<usize, NoMemory>
     ensures next { IfOk result (λ next. next ≡ number + 1) }
-    ensures table { OnOk result ((text : ℕ) → get nat_eq table.new text ≡ with_first nat_eq (get nat_eq table.old) name.0 number text) }
+    ensures table { OnOk result ((text : ℕ) → value_at table.new text ≡ with_first nat_eq (value_at table.old) name.0 number text) }
 {
     match numbered(number) {
         Ok(given) => {

@@ -29,8 +29,8 @@ fn add_status(
     node: &DeclNode,
     next: usize,
 ) -> Result<usize, NoMemory>
-    ensures { IfOk result (λ behind. (es : List ExprTree) (ts : List StmtTree) (rest : List DeclTree) (text : ℕ) → statuses_with (get nat_eq table.new) behind (statuses_of rest) text
-        ≡ statuses_with (get nat_eq table.old) next (statuses_of (decl_made es ts node.now.public node.now.decl node.now.at ∷ rest)) text) }
+    ensures { IfOk result (λ behind. (es : List ExprTree) (ts : List StmtTree) (rest : List DeclTree) (text : ℕ) → statuses_with (value_at table.new) behind (statuses_of rest) text
+        ≡ statuses_with (value_at table.old) next (statuses_of (decl_made es ts node.now.public node.now.decl node.now.at ∷ rest)) text) }
 {
     match &node.decl {
         Decl::Status(name) => add_number(table, name.text, next),
@@ -41,7 +41,7 @@ fn add_status(
 }
 
 fn status_numbers(alloc: Global, parsed: &Package) -> Result<IndexMap<u32, u32>, NoMemory>
-    ensures { IfOk result (λ table. (text : ℕ) → get nat_eq table text ≡ option_map (λ n. 10 + n) (status_named (package_of parsed.now) text)) }
+    ensures { IfOk result (λ table. (text : ℕ) → value_at table text ≡ option_map (λ n. 10 + n) (status_named (package_of parsed.now) text)) }
 {
     let mut table = IndexMap::new(alloc);
     let mut next = BASE_STATUSES;

@@ -51,10 +51,10 @@ fn add_struct(
     fields: &[Field],
     next: usize,
 ) -> Result<usize, NoMemory>
-    ensures structs { IfOk result (λ behind. (es : List ExprTree) (rest : List Structure) (text : ℕ) → structs_with (get nat_eq places.new.structs) behind rest text
-        ≡ structs_with (get nat_eq places.old.structs) next (record { name = name; fields = variables (fields_at es fields.now) } ∷ rest) text) }
-    ensures fields { OnOk result ((es : List ExprTree) (rest : List Structure) (owner text : ℕ) → struct_fields_with (get nat_eq places.new.structs) (get same_pair places.new.fields) rest owner text
-        ≡ struct_fields_with (get nat_eq places.old.structs) (get same_pair places.old.fields) (record { name = name; fields = variables (fields_at es fields.now) } ∷ rest) owner text) }
+    ensures structs { IfOk result (λ behind. (es : List ExprTree) (rest : List Structure) (text : ℕ) → structs_with (value_at places.new.structs) behind rest text
+        ≡ structs_with (value_at places.old.structs) next (record { name = name; fields = variables (fields_at es fields.now) } ∷ rest) text) }
+    ensures fields { OnOk result ((es : List ExprTree) (rest : List Structure) (owner text : ℕ) → struct_fields_with (value_at places.new.structs) (get same_pair places.new.fields) rest owner text
+        ≡ struct_fields_with (value_at places.old.structs) (get same_pair places.old.fields) (record { name = name; fields = variables (fields_at es fields.now) } ∷ rest) owner text) }
 {
     if places.structs.contains_key(&name.text.0) {
         return add_number(&mut places.structs, name.text, next);
@@ -66,10 +66,10 @@ fn add_struct(
 }
 
 fn add_decl(places: &mut StructPlaces, node: &DeclNode, next: usize) -> Result<usize, NoMemory>
-    ensures structs { IfOk result (λ behind. (es : List ExprTree) (ts : List StmtTree) (rest : List DeclTree) (text : ℕ) → structs_with (get nat_eq places.new.structs) behind (structs_of rest) text
-        ≡ structs_with (get nat_eq places.old.structs) next (structs_of (decl_made es ts node.now.public node.now.decl node.now.at ∷ rest)) text) }
-    ensures fields { OnOk result ((es : List ExprTree) (ts : List StmtTree) (rest : List DeclTree) (owner text : ℕ) → struct_fields_with (get nat_eq places.new.structs) (get same_pair places.new.fields) (structs_of rest) owner text
-        ≡ struct_fields_with (get nat_eq places.old.structs) (get same_pair places.old.fields) (structs_of (decl_made es ts node.now.public node.now.decl node.now.at ∷ rest)) owner text) }
+    ensures structs { IfOk result (λ behind. (es : List ExprTree) (ts : List StmtTree) (rest : List DeclTree) (text : ℕ) → structs_with (value_at places.new.structs) behind (structs_of rest) text
+        ≡ structs_with (value_at places.old.structs) next (structs_of (decl_made es ts node.now.public node.now.decl node.now.at ∷ rest)) text) }
+    ensures fields { OnOk result ((es : List ExprTree) (ts : List StmtTree) (rest : List DeclTree) (owner text : ℕ) → struct_fields_with (value_at places.new.structs) (get same_pair places.new.fields) (structs_of rest) owner text
+        ≡ struct_fields_with (value_at places.old.structs) (get same_pair places.old.fields) (structs_of (decl_made es ts node.now.public node.now.decl node.now.at ∷ rest)) owner text) }
 {
     match &node.decl {
         Decl::Struct { name, fields, .. } => add_struct(places, *name, fields.as_slice(), next),
@@ -81,7 +81,7 @@ fn add_decl(places: &mut StructPlaces, node: &DeclNode, next: usize) -> Result<u
 
 /// The places of a package's structs and of their fields. `Err` where memory was refused or no number is left.
 pub fn struct_places(alloc: Global, parsed: &Package) -> Result<StructPlaces, NoMemory>
-    ensures structs { IfOk result (λ places. (text : ℕ) → get nat_eq places.structs text ≡ struct_named (package_of parsed.now) text) }
+    ensures structs { IfOk result (λ places. (text : ℕ) → value_at places.structs text ≡ struct_named (package_of parsed.now) text) }
     ensures fields { IfOk result (λ places. (owner text : ℕ) → get same_pair places.fields (owner, text) ≡ place_in (fields_of (package_of parsed.now) owner) text) }
 {
     let mut places = StructPlaces {

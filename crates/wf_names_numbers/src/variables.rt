@@ -39,8 +39,8 @@ fn add_local(
     next: usize,
 ) -> Result<usize, NoMemory>
     requires { s.0 < length parsed.now.stmts }
-    ensures { IfOk result (λ behind. (rest : List Variable) (text : ℕ) → places_with (get nat_eq table.new) behind rest text
-        ≡ places_with (get nat_eq table.old) next (local_of (stmt_at (stmt_trees parsed.now.exprs parsed.now.stmts) s) ++ rest) text) }
+    ensures { IfOk result (λ behind. (rest : List Variable) (text : ℕ) → places_with (value_at table.new) behind rest text
+        ≡ places_with (value_at table.old) next (local_of (stmt_at (stmt_trees parsed.now.exprs parsed.now.stmts) s) ++ rest) text) }
 {
     match &parsed.stmt(s).stmt {
         Stmt::Var { name, .. } => add_number(table, name.text, next),

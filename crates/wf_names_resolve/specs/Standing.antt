@@ -54,12 +54,12 @@ field_numbered p (Some owner) text = get same_pair p.fields (owner, text)
 abbrev pub standing_by : (texts : List (List ℕ)) → PackageNumbers → ScopeNumbers → Standing
 standing_by texts p s = record {
   bytes = (known_by texts p.tables s.scope).bytes;
-  status = get nat_eq p.statuses;
-  structure = get nat_eq p.structs;
-  local = get nat_eq s.locals;
-  constant = get nat_eq s.constants;
+  status = value_at p.statuses;
+  structure = value_at p.structs;
+  local = value_at s.locals;
+  constant = value_at s.constants;
   field = field_numbered p s.scope.this;
-  arg = get nat_eq s.args;
+  arg = value_at s.args;
   callee = callee_on (known_by texts p.tables s.scope);
   args = args_at p.tables;
 }

@@ -36,7 +36,7 @@ pub fn number_or(number: Option<u32>) -> u32
 
 /// The number of a status of the package.
 pub fn own_status(numbers: &PackageNumbers, text: TextId) -> StatusId
-    ensures { result.0 ≡ or_zero (get nat_eq numbers.now.statuses text.0) }
+    ensures { result.0 ≡ or_zero (value_at numbers.now.statuses text.0) }
 {
     StatusId(number_or(numbers.statuses.get(&text.0).copied()))
 }
@@ -87,7 +87,7 @@ fn field(numbers: &PackageNumbers, around: &ScopeNumbers, text: TextId) -> Optio
 }
 
 fn bare(around: &ScopeNumbers, text: TextId) -> Variable
-    ensures { result ≡ bare_variable (get nat_eq around.now.locals text.0) (get nat_eq around.now.constants text.0) }
+    ensures { result ≡ bare_variable (value_at around.now.locals text.0) (value_at around.now.constants text.0) }
 {
     match around.locals.get(&text.0) {
         Some(n) => Variable::Local(LocalId(*n)),
@@ -230,7 +230,7 @@ fn base_type(name: &[u8]) -> Option<BaseType>
 
 /// What a type ends with, behind its prefixes and in front of its bounds.
 pub fn core(parsed: &Package, numbers: &PackageNumbers, of: Core) -> NamedCore
-    ensures { result ≡ resolved_core (bytes_of parsed.now.texts) (get nat_eq numbers.now.structs) of }
+    ensures { result ≡ resolved_core (bytes_of parsed.now.texts) (value_at numbers.now.structs) of }
 {
     match of {
         Core::Base { name, at } => NamedCore::Base {

@@ -5,7 +5,8 @@ use Rattle.indexmap.specs.IndexSet.{insert_key, insert_all}
 use Rattle.wf_base.specs.declared.base_methods.ArgTy.{ArgTy}
 use Rattle.graphs.specs.Graphs.{holds}
 use Rattle.wf_names_rules.specs.Meanings.{of_base, is_parameter}
-use Rattle.graphs.proofs.NumberLemmas.{insert-keeps, insert-has, insert-only, number_self, same_number}
+use Rattle.graphs.proofs.NumberLemmas.{number_self, same_number}
+use Rattle.wf_names_rules.proofs.InsertLemmas.{insert-keeps, insert-has, insert-only}
 
 -- A base method's arguments behind one that isn't called so.
 pub has_step : (bytes : ℕ → List ℕ) (args : List (List ℕ × ArgTy)) (i text : ℕ) (x : List ℕ × ArgTy) → slice_get args i ≡ Some x → bytes_eq x.0 (bytes text) ≡ false

@@ -1,4 +1,5 @@
 pub mod ArgumentLemmas
+pub mod InsertLemmas
 pub mod ListLaws
 pub mod StmtLemmas
 pub mod TypeLemmas

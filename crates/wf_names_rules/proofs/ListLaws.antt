@@ -13,7 +13,7 @@ use Rattle.wf_names_rules.specs.Reserved.{is_reserved, is_initialize}
 use Rattle.wf_names_rules.specs.Passes.{refused_if, doubles_of, bytes_at, reserved_item, reserved_of, initialize_item, initializes_of, is_flagged, flagged_from}
 use Rattle.wf_names_rules.specs.NameRules.{IsRepeated, twice}
 use Rattle.wf_names_rules.specs.Found.{Finds, RepeatsName, ReservesName, InitializesName, RecursName}
-use Rattle.graphs.proofs.NumberLemmas.{insert-keeps, insert-has, insert-only}
+use Rattle.wf_names_rules.proofs.InsertLemmas.{insert-keeps, insert-has, insert-only}
 
 refusal : Rule → Place → Refusal
 refusal rule at = record { rule = rule; at = at }

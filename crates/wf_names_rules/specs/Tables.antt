@@ -1,7 +1,8 @@
 -- What tables know.
 use Rattle.std.specs.Prelude.{ℕ, Bool, true, false, ◌&&◌, List, [], ◌∷◌, Option, Some, None, slice_get, nat_eq}
 use Rattle.indexmap.specs.IndexMap.{get}
-use Rattle.indexmap.specs.IndexSet.{IndexSet, contains}
+use Rattle.indexmap.specs.IndexSet.{IndexSet}
+use Rattle.number_tables.specs.Entries.{value_at, has_number}
 use Rattle.wf_names_rules.specs.declared.sorts.Sort.{Sort}
 use Rattle.wf_names_rules.specs.declared.tables.Tables.{Tables}
 use Rattle.wf_names_rules.specs.declared.tables.Scope.{Scope}
@@ -40,15 +41,15 @@ args_at t m = names_in (slice_get t.args.items m)
 abbrev pub known_by : List (List ℕ) → Tables → Scope → Known
 known_by texts t s = record {
   bytes = λ text. bytes_in (slice_get texts text);
-  is_status = contains nat_eq t.statuses;
-  is_struct = contains nat_eq t.structs;
-  local = get nat_eq s.locals;
-  constant = get nat_eq s.constants;
+  is_status = has_number t.statuses;
+  is_struct = has_number t.structs;
+  local = value_at s.locals;
+  constant = value_at s.constants;
   field = field_at t s.this;
-  arg = get nat_eq s.args;
+  arg = value_at s.args;
   own_method = own_method_at t s.this;
   struct_method = λ owner text. get same_pair t.methods (owner, text);
-  is_method = contains nat_eq t.method_names;
+  is_method = has_number t.method_names;
   is_public = public_at t;
   args = args_at t;
 }

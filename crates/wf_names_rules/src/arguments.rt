@@ -51,7 +51,7 @@ fn is_io(sort: Option<Sort>) -> bool
 }
 
 fn is_io_arg(scope: &Scope, text: TextId) -> bool
-    ensures { result ≡ reads_or_writes (get nat_eq scope.now.args text.0) }
+    ensures { result ≡ reads_or_writes (value_at scope.now.args text.0) }
 {
     is_io(scope.args.get(&text.0).copied())
 }
@@ -83,7 +83,7 @@ fn passed_again(
     seen: &mut IndexSet<u32>,
     path: Option<Path>,
 ) -> Result<Option<Refusal>, NoMemory>
-    ensures item { IfOk result (λ now. now ≡ passed_item (get nat_eq scope.now.args) seen.old.keys path) }
+    ensures item { IfOk result (λ now. now ≡ passed_item (value_at scope.now.args) seen.old.keys path) }
     ensures seen { OnOk result (seen.new.keys ≡ passed_seen seen.old.keys path) }
 {
     match path {
@@ -111,7 +111,7 @@ fn passed_twice(
     args: &[Given],
 ) -> Result<Option<Refusal>, NoMemory>
     requires { GivenBelow (length parsed.now.exprs) args.now }
-    ensures { IfOk result (λ all. all ≡ soonest found (passed_of (get nat_eq scope.now.args) [] (given_values (given_at (expr_trees parsed.now.exprs) args.now)))) }
+    ensures { IfOk result (λ all. all ≡ soonest found (passed_of (value_at scope.now.args) [] (given_values (given_at (expr_trees parsed.now.exprs) args.now)))) }
 {
     let mut found = found;
     let mut seen = IndexSet::new(alloc);

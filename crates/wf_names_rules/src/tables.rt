@@ -1,8 +1,7 @@
 // What is known of a package and at a place in it, in tables: each name is looked up once.
 
-ghost use Rattle.std.specs.Prelude.{◌≡◌, slice_get, nat_eq};
-ghost use Rattle.indexmap.specs.IndexMap.{get};
-ghost use Rattle.indexmap.specs.IndexSet.{contains};
+ghost use Rattle.std.specs.Prelude.{◌≡◌, slice_get};
+ghost use Rattle.number_tables.specs.Entries.{value_at, has_number};
 ghost use Rattle.wf_base.specs.BaseTable.{method_named};
 ghost use Rattle.wf_names_rules.specs.Declarations.{bytes_in};
 ghost use Rattle.wf_names_rules.specs.Meanings.{or_sort, path_sort as sort_of_path, this_callee as callee_here, public_callee as callee_if_public, struct_callee as callee_in_struct, found_base, part_callee as callee_in_part, sorted_callee as callee_by_sort, callee_on as callee_of_name};
@@ -11,19 +10,20 @@ ghost use Rattle.wf_names_rules.specs.Tables.{known_by, public_at, field_at, own
 use crate::callees::Callee;
 use crate::sorts::Sort;
 use indexmap::{IndexMap, IndexSet};
+use number_tables::tables::NumberTable;
 use wf_ast::parsed::{Path, Receiver, Root};
 use wf_ast::{Package, TextId};
 use wf_base::base_methods::{Kind, base_method};
 
 /// What the whole package knows. Names stand by their texts, methods by their numbers in order.
 pub struct Tables {
-    pub statuses: IndexSet<u32>,
-    pub structs: IndexSet<u32>,
+    pub statuses: NumberTable<()>,
+    pub structs: NumberTable<()>,
     /// What may be called on a field, by its struct's name and its own.
     pub fields: IndexMap<(u32, u32), Sort>,
     /// The number of a method, by its struct's name and its own.
     pub methods: IndexMap<(u32, u32), usize>,
-    pub method_names: IndexSet<u32>,
+    pub method_names: NumberTable<()>,
     /// Of each method whether it is public.
     pub publics: Vec<bool>,
     /// Of each method the names of its arguments.
@@ -46,10 +46,10 @@ impl Drop for Tables {
 
 /// What is known at a place besides: constants, the struct of `this` by its name, arguments and locals.
 pub struct Scope {
-    pub constants: IndexMap<u32, Sort>,
+    pub constants: NumberTable<Sort>,
     pub this: Option<u32>,
-    pub args: IndexMap<u32, Sort>,
-    pub locals: IndexMap<u32, Sort>,
+    pub args: NumberTable<Sort>,
+    pub locals: NumberTable<Sort>,
 }
 
 impl Drop for Scope {
@@ -93,11 +93,11 @@ fn field(tables: &Tables, scope: &Scope, text: TextId) -> Option<Sort>
 }
 
 fn bare(scope: &Scope, text: TextId) -> Option<Sort>
-    ensures { result ≡ or_sort (get nat_eq scope.now.locals text.0) (get nat_eq scope.now.constants text.0) }
+    ensures { result ≡ or_sort (value_at scope.now.locals text.0) (value_at scope.now.constants text.0) }
 {
-    match scope.locals.get(&text.0) {
-        Some(sort) => Some(*sort),
-        None => scope.constants.get(&text.0).copied(),
+    match scope.locals.get(text.0) {
+        Some(sort) => Some(sort),
+        None => scope.constants.get(text.0),
     }
 }
 
@@ -108,7 +108,7 @@ pub fn path_sort(parsed: &Package, tables: &Tables, scope: &Scope, path: Path) -
     match path.root {
         Root::Bare => bare(scope, path.name.text),
         Root::This => field(tables, scope, path.name.text),
-        Root::Args => scope.args.get(&path.name.text.0).copied(),
+        Root::Args => scope.args.get(path.name.text.0),
     }
 }
 
@@ -122,12 +122,12 @@ fn own_method(tables: &Tables, scope: &Scope, text: TextId) -> Option<usize>
 }
 
 fn this_callee(tables: &Tables, scope: &Scope, text: TextId) -> Callee
-    ensures { result ≡ callee_here (own_method_at tables.now scope.now.this text.0) (contains nat_eq tables.now.method_names text.0) }
+    ensures { result ≡ callee_here (own_method_at tables.now scope.now.this text.0) (has_number tables.now.method_names text.0) }
 {
     match own_method(tables, scope, text) {
         Some(m) => Callee::Own(m),
         None => {
-            if tables.method_names.contains(&text.0) {
+            if tables.method_names.has(text.0) {
                 Callee::Foreign
             } else {
                 Callee::Missing
@@ -145,7 +145,7 @@ fn struct_callee(
 ) -> Callee
     ensures { result ≡ callee_in_struct (known_by parsed.now.texts tables.now scope.now) owner.0 text.0 }
 {
-    if !tables.structs.contains(&owner.0) {
+    if !tables.structs.has(owner.0) {
         return Callee::Baseless;
     }
     match tables.methods.get(&(owner.0, text.0)) {

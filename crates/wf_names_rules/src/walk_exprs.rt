@@ -63,7 +63,7 @@ fn used(seen: Seen, has_meaning: bool, at: Place) -> Seen
 fn walk_own_status(seen: Seen, tables: &Tables, text: Name) -> Seen
     ensures { (texts : _) (scope : _) → result ≡ walked_one (known_by texts tables.now scope) seen (own_status text) }
 {
-    used(seen, tables.statuses.contains(&text.text.0), text.at)
+    used(seen, tables.statuses.has(text.text.0), text.at)
 }
 
 fn walk_base_status(seen: Seen, parsed: &Package, text: Name) -> Seen
@@ -87,7 +87,7 @@ pub fn walk_path(seen: Seen, parsed: &Package, tables: &Tables, scope: &Scope, p
 pub fn walk_struct(seen: Seen, tables: &Tables, name: Name) -> Seen
     ensures { (texts : _) (scope : _) → result ≡ walked_one (known_by texts tables.now scope) seen (structure name) }
 {
-    used(seen, tables.structs.contains(&name.text.0), name.at)
+    used(seen, tables.structs.has(name.text.0), name.at)
 }
 
 fn walk_receiver(seen: Seen, parsed: &Package, tables: &Tables, scope: &Scope, on: Receiver) -> Seen

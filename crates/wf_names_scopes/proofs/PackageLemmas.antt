@@ -51,10 +51,10 @@ module _ (d : Declared) (t : Tables) (s : Structure) (p : TellsPackage d t) wher
   fields_behind owner text =
       ap (λ vs. sort_among d.texts vs text) (fields_found (with_struct d s) owner ∙ ap fields_in (find_pushed (λ s. is_spelt owner s.name) d.structs s))
 
-  known_before : (owner : ℕ) → nat_eq s.name.text.0 owner ≡ true → is_some (find (λ s. is_spelt owner s.name) d.structs) ≡ contains nat_eq t.structs s.name.text.0
-  known_before owner e = sym (named_found d owner) ∙ sym (p.structs owner) ∙ ap (λ n. contains nat_eq t.structs n) (sym (same_number s.name.text.0 owner e))
+  known_before : (owner : ℕ) → nat_eq s.name.text.0 owner ≡ true → is_some (find (λ s. is_spelt owner s.name) d.structs) ≡ has_number t.structs s.name.text.0
+  known_before owner e = sym (named_found d owner) ∙ sym (p.structs owner) ∙ ap (λ n. has_number t.structs n) (sym (same_number s.name.text.0 owner e))
 
-  pub fields_kept : contains nat_eq t.structs s.name.text.0 ≡ true → (owner text : ℕ) → get same_pair t.fields (owner, text) ≡ sort_among d.texts (fields_of (with_struct d s) owner) text
+  pub fields_kept : has_number t.structs s.name.text.0 ≡ true → (owner text : ℕ) → get same_pair t.fields (owner, text) ≡ sort_among d.texts (fields_of (with_struct d s) owner) text
   fields_kept h owner text =
       p.fields owner text ∙ ap (λ vs. sort_among d.texts vs text) (fields_found d owner)
       ∙ by (find (λ s. is_spelt owner s.name) d.structs) (nat_eq s.name.text.0 owner) (λ e. known_before owner e ∙ h) ∙ sym (fields_behind owner text)
@@ -64,7 +64,7 @@ module _ (d : Declared) (t : Tables) (s : Structure) (p : TellsPackage d t) wher
       by None false k = refl
       by None true k = absurd (cc (k refl))
 
-  pub fields_new : contains nat_eq t.structs s.name.text.0 ≡ false → (new : Pair → Option Sort)
+  pub fields_new : has_number t.structs s.name.text.0 ≡ false → (new : Pair → Option Sort)
       → ((owner text : ℕ) → new (owner, text) ≡ with_fields d.texts (get same_pair t.fields) s.name.text.0 s.fields owner text)
       → (owner text : ℕ) → new (owner, text) ≡ sort_among d.texts (fields_of (with_struct d s) owner) text
   fields_new h new added owner text =

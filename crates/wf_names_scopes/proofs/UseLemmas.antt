@@ -144,7 +144,7 @@ pub constants_done : (d : Declared) (began found : Option Refusal) (es : List Ex
 constants_done d began found es ts decls i t h a =
     let P : List DeclNode → Type 0 = λ ns. AreConstantsPassed d began found (constants_of (decls_made es ts ns)) t in
     let b = subst P (past_end decls i h) a in
-    let Q : List Variable → Type 0 = λ vs. (text : ℕ) → get nat_eq t.constants text ≡ sort_among d.texts vs text in
+    let Q : List Variable → Type 0 = λ vs. (text : ℕ) → value_at t.constants text ≡ sort_among d.texts vs text in
     (b.same, subst Q (sym (append-nil b.known) ∙ b.split) b.tells.constants)
 
 pub structs_begun : (p : Parsed) (found : Option Refusal)

@@ -34,11 +34,11 @@ package_of p = declared p.texts (decl_trees p.exprs p.stmts p.decls)
 
 -- The tables of a package tell what its declarations mean.
 pub record TellsPackage (d : Declared) (t : Tables) : Type 0 where
-  pub statuses : (text : ℕ) → contains nat_eq t.statuses text ≡ is_some (status_named d text)
-  pub structs : (text : ℕ) → contains nat_eq t.structs text ≡ is_some (struct_named d text)
+  pub statuses : (text : ℕ) → has_number t.statuses text ≡ is_some (status_named d text)
+  pub structs : (text : ℕ) → has_number t.structs text ≡ is_some (struct_named d text)
   pub fields : (owner text : ℕ) → get same_pair t.fields (owner, text) ≡ sort_in d (fields_of d owner) text
   pub methods : (owner text : ℕ) → get same_pair t.methods (owner, text) ≡ method_named d owner text
-  pub method_names : (text : ℕ) → contains nat_eq t.method_names text ≡ list_any (λ m. is_spelt text m.name) d.methods
+  pub method_names : (text : ℕ) → has_number t.method_names text ≡ list_any (λ m. is_spelt text m.name) d.methods
   pub publics : t.publics.items ≡ map (λ m. m.public) d.methods
   pub args : map (λ names. names.keys) t.args.items ≡ map (λ m. args_in (Some m)) d.methods
 
@@ -47,8 +47,8 @@ abbrev pub sort_among : (texts : List (List ℕ)) → List Variable → ℕ → 
 sort_among texts variables text = option_map (λ v. sort_of (bytes_of texts) v.of) (variable_named variables text)
 
 -- A table tells what may be called on these variables.
-abbrev pub TellsVariables : {S : Type 0} → (texts : List (List ℕ)) → List Variable → IndexMap ℕ Sort S → Type 0
-TellsVariables texts variables table = (text : ℕ) → get nat_eq table text ≡ sort_among texts variables text
+abbrev pub TellsVariables : {S : Type 0} → (texts : List (List ℕ)) → List Variable → NumberTable Sort → Type 0
+TellsVariables texts variables table = (text : ℕ) → value_at table text ≡ sort_among texts variables text
 
 -- The tables of a scope tell what is known there besides.
 pub record TellsScope (d : Declared) (scope : Scope) (t : ScopeTables) : Type 0 where

@@ -21,7 +21,7 @@ abbrev pub with_fields : (texts : List (List ℕ)) → (look : Pair → Option S
 with_fields texts look owner fields other text = option_or (look (other, text)) (cond (nat_eq owner other) (sort_among texts fields text) None)
 
 -- A table tells the variables in front of `rest`; with these they are the whole.
-pub record TellsUpTo {S : Type 0} (texts : List (List ℕ)) (rest whole : List Variable) (table : IndexMap ℕ Sort S) : Type 0 where
+pub record TellsUpTo {S : Type 0} (texts : List (List ℕ)) (rest whole : List Variable) (table : NumberTable Sort) : Type 0 where
   pub front : List Variable
   pub split : front ++ rest ≡ whole
   pub tells : TellsVariables texts front table

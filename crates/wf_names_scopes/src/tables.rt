@@ -37,8 +37,8 @@ fn empty(alloc: Global) -> Tables
 
 // Adds a name; whether it is new.
 fn add_name(names: &mut IndexSet<u32>, name: Name) -> Result<bool, NoMemory>
-    ensures fresh { IfOk result (λ fresh. fresh ≡ not (contains nat_eq names.old name.text.0)) }
-    ensures names { OnOk result ((text : ℕ) → contains nat_eq names.new text ≡ (contains nat_eq names.old text || nat_eq name.text.0 text)) }
+    ensures fresh { IfOk result (λ fresh. fresh ≡ not (has_number names.old name.text.0)) }
+    ensures names { OnOk result ((text : ℕ) → has_number names.new text ≡ (has_number names.old text || nat_eq name.text.0 text)) }
 {
     match names.insert(name.text.0) {
         Ok(fresh) => Ok(fresh),

@@ -18,7 +18,7 @@ use wf_names_rules::types::sort;
 use wf_text::faults::NoMemory;
 
 fn add_sort(table: &mut IndexMap<u32, Sort>, name: TextId, sort: Sort) -> Result<(), NoMemory>
-    ensures { OnOk result ((text : ℕ) → get nat_eq table.new text ≡ with_first nat_eq (get nat_eq table.old) name.0 sort text) }
+    ensures { OnOk result ((text : ℕ) → value_at table.new text ≡ with_first nat_eq (value_at table.old) name.0 sort text) }
 {
     if table.contains_key(&name.0) {
         return Ok(());

@@ -12,7 +12,7 @@ use Rattle.wf_names_rules.specs.declared.sorts.Sort.{Sort}
 use Rattle.graphs.specs.Graphs.{holds}
 use Rattle.wf_names_rules.specs.Meanings.{GivenValue, Parameters, is_parameter, is_io_arg, passed_at, passed_arg}
 use Rattle.wf_names_rules.specs.Judged.{arg_path_at, arg_path, passed_item, passed_seen, passed_of, unknown_item, unknown_of}
-use Rattle.graphs.proofs.NumberLemmas.{insert-keeps, insert-has, insert-only}
+use Rattle.wf_names_rules.proofs.InsertLemmas.{insert-keeps, insert-has, insert-only}
 use Rattle.wf_names_uses.proofs.FoundLemmas.{Has, refused-cause, refused-so, not-cause, not-so, both, both-so}
 
 -- An argument of the calling method that a value is.

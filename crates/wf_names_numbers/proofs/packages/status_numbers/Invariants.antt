@@ -8,5 +8,5 @@ use Rattle.wf_names_numbers.proofs.packages.status_numbers.Given as goal
 
 abbrev pub invariant-loop-node : goal.invariant-loop-node
 invariant-loop-node l =
-    (text : ℕ) → statuses_with (get nat_eq l.table) l.next (statuses_of (decls_made (expr_trees l.parsed.exprs) (stmt_trees l.parsed.exprs l.parsed.stmts) (drop l.node-index l.parsed.decls))) text
+    (text : ℕ) → statuses_with (value_at l.table) l.next (statuses_of (decls_made (expr_trees l.parsed.exprs) (stmt_trees l.parsed.exprs l.parsed.stmts) (drop l.node-index l.parsed.decls))) text
     ≡ option_map (λ n. 10 + n) (status_named (package_of l.parsed) text)

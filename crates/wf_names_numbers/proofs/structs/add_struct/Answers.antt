@@ -11,6 +11,6 @@ pub returns-in-Ok-clause-fields : goal.returns-in-Ok-clause-fields
 returns-in-Ok-clause-fields c =
     let old = c.args.places.now in
     then_ok c.add_number-in-Ok.result
-    (λ added es. new_struct (record { name = c.args.name; fields = variables (fields_at es c.args.fields.now) }) (get nat_eq old.structs) (get nat_eq c.add_number-in-Ok.new.table) c.args.next added
+    (λ added es. new_struct (record { name = c.args.name; fields = variables (fields_at es c.args.fields.now) }) (value_at old.structs) (value_at c.add_number-in-Ok.new.table) c.args.next added
     (get same_pair old.fields) (get same_pair c.add_fields.new.table) (sym c.contains_key.ensures ∙ c.if-contains_key.false) (c.in-Ok.ensures es))
     c.add_number-in-Ok.ensures.table

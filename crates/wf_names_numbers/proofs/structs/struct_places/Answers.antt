@@ -13,11 +13,11 @@ loop-node-init c = record {
 pub returns-clause-structs : goal.returns-clause-structs
 returns-clause-structs c =
     let past : length c.args.parsed.now.decls ≤ c.loop-node.node-index = rw (← c.decls-node-items.ensures) (omega (arith, c.loop-node-test.false)) in
-    λ text. sym (structs_passed c.args.parsed.now (get nat_eq c.loop-node.places.structs) c.loop-node.next c.loop-node.node-index past text) ∙ c.loop-node.invariant.structs text
+    λ text. sym (structs_passed c.args.parsed.now (value_at c.loop-node.places.structs) c.loop-node.next c.loop-node.node-index past text) ∙ c.loop-node.invariant.structs text
 
 pub returns-clause-fields : goal.returns-clause-fields
 returns-clause-fields c =
     let past : length c.args.parsed.now.decls ≤ c.loop-node.node-index = rw (← c.decls-node-items.ensures) (omega (arith, c.loop-node-test.false)) in
     λ owner text.
-    sym (fields_passed c.args.parsed.now (get nat_eq c.loop-node.places.structs) (get same_pair c.loop-node.places.fields) c.loop-node.node-index past owner text)
+    sym (fields_passed c.args.parsed.now (value_at c.loop-node.places.structs) (get same_pair c.loop-node.places.fields) c.loop-node.node-index past owner text)
     ∙ c.loop-node.invariant.fields owner text

@@ -10,8 +10,8 @@ use Rattle.wf_names_numbers.proofs.structs.struct_places.Given as goal
 
 abbrev pub invariant-loop-node : goal.invariant-loop-node
 invariant-loop-node l = record {
-  structs : (text : ℕ) → structs_with (get nat_eq l.places.structs) l.next (structs_of (decls_made (expr_trees l.parsed.exprs) (stmt_trees l.parsed.exprs l.parsed.stmts) (drop l.node-index l.parsed.decls))) text
+  structs : (text : ℕ) → structs_with (value_at l.places.structs) l.next (structs_of (decls_made (expr_trees l.parsed.exprs) (stmt_trees l.parsed.exprs l.parsed.stmts) (drop l.node-index l.parsed.decls))) text
       ≡ struct_named (package_of l.parsed) text;
-  fields : (owner text : ℕ) → struct_fields_with (get nat_eq l.places.structs) (get same_pair l.places.fields) (structs_of (decls_made (expr_trees l.parsed.exprs) (stmt_trees l.parsed.exprs l.parsed.stmts) (drop l.node-index l.parsed.decls))) owner text
+  fields : (owner text : ℕ) → struct_fields_with (value_at l.places.structs) (get same_pair l.places.fields) (structs_of (decls_made (expr_trees l.parsed.exprs) (stmt_trees l.parsed.exprs l.parsed.stmts) (drop l.node-index l.parsed.decls))) owner text
       ≡ place_in (fields_of (package_of l.parsed) owner) text;
 }

@@ -9,4 +9,4 @@ use Rattle.wf_names_numbers.proofs.variables.argument_places.Given as goal
 
 abbrev pub invariant-loop-arg : goal.invariant-loop-arg
 invariant-loop-arg l =
-    (es : List ExprTree) (text : ℕ) → places_with (get nat_eq l.table) l.next (variables (fields_at es (drop l.arg-index l.args))) text ≡ place_in (variables (fields_at es l.args)) text
+    (es : List ExprTree) (text : ℕ) → places_with (value_at l.table) l.next (variables (fields_at es (drop l.arg-index l.args))) text ≡ place_in (variables (fields_at es l.args)) text

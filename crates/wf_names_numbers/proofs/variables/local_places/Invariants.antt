@@ -8,5 +8,5 @@ use Rattle.wf_names_numbers.proofs.variables.local_places.Given as goal
 
 abbrev pub invariant-loop-s : goal.invariant-loop-s
 invariant-loop-s l =
-    (text : ℕ) → places_with (get nat_eq l.table) l.next (locals_of (items_at (stmt_trees l.parsed.exprs l.parsed.stmts) (drop l.s-index l.body.items) l.body.close)) text
+    (text : ℕ) → places_with (value_at l.table) l.next (locals_of (items_at (stmt_trees l.parsed.exprs l.parsed.stmts) (drop l.s-index l.body.items) l.body.close)) text
     ≡ place_in (locals_of (items_at (stmt_trees l.parsed.exprs l.parsed.stmts) l.body.items l.body.close)) text

@@ -8,5 +8,5 @@ use Rattle.wf_names_rules.proofs.arguments.passed_twice.Given as goal
 
 abbrev pub invariant-loop-given : goal.invariant-loop-given
 invariant-loop-given l =
-    soonest l.found (passed_of (get nat_eq l.scope.args) l.seen.keys (given_values (given_at (expr_trees l.parsed.exprs) (drop l.given-index l.args))))
-    ≡ soonest l.fn.found (passed_of (get nat_eq l.scope.args) [] (given_values (given_at (expr_trees l.parsed.exprs) l.args)))
+    soonest l.found (passed_of (value_at l.scope.args) l.seen.keys (given_values (given_at (expr_trees l.parsed.exprs) (drop l.given-index l.args))))
+    ≡ soonest l.fn.found (passed_of (value_at l.scope.args) [] (given_values (given_at (expr_trees l.parsed.exprs) l.args)))

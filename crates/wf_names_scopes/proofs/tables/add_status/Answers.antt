@@ -5,7 +5,7 @@ use Rattle.wf_names_scopes.proofs.tables.add_status.Goals as goal
 
 pub returns-in-Ok : goal.returns-in-Ok
 returns-in-Ok c = λ d p. record {
-  statuses = status_added d c.args.name (contains nat_eq c.args.tables.now.statuses) (contains nat_eq c.add_name.new.names) c.in-Ok.ensures.names p.statuses;
+  statuses = status_added d c.args.name (has_number c.args.tables.now.statuses) (has_number c.add_name.new.names) c.in-Ok.ensures.names p.statuses;
   structs = p.structs;
   fields = p.fields;
   methods = p.methods;

@@ -16,8 +16,8 @@ returns-in-Ok-true c =
     let P : List (List ℕ) → Type 0 = λ texts. (other text : ℕ) → new (other, text) ≡ with_fields texts old s.name.text.0 s.fields other text in
     on_ok c.add_fields.result (λ added d e p. record {
       statuses = p.statuses;
-      structs = struct_added d s (contains nat_eq c.args.tables.now.structs) (contains nat_eq c.add_name.new.names) c.in-Ok-true.ensures.names p.structs;
-      fields = fields_new d c.args.tables.now s p (untaken c.in-Ok-true.field-0 (contains nat_eq c.args.tables.now.structs c.args.name.text.0) c.in-Ok-true.ensures.fresh c.in-Ok-true.field-0-test) new (subst P (sym e) added);
+      structs = struct_added d s (has_number c.args.tables.now.structs) (has_number c.add_name.new.names) c.in-Ok-true.ensures.names p.structs;
+      fields = fields_new d c.args.tables.now s p (untaken c.in-Ok-true.field-0 (has_number c.args.tables.now.structs c.args.name.text.0) c.in-Ok-true.ensures.fresh c.in-Ok-true.field-0-test) new (subst P (sym e) added);
       methods = p.methods;
       method_names = p.method_names;
       publics = p.publics;
@@ -29,8 +29,8 @@ returns-in-Ok-false c =
     let s : Structure = record { name = c.args.name; fields = variables (fields_at (expr_trees c.args.parsed.now.exprs) c.args.fields.now) } in
     λ d e p. record {
       statuses = p.statuses;
-      structs = struct_added d s (contains nat_eq c.args.tables.now.structs) (contains nat_eq c.add_name.new.names) c.in-Ok-false.ensures.names p.structs;
-      fields = fields_kept d c.args.tables.now s p (taken c.in-Ok-false.field-0 (contains nat_eq c.args.tables.now.structs c.args.name.text.0) c.in-Ok-false.ensures.fresh c.in-Ok-false.field-0-test);
+      structs = struct_added d s (has_number c.args.tables.now.structs) (has_number c.add_name.new.names) c.in-Ok-false.ensures.names p.structs;
+      fields = fields_kept d c.args.tables.now s p (taken c.in-Ok-false.field-0 (has_number c.args.tables.now.structs c.args.name.text.0) c.in-Ok-false.ensures.fresh c.in-Ok-false.field-0-test);
       methods = p.methods;
       method_names = p.method_names;
       publics = p.publics;
