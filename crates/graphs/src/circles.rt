@@ -38,10 +38,7 @@ fn flags_of(alloc: Global, rows: &[Row], labels: &Vec<usize>) -> Result<Vec<bool
 {
     let mut flags = Vec::new(alloc);
     for a in 0..rows.len() {
-        match flags.push(stays(rows, labels, a)) {
-            Ok(()) => {}
-            Err(_) => return Err(NoMemory),
-        }
+        flags.push(stays(rows, labels, a))?;
     }
     Ok(flags)
 }

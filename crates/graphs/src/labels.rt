@@ -24,10 +24,7 @@ fn give(
     ensures set { OnOk result ((b d : _) → b < length labels.old.items → slice_index_or labels.new.items b d ≡ (if nat_eq b a then label else slice_index_or labels.old.items b d)) }
     ensures queue { OnOk result (queue.new.items ≡ queue.old.items ++ a ∷ []) }
 {
-    match queue.push(a) {
-        Ok(()) => {}
-        Err(_) => return Err(NoMemory),
-    }
+    queue.push(a)?;
     set_number(labels, a, label);
     Ok(())
 }
@@ -82,15 +79,9 @@ fn round(
         return Ok(());
     }
     let mut p = queue.len();
-    match give(labels, queue, root, i + 1) {
-        Ok(()) => {}
-        Err(fault) => return Err(fault),
-    }
+    give(labels, queue, root, i + 1)?;
     while p < queue.len() {
-        match give_row(labels, queue, turned, order, p, i) {
-            Ok(()) => {}
-            Err(fault) => return Err(fault),
-        }
+        give_row(labels, queue, turned, order, p, i)?;
         p += 1;
     }
     Ok(())
@@ -104,18 +95,12 @@ pub fn labelled(alloc: Global, turned: &[Row], order: &Vec<u32>) -> Result<Vec<u
     requires leaving { IsLeaving (length turned.now) (goes_back turned.now) order.now.items }
     ensures { IfOk result (λ labels. AreLabels (length turned.now) (goes_back turned.now) labels.items) }
 {
-    let mut labels = match zeros(alloc, turned.len()) {
-        Ok(labels) => labels,
-        Err(fault) => return Err(fault),
-    };
+    let mut labels = zeros(alloc, turned.len())?;
     let mut queue = Vec::new(alloc);
     let mut i = order.len();
     while i > 0 {
         i -= 1;
-        match round(&mut labels, &mut queue, turned, order, i) {
-            Ok(()) => {}
-            Err(fault) => return Err(fault),
-        }
+        round(&mut labels, &mut queue, turned, order, i)?;
     }
     Ok(labels)
 }

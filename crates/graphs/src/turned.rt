@@ -15,10 +15,7 @@ fn still(alloc: Global, count: usize) -> Result<Vec<Row>, NoMemory>
 {
     let mut rows = Vec::new(alloc);
     for _number in 0..count {
-        match rows.push(Row::new(alloc)) {
-            Ok(()) => {}
-            Err(_) => return Err(NoMemory),
-        }
+        rows.push(Row::new(alloc))?;
     }
     Ok(rows)
 }
@@ -29,10 +26,8 @@ fn join(rows: &mut Vec<Row>, a: usize, b: usize) -> Result<(), NoMemory>
     ensures len { length rows.new.items ≡ length rows.old.items }
     ensures goes { OnOk result ((c d : _) → goes rows.new.items c d ≡ (goes rows.old.items c d || (nat_eq c a && nat_eq d b))) }
 {
-    match rows[a].push(b) {
-        Ok(()) => Ok(()),
-        Err(_) => Err(NoMemory),
-    }
+    rows[a].push(b)?;
+    Ok(())
 }
 
 // Makes all numbers of a row go to one.
@@ -42,10 +37,7 @@ fn join_row(rows: &mut Vec<Row>, row: &[usize], a: usize) -> Result<(), NoMemory
     ensures goes { OnOk result ((b c : _) → goes rows.new.items b c ≡ (goes rows.old.items b c || (holds row.now b && nat_eq c a))) }
 {
     for b in row {
-        match join(rows, *b, a) {
-            Ok(()) => {}
-            Err(fault) => return Err(fault),
-        }
+        join(rows, *b, a)?;
     }
     Ok(())
 }
@@ -57,15 +49,9 @@ pub fn turned(alloc: Global, rows: &[Row]) -> Result<Vec<Row>, NoMemory>
     ensures len { IfOk result (λ turned. length turned.items ≡ length rows.now) }
     ensures goes { IfOk result (λ turned. (a b : _) → goes turned.items b a ≡ goes rows.now a b) }
 {
-    let mut turned = match still(alloc, rows.len()) {
-        Ok(turned) => turned,
-        Err(fault) => return Err(fault),
-    };
+    let mut turned = still(alloc, rows.len())?;
     for a in 0..rows.len() {
-        match join_row(&mut turned, row(rows, a), a) {
-            Ok(()) => {}
-            Err(fault) => return Err(fault),
-        }
+        join_row(&mut turned, row(rows, a), a)?;
     }
     Ok(turned)
 }

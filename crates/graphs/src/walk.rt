@@ -101,10 +101,7 @@ pub fn falses(alloc: Global, count: usize) -> Result<Vec<bool>, NoMemory>
     ensures len { IfOk result (λ flags. length flags.items ≡ count) }
     ensures none { IfOk result (λ flags. (b d : _) → b < count → slice_index_or flags.items b d ≡ false) }
 {
-    match vec![in alloc; false; count] {
-        Ok(flags) => Ok(flags),
-        Err(_) => Err(NoMemory),
-    }
+    Ok(vec![in alloc; false; count]?)
 }
 
 /// So many zeros. `Err` where memory was refused.
@@ -112,10 +109,7 @@ pub fn zeros(alloc: Global, count: usize) -> Result<Vec<usize>, NoMemory>
     ensures len { IfOk result (λ numbers. length numbers.items ≡ count) }
     ensures zero { IfOk result (λ numbers. (b d : _) → b < count → slice_index_or numbers.items b d ≡ 0) }
 {
-    match vec![in alloc; 0; count] {
-        Ok(numbers) => Ok(numbers),
-        Err(_) => Err(NoMemory),
-    }
+    Ok(vec![in alloc; 0; count]?)
 }
 
 // A walk that has begun nowhere yet, over a graph of so many numbers. `Err` where memory was refused.
@@ -123,14 +117,8 @@ fn nowhere(alloc: Global, count: usize) -> Result<Walk, NoMemory>
     ensures walks { IfOk result (λ walk. (rows : _) → length rows ≡ count → Walks rows walk) }
     ensures path { IfOk result (λ walk. walk.path.items ≡ []) }
 {
-    let begun = match falses(alloc, count) {
-        Ok(flags) => flags,
-        Err(fault) => return Err(fault),
-    };
-    let passed = match zeros(alloc, count) {
-        Ok(numbers) => numbers,
-        Err(fault) => return Err(fault),
-    };
+    let begun = falses(alloc, count)?;
+    let passed = zeros(alloc, count)?;
     Ok(Walk {
         order: Vec::new(alloc),
         path: Vec::new(alloc),
@@ -145,10 +133,7 @@ fn enter(walk: &mut Walk, a: usize) -> Result<(), NoMemory>
     ensures walks { OnOk result ((rows : _) → Walks rows walk.old → IsNext rows walk.old a → Advances rows walk.old walk.new) }
     ensures begun { OnOk result (has_begun walk.new a ≡ true) }
 {
-    match walk.path.push(a) {
-        Ok(()) => {}
-        Err(_) => return Err(NoMemory),
-    }
+    walk.path.push(a)?;
     set_flag(&mut walk.begun, a);
     Ok(())
 }
@@ -158,10 +143,7 @@ fn leave(walk: &mut Walk, a: usize) -> Result<(), NoMemory>
     requires { a < 2 ^ 32 }
     ensures { OnOk result ((rows : _) → Walks rows walk.old → IsDone rows walk.old a → Advances rows walk.old walk.new) }
 {
-    match walk.order.push(a as u32) {
-        Ok(()) => {}
-        Err(_) => return Err(NoMemory),
-    }
+    walk.order.push(a as u32)?;
     walk.path.pop();
     Ok(())
 }
@@ -212,15 +194,9 @@ fn visit(walk: &mut Walk, rows: &[Row], start: usize) -> Result<(), NoMemory>
     if walk.begun[start] {
         return Ok(());
     }
-    match enter(walk, start) {
-        Ok(()) => {}
-        Err(fault) => return Err(fault),
-    }
+    enter(walk, start)?;
     while let Some(a) = last(&walk.path) {
-        match step(walk, rows, a) {
-            Ok(()) => {}
-            Err(fault) => return Err(fault),
-        }
+        step(walk, rows, a)?;
     }
     Ok(())
 }
@@ -232,15 +208,9 @@ pub fn leaving(alloc: Global, rows: &[Row]) -> Result<Vec<u32>, NoMemory>
     requires within { AreWithin rows.now (length rows.now) }
     ensures { IfOk result (λ order. IsLeaving (length rows.now) (goes rows.now) order.items) }
 {
-    let mut walk = match nowhere(alloc, rows.len()) {
-        Ok(walk) => walk,
-        Err(fault) => return Err(fault),
-    };
+    let mut walk = nowhere(alloc, rows.len())?;
     for start in 0..rows.len() {
-        match visit(&mut walk, rows, start) {
-            Ok(()) => {}
-            Err(fault) => return Err(fault),
-        }
+        visit(&mut walk, rows, start)?;
     }
     Ok(walk.into_order())
 }

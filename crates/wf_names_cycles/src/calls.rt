@@ -39,7 +39,7 @@ fn row_within(
         (node_uses (expr_trees parsed.now.exprs) (stmt_trees parsed.now.exprs parsed.now.stmts) args.now gives.now body.now)) }
     ensures constants { OnOk result (TellsConstants (package_of parsed.now) scope.new) }
 {
-    match enter_method(alloc, scope, parsed, owner, args, body) {
+    match enter_method(scope, parsed, owner, args, body) {
         Ok(()) => method_row(alloc, parsed, tables, scope, args, gives, body),
         Err(fault) => Err(fault),
     }

@@ -2,7 +2,7 @@
 
 ghost use Rattle.std.specs.Prelude.{◌≡◌, ◌<◌, [], length, map, option_map, nat_eq, IfOk, OnOk};
 ghost use Rattle.std.specs.List.{AllByRecursion};
-ghost use Rattle.indexmap.specs.IndexMap.{get};
+ghost use Rattle.number_tables.specs.Entries.{value_at};
 ghost use Rattle.wf_ast.specs.ParsedTrees.{expr_trees, stmt_trees, expr_at as parsed_expr_at, block_at as parsed_block_at, type_at as parsed_type_at, fields_at as parsed_fields_at, result_at as parsed_result_at};
 ghost use Rattle.wf_ast.specs.ParsedParts.{TypeBelow, FieldsBelow, ResultBelow, BlockBelow};
 ghost use Rattle.wf_named.specs.NamedParts.{exprs_of, stmts_of, NamedConstBelow, NamedStructBelow, NamedMethodBelow, NamedVarBelow, NamedResultBelow};
@@ -171,7 +171,7 @@ fn resolve_behind(
 fn owned_by(numbers: &PackageNumbers, owner: Name) -> StructId
     ensures { result.0 ≡ or_zero (value_at numbers.now.structs owner.text.0) }
 {
-    StructId(number_or(numbers.structs.get(&owner.text.0).copied()))
+    StructId(number_or(numbers.structs.get(owner.text.0)))
 }
 
 /// Adds the nodes of a method's types and of its body, and answers the method. `around` knows its arguments and its

@@ -131,7 +131,7 @@ fn next_struct(
     ensures added { OnOk result (named_package nodes.new ≡ with_structs (named_package nodes.old) (struct_in (package_of parsed.now) public (record { name = name; fields = variables (fields_at (expr_trees parsed.now.exprs) fields.now) }) ∷ [])) }
     ensures known { OnOk result (TellsAllConstants (package_of parsed.now) around.new) }
 {
-    enter_struct(alloc, around, name);
+    enter_struct(around, name);
     put_struct(alloc, nodes, parsed, numbers, around, public, name, fields)
 }
 
@@ -159,7 +159,7 @@ fn next_method(
         (method_parsed (expr_trees parsed.now.exprs) (stmt_trees parsed.now.exprs parsed.now.stmts) public owner name args.now gives.now body.now) ∷ [])) }
     ensures known { OnOk result (TellsAllConstants (package_of parsed.now) around.new) }
 {
-    match enter_method(alloc, around, parsed, owner, args, body) {
+    match enter_method(around, parsed, owner, args, body) {
         Ok(()) => put_method(
             alloc, nodes, parsed, numbers, around, public, owner, name, written, args, gives, body,
         ),

@@ -3,6 +3,8 @@ use Rattle.std.proofs.Common.{◌≡◌, ℕ, ◌+◌, Bool, true, false, cond, 
 use Rattle.std.specs.Option.{option_or}
 use Rattle.std.specs.List.{position_from}
 use Rattle.std.specs.Map.{lookup}
+use Rattle.number_tables.specs.declared.tables.NumberTable.{NumberTable}
+use Rattle.number_tables.specs.Entries.{value_at}
 use Rattle.indexmap.specs.IndexMap.{IndexMap, IsEmpty, get}
 use Rattle.wf_text.specs.declared.faults.NoMemory.{NoMemory}
 use Rattle.wf_ast.specs.ParsedParts.{Parsed}
@@ -34,7 +36,7 @@ numbers_later p k i (x ∷ xs) = by (p x) (numbers_later p k (i + 1) xs)
     by false r = ap (λ n. position_from p n xs) next ∙ r
 
 -- A variable behind those that a table tells.
-pub place_pushed : {S : Type 0} (old new : NumberTable ℕ) (place : ℕ) (known : List Variable) (v : Variable) → place ≡ length known
+pub place_pushed : (old new : NumberTable ℕ) (place : ℕ) (known : List Variable) (v : Variable) → place ≡ length known
     → ((text : ℕ) → value_at new text ≡ with_first nat_eq (value_at old) v.name.text.0 place text) → TellsPlacesOf known old → TellsPlacesOf (known ++ v ∷ []) new
 place_pushed old new place known v e h t text =
     let count : place ≡ 0 + length known = omega (arith, e) in
@@ -43,11 +45,11 @@ place_pushed old new place known v e h t text =
     ∙ sym (position_pushed (λ w. is_spelt text w.name) 0 known v)
 
 -- The statuses of a package, of which none is passed.
-pub statuses_begun : {S : Type 0} (p : Parsed) (table : NumberTable ℕ) → IsEmpty table → (text : ℕ)
+pub statuses_begun : (p : Parsed) (table : NumberTable ℕ) → ((number : ℕ) → value_at table number ≡ None) → (text : ℕ)
     → statuses_with (value_at table) 10 (statuses_of (decls_made (expr_trees p.exprs) (stmt_trees p.exprs p.stmts) p.decls)) text ≡ option_map (λ n. 10 + n) (status_named (package_of p) text)
 statuses_begun p table e text =
     let names = statuses_of (decls_made (expr_trees p.exprs) (stmt_trees p.exprs p.stmts) p.decls) in
-    ap (λ o. option_or o (position_from (is_spelt text) 10 names)) (nothing_yet nat_eq table e text) ∙ numbers_later (is_spelt text) 10 0 names
+    ap (λ o. option_or o (position_from (is_spelt text) 10 names)) (e text) ∙ numbers_later (is_spelt text) 10 0 names
     ∙ ap (λ ds. option_map (λ n. 10 + n) (position_from (is_spelt text) 0 (statuses_of ds))) (sym (trees_made p))
 
 pub then_ok : {X P Q : Type 0} (r : Result X NoMemory) → (P → Q) → OnOk r P → OnOk r Q

@@ -2,6 +2,8 @@
 use Rattle.std.proofs.Common.{◌≡◌, ◌≤◌, ℕ, Bool, true, false, cond, List, ◌∷◌, drop, length, Option, Some, None, is_some, nat_eq, refl, sym, ap, ◌∙◌}
 use Rattle.std.specs.Option.{option_or}
 use Rattle.std.specs.List.{find, position_from}
+use Rattle.number_tables.specs.declared.tables.NumberTable.{NumberTable}
+use Rattle.number_tables.specs.Entries.{value_at}
 use Rattle.indexmap.specs.IndexMap.{IndexMap, IsEmpty, get}
 use Rattle.wf_ast.specs.ParsedParts.{Parsed}
 use Rattle.wf_ast.specs.ParsedTree.{DeclTree}
@@ -43,21 +45,21 @@ module _ (s : Structure) (old new : ℕ → Option ℕ) (next : ℕ) (added : (t
       by None false None h = refl
 
 -- The structs of a package, of which none is passed.
-pub structs_begun : {S : Type 0} (p : Parsed) (table : NumberTable ℕ) → IsEmpty table → (text : ℕ)
+pub structs_begun : (p : Parsed) (table : NumberTable ℕ) → ((number : ℕ) → value_at table number ≡ None) → (text : ℕ)
     → structs_with (value_at table) 0 (structs_of (decls_made (expr_trees p.exprs) (stmt_trees p.exprs p.stmts) p.decls)) text ≡ struct_named (package_of p) text
 structs_begun p table e text =
     let ds = decls_made (expr_trees p.exprs) (stmt_trees p.exprs p.stmts) p.decls in
-    ap (λ o. option_or o (position_from (λ s. is_spelt text s.name) 0 (structs_of ds))) (nothing_yet nat_eq table e text)
+    ap (λ o. option_or o (position_from (λ s. is_spelt text s.name) 0 (structs_of ds))) (e text)
     ∙ ap (λ xs. position_from (λ s. is_spelt text s.name) 0 (structs_of xs)) (sym (trees_made p))
 
-pub fields_begun : {S Z : Type 0} (p : Parsed) (structs : NumberTable ℕ) (table : IndexMap Pair ℕ Z) → IsEmpty structs → IsEmpty table → (owner text : ℕ)
+pub fields_begun : {Z : Type 0} (p : Parsed) (structs : NumberTable ℕ) (table : IndexMap Pair ℕ Z) → ((number : ℕ) → value_at structs number ≡ None) → IsEmpty table → (owner text : ℕ)
     → struct_fields_with (value_at structs) (get same_pair table) (structs_of (decls_made (expr_trees p.exprs) (stmt_trees p.exprs p.stmts) p.decls)) owner text
     ≡ place_in (fields_of (package_of p) owner) text
 fields_begun p structs table e f owner text =
     let ds = decls_made (expr_trees p.exprs) (stmt_trees p.exprs p.stmts) p.decls in
     let fields : List DeclTree → Option ℕ = λ xs. place_in (fields_in (find (λ s. is_spelt owner s.name) (structs_of xs))) text in
     ap (λ o. option_or o (cond (is_some (value_at structs owner)) None (fields ds))) (nothing_yet same_pair table f (owner, text))
-    ∙ ap (λ o. cond (is_some o) None (fields ds)) (nothing_yet nat_eq structs e owner)
+    ∙ ap (λ o. cond (is_some o) None (fields ds)) (e owner)
     ∙ ap fields (sym (trees_made p))
     ∙ ap (λ vs. place_in vs text) (sym (fields_found (package_of p) owner))
 

@@ -1,6 +1,8 @@
 -- What it is that tables of numbers tell what the declarations of a package mean.
 use Rattle.std.specs.Prelude.{◌≡◌, ◌+◌, ℕ, List, map, nat_eq, option_map}
-use Rattle.indexmap.specs.IndexMap.{IndexMap, get}
+use Rattle.number_tables.specs.declared.tables.NumberTable.{NumberTable}
+use Rattle.number_tables.specs.Entries.{value_at}
+use Rattle.indexmap.specs.IndexMap.{get}
 use Rattle.wf_names_rules.specs.Declarations.{Variable, Declared, as_variable, status_named, struct_named, fields_of}
 use Rattle.wf_names_rules.specs.Uses.{Scope}
 use Rattle.wf_names_rules.specs.Tables.{same_pair}
@@ -19,7 +21,7 @@ pub record TellsNumbers (d : Declared) (p : PackageNumbers) : Type 0 where
   pub fields : (owner text : ℕ) → get same_pair p.fields (owner, text) ≡ place_in (fields_of d owner) text
 
 -- A table tells the places of these variables.
-abbrev pub TellsPlacesOf : {S : Type 0} → List Variable → NumberTable ℕ → Type 0
+abbrev pub TellsPlacesOf : List Variable → NumberTable ℕ → Type 0
 TellsPlacesOf variables table = (text : ℕ) → value_at table text ≡ place_in variables text
 
 -- The tables of a scope tell what is known there besides, and the places of its constants, arguments and locals.

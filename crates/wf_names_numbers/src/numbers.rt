@@ -1,11 +1,13 @@
 // Numbers for names: a name keeps the number that it was given first.
 
 ghost use Rattle.std.specs.Prelude.{◌≡◌, ◌+◌, ℕ, nat_eq, IfOk, OnOk};
+ghost use Rattle.number_tables.specs.Entries.{value_at};
 ghost use Rattle.indexmap.specs.IndexMap.{get};
 ghost use Rattle.wf_names_rules.specs.Tables.{same_pair, Pair};
 ghost use Rattle.wf_names_scopes.specs.Growing.{with_first};
 
 use indexmap::IndexMap;
+use number_tables::tables::NumberTable;
 use wf_ast::TextId;
 use wf_text::faults::NoMemory;
 
@@ -23,37 +25,19 @@ fn numbered(number: usize) -> Result<u32, NoMemory>
     }
 }
 
-fn put_number(table: &mut IndexMap<u32, u32>, name: TextId, number: u32) -> Result<(), NoMemory>
-    ensures { OnOk result ((text : ℕ) → value_at table.new text ≡ with_first nat_eq (value_at table.old) name.0 number text) }
-{
-    if table.contains_key(&name.0) {
-        return Ok(());
-    }
-    match table.insert(name.0, number) {
-        Ok(_) => Ok(()),
-        Err(_) => Err(NoMemory),
-    }
-}
-
 /// Gives the name this number, unless it has one; the next number. `Err` where there is no such number, or memory was
 /// refused.
 pub fn add_number(
-    table: &mut IndexMap<u32, u32>,
+    table: &mut NumberTable<u32>,
     name: TextId,
     number: usize,
 ) -> Result<usize, NoMemory>
     ensures next { IfOk result (λ next. next ≡ number + 1) }
     ensures table { OnOk result ((text : ℕ) → value_at table.new text ≡ with_first nat_eq (value_at table.old) name.0 number text) }
 {
-    match numbered(number) {
-        Ok(given) => {
-            match put_number(table, name, given) {
-                Ok(()) => Ok(number + 1),
-                Err(fault) => Err(fault),
-            }
-        }
-        Err(fault) => Err(fault),
-    }
+    let given = numbered(number)?;
+    table.put_first(name.0, given)?;
+    Ok(number + 1)
 }
 
 fn put_field(

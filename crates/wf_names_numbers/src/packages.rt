@@ -2,7 +2,7 @@
 // the first is meant.
 
 ghost use Rattle.std.specs.Prelude.{◌≡◌, ◌+◌, ◌∷◌, ℕ, List, nat_eq, option_map, IfOk};
-ghost use Rattle.indexmap.specs.IndexMap.{get};
+ghost use Rattle.number_tables.specs.Entries.{value_at};
 ghost use Rattle.wf_ast.specs.ParsedTree.{ExprTree, StmtTree, DeclTree};
 ghost use Rattle.wf_ast.specs.ParsedTrees.{decl_made};
 ghost use Rattle.wf_names_rules.specs.Declarations.{statuses_of, status_named};
@@ -12,7 +12,7 @@ ghost use Rattle.wf_names_numbers.specs.Growing.{statuses_with};
 
 use crate::numbers::add_number;
 use crate::structs::struct_places;
-use indexmap::IndexMap;
+use number_tables::tables::NumberTable;
 use std::alloc::Global;
 use wf_ast::Package;
 use wf_ast::parsed::{Decl, DeclNode};
@@ -25,7 +25,7 @@ const BASE_STATUSES: usize = 10;
 
 // Adds the status that a declaration declares, if it does, with the next number; the number that is next then.
 fn add_status(
-    table: &mut IndexMap<u32, u32>,
+    table: &mut NumberTable<u32>,
     node: &DeclNode,
     next: usize,
 ) -> Result<usize, NoMemory>
@@ -40,10 +40,10 @@ fn add_status(
     }
 }
 
-fn status_numbers(alloc: Global, parsed: &Package) -> Result<IndexMap<u32, u32>, NoMemory>
+fn status_numbers(alloc: Global, parsed: &Package) -> Result<NumberTable<u32>, NoMemory>
     ensures { IfOk result (λ table. (text : ℕ) → value_at table text ≡ option_map (λ n. 10 + n) (status_named (package_of parsed.now) text)) }
 {
-    let mut table = IndexMap::new(alloc);
+    let mut table = NumberTable::new(alloc);
     let mut next = BASE_STATUSES;
     for node in parsed.decls() {
         match add_status(&mut table, node, next) {

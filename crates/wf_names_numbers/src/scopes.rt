@@ -12,7 +12,7 @@ ghost use Rattle.wf_names_numbers.specs.Numbered.{TellsPlaces, TellsAllConstants
 
 use crate::numbers::add_number;
 use crate::variables::{argument_places, local_places};
-use indexmap::IndexMap;
+use number_tables::tables::NumberTable;
 use std::alloc::Global;
 use wf_ast::Package;
 use wf_ast::parsed::{Block, Field, Name, TypeExpr};
@@ -26,9 +26,9 @@ pub fn outside(alloc: Global) -> ScopeNumbers
 {
     ScopeNumbers {
         scope: scopes::outside(alloc),
-        constants: IndexMap::new(alloc),
-        args: IndexMap::new(alloc),
-        locals: IndexMap::new(alloc),
+        constants: NumberTable::new(alloc),
+        args: NumberTable::new(alloc),
+        locals: NumberTable::new(alloc),
     }
 }
 
@@ -55,18 +55,17 @@ pub fn add_constant(
 }
 
 /// On to a struct of this name.
-pub fn enter_struct(alloc: Global, around: &mut ScopeNumbers, name: Name)
+pub fn enter_struct(around: &mut ScopeNumbers, name: Name)
     ensures constants { (d : Declared) → TellsAllConstants d around.old → TellsAllConstants d around.new }
     ensures places { (d : Declared) → TellsAllConstants d around.old → TellsPlaces d (scope_in d name [] []) around.new }
 {
-    scopes::enter_struct(alloc, &mut around.scope, name);
-    around.args = IndexMap::new(alloc);
-    around.locals = IndexMap::new(alloc);
+    scopes::enter_struct(&mut around.scope, name);
+    around.args.clear();
+    around.locals.clear();
 }
 
 /// On to a method of the struct with the name `owner`. `Err` where memory was refused or no number is left.
 pub fn enter_method(
-    alloc: Global,
     around: &mut ScopeNumbers,
     parsed: &Package,
     owner: Name,
@@ -78,19 +77,7 @@ pub fn enter_method(
     ensures places { OnOk result (TellsAllConstants (package_of parsed.now) around.old
         → TellsPlaces (package_of parsed.now) (scope_in (package_of parsed.now) owner (variables (fields_at (expr_trees parsed.now.exprs) args.now)) (locals_of (block_at (stmt_trees parsed.now.exprs parsed.now.stmts) body.now))) around.new) }
 {
-    let arguments = match argument_places(alloc, args) {
-        Ok(places) => places,
-        Err(fault) => return Err(fault),
-    };
-    let locals = match local_places(alloc, parsed, body) {
-        Ok(places) => places,
-        Err(fault) => return Err(fault),
-    };
-    match scopes::enter_method(alloc, &mut around.scope, parsed, owner, args, body) {
-        Ok(()) => {}
-        Err(fault) => return Err(fault),
-    }
-    around.args = arguments;
-    around.locals = locals;
-    Ok(())
+    argument_places(&mut around.args, args)?;
+    local_places(&mut around.locals, parsed, body)?;
+    scopes::enter_method(&mut around.scope, parsed, owner, args, body)
 }

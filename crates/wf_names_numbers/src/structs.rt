@@ -2,6 +2,7 @@
 // fields.
 
 ghost use Rattle.std.specs.Prelude.{◌≡◌, ◌∷◌, ℕ, List, nat_eq, IfOk, OnOk};
+ghost use Rattle.number_tables.specs.Entries.{value_at};
 ghost use Rattle.indexmap.specs.IndexMap.{get};
 ghost use Rattle.wf_ast.specs.ParsedTree.{ExprTree, StmtTree, DeclTree};
 ghost use Rattle.wf_ast.specs.ParsedTrees.{fields_at, decl_made};
@@ -13,6 +14,7 @@ ghost use Rattle.wf_names_numbers.specs.Growing.{structs_with, fields_with, stru
 
 use crate::numbers::{add_field, add_number};
 use indexmap::IndexMap;
+use number_tables::tables::NumberTable;
 use std::alloc::Global;
 use wf_ast::parsed::{Decl, DeclNode, Field, Name};
 use wf_ast::{Package, TextId};
@@ -21,7 +23,7 @@ use wf_text::faults::NoMemory;
 /// Structs by their names, fields by their struct's name and their own.
 #[derive(Drop)]
 pub struct StructPlaces {
-    pub structs: IndexMap<u32, u32>,
+    pub structs: NumberTable<u32>,
     pub fields: IndexMap<(u32, u32), u32>,
 }
 
@@ -56,7 +58,7 @@ fn add_struct(
     ensures fields { OnOk result ((es : List ExprTree) (rest : List Structure) (owner text : ℕ) → struct_fields_with (value_at places.new.structs) (get same_pair places.new.fields) rest owner text
         ≡ struct_fields_with (value_at places.old.structs) (get same_pair places.old.fields) (record { name = name; fields = variables (fields_at es fields.now) } ∷ rest) owner text) }
 {
-    if places.structs.contains_key(&name.text.0) {
+    if places.structs.has(name.text.0) {
         return add_number(&mut places.structs, name.text, next);
     }
     match add_fields(&mut places.fields, name.text, fields) {
@@ -85,7 +87,7 @@ pub fn struct_places(alloc: Global, parsed: &Package) -> Result<StructPlaces, No
     ensures fields { IfOk result (λ places. (owner text : ℕ) → get same_pair places.fields (owner, text) ≡ place_in (fields_of (package_of parsed.now) owner) text) }
 {
     let mut places = StructPlaces {
-        structs: IndexMap::new(alloc),
+        structs: NumberTable::new(alloc),
         fields: IndexMap::new(alloc),
     };
     let mut next = 0;

@@ -1,7 +1,7 @@
 // The places of arguments and locals, by their names. Of two with one name the first declared is meant.
 
-ghost use Rattle.std.specs.Prelude.{◌≡◌, ◌<◌, ◌++◌, ℕ, List, length, nat_eq, IfOk};
-ghost use Rattle.indexmap.specs.IndexMap.{get};
+ghost use Rattle.std.specs.Prelude.{◌≡◌, ◌<◌, ◌++◌, ℕ, List, length, IfOk, OnOk};
+ghost use Rattle.number_tables.specs.Entries.{value_at};
 ghost use Rattle.wf_ast.specs.ParsedTree.{ExprTree};
 ghost use Rattle.wf_ast.specs.ParsedTrees.{expr_trees, stmt_trees, fields_at, stmt_at, block_at};
 ghost use Rattle.wf_ast.specs.ParsedParts.{BlockBelow};
@@ -10,30 +10,26 @@ ghost use Rattle.wf_names_numbers.specs.Numbered.{TellsPlacesOf};
 ghost use Rattle.wf_names_numbers.specs.Growing.{places_with};
 
 use crate::numbers::add_number;
-use indexmap::IndexMap;
-use std::alloc::Global;
+use number_tables::tables::NumberTable;
 use wf_ast::parsed::{Block, Field, Stmt};
 use wf_ast::{Package, StmtId};
 use wf_text::faults::NoMemory;
 
-/// The places of a method's arguments. `Err` where memory was refused or no number is left.
-pub fn argument_places(alloc: Global, args: &[Field]) -> Result<IndexMap<u32, u32>, NoMemory>
-    ensures { IfOk result (λ table. (es : List ExprTree) → TellsPlacesOf (variables (fields_at es args.now)) table) }
+/// Fills the table anew with the places of a method's arguments. `Err` where memory was refused or no number is left.
+pub fn argument_places(table: &mut NumberTable<u32>, args: &[Field]) -> Result<(), NoMemory>
+    ensures { OnOk result ((es : List ExprTree) → TellsPlacesOf (variables (fields_at es args.now)) table.new) }
 {
-    let mut table = IndexMap::new(alloc);
+    table.clear();
     let mut next = 0;
     for arg in args {
-        match add_number(&mut table, arg.name.text, next) {
-            Ok(behind) => next = behind,
-            Err(fault) => return Err(fault),
-        }
+        next = add_number(table, arg.name.text, next)?;
     }
-    Ok(table)
+    Ok(())
 }
 
 // Adds the local that a statement declares, if it does, at the next place; the place that is next then.
 fn add_local(
-    table: &mut IndexMap<u32, u32>,
+    table: &mut NumberTable<u32>,
     parsed: &Package,
     s: StmtId,
     next: usize,
@@ -48,23 +44,19 @@ fn add_local(
     }
 }
 
-/// The places of a method's locals: of what the statements of its body, and not of the blocks in it, declare. `Err`
-/// where memory was refused or no number is left.
+/// The same with its locals: with what the statements of its body, and not of the blocks in it, declare.
 pub fn local_places(
-    alloc: Global,
+    table: &mut NumberTable<u32>,
     parsed: &Package,
     body: &Block,
-) -> Result<IndexMap<u32, u32>, NoMemory>
+) -> Result<(), NoMemory>
     requires { BlockBelow (length parsed.now.stmts) body.now }
-    ensures { IfOk result (TellsPlacesOf (locals_of (block_at (stmt_trees parsed.now.exprs parsed.now.stmts) body.now))) }
+    ensures { OnOk result (TellsPlacesOf (locals_of (block_at (stmt_trees parsed.now.exprs parsed.now.stmts) body.now)) table.new) }
 {
-    let mut table = IndexMap::new(alloc);
+    table.clear();
     let mut next = 0;
     for s in body.items.as_slice() {
-        match add_local(&mut table, parsed, *s, next) {
-            Ok(behind) => next = behind,
-            Err(fault) => return Err(fault),
-        }
+        next = add_local(table, parsed, *s, next)?;
     }
-    Ok(table)
+    Ok(())
 }

@@ -1,6 +1,7 @@
 -- What names stand for, by number.
 use Rattle.std.specs.Prelude.{◌+◌, ℕ, List, Option, Some, None, option_map, nat_eq}
 use Rattle.std.specs.List.{position_from}
+use Rattle.number_tables.specs.Entries.{value_at}
 use Rattle.indexmap.specs.IndexMap.{get}
 use Rattle.wf_ast.specs.declared.parsed.Receiver.{Receiver}
 use Rattle.wf_names_rules.specs.declared.callees.Callee.{Callee}

@@ -1,6 +1,7 @@
 // What names stand for by number, in tables: each name is looked up once.
 
 use indexmap::IndexMap;
+use number_tables::tables::NumberTable;
 use wf_names_rules::tables::{Scope, Tables};
 
 /// What the whole package knows. Names stand by their texts.
@@ -8,9 +9,9 @@ pub struct PackageNumbers {
     /// What the rules of names ask of it.
     pub tables: Tables,
     /// The numbers of the package's statuses, from 10 on.
-    pub statuses: IndexMap<u32, u32>,
+    pub statuses: NumberTable<u32>,
     /// The places of the structs, from 0.
-    pub structs: IndexMap<u32, u32>,
+    pub structs: NumberTable<u32>,
     /// The place of a field in its struct, by the struct's name and its own.
     pub fields: IndexMap<(u32, u32), u32>,
 }
@@ -30,9 +31,9 @@ impl Drop for PackageNumbers {
 pub struct ScopeNumbers {
     /// What the rules of names ask of it, with the struct of `this`.
     pub scope: Scope,
-    pub constants: IndexMap<u32, u32>,
-    pub args: IndexMap<u32, u32>,
-    pub locals: IndexMap<u32, u32>,
+    pub constants: NumberTable<u32>,
+    pub args: NumberTable<u32>,
+    pub locals: NumberTable<u32>,
 }
 
 impl Drop for ScopeNumbers {

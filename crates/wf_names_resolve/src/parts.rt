@@ -2,7 +2,7 @@
 
 ghost use Rattle.std.specs.Prelude.{◌≡◌, nat_eq, bytes_eq, drop, IfOk};
 ghost use Rattle.std.specs.List.{position_from};
-ghost use Rattle.indexmap.specs.IndexMap.{get};
+ghost use Rattle.number_tables.specs.Entries.{value_at};
 ghost use Rattle.wf_names_rules.specs.Meanings.{base_status_texts, callee_on as callee_of_name};
 ghost use Rattle.wf_names_rules.specs.Tables.{known_by};
 ghost use Rattle.wf_names_rules.specs.Declarations.{bytes_of};
@@ -38,7 +38,7 @@ pub fn number_or(number: Option<u32>) -> u32
 pub fn own_status(numbers: &PackageNumbers, text: TextId) -> StatusId
     ensures { result.0 ≡ or_zero (value_at numbers.now.statuses text.0) }
 {
-    StatusId(number_or(numbers.statuses.get(&text.0).copied()))
+    StatusId(number_or(numbers.statuses.get(text.0)))
 }
 
 // The number of an error of the language.
@@ -89,9 +89,9 @@ fn field(numbers: &PackageNumbers, around: &ScopeNumbers, text: TextId) -> Optio
 fn bare(around: &ScopeNumbers, text: TextId) -> Variable
     ensures { result ≡ bare_variable (value_at around.now.locals text.0) (value_at around.now.constants text.0) }
 {
-    match around.locals.get(&text.0) {
-        Some(n) => Variable::Local(LocalId(*n)),
-        None => Variable::Const(ConstId(number_or(around.constants.get(&text.0).copied()))),
+    match around.locals.get(text.0) {
+        Some(n) => Variable::Local(LocalId(n)),
+        None => Variable::Const(ConstId(number_or(around.constants.get(text.0)))),
     }
 }
 
@@ -101,7 +101,7 @@ fn variable(numbers: &PackageNumbers, around: &ScopeNumbers, root: Root, text: T
     match root {
         Root::Bare => bare(around, text),
         Root::This => Variable::Field(FieldId(number_or(field(numbers, around, text)))),
-        Root::Args => Variable::Arg(ArgId(number_or(around.args.get(&text.0).copied()))),
+        Root::Args => Variable::Arg(ArgId(number_or(around.args.get(text.0)))),
     }
 }
 
@@ -242,7 +242,7 @@ pub fn core(parsed: &Package, numbers: &PackageNumbers, of: Core) -> NamedCore
             at,
         },
         Core::Struct(name) => NamedCore::Struct {
-            of: StructId(number_or(numbers.structs.get(&name.text.0).copied())),
+            of: StructId(number_or(numbers.structs.get(name.text.0))),
             at: name.at,
         },
     }

@@ -1,8 +1,8 @@
 -- What tables know.
 use Rattle.std.specs.Prelude.{ℕ, Bool, true, false, ◌&&◌, List, [], ◌∷◌, Option, Some, None, slice_get, nat_eq}
+use Rattle.number_tables.specs.Entries.{value_at, has_number}
 use Rattle.indexmap.specs.IndexMap.{get}
 use Rattle.indexmap.specs.IndexSet.{IndexSet}
-use Rattle.number_tables.specs.Entries.{value_at, has_number}
 use Rattle.wf_names_rules.specs.declared.sorts.Sort.{Sort}
 use Rattle.wf_names_rules.specs.declared.tables.Tables.{Tables}
 use Rattle.wf_names_rules.specs.declared.tables.Scope.{Scope}

@@ -2,7 +2,7 @@
 
 ghost use Rattle.std.specs.Prelude.{◌≡◌, ◌<◌, not, ℕ, List, [], length, map, slice_get, nat_eq, bytes_eq, IfOk, OnOk};
 ghost use Rattle.std.specs.List.{list_any};
-ghost use Rattle.indexmap.specs.IndexMap.{get};
+ghost use Rattle.number_tables.specs.Entries.{value_at};
 ghost use Rattle.indexmap.specs.IndexSet.{insert_all};
 ghost use Rattle.wf_text.specs.Precedence.{soonest};
 ghost use Rattle.wf_base.specs.BaseTable.{row_of};
@@ -53,7 +53,7 @@ fn is_io(sort: Option<Sort>) -> bool
 fn is_io_arg(scope: &Scope, text: TextId) -> bool
     ensures { result ≡ reads_or_writes (value_at scope.now.args text.0) }
 {
-    is_io(scope.args.get(&text.0).copied())
+    is_io(scope.args.get(text.0))
 }
 
 // The argument of the calling method that a value is, where it is nothing else.

@@ -2,8 +2,9 @@
 use Rattle.std.proofs.Common.{◌≡◌, ℕ, ◌+◌, ◌<◌, ◌≤◌, Bool, true, false, not, cond, ◌&&◌, ◌||◌, List, [], ◌∷◌, ◌++◌, map, length, take, slice_get, slice_index_or, Option, Some, None, is_some, nat_eq, Result, Ok, Err, OnOk, refl, sym, ap, ◌∙◌, subst, append_assoc, append-nil, length-append, arith, add-one, take-suc, take_all, Vec, vec_len}
 use Rattle.std.specs.Option.{option_or}
 use Rattle.std.specs.List.{find, position_from, list_any}
+use Rattle.number_tables.specs.Entries.{has_number}
 use Rattle.indexmap.specs.IndexMap.{get}
-use Rattle.indexmap.specs.IndexSet.{IndexSet, contains, insert_all}
+use Rattle.indexmap.specs.IndexSet.{IndexSet, insert_all}
 use Rattle.wf_text.specs.declared.faults.NoMemory.{NoMemory}
 use Rattle.wf_text.specs.declared.place.Place.{Place}
 use Rattle.wf_ast.specs.declared.parsed.DeclNode.{DeclNode}
@@ -146,6 +147,10 @@ module _ (texts : List (List ℕ)) (ds : List DeclTree) where
       subst P (sym e) (record { statuses = p.statuses; structs = p.structs; fields = p.fields; methods = p.methods; method_names = p.method_names; publics = p.publics; args = p.args })
 
 -- An answer that says more.
+pub then_ok : {X P Q : Type 0} (r : Result X NoMemory) → (P → Q) → OnOk r P → OnOk r Q
+then_ok (Ok x) f h = f h
+then_ok (Err e) f h = h
+
 pub on_ok : {P Q : Type 0} (r : Result (Unit {0}) NoMemory) → (P → Q) → OnOk r P → OnOk r Q
 on_ok (Ok u) f h = f h
 on_ok (Err e) f h = h

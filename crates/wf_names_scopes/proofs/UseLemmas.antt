@@ -1,7 +1,7 @@
 -- Walks over the uses of declarations, and what they judge.
 use Rattle.std.proofs.Common.{◌≡◌, ℕ, ◌+◌, ◌<◌, ◌≤◌, List, [], ◌∷◌, ◌++◌, map, length, drop, slice_get, slice_index_or, nat_eq, Option, Some, Result, Ok, Err, IfOk, true, refl, sym, ap, ◌∙◌, subst, append_assoc, append-nil, arith, zero, suc}
 use Rattle.std.specs.List.{flat_map}
-use Rattle.indexmap.specs.IndexMap.{get}
+use Rattle.number_tables.specs.Entries.{value_at}
 use Rattle.wf_text.specs.declared.faults.NoMemory.{NoMemory}
 use Rattle.wf_text.specs.declared.rules.Refusal.{Refusal}
 use Rattle.wf_ast.specs.declared.parsed.DeclNode.{DeclNode}

@@ -2,7 +2,8 @@
 use Rattle.std.proofs.Common.{◌≡◌, ℕ, ◌+◌, ◌<◌, Bool, true, false, cond, List, [], ◌∷◌, ◌++◌, length, drop, slice_index_or, Some, None, nat_eq, option_map, refl, sym, ap, ◌∙◌, subst, append_assoc}
 use Rattle.std.specs.Option.{option_or}
 use Rattle.std.specs.List.{find}
-use Rattle.indexmap.specs.IndexMap.{IndexMap, get}
+use Rattle.number_tables.specs.declared.tables.NumberTable.{NumberTable}
+use Rattle.number_tables.specs.Entries.{value_at}
 use Rattle.wf_text.specs.declared.place.Place.{Place}
 use Rattle.wf_ast.specs.declared.numbers.StmtId.{StmtId}
 use Rattle.wf_ast.specs.declared.parsed.Field.{Field}
@@ -31,18 +32,18 @@ sort_pushed texts (u ∷ us) v text = by (nat_eq u.name.text.0 text) (sort_pushe
     by true r = refl
     by false r = r
 
-pub variable_added : {S : Type 0} (texts : List (List ℕ)) (old new : NumberTable Sort) (v : Variable) (s : Sort) → s ≡ sort_of (bytes_of texts) v.of
+pub variable_added : (texts : List (List ℕ)) (old new : NumberTable Sort) (v : Variable) (s : Sort) → s ≡ sort_of (bytes_of texts) v.of
     → ((text : ℕ) → value_at new text ≡ with_first nat_eq (value_at old) v.name.text.0 s text)
     → (front : List Variable) → TellsVariables texts front old → TellsVariables texts (front ++ v ∷ []) new
 variable_added texts old new v s e h front t text =
     h text ∙ ap (λ o. option_or o (cond (nat_eq v.name.text.0 text) (Some s) None)) (t text)
     ∙ ap (λ r. option_or (sort_among texts front text) (cond (nat_eq v.name.text.0 text) (Some r) None)) e ∙ sym (sort_pushed texts front v text)
 
-up_to_more : {S : Type 0} (texts : List (List ℕ)) (vs rest whole : List Variable) (old new : NumberTable Sort) → TellsUpTo texts (vs ++ rest) whole old
+up_to_more : (texts : List (List ℕ)) (vs rest whole : List Variable) (old new : NumberTable Sort) → TellsUpTo texts (vs ++ rest) whole old
     → ((front : List Variable) → TellsVariables texts front old → TellsVariables texts (front ++ vs) new) → TellsUpTo texts rest whole new
 up_to_more texts vs rest whole old new u step = record { front = u.front ++ vs; split = append_assoc u.front vs rest ∙ u.split; tells = step u.front u.tells }
 
-pub arg_next : {S : Type 0} (texts : List (List ℕ)) (es : List ExprTree) (fields : List Field) (i : ℕ) (x : Field) (whole : List Variable) (old new : NumberTable Sort)
+pub arg_next : (texts : List (List ℕ)) (es : List ExprTree) (fields : List Field) (i : ℕ) (x : Field) (whole : List Variable) (old new : NumberTable Sort)
     → x ≡ slice_index_or fields i x → i < length fields → TellsUpTo texts (variables (fields_at es (drop i fields))) whole old
     → ((front : List Variable) → TellsVariables texts front old → TellsVariables texts (front ++ record { name = x.name; of = type_at es x.of } ∷ []) new)
     → TellsUpTo texts (variables (fields_at es (drop (i + 1) fields))) whole new
@@ -51,7 +52,7 @@ arg_next texts es fields i x whole old new is h u step =
     let P : List Field → Type 0 = λ fs. TellsUpTo texts (variables (fields_at es fs)) whole old in
     up_to_more texts (record { name = x.name; of = type_at es x.of } ∷ []) (variables (fields_at es (drop (i + 1) fields))) whole old new (subst P split u) step
 
-pub local_next : {S : Type 0} (texts : List (List ℕ)) (ts : List StmtTree) (ss : List StmtId) (close : Place) (i : ℕ) (d : StmtId) (whole : List Variable) (old new : NumberTable Sort)
+pub local_next : (texts : List (List ℕ)) (ts : List StmtTree) (ss : List StmtId) (close : Place) (i : ℕ) (d : StmtId) (whole : List Variable) (old new : NumberTable Sort)
     → i < length ss → TellsUpTo texts (locals_of (items_at ts (drop i ss) close)) whole old
     → ((front : List Variable) → TellsVariables texts front old → TellsVariables texts (front ++ local_of (stmt_at ts (slice_index_or ss i d))) new)
     → TellsUpTo texts (locals_of (items_at ts (drop (i + 1) ss) close)) whole new

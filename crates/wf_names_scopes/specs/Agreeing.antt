@@ -1,8 +1,9 @@
 -- What it is that tables tell what the declarations of a package mean.
 use Rattle.std.specs.Prelude.{◌≡◌, ℕ, List, Option, Some, map, is_some, nat_eq, option_map}
 use Rattle.std.specs.List.{list_any}
-use Rattle.indexmap.specs.IndexMap.{IndexMap, get}
-use Rattle.indexmap.specs.IndexSet.{contains}
+use Rattle.number_tables.specs.declared.tables.NumberTable.{NumberTable}
+use Rattle.number_tables.specs.Entries.{value_at, has_number}
+use Rattle.indexmap.specs.IndexMap.{get}
 use Rattle.wf_names_rules.specs.declared.sorts.Sort.{Sort}
 use Rattle.wf_names_rules.specs.declared.tables.Tables.{Tables}
 use Rattle.wf_names_rules.specs.declared.tables.Scope.{Scope as ScopeTables}
@@ -47,7 +48,7 @@ abbrev pub sort_among : (texts : List (List ℕ)) → List Variable → ℕ → 
 sort_among texts variables text = option_map (λ v. sort_of (bytes_of texts) v.of) (variable_named variables text)
 
 -- A table tells what may be called on these variables.
-abbrev pub TellsVariables : {S : Type 0} → (texts : List (List ℕ)) → List Variable → NumberTable Sort → Type 0
+abbrev pub TellsVariables : (texts : List (List ℕ)) → List Variable → NumberTable Sort → Type 0
 TellsVariables texts variables table = (text : ℕ) → value_at table text ≡ sort_among texts variables text
 
 -- The tables of a scope tell what is known there besides.

@@ -1,7 +1,7 @@
 -- Tables that grow by a name at a time, of which the first declared keeps its place.
 use Rattle.std.specs.Prelude.{◌≡◌, ℕ, Bool, cond, List, [], ◌∷◌, ◌++◌, map, Option, Some, None, nat_eq}
 use Rattle.std.specs.Option.{option_or}
-use Rattle.indexmap.specs.IndexMap.{IndexMap}
+use Rattle.number_tables.specs.declared.tables.NumberTable.{NumberTable}
 use Rattle.wf_text.specs.declared.rules.Refusal.{Refusal}
 use Rattle.wf_names_rules.specs.declared.sorts.Sort.{Sort}
 use Rattle.wf_names_rules.specs.declared.tables.Scope.{Scope as ScopeTables}
@@ -21,7 +21,7 @@ abbrev pub with_fields : (texts : List (List ℕ)) → (look : Pair → Option S
 with_fields texts look owner fields other text = option_or (look (other, text)) (cond (nat_eq owner other) (sort_among texts fields text) None)
 
 -- A table tells the variables in front of `rest`; with these they are the whole.
-pub record TellsUpTo {S : Type 0} (texts : List (List ℕ)) (rest whole : List Variable) (table : NumberTable Sort) : Type 0 where
+pub record TellsUpTo (texts : List (List ℕ)) (rest whole : List Variable) (table : NumberTable Sort) : Type 0 where
   pub front : List Variable
   pub split : front ++ rest ≡ whole
   pub tells : TellsVariables texts front table

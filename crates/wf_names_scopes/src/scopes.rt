@@ -10,7 +10,7 @@ ghost use Rattle.wf_names_scopes.specs.Agreeing.{TellsScope, TellsConstants, pac
 ghost use Rattle.wf_names_scopes.specs.Growing.{scope_in};
 
 use crate::variables::{add_variable, arguments, locals};
-use indexmap::IndexMap;
+use number_tables::tables::NumberTable;
 use std::alloc::Global;
 use wf_ast::Package;
 use wf_ast::parsed::{Block, Field, Name, TypeExpr};
@@ -22,10 +22,10 @@ pub fn outside(alloc: Global) -> Scope
     ensures { (d : Declared) → TellsScope d (constant_scope []) result }
 {
     Scope {
-        constants: IndexMap::new(alloc),
+        constants: NumberTable::new(alloc),
         this: None,
-        args: IndexMap::new(alloc),
-        locals: IndexMap::new(alloc),
+        args: NumberTable::new(alloc),
+        locals: NumberTable::new(alloc),
     }
 }
 
@@ -43,17 +43,16 @@ pub fn add_constant(
 }
 
 /// On to a struct of this name.
-pub fn enter_struct(alloc: Global, scope: &mut Scope, name: Name)
+pub fn enter_struct(scope: &mut Scope, name: Name)
     ensures { (d : Declared) → TellsConstants d scope.old → TellsScope d (scope_in d name [] []) scope.new }
 {
     scope.this = Some(name.text.0);
-    scope.args = IndexMap::new(alloc);
-    scope.locals = IndexMap::new(alloc);
+    scope.args.clear();
+    scope.locals.clear();
 }
 
 /// On to a method of the struct with the name `owner`.
 pub fn enter_method(
-    alloc: Global,
     scope: &mut Scope,
     parsed: &Package,
     owner: Name,
@@ -64,16 +63,7 @@ pub fn enter_method(
     ensures { OnOk result (TellsConstants (package_of parsed.now) scope.old
         → TellsScope (package_of parsed.now) (scope_in (package_of parsed.now) owner (variables (fields_at (expr_trees parsed.now.exprs) args.now)) (locals_of (block_at (stmt_trees parsed.now.exprs parsed.now.stmts) body.now))) scope.new) }
 {
-    let args = match arguments(alloc, parsed, args) {
-        Ok(args) => args,
-        Err(fault) => return Err(fault),
-    };
-    let locals = match locals(alloc, parsed, body) {
-        Ok(locals) => locals,
-        Err(fault) => return Err(fault),
-    };
     scope.this = Some(owner.text.0);
-    scope.args = args;
-    scope.locals = locals;
-    Ok(())
+    arguments(&mut scope.args, parsed, args)?;
+    locals(&mut scope.locals, parsed, body)
 }

@@ -2,8 +2,9 @@
 // meant.
 
 ghost use Rattle.std.specs.Prelude.{◌≡◌, ◌++◌, ◌||◌, not, [], ◌∷◌, ℕ, List, map, nat_eq, IfOk, OnOk};
+ghost use Rattle.number_tables.specs.Entries.{has_number};
 ghost use Rattle.indexmap.specs.IndexMap.{get};
-ghost use Rattle.indexmap.specs.IndexSet.{contains, insert_all};
+ghost use Rattle.indexmap.specs.IndexSet.{insert_all};
 ghost use Rattle.wf_ast.specs.ParsedTree.{DeclTree};
 ghost use Rattle.wf_ast.specs.ParsedTrees.{expr_trees, stmt_trees, fields_at, decl_made};
 ghost use Rattle.wf_names_rules.specs.Declarations.{Declared, Method, declared, variables};
@@ -12,6 +13,7 @@ ghost use Rattle.wf_names_scopes.specs.Agreeing.{TellsPackage, package_of};
 ghost use Rattle.wf_names_scopes.specs.Growing.{with_first, with_fields, with_status, with_struct, with_method};
 
 use indexmap::{IndexMap, IndexSet};
+use number_tables::tables::NumberTable;
 use std::alloc::Global;
 use wf_ast::parsed::{Decl, DeclNode, Field, Name};
 use wf_ast::{Package, TextId};
@@ -25,25 +27,22 @@ fn empty(alloc: Global) -> Tables
     ensures { (texts : List (List ℕ)) → TellsPackage (declared texts []) result }
 {
     Tables {
-        statuses: IndexSet::new(alloc),
-        structs: IndexSet::new(alloc),
+        statuses: NumberTable::new(alloc),
+        structs: NumberTable::new(alloc),
         fields: IndexMap::new(alloc),
         methods: IndexMap::new(alloc),
-        method_names: IndexSet::new(alloc),
+        method_names: NumberTable::new(alloc),
         publics: Vec::new(alloc),
         args: Vec::new(alloc),
     }
 }
 
 // Adds a name; whether it is new.
-fn add_name(names: &mut IndexSet<u32>, name: Name) -> Result<bool, NoMemory>
+fn add_name(names: &mut NumberTable<()>, name: Name) -> Result<bool, NoMemory>
     ensures fresh { IfOk result (λ fresh. fresh ≡ not (has_number names.old name.text.0)) }
     ensures names { OnOk result ((text : ℕ) → has_number names.new text ≡ (has_number names.old text || nat_eq name.text.0 text)) }
 {
-    match names.insert(name.text.0) {
-        Ok(fresh) => Ok(fresh),
-        Err(_) => Err(NoMemory),
-    }
+    names.put_first(name.text.0, ())
 }
 
 fn add_field(

@@ -146,7 +146,7 @@ fn struct_uses(
     ensures found { IfOk result (λ all. all ≡ sites_judged (package_of parsed.now) found (struct_sites (package_of parsed.now) (record { name = name; fields = variables (fields_at (expr_trees parsed.now.exprs) fields.now) }))) }
     ensures constants { TellsConstants (package_of parsed.now) scope.new }
 {
-    enter_struct(alloc, scope, name);
+    enter_struct(scope, name);
     match walk_fields(alloc, begin(found), parsed, tables, scope, fields) {
         Ok(seen) => Ok(seen.found),
         Err(fault) => Err(fault),
@@ -229,7 +229,7 @@ fn method_uses(
         (structure owner ∷ (variable_uses (variables (fields_at (expr_trees parsed.now.exprs) args.now)) ++ (result_uses (result_at (expr_trees parsed.now.exprs) gives.now) ++ block_uses (block_at (stmt_trees parsed.now.exprs parsed.now.stmts) body.now)))))) }
     ensures constants { OnOk result (TellsConstants (package_of parsed.now) scope.new) }
 {
-    match enter_method(alloc, scope, parsed, owner, args, body) {
+    match enter_method(scope, parsed, owner, args, body) {
         Ok(()) => {}
         Err(fault) => return Err(fault),
     }

@@ -1,37 +1,31 @@
 // The tables of constants, arguments and locals: what may be called on each, by its name. Of two with one name the
 // first declared is meant.
 
-ghost use Rattle.std.specs.Prelude.{◌≡◌, ◌<◌, ◌++◌, [], ◌∷◌, ℕ, List, length, nat_eq, IfOk, OnOk};
-ghost use Rattle.indexmap.specs.IndexMap.{get};
+ghost use Rattle.std.specs.Prelude.{◌≡◌, ◌<◌, ◌++◌, [], ◌∷◌, ℕ, List, length, nat_eq, OnOk};
+ghost use Rattle.number_tables.specs.Entries.{value_at};
 ghost use Rattle.wf_ast.specs.ParsedTrees.{expr_trees, stmt_trees, type_at, fields_at, stmt_at, block_at};
 ghost use Rattle.wf_ast.specs.ParsedParts.{BlockBelow};
 ghost use Rattle.wf_names_rules.specs.Declarations.{Variable, variables, local_of, locals_of};
 ghost use Rattle.wf_names_scopes.specs.Agreeing.{TellsVariables};
 ghost use Rattle.wf_names_scopes.specs.Growing.{with_first};
 
-use indexmap::IndexMap;
-use std::alloc::Global;
+use number_tables::tables::NumberTable;
 use wf_ast::parsed::{Block, Field, Name, Stmt, TypeExpr};
 use wf_ast::{Package, StmtId, TextId};
 use wf_names_rules::sorts::Sort;
 use wf_names_rules::types::sort;
 use wf_text::faults::NoMemory;
 
-fn add_sort(table: &mut IndexMap<u32, Sort>, name: TextId, sort: Sort) -> Result<(), NoMemory>
+fn add_sort(table: &mut NumberTable<Sort>, name: TextId, sort: Sort) -> Result<(), NoMemory>
     ensures { OnOk result ((text : ℕ) → value_at table.new text ≡ with_first nat_eq (value_at table.old) name.0 sort text) }
 {
-    if table.contains_key(&name.0) {
-        return Ok(());
-    }
-    match table.insert(name.0, sort) {
-        Ok(_) => Ok(()),
-        Err(_) => Err(NoMemory),
-    }
+    table.put_first(name.0, sort)?;
+    Ok(())
 }
 
 /// Adds a variable behind those that the table tells.
 pub fn add_variable(
-    table: &mut IndexMap<u32, Sort>,
+    table: &mut NumberTable<Sort>,
     parsed: &Package,
     name: Name,
     of: &TypeExpr,
@@ -42,26 +36,23 @@ pub fn add_variable(
     add_sort(table, name.text, sort(parsed, of))
 }
 
-/// The table of a method's arguments.
+/// Fills the table anew with a method's arguments.
 pub fn arguments(
-    alloc: Global,
+    table: &mut NumberTable<Sort>,
     parsed: &Package,
     args: &[Field],
-) -> Result<IndexMap<u32, Sort>, NoMemory>
-    ensures { IfOk result (λ table. TellsVariables parsed.now.texts (variables (fields_at (expr_trees parsed.now.exprs) args.now)) table) }
+) -> Result<(), NoMemory>
+    ensures { OnOk result (TellsVariables parsed.now.texts (variables (fields_at (expr_trees parsed.now.exprs) args.now)) table.new) }
 {
-    let mut table = IndexMap::new(alloc);
+    table.clear();
     for arg in args {
-        match add_variable(&mut table, parsed, arg.name, &arg.of) {
-            Ok(()) => {}
-            Err(fault) => return Err(fault),
-        }
+        add_variable(table, parsed, arg.name, &arg.of)?;
     }
-    Ok(table)
+    Ok(())
 }
 
 // Adds the local that a statement declares, if it does.
-fn add_local(table: &mut IndexMap<u32, Sort>, parsed: &Package, s: StmtId) -> Result<(), NoMemory>
+fn add_local(table: &mut NumberTable<Sort>, parsed: &Package, s: StmtId) -> Result<(), NoMemory>
     requires { s.0 < length parsed.now.stmts }
     ensures { OnOk result ((front : List Variable) → TellsVariables parsed.now.texts front table.old
         → TellsVariables parsed.now.texts (front ++ local_of (stmt_at (stmt_trees parsed.now.exprs parsed.now.stmts) s)) table.new) }
@@ -72,21 +63,18 @@ fn add_local(table: &mut IndexMap<u32, Sort>, parsed: &Package, s: StmtId) -> Re
     }
 }
 
-/// The table of a method's locals: what the statements of its body, and not of the blocks in it, declare.
+/// The same with a method's locals: what the statements of its body, and not of the blocks in it, declare.
 pub fn locals(
-    alloc: Global,
+    table: &mut NumberTable<Sort>,
     parsed: &Package,
     body: &Block,
-) -> Result<IndexMap<u32, Sort>, NoMemory>
+) -> Result<(), NoMemory>
     requires { BlockBelow (length parsed.now.stmts) body.now }
-    ensures { IfOk result (λ table. TellsVariables parsed.now.texts (locals_of (block_at (stmt_trees parsed.now.exprs parsed.now.stmts) body.now)) table) }
+    ensures { OnOk result (TellsVariables parsed.now.texts (locals_of (block_at (stmt_trees parsed.now.exprs parsed.now.stmts) body.now)) table.new) }
 {
-    let mut table = IndexMap::new(alloc);
+    table.clear();
     for s in body.items.as_slice() {
-        match add_local(&mut table, parsed, *s) {
-            Ok(()) => {}
-            Err(fault) => return Err(fault),
-        }
+        add_local(table, parsed, *s)?;
     }
-    Ok(table)
+    Ok(())
 }

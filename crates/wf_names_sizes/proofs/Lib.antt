@@ -3,7 +3,6 @@ pub mod CircleLemmas
 pub mod DecidingLaws
 pub mod LargeLaws
 pub mod LongLaws
-pub mod OrderTests
 pub mod PartLemmas
 pub mod SettleLemmas
 pub mod TableLemmas

@@ -8,14 +8,13 @@ ghost use Rattle.wf_ast.specs.declared.parsed.DeclNode.{DeclNode};
 ghost use Rattle.wf_ast.specs.ParsedTree.{TypeTree};
 ghost use Rattle.wf_ast.specs.ParsedTrees.{expr_trees, expr_at, type_at, stmt_trees, stmt_at, block_at, fields_at, prefixed, decl_made, decl_trees};
 ghost use Rattle.wf_ast.specs.ParsedParts.{PrefixBelow, TypeBelow, FieldsBelow, BlockBelow};
-ghost use Rattle.wf_names_rules.specs.Declarations.{bytes_of, declared, variables, local_of, locals_of, structs_of, methods_of};
+ghost use Rattle.wf_names_rules.specs.Declarations.{bytes_of, variables, local_of, locals_of, structs_of, methods_of};
 ghost use Rattle.wf_names_rules.specs.ConstantValues.{known_constants};
 ghost use Rattle.wf_names_rules.specs.Sizes.{number_or_zero};
 ghost use Rattle.wf_names_sizes.specs.Packages.{of_package};
 ghost use Rattle.wf_names_sizes.specs.ValuesBy.{Knows, constant_by, value_by};
 ghost use Rattle.wf_names_sizes.specs.LongArrays.{is_long_by, long_by, long_item, struct_longs, method_longs, arrays_found};
 
-use crate::constants::constants;
 use crate::numbers::Value;
 use crate::values::value;
 use indexmap::{IndexMap, IndexSet};
@@ -295,7 +294,8 @@ fn long_in_methods(
     Ok(found)
 }
 
-/// The same as below, by the values of the constants.
+/// Variables whose types have arrays of more than 65,536 elements, each refused by L7 at its name, and what decides
+/// of these and of what was found before, by the values of the constants. `Err` where memory was refused.
 pub fn long_by_constants(
     alloc: Global,
     found: Option<Refusal>,
@@ -308,19 +308,4 @@ pub fn long_by_constants(
     let nothing = IndexSet::new(alloc);
     let found = long_in_structs(found, parsed, constants, &nothing);
     long_in_methods(alloc, found, parsed, constants)
-}
-
-/// Variables whose types have arrays of more than 65,536 elements, each refused by L7 at its name, and what decides
-/// of these and of what was found before.
-pub fn long_arrays(
-    alloc: Global,
-    found: Option<Refusal>,
-    parsed: &Package,
-) -> Result<Option<Refusal>, NoMemory>
-    ensures { IfOk result (λ all. all ≡ arrays_found (declared parsed.now.texts (decl_trees parsed.now.exprs parsed.now.stmts parsed.now.decls)) found) }
-{
-    match constants(alloc, parsed) {
-        Ok(constants) => long_by_constants(alloc, found, parsed, &constants),
-        Err(fault) => Err(fault),
-    }
 }

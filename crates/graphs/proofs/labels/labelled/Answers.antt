@@ -7,7 +7,7 @@ pub loop-i-init : goal.loop-i-init
 loop-i-init c =
     let order = c.args.order.now.items in
     let whole : length order ≡ c.len-i.result = omega (arith, c.len-i.ensures) in (
-      none-given (length c.args.turned.now) (goes_back c.args.turned.now) order c.in-Ok.labels.items c.new-queue.result.items c.len-i.result whole c.in-Ok.ensures.len c.in-Ok.ensures.zero c.new-queue.ensures.items,
+      none-given (length c.args.turned.now) (goes_back c.args.turned.now) order c.in_ok-labels.labels.items c.new-queue.result.items c.len-i.result whole c.in_ok-labels.ensures.len c.in_ok-labels.ensures.zero c.new-queue.ensures.items,
       omega (arith, whole),
     )
 

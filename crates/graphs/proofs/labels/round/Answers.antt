@@ -40,7 +40,7 @@ loop-p-init c =
     let long : length queue ≡ c.len-p.result = omega arith in
     let P : ℕ → Type 0 = λ p. IsRound n step order c.give.new.labels.items c.give.new.queue.items p c.args.i in
     subst P long (round-begins n step order labels c.give.new.labels.items queue c.give.new.queue.items c.args.i r c.requires.leaving c.requires.joined is (one ∙ c.if-index-ne0.false) below
-    c.in-Ok.ensures.len c.in-Ok.ensures.queue (next-label labels c.give.new.labels.items r c.args.i c.in-Ok.ensures.set))
+    c.in_ok-give.ensures.len c.in_ok-give.ensures.queue (next-label labels c.give.new.labels.items r c.args.i c.in_ok-give.ensures.set))
 
 pub loop-p-smaller : goal.loop-p-smaller
 loop-p-smaller c =

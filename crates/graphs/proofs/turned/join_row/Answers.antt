@@ -16,7 +16,7 @@ pub loop-b-preserved : goal.loop-b-preserved
 loop-b-preserved c = (
   c.join.ensures.len ∙ c.loop-b.invariant.0,
   λ b d.
-      c.in-Ok.ensures.goes b d
+      c.in_ok-join.ensures.goes b d
       ∙ row-more c.args.row.now c.loop-b.b-index b 0 (goes c.loop-b.rows.items b d) (goes c.args.rows.now.items b d) (nat_eq d c.args.a) c.loop-b-test.true (c.loop-b.invariant.1 b d),
 )
 

@@ -3,5 +3,5 @@ use Rattle.graphs.proofs.walk.nowhere.Goals as goal
 
 pub returns-clause-walks : goal.returns-clause-walks
 returns-clause-walks c = λ rows e.
-    nothing-walked rows (record { order = c.new.result; path = c.new-2.result; begun = c.in-Ok.flags; passed = c.in-Ok-zeros.numbers }) c.args.count e
-    c.new.ensures.items c.new-2.ensures.items c.in-Ok.ensures.len c.in-Ok.ensures.none c.in-Ok-zeros.ensures.len c.in-Ok-zeros.ensures.zero
+    nothing-walked rows (record { order = c.new.result; path = c.new-2.result; begun = c.in_ok-begun.begun; passed = c.in_ok-passed.passed }) c.args.count e
+    c.new.ensures.items c.new-2.ensures.items c.in_ok-begun.ensures.len c.in_ok-begun.ensures.none c.in_ok-passed.ensures.len c.in_ok-passed.ensures.zero

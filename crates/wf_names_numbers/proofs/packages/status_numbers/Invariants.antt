@@ -1,5 +1,5 @@
 use Rattle.std.proofs.Common.{◌≡◌, ◌+◌, ℕ, drop, nat_eq, option_map}
-use Rattle.indexmap.specs.IndexMap.{get}
+use Rattle.number_tables.specs.Entries.{value_at}
 use Rattle.wf_ast.specs.ParsedTrees.{expr_trees, stmt_trees, decls_made}
 use Rattle.wf_names_rules.specs.Declarations.{statuses_of, status_named}
 use Rattle.wf_names_scopes.specs.Agreeing.{package_of}

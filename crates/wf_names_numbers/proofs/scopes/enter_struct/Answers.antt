@@ -1,7 +1,6 @@
-use Rattle.std.proofs.Common.{[], nat_eq}
+use Rattle.std.proofs.Common.{[]}
 use Rattle.wf_names_scopes.specs.Agreeing.{TellsScope}
 use Rattle.wf_names_scopes.specs.Growing.{scope_in}
-use Rattle.wf_names_numbers.proofs.NumberLemmas.{nothing_yet}
 use Rattle.wf_names_numbers.proofs.scopes.enter_struct.Goals as goal
 
 pub returns-clause-constants : goal.returns-clause-constants
@@ -13,6 +12,6 @@ pub returns-clause-places : goal.returns-clause-places
 returns-clause-places c = λ d all. record {
   tables = c.enter_struct.ensures d all.tables;
   constants = all.places;
-  args = nothing_yet nat_eq c.new.result c.new.ensures.empty;
-  locals = nothing_yet nat_eq c.new-2.result c.new-2.ensures.empty;
+  args = c.clear.ensures;
+  locals = c.clear-2.ensures;
 }

@@ -1,4 +1,5 @@
 use Rattle.std.proofs.Common.{nat_eq, sym, ◌∙◌}
+use Rattle.number_tables.specs.Entries.{value_at}
 use Rattle.indexmap.specs.IndexMap.{get}
 use Rattle.wf_ast.specs.ParsedTrees.{fields_at}
 use Rattle.wf_names_rules.specs.Declarations.{variables}
@@ -12,5 +13,5 @@ returns-in-Ok-clause-fields c =
     let old = c.args.places.now in
     then_ok c.add_number-in-Ok.result
     (λ added es. new_struct (record { name = c.args.name; fields = variables (fields_at es c.args.fields.now) }) (value_at old.structs) (value_at c.add_number-in-Ok.new.table) c.args.next added
-    (get same_pair old.fields) (get same_pair c.add_fields.new.table) (sym c.contains_key.ensures ∙ c.if-contains_key.false) (c.in-Ok.ensures es))
+    (get same_pair old.fields) (get same_pair c.add_fields.new.table) (sym c.has.ensures ∙ c.if-has.false) (c.in-Ok.ensures es))
     c.add_number-in-Ok.ensures.table

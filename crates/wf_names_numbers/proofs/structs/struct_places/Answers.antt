@@ -1,4 +1,5 @@
 use Rattle.std.proofs.Common.{◌≤◌, length, nat_eq, sym, ◌∙◌, arith}
+use Rattle.number_tables.specs.Entries.{value_at}
 use Rattle.indexmap.specs.IndexMap.{get}
 use Rattle.wf_names_rules.specs.Tables.{same_pair}
 use Rattle.wf_names_numbers.proofs.StructLemmas.{structs_begun, fields_begun, structs_passed, fields_passed}
@@ -6,8 +7,8 @@ use Rattle.wf_names_numbers.proofs.structs.struct_places.Goals as goal
 
 pub loop-node-init : goal.loop-node-init
 loop-node-init c = record {
-  structs = structs_begun c.args.parsed.now c.new.result c.new.ensures.empty;
-  fields = fields_begun c.args.parsed.now c.new.result c.new-2.result c.new.ensures.empty c.new-2.ensures.empty;
+  structs = structs_begun c.args.parsed.now c.new.result c.new.ensures;
+  fields = fields_begun c.args.parsed.now c.new.result c.new-2.result c.new.ensures c.new-2.ensures.empty;
 }
 
 pub returns-clause-structs : goal.returns-clause-structs

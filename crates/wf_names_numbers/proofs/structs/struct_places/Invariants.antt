@@ -1,4 +1,5 @@
 use Rattle.std.proofs.Common.{◌≡◌, ℕ, drop, nat_eq}
+use Rattle.number_tables.specs.Entries.{value_at}
 use Rattle.indexmap.specs.IndexMap.{get}
 use Rattle.wf_ast.specs.ParsedTrees.{expr_trees, stmt_trees, decls_made}
 use Rattle.wf_names_rules.specs.Declarations.{structs_of, struct_named, fields_of}

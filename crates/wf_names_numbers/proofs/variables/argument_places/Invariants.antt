@@ -1,5 +1,5 @@
 use Rattle.std.proofs.Common.{◌≡◌, ℕ, List, drop, nat_eq}
-use Rattle.indexmap.specs.IndexMap.{get}
+use Rattle.number_tables.specs.Entries.{value_at}
 use Rattle.wf_ast.specs.ParsedTree.{ExprTree}
 use Rattle.wf_ast.specs.ParsedTrees.{fields_at}
 use Rattle.wf_names_rules.specs.Declarations.{variables}

@@ -1,5 +1,5 @@
 use Rattle.std.proofs.Common.{◌≡◌, ℕ, drop, nat_eq}
-use Rattle.indexmap.specs.IndexMap.{get}
+use Rattle.number_tables.specs.Entries.{value_at}
 use Rattle.wf_ast.specs.ParsedTrees.{stmt_trees, items_at}
 use Rattle.wf_names_rules.specs.Declarations.{locals_of}
 use Rattle.wf_names_resolve.specs.Standing.{place_in}

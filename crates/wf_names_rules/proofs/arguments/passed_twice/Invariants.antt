@@ -1,5 +1,5 @@
 use Rattle.std.proofs.Common.{◌≡◌, drop, [], nat_eq}
-use Rattle.indexmap.specs.IndexMap.{get}
+use Rattle.number_tables.specs.Entries.{value_at}
 use Rattle.wf_text.specs.Precedence.{soonest}
 use Rattle.wf_ast.specs.ParsedTrees.{expr_trees, given_at}
 use Rattle.wf_names_rules.specs.Meanings.{given_values}

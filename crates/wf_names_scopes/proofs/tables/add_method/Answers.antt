@@ -1,6 +1,6 @@
 use Rattle.std.proofs.Common.{nat_eq}
+use Rattle.number_tables.specs.Entries.{has_number}
 use Rattle.indexmap.specs.IndexMap.{get}
-use Rattle.indexmap.specs.IndexSet.{contains}
 use Rattle.wf_names_rules.specs.Tables.{same_pair}
 use Rattle.wf_names_scopes.proofs.PackageLemmas.{number_added, name_added, public_added, args_added, count}
 use Rattle.wf_names_scopes.proofs.tables.add_method.Goals as goal

@@ -1,5 +1,5 @@
 use Rattle.std.proofs.Common.{nat_eq}
-use Rattle.indexmap.specs.IndexSet.{contains}
+use Rattle.number_tables.specs.Entries.{has_number}
 use Rattle.wf_names_scopes.proofs.PackageLemmas.{status_added}
 use Rattle.wf_names_scopes.proofs.tables.add_status.Goals as goal
 

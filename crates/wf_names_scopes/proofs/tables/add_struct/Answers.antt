@@ -1,6 +1,6 @@
 use Rattle.std.proofs.Common.{◌≡◌, ℕ, List, nat_eq, sym, subst}
+use Rattle.number_tables.specs.Entries.{has_number}
 use Rattle.indexmap.specs.IndexMap.{get}
-use Rattle.indexmap.specs.IndexSet.{contains}
 use Rattle.wf_ast.specs.ParsedTrees.{expr_trees, fields_at}
 use Rattle.wf_names_rules.specs.Declarations.{Structure, variables}
 use Rattle.wf_names_rules.specs.Tables.{same_pair}
