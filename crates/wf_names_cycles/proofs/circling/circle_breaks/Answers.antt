@@ -6,6 +6,6 @@ pub returns : goal.returns
 returns c = λ d s m.
     let structs = c.args.structs.now in
     let methods = c.args.methods.now in
-    circles-decided d c.args.found c.held.result c.recursive.result
-    (structs-decided d structs.names.items s.rows s.names s.made c.args.found c.held.result (c.held.ensures s.rows s.cycles))
-    (methods-decided d m.rows m.made methods.names.items m.names c.held.result c.recursive.result (c.recursive.ensures m.rows m.cycles))
+    circles-decided d c.args.found c.recursive-held.result c.recursive.result
+    (structs-decided d structs.names.items s.rows s.names s.made c.args.found c.recursive-held.result (c.recursive-held.ensures s.rows s.cycles))
+    (methods-decided d m.rows m.made methods.names.items m.names c.recursive-held.result c.recursive.result (c.recursive.ensures m.rows m.cycles))

@@ -1,5 +1,5 @@
 use Rattle.wf_names_laws.proofs.FrontLemmas.{order-long, order-front}
-use Rattle.wf_names_laws.proofs.laws.an_order_of_calls_is_one_of_the_package.Goals as goal
+use Rattle.wf_names_laws.proofs.orders.an_order_of_calls_is_one_of_the_package.Goals as goal
 
 pub returns : goal.returns
 returns c = record {

@@ -1,5 +1,5 @@
 use Rattle.wf_names_laws.proofs.DeclLaws.{consts-named, structs-named, methods-named}
-use Rattle.wf_names_laws.proofs.laws.declarations_are_well_named.Goals as goal
+use Rattle.wf_names_laws.proofs.well_named.declarations_are_well_named.Goals as goal
 
 pub returns-clause-consts : goal.returns-clause-consts
 returns-clause-consts c = consts-named

@@ -1,5 +1,5 @@
 use Rattle.wf_names_laws.proofs.ScopeLemmas.{const-known, struct-known, method-known}
-use Rattle.wf_names_laws.proofs.laws.resolved_scopes_know_as_much.Goals as goal
+use Rattle.wf_names_laws.proofs.well_named.resolved_scopes_know_as_much.Goals as goal
 
 pub returns-clause-consts : goal.returns-clause-consts
 returns-clause-consts c = const-known

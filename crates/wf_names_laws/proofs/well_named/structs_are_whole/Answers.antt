@@ -1,5 +1,5 @@
 use Rattle.wf_names_laws.proofs.WholeLaws.{structs-whole}
-use Rattle.wf_names_laws.proofs.laws.structs_are_whole.Goals as goal
+use Rattle.wf_names_laws.proofs.well_named.structs_are_whole.Goals as goal
 
 pub returns : goal.returns
 returns c = structs-whole

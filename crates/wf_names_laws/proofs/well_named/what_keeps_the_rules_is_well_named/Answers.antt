@@ -1,6 +1,6 @@
 use Rattle.wf_names_laws.proofs.ExprLaws.{expr-named, made-named, type-named}
 use Rattle.wf_names_laws.proofs.StmtLaws.{block-named}
-use Rattle.wf_names_laws.proofs.laws.what_keeps_the_rules_is_well_named.Goals as goal
+use Rattle.wf_names_laws.proofs.well_named.what_keeps_the_rules_is_well_named.Goals as goal
 
 pub returns-clause-exprs : goal.returns-clause-exprs
 returns-clause-exprs c = expr-named
