@@ -1,18 +1,16 @@
 -- A walk that has begun with every number and has come back has an order of all of them.
-use Rattle.std.proofs.Common.{◌≡◌, ◌⊎◌, ℕ, zero, suc, ◌<◌, ◌+◌, ◌≤◌, ◌||◌, Bool, true, false, List, [], ◌∷◌, ◌++◌, length, take, Some, slice_get, nat_eq, Result, Ok, Err, IfOk, refl, sym, ap, ◌∙◌, subst, inl, inr, arith, length-append, append-nil}
+use Rattle.std.proofs.Common.{◌≡◌, ◌⊎◌, ℕ, zero, suc, ◌<◌, ◌≤◌, ◌||◌, Bool, true, false, List, [], ◌∷◌, ◌++◌, length, take, Some, slice_get, nat_eq, refl, sym, ap, ◌∙◌, subst, inl, inr, arith, length-append, append-nil}
 use Rattle.std.specs.List.{IsDistinct}
-use Rattle.std.proofs.lemmas.Bool.Decides.{nat_tests}
 use Rattle.std.proofs.lemmas.Map.Keys.{IsDistinct-push}
 use Rattle.std.proofs.lemmas.Map.Made.{length-le_from_is_member}
 use Rattle.std.proofs.lemmas.Map.Steps.{length-le_from_distinct_below}
-use Rattle.wf_text.specs.declared.faults.NoMemory.{NoMemory}
 use Rattle.graphs.specs.Graphs.{Path, last, more, holds, goes}
 use Rattle.graphs.proofs.NumberLemmas.{same_number, number_self, numbers_equivalence}
 use Rattle.graphs.specs.declared.walk.Walk.{Walk}
 use Rattle.graphs.specs.Leaving.{IsLeaving}
 use Rattle.graphs.specs.Orders.{IsOrder, IsOrderOffCircles, HasCircle}
 use Rattle.graphs.specs.Walking.{Walks, has_begun}
-use Rattle.graphs.proofs.WalkLemmas.{either, found-at, take-at, one-place, get-within, holds-pushed, walk-few}
+use Rattle.graphs.proofs.WalkLemmas.{either, found-at, take-at, one-place, holds-pushed, walk-few}
 
 -- The numbers below a number.
 abbrev below : ℕ → List ℕ

@@ -1,5 +1,5 @@
 -- Graphs over numbers: each number has the list of the numbers that it goes to.
-use Rattle.std.specs.Prelude.{◌≡◌, ℕ, ◌<◌, Bool, true, List, [], ◌∷◌, Option, Some, None, length, slice_get, nat_eq, All}
+use Rattle.std.specs.Prelude.{◌≡◌, ℕ, ◌<◌, Bool, true, List, [], Option, Some, None, length, slice_get, nat_eq}
 use Rattle.std.specs.List.{list_any}
 
 -- A way of one or more steps.

@@ -1,6 +1,5 @@
 -- A package that breaks no rule of names has an order of its methods, and is well named.
-use Rattle.std.proofs.Common.{◌≡◌, ℕ, ◌+◌, ◌≤◌, ◌<◌, true, List, [], ◌∷◌, None, length, nat_eq, refl, sym, ap, ◌∙◌, subst}
-use Rattle.wf_text.specs.declared.rules.Refusal.{Refusal}
+use Rattle.std.proofs.Common.{◌≡◌, ℕ, true, List, None, length, sym, subst}
 use Rattle.wf_text.specs.Precedence.{Decides}
 use Rattle.wf_ast.specs.ParsedParts.{Parsed}
 use Rattle.wf_ast.specs.ParsedTree.{DeclTree}
@@ -8,7 +7,7 @@ use Rattle.wf_ast.specs.ParsedTrees.{decl_trees}
 use Rattle.wf_named.specs.NamedParts.{NamedParts, named_package}
 use Rattle.wf_named.specs.NamedTree.{NamedPackageTree}
 use Rattle.wf_named.specs.WellNamed.{well_named}
-use Rattle.wf_names_rules.specs.Declarations.{Declared, declared, methods_of}
+use Rattle.wf_names_rules.specs.Declarations.{Declared, declared}
 use Rattle.wf_names_rules.specs.NameRules.{Breaks, by_use, by_circle}
 use Rattle.wf_names_scopes.specs.Agreeing.{package_of}
 use Rattle.wf_names_cycles.specs.Called.{AreRows}

@@ -20,7 +20,7 @@ pub returns : goal.returns
 returns c =
     let d = package_of c.args.parsed.now in
     let named : c.in_ok-named.named ≡ uses_found d (labels_found d (declarations_found d None)) =
-        c.in_ok-named.ensures ∙ ap (uses_found d) c.in_ok-labelled.ensures ∙ ap (λ found. uses_found d (labels_found d found)) c.in_ok-declared.ensures in
+    c.in_ok-named.ensures ∙ ap (uses_found d) c.in_ok-labelled.ensures ∙ ap (λ found. uses_found d (labels_found d found)) c.in_ok-declared.ensures in
     if_ok (λ all. DecidesBehind (SizeBreaks d) c.circle_breaks-circling.result all) (Decides (Breaks d)) c.size_breaks.result
     (λ all b. all-decide d c.in_ok-named.named c.circle_breaks-circling.result all named (c.circle_breaks-circling.ensures d c.requires.structs c.requires.methods) b)
     c.size_breaks.ensures

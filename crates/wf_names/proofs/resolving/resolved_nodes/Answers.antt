@@ -1,4 +1,4 @@
-use Rattle.std.proofs.Common.{◌≡◌, None, subst}
+use Rattle.std.proofs.Common.{◌≡◌, subst}
 use Rattle.wf_text.specs.Precedence.{Decides}
 use Rattle.wf_ast.specs.ParsedTrees.{decl_trees}
 use Rattle.wf_named.specs.NamedParts.{named_package}

@@ -1,4 +1,3 @@
-use Rattle.std.proofs.Common.{length}
 use Rattle.graphs.specs.Graphs.{AreCircles}
 use Rattle.wf_names_cycles.proofs.CircleLemmas.{circling-decides}
 use Rattle.wf_names_cycles.proofs.circling.recursive.Goals as goal
