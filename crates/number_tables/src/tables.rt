@@ -19,6 +19,7 @@ pub struct Entry<T> {
 }
 
 /// Values by numbers, at most one of each.
+#[derive(Drop)]
 pub struct NumberTable<T> {
     pub(crate) places: Vec<u32>,
     pub(crate) entries: Vec<Entry<T>>,
