@@ -21,7 +21,7 @@ use wf_text::NoMemory;
 const MOST_BRACKETS: usize = 512;
 
 /// How a text ends.
-#[derive(Clone, Copy, PartialEq, Eq)]
+#[derive(Clone, Copy)]
 pub enum Ending {
     /// It is read to its end.
     Whole,

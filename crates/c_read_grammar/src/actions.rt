@@ -4,7 +4,7 @@ use crate::symbols::Sym;
 use c_text::{COp, CUint, CUnary, Linkage};
 
 /// Makes an expression, or adds to one.
-#[derive(Clone, Copy, PartialEq, Eq)]
+#[derive(Clone, Copy)]
 pub enum ExprAction {
     /// Of a name.
     MakeVariable,
@@ -41,7 +41,7 @@ pub enum ExprAction {
 }
 
 /// Makes a type.
-#[derive(Clone, Copy, PartialEq, Eq)]
+#[derive(Clone, Copy)]
 pub enum TypeAction {
     /// A type of exact width.
     MakeUint(CUint),
@@ -58,7 +58,7 @@ pub enum TypeAction {
 }
 
 /// Makes a statement, or what a statement is made of.
-#[derive(Clone, Copy, PartialEq, Eq)]
+#[derive(Clone, Copy)]
 pub enum StmtAction {
     /// A block begins.
     StartBlock,
@@ -97,7 +97,7 @@ pub enum StmtAction {
 }
 
 /// Makes an item, or what an item is made of.
-#[derive(Clone, Copy, PartialEq, Eq)]
+#[derive(Clone, Copy)]
 pub enum ItemAction {
     /// Fields begin, none so far.
     StartFields,
@@ -132,7 +132,7 @@ pub enum ItemAction {
 }
 
 /// What is done with the values.
-#[derive(Clone, Copy, PartialEq, Eq)]
+#[derive(Clone, Copy)]
 pub enum Action {
     /// An expression is made.
     Expr(ExprAction),
@@ -145,7 +145,7 @@ pub enum Action {
 }
 
 /// What comes next: something is read, or something is done with the values.
-#[derive(Clone, Copy, PartialEq, Eq)]
+#[derive(Clone, Copy)]
 pub enum Want {
     /// This is read.
     Read(Sym),

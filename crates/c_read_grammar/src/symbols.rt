@@ -4,7 +4,7 @@
 use c_text::{CMark, COp, Linkage};
 
 /// A part of an expression or of the arguments of a call.
-#[derive(Clone, Copy, PartialEq, Eq)]
+#[derive(Clone, Copy)]
 pub enum ExprSym {
     /// An expression.
     Expr,
@@ -37,7 +37,7 @@ pub enum ExprSym {
 }
 
 /// A part of a statement or block.
-#[derive(Clone, Copy, PartialEq, Eq)]
+#[derive(Clone, Copy)]
 pub enum StmtSym {
     /// The statements of a block and its `}`.
     Stmts,
@@ -62,7 +62,7 @@ pub enum StmtSym {
 }
 
 /// A part of an item.
-#[derive(Clone, Copy, PartialEq, Eq)]
+#[derive(Clone, Copy)]
 pub enum ItemSym {
     /// Any number of items.
     Unit,
@@ -95,7 +95,7 @@ pub enum ItemSym {
 }
 
 /// A single token.
-#[derive(Clone, Copy, PartialEq, Eq)]
+#[derive(Clone, Copy)]
 pub enum TokenSym {
     /// A name.
     Name,
@@ -116,7 +116,7 @@ pub enum TokenSym {
 }
 
 /// What is read next.
-#[derive(Clone, Copy, PartialEq, Eq)]
+#[derive(Clone, Copy)]
 pub enum Sym {
     /// A part of an expression.
     Expr(ExprSym),

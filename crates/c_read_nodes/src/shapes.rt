@@ -3,13 +3,13 @@
 ghost use Rattle.std.specs.Prelude.{◌≡◌, slice_get};
 ghost use Rattle.c_read_nodes.specs.Shapes.{is_shape, is_shape_at, fits, takes_expr, takes_type, takes_stmt, takes_item, takes, is_plain};
 
-use crate::stack::Stack;
 use crate::values::Value;
 use c_read_grammar::{Action, ExprAction, ItemAction, StmtAction, TypeAction};
 use c_text::CType;
+use stacks::Stack;
 
 /// The shape of a value: its variant, with what an action asks of it.
-#[derive(Clone, Copy, PartialEq, Eq)]
+#[derive(Clone, Copy)]
 pub enum Shape {
     Name,
     Number,

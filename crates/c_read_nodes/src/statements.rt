@@ -6,7 +6,7 @@ ghost use Rattle.c_read_nodes.specs.Statements.{node_of, is_label};
 use c_text::{CCall, CExprId, CNameId, CNumber, CStmt, CStmtId, Otherwise};
 
 /// An `if`, with what `otherwise` says behind it.
-#[derive(Clone, Copy, PartialEq, Eq)]
+#[derive(Clone, Copy)]
 pub struct Branch {
     pub test: CExprId,
     pub body: CStmtId,

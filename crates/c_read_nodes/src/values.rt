@@ -16,14 +16,14 @@ pub struct OpenOperation {
 }
 
 /// A test and the block behind it.
-#[derive(Clone, Copy, PartialEq, Eq)]
+#[derive(Clone, Copy)]
 pub struct Arm {
     pub test: CExprId,
     pub body: CStmtId,
 }
 
 /// What a function results in; no type for `void`.
-#[derive(Clone, Copy, PartialEq, Eq)]
+#[derive(Clone, Copy)]
 pub struct Outcome {
     pub linkage: Linkage,
     pub of: Option<CType>,

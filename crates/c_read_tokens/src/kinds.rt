@@ -3,7 +3,7 @@
 use c_text::{CMark, CNumber, COp, CWord};
 
 /// What a token is. The bytes of a name or a string are told beside it.
-#[derive(Clone, Copy, PartialEq, Eq)]
+#[derive(Clone, Copy)]
 pub enum Kind {
     /// A keyword or type name.
     Keyword(CWord),

@@ -11,7 +11,7 @@ use crate::kinds::Kind;
 use c_text::{CMark, COp};
 
 /// A symbol.
-#[derive(Clone, Copy, PartialEq, Eq)]
+#[derive(Clone, Copy)]
 pub enum Symbol {
     /// An operator with two operands.
     Operator(COp),

@@ -82,7 +82,7 @@ pub fn word_of(text: &[u8]) -> Option<CWord>
 }
 
 /// A keyword of C99, or a type name that the subset uses as a word.
-#[derive(Clone, Copy, PartialEq, Eq)]
+#[derive(Clone, Copy)]
 pub enum Reserved {
     Auto,
     Break,
