@@ -3,3 +3,4 @@ pub mod Values
 pub mod Targets
 pub mod Sights
 pub mod Replies
+pub mod Driving

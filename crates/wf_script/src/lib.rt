@@ -3,6 +3,7 @@
 
 pub mod commands;
 pub mod declared;
+pub mod driving;
 pub mod faults;
 pub mod names;
 mod printing;
@@ -11,6 +12,7 @@ pub mod script;
 pub mod values;
 
 pub use commands::{Command, NumberedCommand};
+pub use driving::{DriveEnd, drive};
 pub use declared::Declared;
 pub use faults::ScriptFault;
 pub use script::{Script, read_script};
