@@ -1,1 +1,3 @@
 pub mod Axioms
+pub mod Matching
+pub mod Bindings

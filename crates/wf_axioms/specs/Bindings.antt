@@ -1,0 +1,23 @@
+-- What a binding of letters to expressions says of the trees.
+use Rattle.std.specs.Prelude.{Bool, true, ◌&&◌, Option, None, Some, option_map}
+use Rattle.wf_ast.specs.declared.numbers.ExprId.{ExprId}
+use Rattle.wf_ast.specs.declared.typed_nodes.TypedNodes.{TypedNodes}
+use Rattle.wf_ast.specs.TypedTree.{NumTree}
+use Rattle.wf_ast.specs.TypedTrees.{num_in, tree_of}
+use Rattle.wf_facts_exprs.specs.Claims.{is_number_at}
+use Rattle.wf_axioms.specs.declared.matching.Binding.{Binding}
+use Rattle.wf_axioms.specs.Matching.{Trees}
+
+abbrev pub optional_tree : TypedNodes → Option ExprId → Option NumTree
+optional_tree nodes e = option_map (λ x. num_in (tree_of nodes x)) e
+
+abbrev pub trees_in : TypedNodes → Binding → Trees
+trees_in nodes b = record { a = optional_tree nodes b.a; b = optional_tree nodes b.b; c = optional_tree nodes b.c; d = optional_tree nodes b.d; b0 = optional_tree nodes b.b0; c0 = optional_tree nodes b.c0 }
+
+-- Every letter that stands for an expression stands for a number.
+abbrev pub is_optional_number : TypedNodes → Option ExprId → Bool
+is_optional_number nodes None = true
+is_optional_number nodes (Some e) = is_number_at nodes e
+
+abbrev pub are_numbers : TypedNodes → Binding → Bool
+are_numbers nodes b = is_optional_number nodes b.a && (is_optional_number nodes b.b && (is_optional_number nodes b.c && (is_optional_number nodes b.d && (is_optional_number nodes b.b0 && is_optional_number nodes b.c0))))

@@ -1,0 +1,130 @@
+-- Matching a goal with an axiom, and its premises there: what each letter stands for, told by the goal's tree and by the
+-- trees that are given.
+use Rattle.std.specs.Prelude.{ℕ, Bool, true, false, ◌&&◌, take, List, [], ◌∷◌, map, Option, None, Some, Result, Ok, Err, option_and_then, option_map, if◌then◌else◌, nat_eq}
+use Rattle.std.specs.List.{list_all}
+use Rattle.std.specs.Cmp.Lexicographic.{pointwise}
+use Rattle.wf_ast.specs.declared.numbers.ExprId.{ExprId}
+use Rattle.wf_ast.specs.declared.numbers.TextId.{TextId}
+use Rattle.wf_ast.specs.declared.typed_nodes.TypedNodes.{TypedNodes}
+use Rattle.wf_ast.specs.TypedTree.{NumTree, number, link, plus, CondTree, compare, Order}
+use Rattle.wf_ast.specs.TypedTrees.{no_place, num_in, tree_of, text_of}
+use Rattle.wf_ast.specs.Same.{same_num, same_order}
+use Rattle.wf_facts_exprs.specs.declared.facts.Cmp.{Cmp}
+use Rattle.wf_facts_exprs.specs.Claims.{SideTree, single, sum_of, Claim, compared, order_of}
+use Rattle.wf_axioms.specs.declared.axioms.Letter.{Letter}
+use Rattle.wf_axioms.specs.declared.axioms.Letter.TheVariants.{A, B, C, D, B0, C0}
+use Rattle.wf_axioms.specs.declared.axioms.Term.{Term}
+use Rattle.wf_axioms.specs.declared.axioms.Term.TheVariants.{One, Sum, Zero}
+use Rattle.wf_axioms.specs.declared.axioms.Axiom.{Axiom}
+use Rattle.wf_axioms.specs.declared.matching.AxiomFault.{AxiomFault}
+use Rattle.wf_axioms.specs.declared.matching.AxiomFault.TheVariants.{NotTheForm, UnboundLetter}
+use Rattle.wf_axioms.specs.Axioms.{row_of, letter_text}
+
+-- The tree that each letter stands for; None where it stands for none.
+pub record Trees : Type 0 where
+  pub a : Option NumTree
+  pub b : Option NumTree
+  pub c : Option NumTree
+  pub d : Option NumTree
+  pub b0 : Option NumTree
+  pub c0 : Option NumTree
+
+abbrev pub no_trees : Trees
+no_trees = record { a = None; b = None; c = None; d = None; b0 = None; c0 = None }
+
+abbrev pub stands_for : Trees → Letter → Option NumTree
+stands_for ts A = ts.a
+stands_for ts B = ts.b
+stands_for ts C = ts.c
+stands_for ts D = ts.d
+stands_for ts B0 = ts.b0
+stands_for ts C0 = ts.c0
+
+-- The letter stands for this tree from now on.
+abbrev pub with_tree : Letter → NumTree → Trees → Trees
+with_tree A t ts = record { a = Some t; b = ts.b; c = ts.c; d = ts.d; b0 = ts.b0; c0 = ts.c0 }
+with_tree B t ts = record { a = ts.a; b = Some t; c = ts.c; d = ts.d; b0 = ts.b0; c0 = ts.c0 }
+with_tree C t ts = record { a = ts.a; b = ts.b; c = Some t; d = ts.d; b0 = ts.b0; c0 = ts.c0 }
+with_tree D t ts = record { a = ts.a; b = ts.b; c = ts.c; d = Some t; b0 = ts.b0; c0 = ts.c0 }
+with_tree B0 t ts = record { a = ts.a; b = ts.b; c = ts.c; d = ts.d; b0 = Some t; c0 = ts.c0 }
+with_tree C0 t ts = record { a = ts.a; b = ts.b; c = ts.c; d = ts.d; b0 = ts.b0; c0 = Some t }
+
+-- A letter that occurs again has to stand for the same tree.
+abbrev pub bind_again : Option NumTree → Letter → NumTree → Trees → Option Trees
+bind_again None l t ts = Some (with_tree l t ts)
+bind_again (Some u) l t ts = if same_num u t then Some ts else None
+
+abbrev pub bind : Letter → NumTree → Trees → Option Trees
+bind l t ts = bind_again (stands_for ts l) l t ts
+
+-- A term matches a tree: a letter every tree, a sum a `+` between two operands and no other tree, and 0 none.
+abbrev pub matched_term : Term → NumTree → Trees → Option Trees
+matched_term (One l) t ts = bind l t ts
+matched_term (Sum l m) (link at sign plus bits false t u) ts = option_and_then (bind m u) (bind l t ts)
+matched_term term t ts = None
+
+-- What the letters stand for where the goal has the axiom's form; None where it doesn't.
+abbrev pub matched : Axiom → CondTree → Option Trees
+matched a (compare at sign t op u) =
+    if same_order op (order_of (row_of a).goal.1)
+    then option_and_then (matched_term (row_of a).goal.2 u) (matched_term (row_of a).goal.0 t no_trees)
+    else None
+matched a goal = None
+
+-- The letters of an axiom that its premises name.
+abbrev pub term_letters : Term → List Letter
+term_letters (One l) = l ∷ []
+term_letters (Sum l m) = l ∷ m ∷ []
+term_letters Zero = []
+
+-- A given letter: None where its text is none of the letters that the axiom's premises have, or it stands for a tree
+-- already.
+abbrev pub is_named : List ℕ → List Letter → Option Letter
+is_named text [] = None
+is_named text (l ∷ ls) = if pointwise nat_eq (letter_text l) text then Some l else is_named text ls
+
+abbrev pub named_in : List ℕ → List (Term × Cmp × Term) → Option Letter
+named_in text [] = None
+named_in text (c ∷ cs) = first (is_named text (term_letters c.0)) (first (is_named text (term_letters c.2)) (named_in text cs))
+  where
+    first : Option Letter → Option Letter → Option Letter
+    first None later = later
+    first (Some l) later = Some l
+
+abbrev pub bind_new : Option NumTree → Letter → NumTree → Trees → Option Trees
+bind_new None l t ts = Some (with_tree l t ts)
+bind_new (Some u) l t ts = None
+
+abbrev pub with_given : Axiom → List (List ℕ × NumTree) → Trees → Option Trees
+with_given a [] ts = Some ts
+with_given a (g ∷ gs) ts =
+    option_and_then (with_given a gs) (option_and_then (λ l. bind_new (stands_for ts l) l g.1 ts) (named_in g.0 (row_of a).premises))
+
+-- The premises as claims; None where one of their letters stands for no tree.
+abbrev pub side_of_term : Trees → Term → Option SideTree
+side_of_term ts (One l) = option_map single (stands_for ts l)
+side_of_term ts (Sum l m) = option_and_then (λ t. option_map (sum_of t) (stands_for ts m)) (stands_for ts l)
+side_of_term ts Zero = Some (single (number no_place 0))
+
+abbrev pub claim_of : Trees → Term × Cmp × Term → Option Claim
+claim_of ts c = option_and_then (λ x. option_map (compared x (order_of c.1)) (side_of_term ts c.2)) (side_of_term ts c.0)
+
+abbrev pub claims_of : Trees → List (Term × Cmp × Term) → Option (List Claim)
+claims_of ts [] = Some []
+claims_of ts (c ∷ cs) = option_and_then (λ f. option_map (λ fs. f ∷ fs) (claims_of ts cs)) (claim_of ts c)
+
+abbrev pub unless_unbound : Option (List Claim) → Result (List Claim) AxiomFault
+unless_unbound None = Err UnboundLetter
+unless_unbound (Some fs) = Ok fs
+
+abbrev pub after_matching : Axiom → List (List ℕ × NumTree) → Option Trees → Result (List Claim) AxiomFault
+after_matching a given None = Err NotTheForm
+after_matching a given (Some ts) = unless_unbound (option_and_then (λ us. claims_of us (row_of a).premises) (with_given a given ts))
+
+-- What the axiom asks for where this is its goal and these letters are given.
+abbrev pub premises_for : Axiom → CondTree → List (List ℕ × NumTree) → Result (List Claim) AxiomFault
+premises_for a goal given = after_matching a given (matched a goal)
+
+-- The letters that are given, with their trees.
+abbrev pub given_trees : TypedNodes → List (TextId × ExprId) → List (List ℕ × NumTree)
+given_trees nodes given = map (λ g. (text_of nodes g.0, num_in (tree_of nodes g.1))) given
