@@ -1,2 +1,3 @@
 pub mod AxiomTable
 pub mod Truth
+pub mod Sums

@@ -1,5 +1,5 @@
 -- What a binding of letters to expressions says of the trees.
-use Rattle.std.specs.Prelude.{Bool, true, ◌&&◌, Option, None, Some, option_map}
+use Rattle.std.specs.Prelude.{◌≡◌, true, Option, option_map, IfSome}
 use Rattle.wf_ast.specs.declared.numbers.ExprId.{ExprId}
 use Rattle.wf_ast.specs.declared.typed_nodes.TypedNodes.{TypedNodes}
 use Rattle.wf_ast.specs.TypedTree.{NumTree}
@@ -15,9 +15,13 @@ abbrev pub trees_in : TypedNodes → Binding → Trees
 trees_in nodes b = record { a = optional_tree nodes b.a; b = optional_tree nodes b.b; c = optional_tree nodes b.c; d = optional_tree nodes b.d; b0 = optional_tree nodes b.b0; c0 = optional_tree nodes b.c0 }
 
 -- Every letter that stands for an expression stands for a number.
-abbrev pub is_optional_number : TypedNodes → Option ExprId → Bool
-is_optional_number nodes None = true
-is_optional_number nodes (Some e) = is_number_at nodes e
+abbrev pub IsNumber : TypedNodes → Option ExprId → Type 0
+IsNumber nodes e = IfSome e (λ x. is_number_at nodes x ≡ true)
 
-abbrev pub are_numbers : TypedNodes → Binding → Bool
-are_numbers nodes b = is_optional_number nodes b.a && (is_optional_number nodes b.b && (is_optional_number nodes b.c && (is_optional_number nodes b.d && (is_optional_number nodes b.b0 && is_optional_number nodes b.c0))))
+pub record AreNumbers (nodes : TypedNodes) (of : Binding) : Type 0 where
+  pub a : IsNumber nodes of.a
+  pub b : IsNumber nodes of.b
+  pub c : IsNumber nodes of.c
+  pub d : IsNumber nodes of.d
+  pub b0 : IsNumber nodes of.b0
+  pub c0 : IsNumber nodes of.c0

@@ -1,7 +1,7 @@
 -- Matching a goal with an axiom, and its premises there: what each letter stands for, told by the goal's tree and by the
 -- trees that are given.
-use Rattle.std.specs.Prelude.{ℕ, Bool, true, false, ◌&&◌, take, List, [], ◌∷◌, map, Option, None, Some, Result, Ok, Err, option_and_then, option_map, if◌then◌else◌, nat_eq}
-use Rattle.std.specs.List.{list_all}
+use Rattle.std.specs.Prelude.{ℕ, Bool, true, false, not, ◌&&◌, ◌||◌, List, [], ◌∷◌, map, Option, None, Some, Result, Ok, Err, option_and_then, option_map, if◌then◌else◌, nat_eq}
+use Rattle.std.specs.List.{find}
 use Rattle.std.specs.Cmp.Lexicographic.{pointwise}
 use Rattle.wf_ast.specs.declared.numbers.ExprId.{ExprId}
 use Rattle.wf_ast.specs.declared.numbers.TextId.{TextId}
@@ -57,11 +57,16 @@ bind_again (Some u) l t ts = if same_num u t then Some ts else None
 abbrev pub bind : Letter → NumTree → Trees → Option Trees
 bind l t ts = bind_again (stands_for ts l) l t ts
 
+-- The operands of a `+` between two; None for every other tree.
+abbrev pub summands : NumTree → Option (NumTree × NumTree)
+summands (link at sign plus bits false t u) = Some (t, u)
+summands t = None
+
 -- A term matches a tree: a letter every tree, a sum a `+` between two operands and no other tree, and 0 none.
 abbrev pub matched_term : Term → NumTree → Trees → Option Trees
 matched_term (One l) t ts = bind l t ts
-matched_term (Sum l m) (link at sign plus bits false t u) ts = option_and_then (bind m u) (bind l t ts)
-matched_term term t ts = None
+matched_term (Sum l m) t ts = option_and_then (λ p. option_and_then (bind m p.1) (bind l p.0 ts)) (summands t)
+matched_term Zero t ts = None
 
 -- What the letters stand for where the goal has the axiom's form; None where it doesn't.
 abbrev pub matched : Axiom → CondTree → Option Trees
@@ -71,34 +76,45 @@ matched a (compare at sign t op u) =
     else None
 matched a goal = None
 
--- The letters of an axiom that its premises name.
-abbrev pub term_letters : Term → List Letter
-term_letters (One l) = l ∷ []
-term_letters (Sum l m) = l ∷ m ∷ []
-term_letters Zero = []
+-- A letter is free in an axiom where a premise has it and the goal doesn't.
+abbrev pub letter_number : Letter → ℕ
+letter_number A = 0
+letter_number B = 1
+letter_number C = 2
+letter_number D = 3
+letter_number B0 = 4
+letter_number C0 = 5
 
--- A given letter: None where its text is none of the letters that the axiom's premises have, or it stands for a tree
--- already.
-abbrev pub is_named : List ℕ → List Letter → Option Letter
-is_named text [] = None
-is_named text (l ∷ ls) = if pointwise nat_eq (letter_text l) text then Some l else is_named text ls
+abbrev pub in_term : Letter → Term → Bool
+in_term l (One m) = nat_eq (letter_number l) (letter_number m)
+in_term l (Sum m n) = nat_eq (letter_number l) (letter_number m) || nat_eq (letter_number l) (letter_number n)
+in_term l Zero = false
 
-abbrev pub named_in : List ℕ → List (Term × Cmp × Term) → Option Letter
-named_in text [] = None
-named_in text (c ∷ cs) = first (is_named text (term_letters c.0)) (first (is_named text (term_letters c.2)) (named_in text cs))
-  where
-    first : Option Letter → Option Letter → Option Letter
-    first None later = later
-    first (Some l) later = Some l
+abbrev pub in_comparison : Letter → Term × Cmp × Term → Bool
+in_comparison l c = in_term l c.0 || in_term l c.2
 
+abbrev pub in_some : Letter → List (Term × Cmp × Term) → Bool
+in_some l [] = false
+in_some l (c ∷ cs) = in_comparison l c || in_some l cs
+
+abbrev pub is_free : Axiom → Letter → Bool
+is_free a l = in_some l (row_of a).premises && not (in_comparison l (row_of a).goal)
+
+-- The letter that is written so, if one is.
+abbrev pub letter_named : List ℕ → Option Letter
+letter_named text = find (λ l. pointwise nat_eq (letter_text l) text) (A ∷ B ∷ C ∷ D ∷ B0 ∷ C0 ∷ [])
+
+-- A given letter has to be free, and has to stand for no tree yet.
 abbrev pub bind_new : Option NumTree → Letter → NumTree → Trees → Option Trees
 bind_new None l t ts = Some (with_tree l t ts)
 bind_new (Some u) l t ts = None
 
+abbrev pub bind_free : Axiom → NumTree → Trees → Letter → Option Trees
+bind_free a t ts l = if is_free a l then bind_new (stands_for ts l) l t ts else None
+
 abbrev pub with_given : Axiom → List (List ℕ × NumTree) → Trees → Option Trees
 with_given a [] ts = Some ts
-with_given a (g ∷ gs) ts =
-    option_and_then (with_given a gs) (option_and_then (λ l. bind_new (stands_for ts l) l g.1 ts) (named_in g.0 (row_of a).premises))
+with_given a (g ∷ gs) ts = option_and_then (with_given a gs) (option_and_then (bind_free a g.1 ts) (letter_named g.0))
 
 -- The premises as claims; None where one of their letters stands for no tree.
 abbrev pub side_of_term : Trees → Term → Option SideTree
