@@ -7,7 +7,7 @@ use Rattle.wf_ast.specs.declared.numbers.ExprId.{ExprId}
 use Rattle.wf_ast.specs.declared.numbers.TextId.{TextId}
 use Rattle.wf_ast.specs.declared.typed_nodes.TypedNodes.{TypedNodes}
 use Rattle.wf_ast.specs.TypedTree.{NumTree, number, link, plus, CondTree, compare, Order}
-use Rattle.wf_ast.specs.TypedTrees.{no_place, num_in, tree_of, text_of}
+use Rattle.wf_ast.specs.TypedTrees.{Sort, ordering, no_place, num_in, tree_of, text_of}
 use Rattle.wf_ast.specs.Same.{same_num, same_order}
 use Rattle.wf_facts_exprs.specs.declared.facts.Cmp.{Cmp}
 use Rattle.wf_facts_exprs.specs.Claims.{SideTree, single, sum_of, Claim, compared, order_of}
@@ -144,3 +144,13 @@ premises_for a goal given = after_matching a given (matched a goal)
 -- The letters that are given, with their trees.
 abbrev pub given_trees : TypedNodes → List (TextId × ExprId) → List (List ℕ × NumTree)
 given_trees nodes given = map (λ g. (text_of nodes g.0, num_in (tree_of nodes g.1))) given
+
+-- The two sides of a comparison of numbers, and how they compare; None for every other condition.
+abbrev pub comparison_in : CondTree → Option (NumTree × Order × NumTree)
+comparison_in (compare at sign t op u) = Some (t, op, u)
+comparison_in goal = None
+
+-- How the operators of a kind compare.
+abbrev pub order_by : Sort → Option Order
+order_by (ordering op) = Some op
+order_by sort = None

@@ -3,21 +3,21 @@
 ghost use Rattle.std.specs.Prelude.{◌≡◌, ◌&&◌, true, option_map, IsTrue, IfSome};
 ghost use Rattle.wf_ast.specs.declared.typed_nodes.TypedNodes.{TypedNodes};
 ghost use Rattle.wf_ast.specs.TypedTrees.{num_in, tree_of};
-ghost use Rattle.wf_facts_exprs.specs.Claims.{is_number_at};
+ghost use Rattle.wf_facts_exprs.specs.Claims.{is_number_at, is_condition_at, order_of};
 ghost use Rattle.wf_ast.specs.Same.{same_num};
-ghost use Rattle.wf_ast.specs.TypedTrees.{chain_of, place_of_node, signs_of_node, sort_of, type_of_node};
-ghost use Rattle.wf_ast.specs.TypedInvariant.{chain_fits, is_expr, is_tree_of};
+ghost use Rattle.wf_ast.specs.TypedTrees.{cond_in, chain_of, place_of_node, signs_of_node, sort_of, type_of_node};
+ghost use Rattle.wf_ast.specs.TypedInvariant.{chain_fits};
 ghost use Rattle.wf_facts_exprs.specs.Shapes.{is_sum_of_two as adds_two};
 ghost use Rattle.std.specs.Prelude.{map, nat_lt, nat_eq};
 ghost use Rattle.std.specs.List.{list_all, find};
 ghost use Rattle.std.specs.Cmp.Lexicographic.{pointwise};
 ghost use Rattle.wf_axioms.specs.Axioms.{letter_text};
-ghost use Rattle.wf_axioms.specs.Matching.{no_trees, stands_for, with_tree, bind as bind_tree, summands as summands_of, matched_term, is_free as free_in, letter_named as named_so};
+ghost use Rattle.wf_axioms.specs.Matching.{no_trees, stands_for, with_tree, bind as bind_tree, summands as summands_of, comparison_in, order_by, matched_term, is_free as free_in, letter_named as named_so};
 ghost use Rattle.wf_axioms.specs.Bindings.{trees_in, AreNumbers};
 
-use crate::axioms::{Axiom, Letter, Term};
-use wf_ast::{Expr, ExprId, Op, Typed};
-use wf_facts_exprs::{Side, same_side};
+use crate::axioms::{Axiom, Letter, Term, goal_of};
+use wf_ast::{Expr, ExprId, Op, Ty, Typed};
+use wf_facts_exprs::{Cmp, Side, same_side};
 
 /// Why an axiom can't be used for a goal.
 #[derive(Clone, Copy)]
@@ -168,5 +168,61 @@ fn is_free(a: Axiom, l: Letter) -> bool
         Axiom::LtSums => matches!(l, Letter::B0 | Letter::C0),
         Axiom::LtByGt | Axiom::GtByLt | Axiom::LeByGe | Axiom::GeByLe | Axiom::LtSum => false,
         Axiom::LeSum | Axiom::LeByLt | Axiom::EqByLeLe | Axiom::SumsByLeLe => false,
+    }
+}
+
+// The two sides of a goal that compares numbers.
+fn comparison(t: &Typed, goal: ExprId) -> Option<(ExprId, Cmp, ExprId)>
+    requires { IsTrue (is_condition_at t.now goal) }
+    ensures trees { option_map (λ p. (num_in (tree_of t.now p.0), order_of p.1, num_in (tree_of t.now p.2))) result ≡ comparison_in (cond_in (tree_of t.now goal)) }
+    ensures numbers { IfSome result (λ p. IsTrue (is_number_at t.now p.0 && is_number_at t.now p.2)) }
+{
+    let expr = t.expr(goal);
+    match t.constant(goal) {
+        Some(_) => unreachable!(),
+        None => match expr {
+            Expr::Chain { op, parts } => compared(t, goal, *op, parts.as_slice()),
+            Expr::Not(_) | Expr::Truth(_) => None,
+            Expr::Local(_) => None,
+            Expr::Field(_) => None,
+            Expr::Arg(_) => None,
+            Expr::Base { .. } => None,
+            Expr::Number(_) | Expr::Const(_) | Expr::Status(_) => unreachable!(),
+            Expr::Index { .. } | Expr::Cut { .. } | Expr::Convert { .. } => unreachable!(),
+        },
+    }
+}
+
+fn compared(t: &Typed, e: ExprId, op: Op, parts: &[ExprId]) -> Option<(ExprId, Cmp, ExprId)>
+    requires node { IsTrue (is_condition_at t.now e) }
+    requires tree { tree_of t.now e ≡ chain_of (place_of_node t.now e.0) (signs_of_node t.now e.0) (type_of_node t.now e.0) (sort_of op) (map (tree_of t.now) parts.now) }
+    requires fits { IsTrue (chain_fits t.now (sort_of op) parts.now (type_of_node t.now e.0)) }
+    requires below { IsTrue (list_all (λ p. nat_lt p.0 e.0) parts.now) }
+    ensures trees { option_map (λ p. (num_in (tree_of t.now p.0), order_of p.1, num_in (tree_of t.now p.2))) result ≡ comparison_in (cond_in (tree_of t.now e)) }
+    ensures numbers { IfSome result (λ p. IsTrue (is_number_at t.now p.0 && is_number_at t.now p.2)) }
+{
+    match cmp_of(op) {
+        None => None,
+        Some(cmp) => match t.type_of(parts[0]) {
+            Ty::Num { .. } => Some((parts[0], cmp, parts[1])),
+            _ => None,
+        },
+    }
+}
+
+// How an operator compares.
+fn cmp_of(op: Op) -> Option<Cmp>
+    ensures { option_map order_of result ≡ order_by (sort_of op) }
+{
+    match op {
+        Op::Same => Some(Cmp::Eq),
+        Op::Differs => Some(Cmp::Ne),
+        Op::Less => Some(Cmp::Lt),
+        Op::LessOrSame => Some(Cmp::Le),
+        Op::Greater => Some(Cmp::Gt),
+        Op::GreaterOrSame => Some(Cmp::Ge),
+        Op::Add | Op::Mul | Op::BitAnd | Op::BitOr | Op::BitXor | Op::And | Op::Or => None,
+        Op::Sub | Op::Div | Op::Rem | Op::Shl | Op::Shr | Op::ModAdd | Op::ModSub => None,
+        Op::ModMul | Op::ModShl | Op::SatAdd | Op::SatSub => None,
     }
 }
