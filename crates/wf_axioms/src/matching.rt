@@ -6,7 +6,7 @@ ghost use Rattle.wf_ast.specs.TypedTrees.{num_in, tree_of};
 ghost use Rattle.wf_facts_exprs.specs.Claims.{is_number_at, is_condition_at, order_of};
 ghost use Rattle.wf_ast.specs.Same.{same_num};
 ghost use Rattle.wf_ast.specs.TypedTrees.{cond_in, chain_of, place_of_node, signs_of_node, sort_of, type_of_node};
-ghost use Rattle.wf_ast.specs.TypedInvariant.{chain_fits};
+ghost use Rattle.wf_ast.specs.TypedInvariant.{chain_fits, is_expr, is_tree_of};
 ghost use Rattle.wf_facts_exprs.specs.Shapes.{is_sum_of_two as adds_two};
 ghost use Rattle.std.specs.Prelude.{map, nat_lt, nat_eq};
 ghost use Rattle.std.specs.List.{list_all, find};
@@ -203,7 +203,7 @@ fn compared(t: &Typed, e: ExprId, op: Op, parts: &[ExprId]) -> Option<(ExprId, C
 {
     match cmp_of(op) {
         None => None,
-        Some(cmp) => match t.type_of(parts[0]) {
+        Some(cmp) => match first_type(t, parts[0]) {
             Ty::Num { .. } => Some((parts[0], cmp, parts[1])),
             _ => None,
         },
@@ -225,4 +225,14 @@ fn cmp_of(op: Op) -> Option<Cmp>
         Op::Sub | Op::Div | Op::Rem | Op::Shl | Op::Shr | Op::ModAdd | Op::ModSub => None,
         Op::ModMul | Op::ModShl | Op::SatAdd | Op::SatSub => None,
     }
+}
+
+// The type of an expression, of whose kind its tree is.
+fn first_type(t: &Typed, e: ExprId) -> Ty
+    requires { IsTrue (is_expr t.now e) }
+    ensures ty { result ≡ type_of_node t.now e.0 }
+    ensures kind { IsTrue (is_tree_of (type_of_node t.now e.0) (tree_of t.now e)) }
+{
+    let _expr = t.expr(e);
+    t.type_of(e)
 }
