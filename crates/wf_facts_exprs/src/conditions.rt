@@ -3,13 +3,14 @@
 ghost use Rattle.std.specs.Prelude.{◌≡◌, ◌≤◌, ◌<◌, length, map, false, true, nat_lt, IsTrue, None};
 ghost use Rattle.std.specs.List.{list_all};
 ghost use Rattle.wf_ast.specs.TypedTrees.{chain_of, cond_in, place_of_node, signs_of_node, sort_of, tree_of, type_of_node};
-ghost use Rattle.wf_ast.specs.TypedInvariant.{chain_fits, is_expr, is_numeric};
+ghost use Rattle.wf_ast.specs.TypedInvariant.{chain_fits, is_expr};
 ghost use Rattle.wf_facts_exprs.specs.Claims.{AreFacts, claims_in, is_condition_at, is_number_at};
 ghost use Rattle.wf_facts_exprs.specs.Demands.{cond_refusal, num_refusal, or_else, unless_refused, value_refusal};
 ghost use Rattle.wf_facts_exprs.specs.Operands.{conds_refusal, is_condition_below, is_joining, node_cond, node_number};
 
 use crate::facts::Fact;
 use crate::judging::{judge, judge_slice};
+use crate::operands::{is_number, joins};
 use crate::shapes::look_at;
 use wf_ast::{Expr, ExprId, Op, Ty, Typed};
 use wf_text::Refusal;
@@ -117,19 +118,6 @@ fn check_operands(
     } else {
         Ok(())
     }
-}
-
-pub(crate) fn joins(op: Op) -> bool
-    ensures { result ≡ is_joining (sort_of op) }
-{
-    matches!(op, Op::And | Op::Or)
-}
-
-pub(crate) fn is_number(t: &Typed, e: ExprId) -> bool
-    requires { IsTrue (is_expr t.now e) }
-    ensures { result ≡ is_numeric (type_of_node t.now e.0) }
-{
-    matches!(t.type_of(e), Ty::Num { .. })
 }
 
 // Two numbers, in order.

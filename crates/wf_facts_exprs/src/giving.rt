@@ -5,13 +5,13 @@ ghost use Rattle.std.specs.List.{list_all};
 ghost use Rattle.wf_ast.specs.Same.{same_cond};
 ghost use Rattle.wf_ast.specs.TypedTrees.{chain_of, place_of_node, signs_of_node, sort_of, tree_of, type_of_node};
 ghost use Rattle.wf_ast.specs.TypedInvariant.{chain_fits};
-ghost use Rattle.wf_facts_exprs.specs.Claims.{AreFacts, claim_in, claims_in, is_condition_at, is_fact, is_number_at, order_of, same_claim, single, stands as standing_claim, with_answer};
+ghost use Rattle.wf_facts_exprs.specs.Claims.{AreFacts, claim_in, claims_in, is_condition_at, is_fact, is_number_at, order_of, same_claim, single, stands as standing_claim};
 ghost use Rattle.wf_facts_exprs.specs.Demands.{cond_refusal, num_refusal};
 ghost use Rattle.wf_facts_exprs.specs.Given.{gives as given, gives_sides as sides_given, is_standing};
-ghost use Rattle.wf_facts_exprs.specs.Operands.{all_given, any_given, conds_refusal, is_condition_below, is_joining, joins_all, node_cond, node_number, order_in};
+ghost use Rattle.wf_facts_exprs.specs.Operands.{all_given, any_given, conds_refusal, is_condition_below, is_joining, node_cond, node_number};
 
-use crate::conditions::{is_number, joins};
 use crate::facts::{Cmp, Fact, Side};
+use crate::operands::{compared_by, is_number, joins, needs_all};
 use crate::ranges::gives_sides;
 use crate::shapes::look_at;
 use wf_ast::{Expr, ExprId, Op, Typed, same};
@@ -59,20 +59,6 @@ fn gives_chain(t: &Typed, facts: &[Fact], e: ExprId, op: Op, parts: &[ExprId], a
         gives_all(t, facts, e, parts, answer)
     } else {
         gives_any(t, facts, e, parts, answer) || stands(t, facts, e, answer)
-    }
-}
-
-// `and` with yes and `or` with no.
-fn needs_all(op: Op, answer: bool) -> bool
-    ensures { result ≡ joins_all (sort_of op) answer }
-{
-    match op {
-        Op::And => answer,
-        Op::Or => !answer,
-        Op::Add | Op::Mul | Op::BitAnd | Op::BitOr | Op::BitXor | Op::Sub | Op::Div => false,
-        Op::Rem | Op::Shl | Op::Shr | Op::Same | Op::Differs | Op::Less => false,
-        Op::LessOrSame | Op::Greater | Op::GreaterOrSame | Op::ModAdd | Op::ModSub => false,
-        Op::ModMul | Op::ModShl | Op::SatAdd | Op::SatSub => false,
     }
 }
 
@@ -141,34 +127,6 @@ fn gives_numbers(t: &Typed, facts: &[Fact], a: ExprId, op: Cmp, b: ExprId) -> bo
     ensures { result ≡ sides_given (claims_in t.now facts.now) (single (node_number t.now a)) (order_of op) (single (node_number t.now b)) }
 {
     gives_sides(t, facts, Side::Expr(a), op, Side::Expr(b))
-}
-
-// The comparison, or with no its complement.
-fn compared_by(op: Op, answer: bool) -> Cmp
-    requires { is_joining (sort_of op) ≡ false }
-    ensures { order_of result ≡ with_answer answer (order_in (sort_of op)) }
-{
-    match op {
-        Op::Same => if answer { Cmp::Eq } else { Cmp::Ne },
-        Op::Differs => if answer { Cmp::Ne } else { Cmp::Eq },
-        Op::Less => if answer { Cmp::Lt } else { Cmp::Ge },
-        Op::LessOrSame => if answer { Cmp::Le } else { Cmp::Gt },
-        Op::Greater => if answer { Cmp::Gt } else { Cmp::Le },
-        Op::GreaterOrSame => if answer { Cmp::Ge } else { Cmp::Lt },
-        Op::Add | Op::Mul | Op::BitAnd | Op::BitOr | Op::BitXor | Op::And | Op::Or => unordered(
-            answer,
-        ),
-        Op::Sub | Op::Div | Op::Rem | Op::Shl | Op::Shr | Op::ModAdd | Op::ModSub => unordered(
-            answer,
-        ),
-        Op::ModMul | Op::ModShl | Op::SatAdd | Op::SatSub => unordered(answer),
-    }
-}
-
-fn unordered(answer: bool) -> Cmp
-    ensures { order_of result ≡ with_answer answer (order_of Cmp.Eq) }
-{
-    if answer { Cmp::Eq } else { Cmp::Ne }
 }
 
 // Whether the condition itself stands among the facts, with this answer.
