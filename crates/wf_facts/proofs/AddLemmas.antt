@@ -1,8 +1,7 @@
 -- Facts come into the list.
-use Rattle.std.proofs.Common.{◌≡◌, ℕ, ◌+◌, ◌<◌, ◌≤◌, Bool, true, false, not, ◌&&◌, ◌||◌, ◌⊎◌, inl, inr, List, [], ◌∷◌, ◌++◌, length, get_or, take, drop, map, refl, sym, ap, ◌∙◌, subst, arith}
-use Rattle.std.specs.Prelude.{slice_set, filter, nat_eq}
-use Rattle.std.proofs.lemmas.Bool.{cases_eq}
-use Rattle.std.proofs.lemmas.List.{take_more, drop_more, length-set, length-take-le, length-map, map-append}
+use Rattle.std.proofs.Common.{◌≡◌, ℕ, ◌+◌, ◌<◌, ◌≤◌, Bool, true, false, not, ◌&&◌, ◌||◌, List, [], ◌∷◌, ◌++◌, length, get_or, take, drop, map, refl, sym, ap, ◌∙◌, subst, arith}
+use Rattle.std.specs.Prelude.{filter, nat_eq}
+use Rattle.std.proofs.lemmas.List.{take_more, drop_more, length-take-le, length-map, map-append}
 use Rattle.std.proofs.lemmas.List.Elements.{All-push}
 use Rattle.wf_ast.specs.declared.things.Thing.{Thing}
 use Rattle.wf_ast.specs.declared.things.Thing.TheVariants as things
@@ -14,7 +13,7 @@ use Rattle.wf_facts.specs.Sets.{member, members, IsSetOf, unmarked}
 use Rattle.wf_facts.specs.FactLists.{added, common}
 use Rattle.wf_facts.specs.IndexedFacts.{FactList, IsOver, has_set, set_number, set_of, mentioning, words_at, thing_of}
 use Rattle.wf_facts.proofs.SetLemmas.{members_known, IsSetOf-put}
-use Rattle.wf_facts.proofs.DropLemmas.{length-mentioning, number_below, words_set, words_set_other}
+use Rattle.wf_facts.proofs.DropLemmas.{length-mentioning, number_below}
 
 -- A look through a list.
 among_next : (nodes : TypedNodes) (fs : List Fact) (i : ℕ) (d : Fact) (c : Claim) → i < length fs
@@ -58,32 +57,6 @@ claims-common nodes fs others xs ys words left right few seen =
     let p : Fact → Bool = λ f. not (is_among (claims_in nodes others) (claim_in nodes f)) in
     let known = members_known words (map p fs) set (length fs) (sym (length-map fs p)) few in
     ap (λ ms. claims_in nodes (unmarked ms fs)) known ∙ filtered nodes (λ c. is_among (claims_in nodes others) c) fs
-
--- The set of each thing that a new fact mentions has its place.
-pub record MarksSets (nodes : TypedNodes) (f : Fact) (n : ℕ) (xs ys : List FactSet) (i : ℕ) : Type 0 where
-  pub done : (k : ℕ) → k < i → (j : ℕ) → j < 512 → member (words_at ys k) j ≡ ((nat_eq j n && claim_mentions (thing_of k) (claim_in nodes f)) || member (words_at xs k) j)
-  pub rest : (k : ℕ) → i ≤ k → words_at ys k ≡ words_at xs k
-  pub long : length ys ≡ length xs
-
-pub MarksSets-more : (nodes : TypedNodes) (f : Fact) (n : ℕ) (xs ys : List FactSet) (i : ℕ) → MarksSets nodes f n xs ys i → i < length ys → (old : List ℕ) (written : FactSet) → words_at ys i ≡ old
-    → (b : Bool) → b ≡ claim_mentions (thing_of i) (claim_in nodes f) → ((j : ℕ) → j < 512 → member written.words j ≡ ((nat_eq j n && b) || member old j))
-    → MarksSets nodes f n xs (slice_set ys i written) (i + 1)
-MarksSets-more nodes f n xs ys i m within old written is b told put = record {
-  done = λ k h. by k h (cases_eq k i);
-  rest = λ k h. words_set_other ys i k written (λ e. absurd (omega (arith, e, h))) ∙ m.rest k (omega (arith, h));
-  long = length-set ys i written ∙ m.long;
-}
-  where
-    own : old ≡ words_at xs i
-    own = sym is ∙ m.rest i (omega arith)
-
-    by : (k : ℕ) → k < i + 1 → (k ≡ i) ⊎ (k ≡ i → ⊥) → (j : ℕ) → j < 512
-        → member (words_at (slice_set ys i written) k) j ≡ ((nat_eq j n && claim_mentions (thing_of k) (claim_in nodes f)) || member (words_at xs k) j)
-    by k h (inl e) j low =
-        let R : ℕ → Type 0 = λ k. member (words_at (slice_set ys i written) k) j ≡ ((nat_eq j n && claim_mentions (thing_of k) (claim_in nodes f)) || member (words_at xs k) j) in
-        subst R (sym e) (ap (λ ws. member ws j) (words_set ys i written within) ∙ put j low ∙ ap (λ c. (nat_eq j n && c) || member old j) told
-        ∙ ap (λ ws. (nat_eq j n && claim_mentions (thing_of i) (claim_in nodes f)) || member ws j) own)
-    by k h (inr e) j low = ap (λ ws. member ws j) (words_set_other ys i k written e) ∙ m.done k (omega (arith, h, e)) j low
 
 -- A thing with a set is the one whose set stands there.
 thing_back : (x : Thing) → has_set x ≡ true → thing_of (set_number x) ≡ x

@@ -1,8 +1,11 @@
 pub mod AddLemmas
 pub mod ChangeLemmas
 pub mod CommonLaws
+pub mod ConditionLemmas
 pub mod DropLemmas
+pub mod ExampleLemmas
 pub mod FormLemmas
 pub mod LawLemmas
+pub mod MarkLemmas
 pub mod MentioningLemmas
 pub mod SetLemmas

@@ -1,12 +1,12 @@
 -- A list of facts beside the sets of those that mention a thing.
-use Rattle.std.specs.Prelude.{◌≡◌, ℕ, zero, suc, ◌<◌, ◌≤◌, Bool, true, false, List, [], ◌∷◌, length, map, if◌then◌else◌, nat_lt, nat_eq}
+use Rattle.std.specs.Prelude.{◌≡◌, ℕ, zero, suc, ◌<◌, ◌≤◌, Bool, true, false, ◌&&◌, ◌||◌, List, [], ◌∷◌, length, map, if◌then◌else◌, nat_lt, nat_eq}
 use Rattle.wf_ast.specs.declared.things.Thing.{Thing}
 use Rattle.wf_ast.specs.declared.things.Thing.TheVariants as things
 use Rattle.wf_ast.specs.declared.typed_nodes.TypedNodes.{TypedNodes}
 use Rattle.wf_facts_exprs.specs.declared.facts.Fact.{Fact}
 use Rattle.wf_facts_exprs.specs.Claims.{claim_in, claims_in, claim_mentions, is_among, AreFacts}
 use Rattle.wf_facts.specs.declared.sets.FactSet.{FactSet}
-use Rattle.wf_facts.specs.Sets.{IsSetOf}
+use Rattle.wf_facts.specs.Sets.{member, IsSetOf}
 
 pub record FactList : Type 0 where
   pub list : List Fact
@@ -50,6 +50,10 @@ set_of facts x = words_at facts.sets (set_number x)
 -- Which facts of a list mention a thing, in order.
 abbrev pub mentioning : TypedNodes → Thing → List Fact → List Bool
 mentioning nodes x fs = map (λ f. claim_mentions x (claim_in nodes f)) fs
+
+-- Place n comes into the sets, by number, of what is met, and the sets are else as they were.
+abbrev pub Marks : (n : ℕ) → (met : ℕ → Bool) → (before after : List FactSet) → Type 0
+Marks n met before after = (k : ℕ) → k < 260 → (j : ℕ) → j < 512 → member (words_at after k) j ≡ ((nat_eq j n && met k) || member (words_at before k) j)
 
 -- The facts are those of a package, and the sets tell what they mention in it.
 pub record IsOver (nodes : TypedNodes) (known : FactList) : Type 0 where

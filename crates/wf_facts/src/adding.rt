@@ -1,17 +1,17 @@
 // Facts come into the list.
 
-ghost use Rattle.std.specs.Prelude.{◌≡◌, ℕ, ◌<◌, ◌≤◌, ◌&&◌, ◌||◌, not, true, false, length, map, nat_eq, OnOk, OnErr, IfOk};
-ghost use Rattle.wf_facts_exprs.specs.Claims.{claim_in, claims_in, claim_mentions, is_among, is_fact, AreFacts};
+ghost use Rattle.std.specs.Prelude.{◌≡◌, ◌≤◌, not, true, false, length, map, OnOk, OnErr, IfOk};
+ghost use Rattle.wf_facts_exprs.specs.Claims.{claim_in, claims_in, is_among, is_fact, AreFacts};
 ghost use Rattle.wf_facts.specs.FactLists.{added, common};
-ghost use Rattle.wf_facts.specs.IndexedFacts.{IsOver, IsFullFor, words_at, thing_of};
-ghost use Rattle.wf_facts.specs.Sets.{IsSetOf, member};
+ghost use Rattle.wf_facts.specs.IndexedFacts.{IsOver, IsFullFor};
+ghost use Rattle.wf_facts.specs.Sets.{IsSetOf};
 
 use crate::list::{Facts, SETS};
-use crate::mentioning::fact_mentions;
+use crate::marking::mark;
 use crate::sameness::same_fact;
 use crate::sets::FactSet;
 use std::alloc::Global;
-use wf_ast::{LocalId, Thing, Typed};
+use wf_ast::Typed;
 use wf_facts_exprs::Fact;
 use wf_text::NoMemory;
 
@@ -100,37 +100,4 @@ fn lacking(t: &Typed, list: &[Fact], others: &[Fact]) -> FactSet
         lacking.put(i, !stands_in(t, others, list[i]));
     }
     lacking
-}
-
-// Puts fact `n` into the set of each thing that it mentions.
-fn mark(t: &Typed, f: Fact, n: usize, sets: &mut [FactSet])
-    requires fact { is_fact t.now f ≡ true }
-    requires place { n < 512 }
-    requires whole { length sets.old ≡ 260 }
-    ensures { (k : ℕ) → k < 260 → (j : ℕ) → j < 512 → member (words_at sets.new k) j ≡ ((nat_eq j n && claim_mentions (thing_of k) (claim_in t.now f)) || member (words_at sets.old k) j) }
-{
-    for k in 0..sets.len() {
-        sets[k].put(n, fact_mentions(t, f, thing_at(k)));
-    }
-}
-
-// The thing whose set stands at a place.
-fn thing_at(k: usize) -> Thing
-    requires { k < 260 }
-    ensures { result ≡ thing_of k }
-{
-    if k < 256 {
-        return Thing::Local(LocalId(k as u32));
-    }
-    if k == 256 {
-        return Thing::This;
-    }
-    if k == 257 {
-        return Thing::Args;
-    }
-    if k == 258 {
-        Thing::Element
-    } else {
-        Thing::SliceLocals
-    }
 }

@@ -5,10 +5,13 @@
 mod adding;
 mod changes;
 mod changing;
+mod conditions;
 mod dropping;
+pub mod examples;
 mod forms;
 pub mod laws;
 mod list;
+mod marking;
 mod mentioning;
 mod sameness;
 mod sets;

@@ -1,0 +1,178 @@
+-- A fact comes into the sets of what it mentions.
+use Rattle.std.proofs.Common.{◌≡◌, ℕ, zero, suc, ◌+◌, ◌<◌, ◌≤◌, Bool, true, false, ◌&&◌, ◌||◌, ◌⊎◌, inl, inr, List, [], ◌∷◌, length, take, drop, Some, None, refl, sym, ap, ◌∙◌, subst, arith}
+use Rattle.std.specs.Prelude.{slice_get, slice_set, nat_eq, nat_lt}
+use Rattle.std.proofs.lemmas.Bool.{cases_eq, cases_lt}
+use Rattle.std.proofs.lemmas.Bool.Decides.{nat_tests}
+use Rattle.wf_ast.specs.declared.numbers.ExprId.{ExprId}
+use Rattle.wf_ast.specs.declared.things.Thing.{Thing}
+use Rattle.wf_ast.specs.declared.things.Thing.TheVariants as things
+use Rattle.wf_ast.specs.declared.types.Ty.{Ty}
+use Rattle.wf_ast.specs.declared.resolved.Expr.{Expr}
+use Rattle.wf_ast.specs.declared.typed_nodes.TypedNodes.{TypedNodes}
+use Rattle.wf_ast.specs.TypedTree.{local, field, arg, ValueTree}
+use Rattle.wf_ast.specs.TypedTrees.{tree_of, type_of_node, constant_of_node}
+use Rattle.wf_ast.specs.TypedInvariant.{parts_of, is_list}
+use Rattle.wf_ast.specs.Mentions.{path_is, is_element, mentions}
+use Rattle.wf_ast.specs.SameNodes.{head_mentions, any_mentions, local_is}
+use Rattle.wf_ast.proofs.SameLaws.{Lent}
+use Rattle.wf_ast.proofs.MentionLaws.{head_seen, part_seen, part_unseen, nothing_seen}
+use Rattle.wf_facts.specs.declared.sets.FactSet.{FactSet}
+use Rattle.wf_facts.specs.Sets.{member}
+use Rattle.wf_facts.specs.IndexedFacts.{Marks, thing_of, words_at}
+use Rattle.wf_facts.proofs.DropLemmas.{words_set, words_set_other}
+
+-- The sets of what is met, one after the other.
+pub marks-none : (n : ℕ) (xs : List FactSet) → Marks n (λ k. false) xs xs
+marks-none n xs k h j low = by (nat_eq j n) (member (words_at xs k) j)
+  where
+    by : (e m : Bool) → m ≡ ((e && false) || m)
+    by true m = refl
+    by false m = refl
+
+pub marks-same : (n : ℕ) (p q : ℕ → Bool) (xs ys : List FactSet) → ((k : ℕ) → k < 260 → p k ≡ q k) → Marks n p xs ys → Marks n q xs ys
+marks-same n p q xs ys same m k h j low = m k h j low ∙ ap (λ b. (nat_eq j n && b) || member (words_at xs k) j) (same k h)
+
+pub marks-both : (n : ℕ) (p q : ℕ → Bool) (xs ys zs : List FactSet) → Marks n p xs ys → Marks n q ys zs → Marks n (λ k. p k || q k) xs zs
+marks-both n p q xs ys zs a b k h j low =
+    b k h j low ∙ ap (λ c. (nat_eq j n && q k) || c) (a k h j low) ∙ by (nat_eq j n) (p k) (q k) (member (words_at xs k) j)
+  where
+    by : (e x y m : Bool) → ((e && y) || ((e && x) || m)) ≡ ((e && (x || y)) || m)
+    by false x y m = refl
+    by true true true m = refl
+    by true true false m = refl
+    by true false true m = refl
+    by true false false m = refl
+
+pub marks-one : (n : ℕ) (xs : List FactSet) (i : ℕ) (old : List ℕ) (written : FactSet) → i < length xs → words_at xs i ≡ old
+    → ((j : ℕ) → j < 512 → member written.words j ≡ (nat_eq j n || member old j)) → Marks n (λ k. nat_eq k i) xs (slice_set xs i written)
+marks-one n xs i old written within is put k h j low = by (cases_eq k i)
+  where
+    there : (e m : Bool) → (e || m) ≡ ((e && true) || m)
+    there true m = refl
+    there false m = refl
+
+    elsewhere : (e m : Bool) → m ≡ ((e && false) || m)
+    elsewhere true m = refl
+    elsewhere false m = refl
+
+    by : (k ≡ i) ⊎ (k ≡ i → ⊥) → member (words_at (slice_set xs i written) k) j ≡ ((nat_eq j n && nat_eq k i) || member (words_at xs k) j)
+    by (inl e) =
+        let R : ℕ → Type 0 = λ k. member (words_at (slice_set xs i written) k) j ≡ ((nat_eq j n && nat_eq k i) || member (words_at xs k) j) in
+        let own : nat_eq i i ≡ true = grind (arith, nat_tests) in
+        subst R (sym e) (ap (λ ws. member ws j) (words_set xs i written within) ∙ put j low ∙ ap (λ ws. nat_eq j n || member ws j) (sym is) ∙ there (nat_eq j n) (member (words_at xs i) j)
+        ∙ ap (λ b. (nat_eq j n && b) || member (words_at xs i) j) (sym own))
+    by (inr e) =
+        let other : nat_eq k i ≡ false = grind (arith, nat_tests, e) in
+        ap (λ ws. member ws j) (words_set_other xs i k written e) ∙ elsewhere (nat_eq j n) (member (words_at xs k) j) ∙ ap (λ b. (nat_eq j n && b) || member (words_at xs k) j) (sym other)
+
+-- The parts so far.
+pub or-again : (a b c : Bool) → ((a || b) || c) ≡ (a || (b || c))
+or-again true b c = refl
+or-again false b c = refl
+
+pub any-more : (look : ExprId → ValueTree) (x : Thing) (es : List ExprId) (i : ℕ) (p : ExprId) → slice_get es i ≡ Some p → any_mentions look x (take (i + 1) es) ≡ (any_mentions look x (take i es) || mentions (look p) x)
+any-more look x [] i p h = absurd (cc (h))
+any-more look x (e ∷ es) zero p h =
+    let a : e ≡ p = cc (h) in
+    rw a (by (mentions (look p) x))
+  where
+    by : (b : Bool) → (b || false) ≡ b
+    by true = refl
+    by false = refl
+any-more look x (e ∷ es) (suc i) p h =
+    let z : suc i + 1 ≡ suc (i + 1) = omega arith in
+    ap (λ n. any_mentions look x (take n (e ∷ es))) z ∙ ap (λ c. mentions (look e) x || c) (any-more look x es i p h) ∙ sym (or-again (mentions (look e) x) (any_mentions look x (take i es)) (mentions (look p) x))
+
+pub any-all : (look : ExprId → ValueTree) (x : Thing) (es : List ExprId) (i : ℕ) → length es ≤ i → any_mentions look x (take i es) ≡ any_mentions look x es
+any-all look x [] zero h = refl
+any-all look x [] (suc i) h = refl
+any-all look x (e ∷ es) zero h = absurd (omega (arith, h))
+any-all look x (e ∷ es) (suc i) h = ap (λ c. mentions (look e) x || c) (any-all look x es i (omega (arith, h)))
+
+get-first : (es : List ExprId) (i : ℕ) (p : ExprId) (ps : List ExprId) → drop i es ≡ p ∷ ps → slice_get es i ≡ Some p
+get-first [] zero p ps h = absurd (cc (h))
+get-first [] (suc i) p ps h = absurd (cc (h))
+get-first (e ∷ es) zero p ps h = cc (h)
+get-first (e ∷ es) (suc i) p ps h = get-first es i p ps h
+
+drop-first : (es : List ExprId) (i : ℕ) (p : ExprId) (ps : List ExprId) → drop i es ≡ p ∷ ps → drop (i + 1) es ≡ ps
+drop-first [] zero p ps h = absurd (cc (h))
+drop-first [] (suc i) p ps h = absurd (cc (h))
+drop-first (e ∷ es) zero p ps h = cc (h)
+drop-first (e ∷ es) (suc i) p ps h = let z : suc i + 1 ≡ suc (i + 1) = omega arith in ap (λ n. drop n (e ∷ es)) z ∙ drop-first es i p ps h
+
+drop-nothing : (es : List ExprId) (i : ℕ) → drop i es ≡ [] → length es ≤ i
+drop-nothing [] i h = omega arith
+drop-nothing (e ∷ es) zero h = absurd (cc (h))
+drop-nothing (e ∷ es) (suc i) h = let r = drop-nothing es i h in omega (arith, r)
+
+-- A node that is no constant mentions what it names, and what its parts mention.
+module _ (nodes : TypedNodes) (e : ExprId) (expr : Expr) (it : Lent nodes e expr) (x : Thing) (h : constant_of_node nodes e.0 ≡ None) where
+  parts-seen : head_mentions x (type_of_node nodes e.0) expr ≡ false → (es : List ExprId) (i : ℕ) → drop i (parts_of expr) ≡ es
+      → any_mentions (tree_of nodes) x (drop i (parts_of expr)) ≡ any_mentions (tree_of nodes) x (parts_of expr) → mentions (tree_of nodes e) x ≡ any_mentions (tree_of nodes) x es
+  parts-seen none [] i d left = sym (nothing_seen nodes e expr it x h (type_of_node nodes e.0) refl none i (drop-nothing (parts_of expr) i d) left)
+  parts-seen none (p ∷ es) i d left = by (mentions (tree_of nodes p) x) refl (parts-seen none es (i + 1) (drop-first (parts_of expr) i p es d))
+    where
+      by : (b : Bool) → mentions (tree_of nodes p) x ≡ b
+          → (any_mentions (tree_of nodes) x (drop (i + 1) (parts_of expr)) ≡ any_mentions (tree_of nodes) x (parts_of expr) → mentions (tree_of nodes e) x ≡ any_mentions (tree_of nodes) x es)
+          → mentions (tree_of nodes e) x ≡ (mentions (tree_of nodes p) x || any_mentions (tree_of nodes) x es)
+      by true m rest = sym (part_seen nodes e expr it x h i p (get-first (parts_of expr) i p es d) left m) ∙ sym (ap (λ b. b || any_mentions (tree_of nodes) x es) m)
+      by false m rest = rest (part_unseen nodes e expr it x h i p (get-first (parts_of expr) i p es d) left m) ∙ sym (ap (λ b. b || any_mentions (tree_of nodes) x es) m)
+
+  pub node-seen : mentions (tree_of nodes e) x ≡ (head_mentions x (type_of_node nodes e.0) expr || any_mentions (tree_of nodes) x (parts_of expr))
+  node-seen = by (head_mentions x (type_of_node nodes e.0) expr) refl
+    where
+      by : (b : Bool) → head_mentions x (type_of_node nodes e.0) expr ≡ b → mentions (tree_of nodes e) x ≡ (head_mentions x (type_of_node nodes e.0) expr || any_mentions (tree_of nodes) x (parts_of expr))
+      by true m = sym (head_seen nodes e expr it x h (type_of_node nodes e.0) refl m) ∙ sym (ap (λ b. b || any_mentions (tree_of nodes) x (parts_of expr)) m)
+      by false m = parts-seen m (parts_of expr) 0 refl refl ∙ sym (ap (λ b. b || any_mentions (tree_of nodes) x (parts_of expr)) m)
+
+-- The set of each thing that a node names by itself.
+low-thing : (k : ℕ) → k < 256 → thing_of k ≡ things.Local (record { 0 = k })
+low-thing k h = let low : nat_lt k 256 ≡ true = grind (arith, nat_tests, h) in rw low refl
+
+each-set : (P : ℕ → Type 0) → ((k : ℕ) → k < 256 → P k) → P 256 → P 257 → P 258 → P 259 → (k : ℕ) → k < 260 → P k
+each-set P low this args element slices k h = by (cases_lt k 256)
+  where
+    last : (k ≡ 256 → ⊥) → (k ≡ 257 → ⊥) → (k ≡ 258) ⊎ (k ≡ 258 → ⊥) → 256 ≤ k → P k
+    last a b (inl e) l = subst P (sym e) element
+    last a b (inr c) l = let e : 259 ≡ k = omega (arith, a, b, c, l, h) in subst P e slices
+
+    next : (k ≡ 256 → ⊥) → (k ≡ 257) ⊎ (k ≡ 257 → ⊥) → 256 ≤ k → P k
+    next a (inl e) l = subst P (sym e) args
+    next a (inr b) l = last a b (cases_eq k 258) l
+
+    high : (k ≡ 256) ⊎ (k ≡ 256 → ⊥) → 256 ≤ k → P k
+    high (inl e) l = subst P (sym e) this
+    high (inr a) l = next a (cases_eq k 257) l
+
+    by : (k < 256) ⊎ (256 ≤ k) → P k
+    by (inl l) = low k l
+    by (inr l) = high (cases_eq k 256) l
+
+pub field-met : (n k : ℕ) → k < 260 → path_is (thing_of k) (field n) ≡ nat_eq k 256
+field-met n = each-set (λ k. path_is (thing_of k) (field n) ≡ nat_eq k 256) (λ k l. let other : nat_eq k 256 ≡ false = grind (arith, nat_tests, l) in rw (low-thing k l) (sym other)) refl refl refl refl
+
+pub arg-met : (n k : ℕ) → k < 260 → path_is (thing_of k) (arg n) ≡ nat_eq k 257
+arg-met n = each-set (λ k. path_is (thing_of k) (arg n) ≡ nat_eq k 257) (λ k l. let other : nat_eq k 257 ≡ false = grind (arith, nat_tests, l) in rw (low-thing k l) (sym other)) refl refl refl refl
+
+pub element-met : (k : ℕ) → k < 260 → is_element (thing_of k) ≡ nat_eq k 258
+element-met = each-set (λ k. is_element (thing_of k) ≡ nat_eq k 258) (λ k l. let other : nat_eq k 258 ≡ false = grind (arith, nat_tests, l) in rw (low-thing k l) (sym other)) refl refl refl refl
+
+pub local-met : (n k : ℕ) → n < 256 → k < 260 → path_is (thing_of k) (local n) ≡ nat_eq k n
+local-met n k h = each-set (λ k. path_is (thing_of k) (local n) ≡ nat_eq k n) (λ k l. rw (low-thing k l) refl) (past 256 (omega arith)) (past 257 (omega arith)) (past 258 (omega arith)) (past 259 (omega arith)) k
+  where
+    past : (m : ℕ) → 256 ≤ m → false ≡ nat_eq m n
+    past m l = grind (arith, nat_tests, h, l)
+
+-- A local from 256 on has no set.
+pub local-unmet : (n k : ℕ) → 256 ≤ n → k < 260 → false ≡ path_is (thing_of k) (local n)
+local-unmet n k h = each-set (λ k. false ≡ path_is (thing_of k) (local n)) (λ k l. let other : nat_eq k n ≡ false = grind (arith, nat_tests, h, l) in rw (low-thing k l) (sym other)) refl refl refl refl k
+
+pub local-is-met : (ty : Ty) (n k : ℕ) → k < 260 → (path_is (thing_of k) (local n) || (is_list ty && nat_eq k 259)) ≡ local_is (thing_of k) ty n
+local-is-met ty n = each-set (λ k. (path_is (thing_of k) (local n) || (is_list ty && nat_eq k 259)) ≡ local_is (thing_of k) ty n)
+    (λ k l. let other : nat_eq k 259 ≡ false = grind (arith, nat_tests, l) in rw (low-thing k l, other) (by (nat_eq k n) (is_list ty))) refl refl refl refl
+  where
+    by : (b l : Bool) → (b || (l && false)) ≡ (b || (l && b))
+    by true l = refl
+    by false true = refl
+    by false false = refl
