@@ -1,1 +1,4 @@
 pub mod Axioms
+pub mod Matching
+pub mod Bindings
+pub mod Items
