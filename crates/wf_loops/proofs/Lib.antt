@@ -1,0 +1,4 @@
+pub mod AskingLemmas
+pub mod LawLemmas
+pub mod LoopLemmas
+pub mod NodeLemmas

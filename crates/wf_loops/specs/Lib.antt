@@ -1,0 +1,4 @@
+pub mod Examples
+pub mod LoopLaws
+pub mod LoopNodes
+pub mod LoopRules
