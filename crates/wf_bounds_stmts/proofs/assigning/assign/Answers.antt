@@ -1,0 +1,46 @@
+use Rattle.std.proofs.Common.{◌≡◌, ◌<◌, ◌≤◌, length, None, Some, ap, sym, ◌∙◌, arith}
+use Rattle.std.proofs.lemmas.List.{length-map}
+use Rattle.wf_ast.specs.TypedTrees.{target_of, tree_of, type_of_node}
+use Rattle.wf_facts_exprs.specs.Claims.{claim_in, claims_in}
+use Rattle.wf_facts_exprs.specs.Demands.{or_else}
+use Rattle.wf_loops.specs.LoopRules.{limit}
+use Rattle.wf_bounds_stmts.specs.Targets.{assign_refusal, assigned}
+use Rattle.wf_bounds_stmts.specs.Nodes.{known_variable, number_variable}
+use Rattle.wf_bounds_stmts.proofs.OutcomeLemmas.{is-refused, is-fine, limit-kept, limit-passed}
+use Rattle.wf_bounds_stmts.proofs.AssignLemmas.{assigned-seen}
+use Rattle.wf_bounds_stmts.proofs.assigning.assign.Goals as goal
+
+pub returns-in-Err-clause-answers : goal.returns-in-Err-clause-answers
+returns-in-Err-clause-answers c =
+    let fs = claims_in c.args.t.now c.args.facts.now.list in
+    let w = tree_of c.args.t.now c.args.target in
+    let v = tree_of c.args.t.now c.args.value in
+    let p = assign_refusal fs (target_of w) v in
+    let found : p ≡ Some c.in-Err.refusal = is-refused p c.in-Err.refusal (rw c.as_slice.ensures at (sym c.check_assigned.ensures ∙ c.in-Err.is)) in
+    ap (λ q. or_else q (limit c.args.at (assigned fs (target_of w) None v))) found
+
+pub returns-in-Ok-know_written-clause-answers : goal.returns-in-Ok-know_written-clause-answers
+returns-in-Ok-know_written-clause-answers c =
+    let fs = claims_in c.args.t.now c.args.facts.now.list in
+    let w = tree_of c.args.t.now c.args.target in
+    let v = tree_of c.args.t.now c.args.value in
+    let ty = type_of_node c.args.t.now c.args.target.0 in
+    let x = c.written-x.result in
+    let list = c.know_written.new.facts.list in
+    let made : claims_in c.args.t.now list ≡ assigned fs (target_of w) None v =
+    c.in-Ok-know_written.ensures.makes ∙ ap (known_variable (number_variable ty x) w v) c.drop_written.ensures.claims ∙ sym (assigned-seen fs w v ty x c.written-x.ensures.seen) in
+    let small : length (assigned fs (target_of w) None v) ≤ 512 = omega (arith, ap length made, length-map list (claim_in c.args.t.now), c.len-few.ensures.value, c.len-few.ensures.few) in
+    (is-fine (assign_refusal fs (target_of w) v) (rw c.as_slice.ensures at (sym c.check_assigned.ensures ∙ c.in-Ok.is)), limit-kept c.args.at (assigned fs (target_of w) None v) small, made)
+
+pub returns-in-Err-know_written-clause-answers : goal.returns-in-Err-know_written-clause-answers
+returns-in-Err-know_written-clause-answers c =
+    let fs = claims_in c.args.t.now c.args.facts.now.list in
+    let w = tree_of c.args.t.now c.args.target in
+    let v = tree_of c.args.t.now c.args.value in
+    let ty = type_of_node c.args.t.now c.args.target.0 in
+    let x = c.written-x.result in
+    let made : known_variable (number_variable ty x) w v (claims_in c.args.t.now c.drop_written.new.facts.list) ≡ assigned fs (target_of w) None v =
+    ap (known_variable (number_variable ty x) w v) c.drop_written.ensures.claims ∙ sym (assigned-seen fs w v ty x c.written-x.ensures.seen) in
+    let large : 512 < length (assigned fs (target_of w) None v) = rw made at c.in-Err-know_written.ensures.makes in
+    let fine : assign_refusal fs (target_of w) v ≡ None = is-fine (assign_refusal fs (target_of w) v) (rw c.as_slice.ensures at (sym c.check_assigned.ensures ∙ c.in-Ok.is)) in
+    ap (λ q. or_else q (limit c.args.at (assigned fs (target_of w) None v))) fine ∙ limit-passed c.args.at (assigned fs (target_of w) None v) large

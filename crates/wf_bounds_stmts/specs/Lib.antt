@@ -1,0 +1,11 @@
+pub mod AssertionNodes
+pub mod Assertions
+pub mod Calls
+pub mod Examples
+pub mod FactRules
+pub mod MethodRules
+pub mod Nodes
+pub mod Outcomes
+pub mod Requirements
+pub mod Statements
+pub mod Targets

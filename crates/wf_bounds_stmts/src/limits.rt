@@ -1,0 +1,85 @@
+// Values that have to lie in a type.
+
+ghost use Rattle.std.specs.Prelude.{◌≡◌, ℕ, IsTrue, None};
+ghost use Rattle.wf_ast.specs.TypedTrees.{tree_of, type_of_node};
+ghost use Rattle.wf_ast.specs.TypedInvariant.{is_expr, is_numeric, is_tree_of};
+ghost use Rattle.wf_facts_exprs.specs.Claims.{claims_in, AreFacts};
+ghost use Rattle.wf_facts_exprs.specs.Demands.{unless_refused, value_refusal};
+ghost use Rattle.wf_bounds_stmts.specs.Requirements.{lies_in as range_lies_in, lies_refusal, number_type};
+
+use crate::places::place;
+use wf_ast::{ExprId, Ty, Typed};
+use wf_facts_exprs::{Fact, range_of};
+use wf_num::Range;
+use wf_text::{Refusal, Rule};
+
+/// Checks that a number, whose demands are met, lies in a type, if that is one of numbers.
+pub(crate) fn check_lies(
+    t: &Typed,
+    facts: &[Fact],
+    rule: Rule,
+    ty: Ty,
+    e: ExprId,
+) -> Result<(), Refusal>
+    requires known { AreFacts t.now facts.now }
+    requires there { IsTrue (is_expr t.now e) }
+    requires fine { value_refusal (claims_in t.now facts.now) (tree_of t.now e) ≡ None }
+    ensures { result ≡ unless_refused (lies_refusal rule (claims_in t.now facts.now) (number_type ty) (tree_of t.now e)) tt }
+{
+    look_at(t, e);
+    if !is_number(ty) {
+        return Ok(());
+    }
+    let of_value = t.type_of(e);
+    if !is_number(of_value) {
+        return Ok(());
+    }
+    check_number(t, facts, rule, ty, e)
+}
+
+fn check_number(t: &Typed, facts: &[Fact], rule: Rule, ty: Ty, e: ExprId) -> Result<(), Refusal>
+    requires known { AreFacts t.now facts.now }
+    requires there { IsTrue (is_expr t.now e) }
+    requires number { IsTrue (is_numeric (type_of_node t.now e.0)) }
+    requires tree { IsTrue (is_tree_of (type_of_node t.now e.0) (tree_of t.now e)) }
+    requires takes { IsTrue (is_numeric ty) }
+    requires fine { value_refusal (claims_in t.now facts.now) (tree_of t.now e) ≡ None }
+    ensures { result ≡ unless_refused (lies_refusal rule (claims_in t.now facts.now) (number_type ty) (tree_of t.now e)) tt }
+{
+    match ty {
+        Ty::Num { lo, hi, .. } => {
+            let range = range_of(t, facts, e);
+            if lies_in(lo, hi, range) {
+                Ok(())
+            } else {
+                Err(Refusal {
+                    rule,
+                    at: place(t, e),
+                })
+            }
+        }
+        _ => unreachable!(),
+    }
+}
+
+/// Whether a type is one of numbers.
+pub(crate) fn is_number(ty: Ty) -> bool
+    ensures { result ≡ is_numeric ty }
+{
+    matches!(ty, Ty::Num { .. })
+}
+
+/// An expression's tree is of the kind of its type.
+pub(crate) fn look_at(t: &Typed, e: ExprId)
+    requires there { IsTrue (is_expr t.now e) }
+    ensures { IsTrue (is_tree_of (type_of_node t.now e.0) (tree_of t.now e)) }
+{
+    let _expr = t.expr(e);
+}
+
+// Whether a range has no number outside these bounds.
+fn lies_in(lo: u64, hi: u64, r: Range) -> bool
+    ensures { (bits : ℕ) → result ≡ range_lies_in (record { bits = bits; low = lo; high = hi }) r }
+{
+    r.is_empty() || (lo as i128 <= r.lo && r.hi <= hi as u128)
+}
