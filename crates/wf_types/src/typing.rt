@@ -3,6 +3,7 @@
 
 ghost use Rattle.std.specs.Prelude.{◌≡◌, ◌&&◌, true, None, length, nat_lt, IfErr, IfOk};
 ghost use Rattle.wf_ast.specs.StatementOrder.{stand_in_order};
+ghost use Rattle.wf_ast.specs.TypedInvariant.{IsTyped};
 ghost use Rattle.wf_ast.specs.TypedPackage.{package_of};
 ghost use Rattle.wf_named.specs.NamedParts.{named_package};
 ghost use Rattle.wf_named.specs.WellNamed.{well_named};
@@ -114,6 +115,7 @@ fn typed(alloc: Global, named: &NamedNodes) -> Result<Typed, NoMemory>
     ensures declared { IfOk result (λ typed. without_bodies typed ≡ declared_nodes named.now) }
     ensures entries { IfOk result (λ typed. known.entries typed ≡ package_entries (named_package named.now)) }
     ensures locals { IfOk result (LocalsHaveNodes (named_package named.now)) }
+    ensures kept { IfOk result (λ typed. IsTyped typed) }
 {
     match typed_nodes(alloc, named) {
         Ok(nodes) => {
@@ -131,12 +133,14 @@ fn typed(alloc: Global, named: &NamedNodes) -> Result<Typed, NoMemory>
 /// breaks by what has the least place, and of one place by the rule that is named first. `Memory` where memory was refused,
 /// or more is counted than there are numbers for. What the typed package declares has the names, the places and the types of the
 /// resolved one. Beside the expressions in bodies, it has one for each local of each method: its path, at the place of its name.
+/// What holds of every typed package is told of it too, for the phases behind this one.
 pub fn type_check(alloc: Global, named: Named) -> Result<Typed, PhaseFault>
     requires grammar { package_by_grammar (named_package named) ≡ true }
     requires placed { stand_in_order (typed_package (named_package named)) ≡ true }
     ensures refused { IfErr result (IsMistyped named) }
     ensures typed { IfOk result (IsElaborated named) }
     ensures locals { IfOk result (LocalsHaveNodes (named_package named)) }
+    ensures kept { IfOk result (λ typed. IsTyped typed) }
 {
     match type_refusal(alloc, &named) {
         Ok(None) => {

@@ -1,6 +1,7 @@
 use Rattle.std.proofs.Common.{◌≡◌, ◌∙◌, ap, sym, subst, true}
 use Rattle.wf_ast.specs.declared.typed_nodes.TypedNodes.{TypedNodes}
 use Rattle.wf_ast.specs.TypedPackage.{package_of}
+use Rattle.wf_ast.specs.TypedInvariant.{IsTyped}
 use Rattle.wf_named.specs.NamedParts.{named_package}
 use Rattle.wf_typed_tree.specs.Entries.{entries, package_entries}
 use Rattle.wf_typed_stmts.proofs.RightLaws.{body_is_right}
@@ -37,3 +38,9 @@ returns-then-has_numbers-clause-locals c =
 pub returns-then-has_numbers-clause-entries : goal.returns-then-has_numbers-clause-entries
 unfolding package_entries
 returns-then-has_numbers-clause-entries c = ap entries c.new.ensures ∙ c.in-Ok.ensures.whole.entries
+
+pub returns-then-has_numbers-clause-kept : goal.returns-then-has_numbers-clause-kept
+returns-then-has_numbers-clause-kept c =
+    let numbered : has_numbers c.in-Ok.nodes ≡ true = sym c.has_numbers.ensures ∙ c.if-has_numbers.true in
+    let P : TypedNodes → Type 0 = λ x. IsTyped x in
+    subst P (sym c.new.ensures) (nodes_typed c.args.named.now c.in-Ok.nodes c.in-Ok.ensures.whole c.requires.kept c.requires.names c.requires.grammar c.requires.placed numbered)
