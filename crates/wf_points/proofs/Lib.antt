@@ -1,0 +1,4 @@
+pub mod LoopLemmas
+pub mod NumberLemmas
+pub mod PointLemmas
+pub mod StatementArena

@@ -1,0 +1,2 @@
+pub mod FoundPoints
+pub mod PointNumbers
