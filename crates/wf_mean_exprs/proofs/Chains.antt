@@ -1,0 +1,140 @@
+-- The value of a chain, one operand after the other.
+use Rattle.std.proofs.Common.{◌≡◌, ℕ, zero, suc, ◌+◌, ◌<◌, ◌≤◌, Bool, true, false, List, [], ◌∷◌, length, map, drop, get_or, Option, nat_lt, refl, sym, ap, ◌∙◌, subst, arith}
+use Rattle.std.specs.Prelude.{option_and_then}
+use Rattle.std.specs.List.{list_all}
+use Rattle.std.proofs.Math.ListN.{drop_of_length-le}
+use Rattle.std.proofs.lemmas.List.{drop_more}
+use Rattle.std.proofs.lemmas.Bool.Decides.{nat_tests}
+use Rattle.wf_text.specs.declared.place.Place.{Place}
+use Rattle.wf_ast.specs.declared.numbers.ExprId.{ExprId}
+use Rattle.wf_ast.specs.declared.types.Ty.{Ty}
+use Rattle.wf_ast.specs.declared.types.Ty.TheVariants as types
+use Rattle.wf_ast.specs.declared.typed_nodes.TypedNodes.{TypedNodes}
+use Rattle.wf_ast.specs.TypedTree.{Arith, NumTree, ValueTree, link}
+use Rattle.wf_ast.specs.TypedTrees.{Sort, arithmetic, ordering, joining, num_in, num_chain, chain_of, num_type, tree_of, type_of_node}
+use Rattle.wf_ast.specs.TypedInvariant.{is_expr, is_numeric, is_logical, is_list, all_numeric, chain_fits}
+use Rattle.wf_ast.specs.Value.{State, applied, value}
+use Rattle.wf_ast.proofs.Arena.{both_true}
+use Rattle.wf_mean_exprs.specs.Operands.{node_number, is_number_at, is_arithmetic, arith_in, chain_value}
+
+-- A chain that gives a number is arithmetic, and its operands are numbers that stand in front of it.
+pub record IsOfNumbers (nodes : TypedNodes) (sort : Sort) (es : List ExprId) : Type 0 where
+  pub arithmetic_sort : is_arithmetic sort ≡ true
+  pub numbers : list_all (is_number_at nodes) es ≡ true
+  pub some : 0 < length es
+
+pub lt_more : (k m n : ℕ) → m < n → nat_lt k m ≡ true → nat_lt k n ≡ true
+lt_more k m n l h = grind (arith, nat_tests, l, h)
+
+numbers_below : (nodes : TypedNodes) (n : ℕ) (es : List ExprId) → n < length nodes.exprs → all_numeric nodes es ≡ true → list_all (λ p. nat_lt p.0 n) es ≡ true → list_all (is_number_at nodes) es ≡ true
+numbers_below nodes n [] l h b = refl
+numbers_below nodes n (e ∷ es) l h b =
+    let p = both_true (is_numeric (type_of_node nodes e.0)) (all_numeric nodes es) h in
+    let q = both_true (nat_lt e.0 n) (list_all (λ p. nat_lt p.0 n) es) b in
+    rw (lt_more e.0 n (length nodes.exprs) l q.0, p.0, numbers_below nodes n es l p.1 q.1) refl
+
+pub not_both : (ty : Ty) → is_numeric ty ≡ true → is_logical ty ≡ true → ⊥
+not_both (types.Num width lo hi) h k = cc k
+not_both types.Flag h k = cc h
+not_both types.Status h k = cc h
+not_both types.Reader h k = cc h
+not_both types.Writer h k = cc h
+not_both (types.Slice width) h k = cc h
+not_both (types.Array width lo hi count) h k = cc h
+not_both (types.Part s) h k = cc h
+
+pub of_numbers : (nodes : TypedNodes) (n : ℕ) (ty : Ty) (sort : Sort) (es : List ExprId) → n < length nodes.exprs → is_numeric ty ≡ true → chain_fits nodes sort es ty ≡ true
+    → list_all (λ p. nat_lt p.0 n) es ≡ true → IsOfNumbers nodes sort es
+of_numbers nodes n ty (arithmetic op) [] l h f b = absurd (cc f)
+of_numbers nodes n ty (arithmetic op) (e ∷ []) l h f b = absurd (cc f)
+of_numbers nodes n ty (arithmetic op) (e ∷ g ∷ es) l h f b =
+    let p = both_true (is_numeric ty) (all_numeric nodes (e ∷ g ∷ es)) f in
+    record { arithmetic_sort = refl; numbers = numbers_below nodes n (e ∷ g ∷ es) l p.1 b; some = omega arith }
+of_numbers nodes n ty (joining both) [] l h f b = absurd (cc f)
+of_numbers nodes n ty (joining both) (e ∷ []) l h f b = absurd (cc f)
+of_numbers nodes n ty (joining both) (e ∷ g ∷ es) l h f b = absurd (not_both ty h (both_true (is_logical ty) _ f).0)
+of_numbers nodes n ty (ordering op) [] l h f b = absurd (cc f)
+of_numbers nodes n ty (ordering op) (e ∷ []) l h f b = absurd (cc f)
+of_numbers nodes n ty (ordering op) (e ∷ g ∷ []) l h f b = absurd (not_both ty h (both_true (is_logical ty) _ f).0)
+of_numbers nodes n ty (ordering op) (e ∷ g ∷ i ∷ es) l h f b = absurd (cc f)
+
+pub item_true : (test : ExprId → Bool) (es : List ExprId) (i : ℕ) (d : ExprId) → list_all test es ≡ true → i < length es → test (get_or es i d) ≡ true
+item_true test [] i d h l = absurd (omega (arith, l))
+item_true test (e ∷ es) zero d h l = (both_true (test e) (list_all test es) h).0
+item_true test (e ∷ es) (suc i) d h l = item_true test es i d (both_true (test e) (list_all test es) h).1 (omega (arith, l))
+
+pub item_below : (n : ℕ) (es : List ExprId) (i : ℕ) (d : ExprId) → list_all (λ p. nat_lt p.0 n) es ≡ true → i < length es → (get_or es i d).0 < n
+item_below n es i d h l = let t = item_true (λ p. nat_lt p.0 n) es i d h l in grind (arith, nat_tests, t)
+
+module _ (s : State) where
+  num_chain_value : (at : Place) (op : Arith) (bits : ℕ) (joined : Bool) (so_far : NumTree) (ts : List ValueTree) (signs : List Place)
+      → value s (num_chain at op bits joined so_far ts signs) ≡ chain_value s op bits (value s so_far) (map num_in ts)
+  num_chain_value at op bits joined so_far [] signs = refl
+  num_chain_value at op bits joined so_far (t ∷ ts) [] = num_chain_value at op bits true (link at at op bits joined so_far (num_in t)) ts []
+  num_chain_value at op bits joined so_far (t ∷ ts) (sign ∷ signs) = num_chain_value at op bits true (link at sign op bits joined so_far (num_in t)) ts signs
+
+  map_twice : (nodes : TypedNodes) (es : List ExprId) → map num_in (map (tree_of nodes) es) ≡ map (node_number nodes) es
+  map_twice nodes [] = refl
+  map_twice nodes (e ∷ es) = ap (λ ts. node_number nodes e ∷ ts) (map_twice nodes es)
+
+  -- The chain begins with the value of its first operand.
+  pub chain_begins : (nodes : TypedNodes) (at : Place) (signs : List Place) (ty : Ty) (sort : Sort) (es : List ExprId) (d : ExprId) → is_arithmetic sort ≡ true → 0 < length es
+      → chain_value s (arith_in sort) (num_type ty).bits (value s (node_number nodes (get_or es 0 d))) (map (node_number nodes) (drop 1 es))
+      ≡ value s (num_in (chain_of at signs ty sort (map (tree_of nodes) es)))
+  chain_begins nodes at signs ty (arithmetic op) [] d a l = absurd (omega (arith, l))
+  chain_begins nodes at signs ty (arithmetic op) (e ∷ es) d a l =
+      ap (chain_value s op (num_type ty).bits (value s (node_number nodes e))) (sym (map_twice nodes es))
+      ∙ sym (num_chain_value at op (num_type ty).bits false (node_number nodes e) (map (tree_of nodes) es) signs)
+  chain_begins nodes at signs ty (ordering op) es d a l = absurd (cc a)
+  chain_begins nodes at signs ty (joining both) es d a l = absurd (cc a)
+
+  -- One operand more.
+  pub chain_next : (nodes : TypedNodes) (op : Arith) (bits : ℕ) (so_far next all : Option ℕ) (es : List ExprId) (i : ℕ) (d : ExprId) → i < length es
+      → chain_value s op bits so_far (map (node_number nodes) (drop i es)) ≡ all
+      → next ≡ option_and_then (λ m. option_and_then (applied op bits m) (value s (node_number nodes (get_or es i d)))) so_far
+      → chain_value s op bits next (map (node_number nodes) (drop (i + 1) es)) ≡ all
+  chain_next nodes op bits so_far next all es i d l h e =
+      let P : List ExprId → Type 0 = λ xs. chain_value s op bits so_far (map (node_number nodes) xs) ≡ all in
+      ap (λ o. chain_value s op bits o (map (node_number nodes) (drop (i + 1) es))) e ∙ subst P (drop_more es i d l) h
+
+  pub chain_ends : (nodes : TypedNodes) (op : Arith) (bits : ℕ) (so_far all : Option ℕ) (es : List ExprId) (i : ℕ) → length es ≤ i
+      → chain_value s op bits so_far (map (node_number nodes) (drop i es)) ≡ all → so_far ≡ all
+  chain_ends nodes op bits so_far all es i l h =
+      let P : List ExprId → Type 0 = λ xs. chain_value s op bits so_far (map (node_number nodes) xs) ≡ all in
+      subst P (drop_of_length-le es l) h
+
+pub number_below : (nodes : TypedNodes) (e : ExprId) → is_number_at nodes e ≡ true → e.0 < length nodes.exprs
+number_below nodes e h = let p = (both_true (is_expr nodes e) (is_numeric (type_of_node nodes e.0)) h).0 in grind (arith, nat_tests, p)
+
+not_list : (ty : Ty) → is_list ty ≡ true → is_logical ty ≡ true → ⊥
+not_list (types.Num width lo hi) h k = cc h
+not_list types.Flag h k = cc h
+not_list types.Status h k = cc h
+not_list types.Reader h k = cc h
+not_list types.Writer h k = cc h
+not_list (types.Slice width) h k = cc k
+not_list (types.Array width lo hi count) h k = cc k
+not_list (types.Part s) h k = cc h
+
+no_number : (ty : Ty) → is_list ty ≡ true → is_numeric ty ≡ true → ⊥
+no_number (types.Num width lo hi) h k = cc h
+no_number types.Flag h k = cc h
+no_number types.Status h k = cc h
+no_number types.Reader h k = cc h
+no_number types.Writer h k = cc h
+no_number (types.Slice width) h k = cc k
+no_number (types.Array width lo hi count) h k = cc k
+no_number (types.Part s) h k = cc h
+
+-- A chain gives no slice.
+pub no_chain : (nodes : TypedNodes) (ty : Ty) (sort : Sort) (es : List ExprId) → is_list ty ≡ true → chain_fits nodes sort es ty ≡ true → ⊥
+no_chain nodes ty (arithmetic op) [] h f = cc f
+no_chain nodes ty (arithmetic op) (e ∷ []) h f = cc f
+no_chain nodes ty (arithmetic op) (e ∷ g ∷ es) h f = no_number ty h (both_true (is_numeric ty) (all_numeric nodes (e ∷ g ∷ es)) f).0
+no_chain nodes ty (joining both) [] h f = cc f
+no_chain nodes ty (joining both) (e ∷ []) h f = cc f
+no_chain nodes ty (joining both) (e ∷ g ∷ es) h f = not_list ty h (both_true (is_logical ty) _ f).0
+no_chain nodes ty (ordering op) [] h f = cc f
+no_chain nodes ty (ordering op) (e ∷ []) h f = cc f
+no_chain nodes ty (ordering op) (e ∷ g ∷ []) h f = not_list ty h (both_true (is_logical ty) _ f).0
+no_chain nodes ty (ordering op) (e ∷ g ∷ i ∷ es) h f = cc f

@@ -1,0 +1,4 @@
+pub mod Conditions
+pub mod MachineState
+pub mod Operands
+pub mod Questions
