@@ -17,6 +17,8 @@ mod outside_tests;
 #[cfg(test)]
 mod range_tests;
 #[cfg(test)]
+mod script_tests;
+#[cfg(test)]
 mod text_tests;
 #[cfg(test)]
 mod tree_tests;

@@ -1,5 +1,3 @@
 pub mod Views
 pub mod Values
 pub mod Targets
-pub mod Sights
-pub mod Replies

@@ -16,7 +16,7 @@ use wf_text::NoMemory;
 /// What was declared, and the turns that later calls and inits get. `stored` tells how many bytes all buffers and
 /// byte arrays have together.
 pub struct Declared {
-    pub(crate) names: Names,
+    names: Names,
     pub(crate) receivers: Vec<ReceiverDecl>,
     pub(crate) sizes: Vec<u32>,
     pub(crate) arrays: ByteArrays,
@@ -116,14 +116,14 @@ impl Declared {
     }
 
     /// The size of buffer `k`.
-    pub(crate) fn size(&self, k: u16) -> Option<u32>
+    pub fn size(&self, k: u16) -> Option<u32>
         ensures { result ≡ slice_get self.now.sizes k }
     {
         self.sizes.get(k as usize).copied()
     }
 
     /// The length of byte array `k`.
-    pub(crate) fn array_len(&self, k: u16) -> Option<usize>
+    pub fn array_len(&self, k: u16) -> Option<usize>
         ensures { result ≡ option_map (λ array. length array) (slice_get self.now.arrays k) }
     {
         if (k as usize) < self.arrays.len() {
@@ -133,8 +133,15 @@ impl Declared {
         }
     }
 
+    /// Every name that was declared.
+    pub fn names(&self) -> &Names
+        ensures { result.now ≡ self.now.names }
+    {
+        &self.names
+    }
+
     /// Receiver `k`.
-    pub(crate) fn receiver(&self, k: u16) -> Option<ReceiverDecl>
+    pub fn receiver(&self, k: u16) -> Option<ReceiverDecl>
         ensures { option_map receiver_of result ≡ slice_get self.now.receivers k }
     {
         self.receivers.get(k as usize).copied()

@@ -1,12 +1,10 @@
-// Scripts: read over a package's public surface, and driven over any engine.
+// Scripts, read over a package's public surface.
 #![tactic(auto)]
 
 pub mod commands;
 pub mod declared;
 pub mod faults;
 pub mod names;
-mod printing;
-mod report;
 pub mod script;
 pub mod values;
 

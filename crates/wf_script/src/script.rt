@@ -17,8 +17,8 @@ use wf_text::NoMemory;
 /// What a script declares, and its commands.
 #[derive(Drop)]
 pub struct Script {
-    pub(crate) declared: Declared,
-    pub(crate) commands: Vec<NumberedCommand>,
+    declared: Declared,
+    commands: Vec<NumberedCommand>,
 }
 
 impl Model for Script {
@@ -79,6 +79,20 @@ impl Script {
             Err(LineFault::Refused(rule)) => Err(ScriptFault::Refused { line: number, rule }),
             Err(LineFault::Memory) => Err(ScriptFault::Memory),
         }
+    }
+
+    /// What the script declares.
+    pub fn declared(&self) -> &Declared
+        ensures { result.now ≡ self.now.declared }
+    {
+        &self.declared
+    }
+
+    /// The commands, in order.
+    pub fn commands(&self) -> &[NumberedCommand]
+        ensures { result.now ≡ self.now.commands }
+    {
+        self.commands.as_slice()
     }
 
     /// The receivers that the script declares, by number.

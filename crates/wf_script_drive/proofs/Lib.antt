@@ -1,0 +1,10 @@
+pub mod HexLaws
+pub mod Readings
+pub mod Names
+pub mod Values
+pub mod Digits
+pub mod Lines
+pub mod Scripts
+pub mod ReportLaws
+pub mod DriveEnds
+pub mod Numbers

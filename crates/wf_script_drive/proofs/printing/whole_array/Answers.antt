@@ -1,0 +1,7 @@
+use Rattle.wf_script_drive.proofs.printing.whole_array.Goals as goal
+
+pub returns-clause-writes : goal.returns-clause-writes
+returns-clause-writes g c =
+    let j = g.met.P.Pen.joined in
+    let r1 = j _ _ _ _ _ c.write.ensures.writes c.bytes.ensures.writes in
+    r1

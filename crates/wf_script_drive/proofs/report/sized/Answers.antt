@@ -1,0 +1,8 @@
+use Rattle.wf_script_drive.proofs.report.sized.Goals as goal
+
+pub returns-clause-writes : goal.returns-clause-writes
+returns-clause-writes g c =
+    let j = g.met.P.Pen.joined in
+    let r1 = j _ _ _ _ _ c.named.ensures.writes c.write.ensures.writes in
+    let r2 = j _ _ _ _ _ r1 c.number.ensures.writes in
+    r2
