@@ -3,6 +3,8 @@
 #![tactic(auto)]
 
 #[cfg(test)]
+mod statement_tests;
+#[cfg(test)]
 mod tool_tests;
 #[cfg(test)]
 mod typed_tests;

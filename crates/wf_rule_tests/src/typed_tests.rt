@@ -54,7 +54,7 @@ fn resolved(alloc: Global, text: &str) -> Result<Named, PhaseFault>
     }
 }
 
-fn typed(alloc: Global, text: &str) -> Result<Typed, PhaseFault> {
+pub(crate) fn typed(alloc: Global, text: &str) -> Result<Typed, PhaseFault> {
     match resolved(alloc, text) {
         Ok(named) => type_check(alloc, named),
         Err(fault) => Err(fault),
@@ -159,7 +159,7 @@ fn has_bodies(typed: &Typed) -> bool {
     run && add && twice
 }
 
-fn place(line: u32, col: u32) -> Place {
+pub(crate) fn place(line: u32, col: u32) -> Place {
     Place { file: 0, line, col }
 }
 
