@@ -1,16 +1,20 @@
 #!/usr/bin/env python3
 """Tries the wrong versions of the crates' code, tests/edits/CRATE/*.edit: the prover must refuse each.
 
-usage: try_edits.py [--fits] [--jobs N] [CRATE..]    all crates that have edits are the default
+usage: try_edits.py [--fits | --untried] [--jobs N] [--clone FOLDER] [CRATE..]    all crates that have edits are the default
 An edit is a line 'file: PATH' and pairs of lines 'old: TEXT' and 'new: TEXT'; each old TEXT stands once in that file.
 The last commit is tried, in a clone that is removed again, N crates at a time (1 is the default). What was tried is
 kept in tests/out/, by the sums of the edit, of its crate and of the crates below that one, and isn't tried again.
+With --clone the clone is FOLDER, which is made where it isn't there and stays, with the libraries that it has proved.
+A crate of which all edits are refused gets a line in tests/edits/tried.txt, with a sum of its edits, of itself and of all that it
+stands on; with --untried the crates are listed whose line is missing or has another sum, so that they have to be tried again.
 With --fits nothing is proved: it only looks whether each edit, those of crates/CRATE/must-fail/ too, which `rt ci` tries,
 can be applied to the files as they stand.
 Prints a line for each edit, and last how many passed; ends with 1 where an edit isn't refused.
 """
 import argparse
 import concurrent.futures
+import contextlib
 import hashlib
 import pathlib
 import re
@@ -21,6 +25,8 @@ import tempfile
 
 ROOT = pathlib.Path(__file__).resolve().parent.parent
 KEPT = ROOT / "tests" / "out" / "edits"
+RECORD = ROOT / "tests" / "edits" / "tried.txt"
+RECORD_HEAD = "# A crate, the kit with which all its wrong versions were refused, how many there are, and a sum. Written by tests/try_edits.py.\n"
 TOLD = re.compile(r"must-fail (\w+)/(\S+\.edit): (refused|BAD EDIT|NOT REFUSED|NOT TRIED)(.*)")
 # What comes to the same whenever the same is tried.
 SETTLED = ("refused", "BAD EDIT", "NOT REFUSED")
@@ -69,13 +75,15 @@ def look_whether_they_fit(crates):
     return passed, failed
 
 
-def below(root):
+def lines_of_crates(root):
+    """The line of crates.txt of each crate."""
+    lines = (root / "crates.txt").read_text().split("\n")
+    return {line.split(":")[0].split()[0]: line for line in lines if ":" in line and not line.startswith("#")}
+
+
+def below(lines):
     """The crates of the repository that each crate stands on, itself among them."""
-    uses = {}
-    for line in (root / "crates.txt").read_text().split("\n"):
-        name, colon, those = line.partition(":")
-        if colon and not line.startswith("#"):
-            uses[name.split()[0]] = those.split()
+    uses = {name: line.partition(":")[2].split() for name, line in lines.items()}
     reached = {}
 
     def reach(name):
@@ -101,7 +109,8 @@ class Trial:
     """A clone in which the edits of crates are tried."""
 
     def __init__(self, clone):
-        self.clone, self.below, self.sums = clone, below(clone), {}
+        self.clone, self.lines, self.sums = clone, lines_of_crates(clone), {}
+        self.below = below(self.lines)
         self.kit = subprocess.run(["rt", "version"], capture_output=True, text=True, check=True).stdout
 
     def sum(self, crate):
@@ -111,9 +120,15 @@ class Trial:
 
     def place(self, crate, edit):
         """Where the result of an edit is kept."""
-        stands_on = [self.sum(one) for one in sorted(self.below[crate])]
-        said = "\0".join([self.kit, (self.clone / "crates.txt").read_text(), *stands_on, edit.read_text()])
+        stands_on = [f"{self.lines[one]} {self.sum(one)}" for one in sorted(self.below[crate])]
+        said = "\0".join([self.kit, *stands_on, edit.read_text()])
         return KEPT / hashlib.sha256(f"{crate}\0{said}".encode()).hexdigest()
+
+    def whole_sum(self, crate):
+        """A sum of a crate's edits, of the crate and of all that it stands on."""
+        stands_on = "\0".join(f"{self.lines[one]} {self.sum(one)}" for one in sorted(self.below[crate]))
+        edits = "\0".join(f"{edit.name}\0{edit.read_text()}" for edit in edits_of(self.clone, crate))
+        return hashlib.sha256(f"{stands_on}\0{edits}".encode()).hexdigest()[:16]
 
     def tried(self, crate):
         """What each edit of a crate came to, with what the prover said, in the edits' order."""
@@ -139,25 +154,58 @@ class Trial:
         return [(f"{crate}/{edit.name}", *told[edit.name]) for edit in edits]
 
 
-def try_all(crates, jobs):
-    passed = failed = 0
+@contextlib.contextmanager
+def cloned(folder):
+    """A clone of the last commit: the folder, or one that is removed again."""
     with tempfile.TemporaryDirectory(prefix="edits-") as room:
-        clone = pathlib.Path(room, "clone")
-        subprocess.run(["git", "clone", "-q", str(ROOT), str(clone)], check=True)
+        clone = pathlib.Path(folder).resolve() if folder else pathlib.Path(room, "clone")
+        if not clone.exists():
+            subprocess.run(["git", "clone", "-q", str(ROOT), str(clone)], check=True)
+        for words in (["fetch", "-q", str(ROOT), "HEAD"], ["checkout", "-q", "--force", "--detach", "FETCH_HEAD"]):
+            subprocess.run(["git", *words], cwd=clone, check=True)
+        yield clone
+
+
+def try_all(crates, jobs, folder):
+    passed = failed = 0
+    with cloned(folder) as clone:
         trial = Trial(clone)
         with concurrent.futures.ThreadPoolExecutor(jobs) as pool:
-            for results in pool.map(trial.tried, crates):
+            for crate, results in zip(crates, pool.map(trial.tried, crates)):
                 for name, came, said in results:
                     passed += came == "refused"
                     failed += came != "refused"
                     print(f"{name}: {came}: {said}", flush=True)
+                if all(came == "refused" for _, came, _ in results):
+                    record(crate, f"{crate} {trial.kit.split()[0]} {len(results)} {trial.whole_sum(crate)}")
     return passed, failed
 
 
+def recorded():
+    """The lines of the record by their crates."""
+    lines = RECORD.read_text().split("\n") if RECORD.is_file() else []
+    return {line.split(" ")[0]: line for line in lines if line and not line.startswith("#")}
+
+
+def record(crate, line):
+    lines = {**recorded(), crate: line}
+    RECORD.write_text(RECORD_HEAD + "".join(f"{lines[name]}\n" for name in sorted(lines)))
+
+
+def list_untried(crates):
+    """Lists the crates whose edits weren't all refused as everything stands now; answers how many were, and how many weren't."""
+    trial, lines = Trial(ROOT), recorded()
+    untried = [crate for crate in crates if edits_of(ROOT, crate) and lines.get(crate, "").split(" ")[-1] != trial.whole_sum(crate)]
+    print("".join(f"{crate}\n" for crate in untried), end="")
+    return len(crates) - len(untried), len(untried)
+
+
 def main():
-    options = argparse.ArgumentParser(usage="try_edits.py [--fits] [--jobs N] [CRATE..]")
+    options = argparse.ArgumentParser(usage="try_edits.py [--fits | --untried] [--jobs N] [--clone FOLDER] [CRATE..]")
     options.add_argument("--fits", action="store_true")
+    options.add_argument("--untried", action="store_true")
     options.add_argument("--jobs", type=int, default=1)
+    options.add_argument("--clone")
     options.add_argument("crates", nargs="*")
     given = options.parse_args()
     every = crates_with_edits(ROOT)
@@ -165,7 +213,11 @@ def main():
     if unknown:
         options.error(f"{unknown[0]} is no crate with edits")
     crates = given.crates or every
-    passed, failed = look_whether_they_fit(crates) if given.fits else try_all(crates, given.jobs)
+    if given.untried:
+        tried, untried = list_untried(crates)
+        print(f"crates whose edits were all refused as they stand: {tried} of {tried + untried}")
+        return 0
+    passed, failed = look_whether_they_fit(crates) if given.fits else try_all(crates, given.jobs, given.clone)
     print(f"{'edits that fit' if given.fits else 'edits'}: {passed} passed, {failed} failed")
     return 1 if failed or not passed else 0
 

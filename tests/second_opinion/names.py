@@ -285,7 +285,7 @@ class Names:
             if it.value is not None:
                 self.resolve_value(it.value, scope)
         elif isinstance(it, Assert):
-            for value in [it.condition] + it.given:
+            for value in [it.condition] + [value for _, value in it.given]:
                 self.resolve_value(value, scope)
 
     def resolve_loop(self, loop, scope, loops):
@@ -293,7 +293,7 @@ class Names:
             self.judge_name(*loop.label)
             if any(it.label and it.label[0] == loop.label[0] for it in loops):
                 self.breaks(Rule.N2, loop.label[1])
-        for value in [loop.condition] + loop.clauses:
+        for value in [loop.condition] + [condition for _, condition in loop.clauses]:
             self.resolve_value(value, scope)
         self.resolve_block(loop.body, scope, [loop] + loops)
 

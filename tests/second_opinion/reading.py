@@ -301,9 +301,9 @@ class Reader:
         label = self.label()
         condition, clauses = self.expression(), []
         while self.skip(",") and not self.stands("{"):
-            if not any(self.skip(word) for word in ("pre", "inv", "post")):
+            if not any(self.stands(word) for word in ("pre", "inv", "post")):
                 self.refuse()
-            clauses.append(self.expression())
+            clauses.append((self.take().text, self.expression()))
         body = self.block()
         self.loop_end(label)
         return While(place, label, condition, clauses, body)
@@ -329,11 +329,12 @@ class Reader:
         return Yield(place, self.expression())
 
     def assert_rest(self, place):
-        condition, given = self.expression(), []
+        condition, axiom, axiom_place, given = self.expression(), None, None, []
         if self.skip("via"):
-            self.of_kind("text")
-            given = [value for _, _, value in self.given()]
-        return Assert(place, condition, given)
+            text = self.of_kind("text")
+            axiom, axiom_place = text.text, text.place
+            given = [(name, value) for name, _, value in self.given()]
+        return Assert(place, condition, axiom, axiom_place, given)
 
     # Expressions
 
@@ -371,8 +372,9 @@ class Reader:
         if operator.text == "as":
             whole = Convert(operator.place, first, self.type())
         else:
-            whole = Operator(operator.place, operator.text, [first, self.operand()])
-            while operator.text in CHAINED and self.skip(operator.text):
+            whole = Operator(operator.place, operator.text, [first, self.operand()], [operator.place])
+            while operator.text in CHAINED and self.stands(operator.text):
+                whole.signs.append(self.take().place)
                 whole.operands.append(self.operand())
         if any(self.stands(text) for text in OPERATORS | {"as"}):
             self.refuse("S6")

@@ -124,7 +124,7 @@ class If(Node):
 
 @node
 class While(Node):
-    """A label is a pair of name and place, or None."""
+    """A label is a pair of name and place, or None; clauses are pairs of a word (pre, inv, post) and a condition."""
     place: tuple
     label: tuple
     condition: Node
@@ -155,9 +155,11 @@ class Yield(Node):
 
 @node
 class Assert(Node):
-    """`given` are the expressions behind `via`."""
+    """`axiom` is the text after `via`, or None; `given` are pairs of a letter's name and an expression."""
     place: tuple
     condition: Node
+    axiom: str
+    axiom_place: tuple
     given: list
 
 
@@ -215,10 +217,11 @@ class Slice(Node):
 
 @node
 class Operator(Node):
-    """One operator between two or more operands."""
+    """One operator between two or more operands; `signs` are the places of its signs, the first of them its own."""
     place: tuple
     op: str
     operands: list
+    signs: list
 
 
 @node

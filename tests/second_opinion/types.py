@@ -100,7 +100,7 @@ class Types(Values):
             if it.otherwise is not None:
                 self.judge_block(it.otherwise)
         elif isinstance(it, While):
-            for condition in [it.condition] + it.clauses:
+            for condition in [it.condition] + [condition for _, condition in it.clauses]:
                 self.judge_condition(condition)
             self.judge_block(it.body)
         elif isinstance(it, Return):
@@ -109,7 +109,7 @@ class Types(Values):
             self.judge_yield(it)
         elif isinstance(it, Assert):
             self.judge_condition(it.condition)
-            for given in it.given:
+            for _, given in it.given:
                 self.judge_number(given)
 
     def judge_condition(self, condition):
