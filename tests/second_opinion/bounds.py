@@ -11,13 +11,14 @@ MOST_POINTS = 1024
 CLAUSE_RULES = {"pre": "B10", "inv": "B11", "post": "B12"}
 
 
-def judge_bounds(declarations):
-    """The first rule that isn't met, with its place, or None."""
+def judge_bounds(declarations, notice=lambda key, facts: None):
+    """The first rule that isn't met, with its place, or None. `notice` is told of each list: by the statement in front of which
+    it stands, by the block at whose end it stands, or by ("resumed", statement) behind the drops of one that may suspend."""
     package = Package()
     methods = sorted((it for it in declarations if isinstance(it, Method)), key=lambda it: it.place)
     try:
         for method in methods:
-            Bounds(package, method).judge()
+            Bounds(package, method, notice).judge()
     except Unmet as unmet:
         return unmet.rule, unmet.place
     beyond = [points[MOST_POINTS] for points in map(points_of, methods) if MOST_POINTS < len(points)]
@@ -54,8 +55,8 @@ def may_suspend(it):
 class Bounds:
     """Judges the body of one method. A list of facts goes along; None stands for what is never reached."""
 
-    def __init__(self, package, method):
-        self.package, self.method = package, method
+    def __init__(self, package, method, notice):
+        self.package, self.method, self.notice = package, method, notice
 
     def judge(self):
         facts = Facts(self.package)
@@ -69,9 +70,11 @@ class Bounds:
     def block(self, block, facts):
         """The list at the block's end, None where it doesn't go on. What stands after a statement that never goes on isn't looked at."""
         for it in block.statements:
+            self.notice(it, facts)
             facts = self.statement(it, facts)
             if facts is None:
                 return None
+        self.notice(block, facts)
         return facts
 
     def statement(self, it, facts):
@@ -90,7 +93,7 @@ class Bounds:
         if isinstance(it, Assert):
             return self.claim(it, facts)
         if isinstance(it, Yield):
-            facts.drop("this", "args", "element", "slices")
+            self.give_way(it, facts)
             return facts
         if isinstance(it, Jump):
             if it.word == "continue":
@@ -103,6 +106,11 @@ class Bounds:
                 of = self.package.values.quietly(self.package.values.type, self.method.result, "result")
                 self.lies_in(it.value, of, "B1", facts)
         return None
+
+    def give_way(self, it, facts):
+        """What may change while a statement is suspended is forgotten."""
+        facts.drop("this", "args", "element", "slices")
+        self.notice(("resumed", it), facts)
 
     def lies_in(self, value, of, rule, facts):
         """A number has to lie in the type that takes it."""
@@ -158,8 +166,9 @@ class Bounds:
         ends = [self.block(block, front) for (_, block), front in zip(it.arms, fronts)]
         ends.append(failed if it.otherwise is None else self.block(it.otherwise, failed))
         ends = [end for end in ends if end is not None]
-        if not ends:
-            return None
+        return self.common(ends) if ends else None
+
+    def common(self, ends):
         return Facts(self.package, [fact for fact in ends[0].list if all(fact in end.list for end in ends[1:])])
 
     def require(self, condition, rule, facts, place):
@@ -231,9 +240,9 @@ class Bounds:
 
     def call(self, it, call, target, keeps, facts):
         if isinstance(call.callee, BaseMethod):
-            gives = self.base_call(call, facts)
+            gives = self.base_call(it, call, facts)
         else:
-            gives = self.own_call(call, keeps, facts)
+            gives = self.own_call(it, call, keeps, facts)
         if target is None:
             return facts
         facts.check(target)
@@ -250,11 +259,11 @@ class Bounds:
             if of is not None:
                 facts.demand(fits(facts.range(value), of), "B8", value.place)
 
-    def own_call(self, call, keeps, facts):
+    def own_call(self, it, call, keeps, facts):
         """A call of a method of the package, of the receiver or of a field: the range of its result."""
         suspends = call.mark == "?" and not keeps
         if suspends:
-            facts.drop("this", "args", "element", "slices")
+            self.give_way(it, facts)
         types = {it.name: self.package.values.variable_type(it, "argument") for it in call.callee.arguments}
         self.arguments(call, lambda name: (types[name].low, types[name].high) if types[name].kind[0] == "number" else None, facts)
         if call.mark and not suspends:
@@ -266,11 +275,11 @@ class Bounds:
         of = self.package.values.quietly(self.package.values.type, result, "result")
         return of.low, of.high
 
-    def base_call(self, call, facts):
+    def base_call(self, it, call, facts):
         bits = dict(call.callee.arguments)
         self.arguments(call, lambda name: whole(bits[name][1]) if bits[name][0] == "number" else None, facts)
         if call.mark == "?":
-            facts.drop("this", "args", "element", "slices")
+            self.give_way(it, facts)
         elif call.name == "copy_from_slice":
             kind = self.package.value(call.receiver).kind
             facts.drop("element" if kind[0] == "slice" else call.receiver.stands_for)

@@ -24,10 +24,11 @@ class Unmet(Exception):
 
 
 class Package:
-    """What is known of expressions apart from facts: types, constants and forms, each found once."""
+    """What is known of expressions apart from facts: types, constants and forms, each found once. `trees` has for each form the
+    first expression that has it."""
 
     def __init__(self):
-        self.values, self.known = Values(), {}
+        self.values, self.known, self.trees = Values(), {}, {}
 
     def once(self, ask, it):
         if (ask.__name__, it) not in self.known:
@@ -60,6 +61,11 @@ class Package:
         return self.once(self.find_form, it)
 
     def find_form(self, it):
+        form = self.make_form(it)
+        self.trees.setdefault(form, it)
+        return form
+
+    def make_form(self, it):
         constant = self.constant(it)
         if constant is not None:
             return "number", constant

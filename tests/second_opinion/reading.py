@@ -1,4 +1,5 @@
 """Reading: a file's text to its declarations, by the rules S1 to S6 and L4."""
+import functools
 import re
 
 from .trees import (ArrayType, Assert, Assign, BaseType, Block, Call, CallStatement, Constant, Convert, Fine, If, Index, Jump,
@@ -15,6 +16,7 @@ OPERATORS = CHAINED | SINGLE
 ASSIGNED = OPERATORS - set("and or == <> < <= > >=".split())
 ASSIGNMENTS = {"="} | {op + "=" for op in ASSIGNED}
 SYMBOLS = sorted(set("( ) [ ] { } , . : ; ? ! = =? .. ..=".split()) | ASSIGNMENTS | OPERATORS - {"and", "or"}, key=len, reverse=True)
+SYMBOL = re.compile("|".join(map(re.escape, SYMBOLS)))
 MOST_BRACKETS = 48
 
 GAP = re.compile(r"[ \t\r]+|//[^\n]*")
@@ -67,19 +69,20 @@ def token_at(text, at, place):
         if not quoted:
             return Token("wrong", "S2", place), 0
         return Token("text", quoted.group(1), place), len(quoted.group())
-    for symbol in SYMBOLS:
-        if text.startswith(symbol, at):
-            return Token("symbol", symbol, place), len(symbol)
+    symbol = SYMBOL.match(text, at)
+    if symbol:
+        return Token("symbol", symbol.group(), place), len(symbol.group())
     return Token("wrong", "S1", place), 0
 
 
+@functools.lru_cache(16)
 def tokens_of(text, file):
     """The tokens up to the first that breaks a rule, that one included, or up to the file's end."""
     tokens, at, line, column, behind = [], 0, 1, 1, None
     while True:
         gap = GAP.match(text, at)
         if gap:
-            at, column = gap.end(), column + len(gap.group())
+            column, at = column + gap.end() - at, gap.end()
             continue
         if at == len(text) or text[at] == "\n":
             if tokens and ends_a_line(tokens[-1]):
@@ -109,7 +112,8 @@ class Reader:
         self.tokens, self.at, self.open, self.locals = tokens, 0, 0, []
 
     def token(self, ahead=0):
-        return self.tokens[min(self.at + ahead, len(self.tokens) - 1)]
+        at = self.at + ahead
+        return self.tokens[at if at < len(self.tokens) else -1]
 
     def refuse(self, rule="S5"):
         token = self.token()
@@ -121,7 +125,7 @@ class Reader:
 
     def stands(self, text, ahead=0):
         token = self.token(ahead)
-        return token.kind in ("word", "symbol") and token.text == text
+        return token.text == text and token.kind in ("word", "symbol")
 
     def skip(self, text):
         """Takes this token where it stands."""
@@ -366,7 +370,7 @@ class Reader:
     def expression(self):
         first = self.operand()
         operator = self.token()
-        if operator.kind not in ("word", "symbol") or operator.text not in OPERATORS | {"as"}:
+        if not self.is_operator(operator):
             return first
         self.take()
         if operator.text == "as":
@@ -376,9 +380,12 @@ class Reader:
             while operator.text in CHAINED and self.stands(operator.text):
                 whole.signs.append(self.take().place)
                 whole.operands.append(self.operand())
-        if any(self.stands(text) for text in OPERATORS | {"as"}):
+        if self.is_operator(self.token()):
             self.refuse("S6")
         return whole
+
+    def is_operator(self, token):
+        return token.kind in ("word", "symbol") and (token.text in OPERATORS or token.text == "as")
 
     def operand(self):
         place = self.token().place
