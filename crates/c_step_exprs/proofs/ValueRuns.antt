@@ -292,8 +292,8 @@ module _ (s : Surroundings) (calls_of : ℕ → List Value → Option Value) (kn
       (choices t test met unmet)
 
   -- The arguments of a call stand on the stack, the last one on top.
-  record Puts (code : List Instr) (values : Option (List Value)) : Type 0 where
-    by : (rest : List Instr) (stack : List Value) → exec it 0 (code ++ rest) stack ≡ option_and_then (λ vs. exec it 0 rest (reverse vs ++ stack)) values
+  pub record Puts (code : List Instr) (values : Option (List Value)) : Type 0 where
+    pub by : (rest : List Instr) (stack : List Value) → exec it 0 (code ++ rest) stack ≡ option_and_then (λ vs. exec it 0 rest (reverse vs ++ stack)) values
 
   on_top : (v : Value) (vs stack : List Value) → reverse vs ++ v ∷ stack ≡ reverse (v ∷ vs) ++ stack
   on_top v vs stack = sym (append_assoc (reverse vs) (v ∷ []) stack) ∙ ap (λ (xs : List Value). xs ++ stack) (sym (reverse-append (v ∷ []) vs))
@@ -414,7 +414,7 @@ module _ (s : Surroundings) (calls_of : ℕ → List Value → Option Value) (kn
         (operator_runs (combination_of op) o op (value_code s.scope e) (value s e) (value_runs e)) (operands_run o op es))
         (λ v. from_first o op (operand_values s es) (combined s.memory o op (Some v) (value s e)))
 
-    args_run : (given : Args) → Puts (args_code s.scope given) (all_some (arg_values s given))
+    pub args_run : (given : Args) → Puts (args_code s.scope given) (all_some (arg_values s given))
     args_run no_arg = record { by = λ rest stack. refl }
     args_run (expr_arg e others) = puts_more (value_code s.scope e) (args_code s.scope others) (value s e) (arg_values s others) (value_runs e) (args_run others)
     args_run (sizeof_arg name others) = record { by = λ rest stack. refl }

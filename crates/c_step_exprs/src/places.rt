@@ -13,7 +13,7 @@ use c_text::COp;
 use wf_num::CTy;
 
 /// Whether a value isn't 0 or null (6.8.4.1p2).
-pub(crate) fn value_holds(v: Value) -> bool
+pub fn value_holds(v: Value) -> bool
     ensures { result ≡ holds v }
 {
     match v {
@@ -24,7 +24,7 @@ pub(crate) fn value_holds(v: Value) -> bool
 }
 
 /// Whether two pointers name one place.
-pub(crate) fn is_same_pointer(p: Pointer, q: Pointer) -> bool
+pub fn is_same_pointer(p: Pointer, q: Pointer) -> bool
     ensures { result ≡ same_pointer p q }
 {
     p.object == q.object && p.field == q.field && p.index == q.index
@@ -79,7 +79,7 @@ pub(crate) fn operate_values(op: COp, v: Value, w: Value) -> Option<Value>
 }
 
 /// What a cell of a type holds once a value is assigned to it (6.5.16.1p2).
-pub(crate) fn cell_for(ty: CellType, v: Value) -> Option<Cell>
+pub fn cell_for(ty: CellType, v: Value) -> Option<Cell>
     ensures { result ≡ cell_of ty v }
 {
     match (ty, v) {
@@ -116,7 +116,7 @@ pub(crate) fn value_in(ty: CellType, cell: Cell) -> Option<Value>
 }
 
 /// A value as a cell of a type would hold it (6.5.4).
-pub(crate) fn cast(ty: CellType, v: Value) -> Option<Value>
+pub fn cast(ty: CellType, v: Value) -> Option<Value>
     ensures { result ≡ as_cell ty v }
 {
     value_in(ty, cell_for(ty, v)?)

@@ -25,7 +25,7 @@ impl Stack {
 
     /// Puts a value on top.
     #[tactic(auto, using(crate::proofs::Stacks::put_on_top, crate::proofs::Stacks::stack_length))]
-    pub(crate) fn push(&mut self, v: Value)
+    pub fn push(&mut self, v: Value)
         requires { length (on_stack self.old) < most self.old }
         ensures values { on_stack self.new ≡ v ∷ on_stack self.old }
         ensures room { most self.old ≤ most self.new }
@@ -34,7 +34,7 @@ impl Stack {
     }
 
     /// Takes the value on top, where there is one.
-    pub(crate) fn pop(&mut self) -> Option<Value>
+    pub fn pop(&mut self) -> Option<Value>
         ensures top { result ≡ slice_get (on_stack self.old) 0 }
         ensures rest { on_stack self.new ≡ drop 1 (on_stack self.old) }
         ensures room { most self.new ≡ most self.old }

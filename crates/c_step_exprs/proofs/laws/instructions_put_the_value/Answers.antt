@@ -1,15 +1,15 @@
-use Rattle.std.proofs.Common.{◌≡◌, List, [], ◌∷◌, Option, Some, None, refl, sym, ap, ◌∙◌}
-use Rattle.std.specs.Prelude.{option_map, option_and_then}
+use Rattle.std.proofs.Common.{◌≡◌, List, [], ◌∷◌, ◌++◌, Option, Some, None, refl, sym, ap, ◌∙◌}
+use Rattle.std.specs.Prelude.{option_map, option_and_then, reverse}
 use Rattle.std.proofs.lemmas.List.{append-nil}
 use Rattle.c_meaning.specs.declared.values.Pointer.{Pointer}
 use Rattle.c_meaning.specs.declared.values.Value.{Value}
 use Rattle.c_meaning.specs.declared.values.Value.TheVariants.{Address as address}
-use Rattle.c_meaning.specs.CExprs.{value, place}
+use Rattle.c_meaning.specs.CExprs.{value, place, arg_values, all_some}
 use Rattle.c_step_exprs.specs.declared.instrs.Instr.{Instr}
 use Rattle.c_step_exprs.specs.Instrs.{exec}
-use Rattle.c_step_exprs.specs.Resolving.{value_code, place_code}
+use Rattle.c_step_exprs.specs.Resolving.{value_code, place_code, args_code}
 use Rattle.c_step_exprs.specs.Values.{around}
-use Rattle.c_step_exprs.proofs.ValueRuns.{value_runs, place_runs}
+use Rattle.c_step_exprs.proofs.ValueRuns.{value_runs, place_runs, args_run}
 use Rattle.c_step_exprs.proofs.laws.instructions_put_the_value.Goals as goal
 
 one : (stack : List Value) (o : Option Value) → option_and_then (λ v. Some (v ∷ stack)) o ≡ option_map (λ v. v ∷ stack) o
@@ -27,3 +27,11 @@ returns-clause-value c = λ s calls e stack known.
 pub returns-clause-place : goal.returns-clause-place
 returns-clause-place c = λ s calls e stack known.
     ap (λ (is : List Instr). exec (around s calls) 0 is stack) (sym (append-nil (place_code s.scope e))) ∙ ((place_runs s calls known e).by [] stack ∙ one_place stack (place s e))
+
+many : (stack : List Value) (o : Option (List Value)) → option_and_then (λ vs. Some (reverse vs ++ stack)) o ≡ option_map (λ vs. reverse vs ++ stack) o
+many stack None = refl
+many stack (Some vs) = refl
+
+pub returns-clause-args : goal.returns-clause-args
+returns-clause-args c = λ s calls given stack known.
+    ap (λ (is : List Instr). exec (around s calls) 0 is stack) (sym (append-nil (args_code s.scope given))) ∙ ((args_run s calls known given).by [] stack ∙ many stack (all_some (arg_values s given)))

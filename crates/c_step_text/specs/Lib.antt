@@ -1,0 +1,4 @@
+pub mod Acting
+pub mod Flat
+pub mod Labels
+pub mod Layout

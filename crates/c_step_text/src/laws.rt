@@ -1,0 +1,27 @@
+// The laws of the flat text. Each is the contract of a function that does nothing.
+
+ghost use Rattle.std.specs.Prelude.{◌≡◌, ℕ, ◌+◌, nat_lt};
+ghost use Rattle.c_text.specs.CTree.{Code};
+ghost use Rattle.c_meaning.specs.CStep.{Continuation, Place, code_weight, continuation_weight, place_weight, Label, find};
+ghost use Rattle.c_step_text.specs.Flat.{FlatText};
+ghost use Rattle.c_step_text.specs.Layout.{Names, seek, Laid, Follows};
+ghost use Rattle.c_step_text.specs.Labels.{Landing, Lands};
+ghost use Rattle.c_step_text.specs.Acting.{Activation, Inside, Doing};
+
+/// A label has a number in code that is laid out exactly where the meaning finds it there, and this number stands for the
+/// place that the meaning finds. Of two places the one with more text left has the smaller number, so that a jump takes a
+/// turn exactly where the number that it goes to isn't greater than its own.
+pub fn a_label_lands_on_its_number()
+    ensures found { (t : FlatText) (names : Names) (end i next : ℕ) (label : Label) (code : Code) (k : Continuation)
+        → i + code_weight code + continuation_weight k ≡ end → Laid t names i next code → Follows t names end next k
+        → Landing t names end (seek label i code) (find label code k) }
+    ensures order { (t : FlatText) (names : Names) (end m n : ℕ) (p q : Place)
+        → Lands t names end m p → Lands t names end n q → nat_lt (place_weight p) (place_weight q) ≡ nat_lt n m }
+{}
+
+/// Where a number stands for code and what follows it, it has an instruction, and doing this is what the meaning does from
+/// there: with the turns that are left and the memory, the meaning's run is what the instruction gives, and where that goes
+/// on it is the run from the place that the next number stands for.
+pub fn an_instruction_does_what_its_statement_does()
+    ensures { (t : FlatText) (a : Activation) (number : ℕ) (code : Code) (k : Continuation) → Inside t a number code k → Doing t a number code k }
+{}
