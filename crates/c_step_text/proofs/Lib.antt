@@ -1,3 +1,4 @@
+pub mod ByHand
 pub mod Doings
 pub mod Landings
 pub mod Values

@@ -1,4 +1,5 @@
 pub mod Acting
+pub mod ByHand
 pub mod Flat
 pub mod Labels
 pub mod Layout

@@ -1,9 +1,12 @@
 // The laws of the flat text. Each is the contract of a function that does nothing.
 
-ghost use Rattle.std.specs.Prelude.{◌≡◌, ℕ, ◌+◌, nat_lt};
-ghost use Rattle.c_text.specs.CTree.{Code};
+ghost use Rattle.std.specs.Prelude.{◌≡◌, ℕ, ◌+◌, nat_lt, List, Option};
+ghost use Rattle.c_text.specs.declared.kinds.Otherwise.{Otherwise};
+ghost use Rattle.c_text.specs.CTree.{TypeTree, Code};
+ghost use Rattle.c_meaning.specs.CTypes.{Function, Scope};
 ghost use Rattle.c_meaning.specs.CStep.{Continuation, Place, code_weight, continuation_weight, place_weight, Label, find};
-ghost use Rattle.c_step_text.specs.Flat.{FlatText};
+ghost use Rattle.c_step_text.specs.ByHand.{body_by_hand, text_by_hand, names_by_hand};
+ghost use Rattle.c_step_text.specs.Flat.{FlatText, Has, Finish};
 ghost use Rattle.c_step_text.specs.Layout.{Names, seek, Laid, Follows};
 ghost use Rattle.c_step_text.specs.Labels.{Landing, Lands};
 ghost use Rattle.c_step_text.specs.Acting.{Activation, Inside, Doing};
@@ -24,4 +27,11 @@ pub fn a_label_lands_on_its_number()
 /// on it is the run from the place that the next number stands for.
 pub fn an_instruction_does_what_its_statement_does()
     ensures { (t : FlatText) (a : Activation) (number : ℕ) (code : Code) (k : Continuation) → Inside t a number code k → Doing t a number code k }
+{}
+
+/// A text that was written down by hand is laid out as the body of a function asks: with a `switch`, a `while`, an `if` and a
+/// `goto` that goes back.
+pub fn a_text_by_hand_is_laid_out()
+    ensures { (scope : Scope) (callable : List Function) (result_type : Option TypeTree) (otherwise : Otherwise)
+        → Laid text_by_hand (names_by_hand scope callable result_type otherwise) 0 14 (body_by_hand otherwise) × Has text_by_hand 14 Finish }
 {}
