@@ -1,4 +1,5 @@
 pub mod ByHand
 pub mod Doings
 pub mod Landings
+pub mod Numbers
 pub mod Values

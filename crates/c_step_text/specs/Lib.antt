@@ -3,3 +3,4 @@ pub mod ByHand
 pub mod Flat
 pub mod Labels
 pub mod Layout
+pub mod Numbered

@@ -1,15 +1,17 @@
 // The laws of the flat text. Each is the contract of a function that does nothing.
 
-ghost use Rattle.std.specs.Prelude.{◌≡◌, ℕ, ◌+◌, nat_lt, List, Option};
+ghost use Rattle.std.specs.Prelude.{◌≡◌, ℕ, ◌+◌, nat_lt, List, ◌++◌, Option};
 ghost use Rattle.c_text.specs.declared.kinds.Otherwise.{Otherwise};
 ghost use Rattle.c_text.specs.CTree.{TypeTree, Code};
 ghost use Rattle.c_meaning.specs.CTypes.{Function, Scope};
-ghost use Rattle.c_meaning.specs.CStep.{Continuation, Place, code_weight, continuation_weight, place_weight, Label, find};
+ghost use Rattle.c_meaning.specs.CStep.{Continuation, stop, Place, code_weight, continuation_weight, place_weight, Label, find};
 ghost use Rattle.c_step_text.specs.ByHand.{body_by_hand, text_by_hand, names_by_hand};
 ghost use Rattle.c_step_text.specs.Flat.{FlatText, Has, Finish};
-ghost use Rattle.c_step_text.specs.Layout.{Names, seek, Laid, Follows};
+ghost use Rattle.c_meaning.specs.CCall.{Program};
+ghost use Rattle.c_step_text.specs.Layout.{Names, go, seek, Laid, Follows};
+ghost use Rattle.c_step_text.specs.Numbered.{activation_of, AreOthers};
 ghost use Rattle.c_step_text.specs.Labels.{Landing, Lands};
-ghost use Rattle.c_step_text.specs.Acting.{Activation, Inside, Doing};
+ghost use Rattle.c_step_text.specs.Acting.{Activation, end_of, IsNumbered, IsLaid, Inside, Doing};
 
 /// A label has a number in code that is laid out exactly where the meaning finds it there, and this number stands for the
 /// place that the meaning finds. Of two places the one with more text left has the smaller number, so that a jump takes a
@@ -34,4 +36,13 @@ pub fn an_instruction_does_what_its_statement_does()
 pub fn a_text_by_hand_is_laid_out()
     ensures { (scope : Scope) (callable : List Function) (result_type : Option TypeTree) (otherwise : Otherwise)
         → Laid text_by_hand (names_by_hand scope callable result_type otherwise) 0 14 (body_by_hand otherwise) × Has text_by_hand 14 Finish }
+{}
+
+/// A call of a function of a program is an activation whose numbers name what its names do, where no other function has the
+/// name of one that it can call; no call leaves more turns than it was given. Its body begins at its number.
+pub fn a_call_is_an_activation()
+    ensures numbered { (p : Program) (f : Function) (front callable : List Function) (frame start : ℕ)
+        → p.functions ≡ front ++ callable → AreOthers front callable → IsNumbered (activation_of p f callable frame start) }
+    ensures begins { (t : FlatText) (a : Activation) → IsLaid t a → IsNumbered a
+        → Inside t a (go a.start (end_of a) a.running.body) a.running.body stop }
 {}
