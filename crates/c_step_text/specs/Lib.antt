@@ -1,5 +1,6 @@
 pub mod Acting
 pub mod ByHand
+pub mod Emitted
 pub mod Flat
 pub mod Labels
 pub mod Layout

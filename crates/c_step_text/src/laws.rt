@@ -1,17 +1,18 @@
 // The laws of the flat text. Each is the contract of a function that does nothing.
 
-ghost use Rattle.std.specs.Prelude.{◌≡◌, ℕ, ◌+◌, nat_lt, List, ◌++◌, Option};
+ghost use Rattle.std.specs.Prelude.{◌≡◌, ℕ, ◌+◌, nat_lt, List, ◌++◌, length, Option};
 ghost use Rattle.c_text.specs.declared.kinds.Otherwise.{Otherwise};
 ghost use Rattle.c_text.specs.CTree.{TypeTree, Code};
 ghost use Rattle.c_meaning.specs.CTypes.{Function, Scope};
 ghost use Rattle.c_meaning.specs.CStep.{Continuation, stop, Place, code_weight, continuation_weight, place_weight, Label, find};
 ghost use Rattle.c_step_text.specs.ByHand.{body_by_hand, text_by_hand, names_by_hand};
+ghost use Rattle.c_step_text.specs.Emitted.{StandAt, statements_of, exprs_of, arms_of, function_statements};
 ghost use Rattle.c_step_text.specs.Flat.{FlatText, Has, Finish};
 ghost use Rattle.c_meaning.specs.CCall.{Program};
 ghost use Rattle.c_step_text.specs.Layout.{Names, go, seek, Laid, Follows};
 ghost use Rattle.c_step_text.specs.Numbered.{activation_of, AreOthers};
 ghost use Rattle.c_step_text.specs.Labels.{Landing, Lands};
-ghost use Rattle.c_step_text.specs.Acting.{Activation, end_of, IsNumbered, IsLaid, Inside, Doing};
+ghost use Rattle.c_step_text.specs.Acting.{Activation, names_of, end_of, IsNumbered, IsLaid, Inside, Doing};
 
 /// A label has a number in code that is laid out exactly where the meaning finds it there, and this number stands for the
 /// place that the meaning finds. Of two places the one with more text left has the smaller number, so that a jump takes a
@@ -45,4 +46,16 @@ pub fn a_call_is_an_activation()
         → p.functions ≡ front ++ callable → AreOthers front callable → IsNumbered (activation_of p f callable frame start) }
     ensures begins { (t : FlatText) (a : Activation) → IsLaid t a → IsNumbered a
         → Inside t a (go a.start (end_of a) a.running.body) a.running.body stop }
+{}
+
+/// Where the instructions of code stand in a text in the order of their numbers, with its expressions and cases from two
+/// places on, the code is laid out there; and so is a whole function. There is one instruction for each number.
+pub fn an_emitted_text_is_laid_out()
+    ensures laid { (t : FlatText) (names : Names) (i next e m : ℕ) (code : Code)
+        → StandAt t.statements i (statements_of names i next e m code) → StandAt t.exprs e (exprs_of names code) → StandAt t.arms m (arms_of i code)
+        → Laid t names i next code }
+    ensures length { (names : Names) (i next e m : ℕ) (code : Code) → length (statements_of names i next e m code) ≡ code_weight code }
+    ensures function { (t : FlatText) (a : Activation) (e m : ℕ)
+        → StandAt t.statements a.start (function_statements a e m) → StandAt t.exprs e (exprs_of (names_of a) a.running.body) → StandAt t.arms m (arms_of a.start a.running.body)
+        → IsLaid t a }
 {}
