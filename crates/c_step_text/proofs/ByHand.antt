@@ -1,13 +1,12 @@
 -- The text by hand is laid out.
-use Rattle.std.proofs.Common.{◌≡◌, ℕ, Bool, true, false, List, Option, Some, None, refl}
+use Rattle.std.proofs.Common.{◌≡◌, Bool, true, false, List, Option, Some, None, refl}
 use Rattle.std.specs.Prelude.{if◌then◌else◌, nat_eq}
 use Rattle.wf_num.specs.declared.c_arithmetic.CTy.TheVariants.{Int}
 use Rattle.c_text.specs.declared.kinds.Otherwise.{Otherwise}
 use Rattle.c_text.specs.CTree.{TypeTree}
-use Rattle.c_meaning.specs.declared.values.Number.{Number}
 use Rattle.c_meaning.specs.CValues.{converted}
 use Rattle.c_meaning.specs.CTypes.{Function, Scope}
-use Rattle.c_step_text.specs.Flat.{Has, HasOf, Finish}
+use Rattle.c_step_text.specs.Flat.{Has, Finish}
 use Rattle.c_step_text.specs.Layout.{number_here, Laid}
 use Rattle.c_step_text.specs.ByHand.{body_by_hand, all_of_one, text_by_hand, names_by_hand}
 

@@ -1,9 +1,9 @@
 -- An instruction does what the meaning does from the place that its number stands for.
-use Rattle.std.proofs.Common.{◌≡◌, ℕ, zero, suc, ◌+◌, ◌<◌, ◌≤◌, Bool, true, false, List, [], ◌∷◌, Option, Some, None, refl, sym, ap, ◌∙◌, subst, arith}
+use Rattle.std.proofs.Common.{◌≡◌, ℕ, zero, suc, ◌+◌, ◌<◌, ◌≤◌, Bool, true, false, List, Option, Some, None, refl, sym, ap, ◌∙◌, subst, arith}
 use Rattle.std.specs.Prelude.{if◌then◌else◌, nat_lt, option_map, option_and_then}
-use Rattle.std.proofs.lemmas.Bool.{lt-ltb, ltb-true}
+use Rattle.std.proofs.lemmas.Bool.{lt-ltb}
 use Rattle.std.proofs.lemmas.Bool.Decides.{nat_tests}
-use Rattle.turns.specs.Run.{Next, Go, Turn, End, Out, Fail, Outcome, Got, More, Lost, on_next, onward, holding, run}
+use Rattle.turns.specs.Run.{Next, Go, Turn, Outcome, Got, More, Lost, on_next, onward, holding, run}
 use Rattle.turns.specs.Steps.{LeavesFewer}
 use Rattle.turns.proofs.Unfolds.{unfolds}
 use Rattle.c_text.specs.CTree.{TypeTree, ExprTree, Args, no_arg, expr_arg, sizeof_arg, Code, finish, nested, empty, assign, call, jump, branch, repeat, select, leave, case_label, default_label, name_label}
@@ -18,10 +18,10 @@ use Rattle.c_meaning.specs.CStep.{Continuation, stop, behind, again, Place, at, 
 use Rattle.c_meaning.proofs.Weights.{Within, found_within, step_falls}
 use Rattle.c_step_exprs.specs.Instrs.{as_cell}
 use Rattle.c_step_exprs.specs.Resolving.{function_number, value_code, place_code, args_code}
-use Rattle.c_step_text.specs.Flat.{Span, StmtInstr, Assign, Call, Move, Zero, Goto, Test, Back, Switch, Return, Finish, Stuck, FlatText, Has, HasOf, code_in, arms_in, arm_of}
-use Rattle.c_step_text.specs.Layout.{Names, go, past, past_both, second, first_number, number_or, seek, LaidAssign, LaidMove, LaidZero, IsTarget, LaidFunction, LaidOwn, LaidCall, LaidJump, LaidSwitch, LaidReturn, Laid, Follows, Stands}
-use Rattle.c_step_text.specs.Labels.{Lands, Landing}
-use Rattle.c_step_text.specs.Acting.{Activation, names_of, end_of, meaning_by, IsNumbered, IsLaid, Inside, runs, Target, runs_on, seen, evaluated, located, given_by, defined, tested, by_number, with_turn, with_turn_unless, after_call, moved_by, kept_by, Moves, Leaps, Tests, Backs, Switches, Calls, Returns, Does, Doing}
+use Rattle.c_step_text.specs.Flat.{Span, Assign, Call, Move, Zero, Goto, Test, Back, Switch, Return, Finish, Stuck, FlatText, Has, HasOf, code_in, arms_in, arm_of}
+use Rattle.c_step_text.specs.Layout.{Names, go, past, past_both, second, first_number, number_or, seek, LaidAssign, LaidMove, LaidZero, IsTarget, LaidOwn, LaidCall, LaidJump, LaidSwitch, LaidReturn, Laid, Follows, Stands}
+use Rattle.c_step_text.specs.Labels.{Landing}
+use Rattle.c_step_text.specs.Acting.{Activation, names_of, end_of, meaning_by, IsNumbered, IsLaid, Inside, runs, Target, runs_on, seen, evaluated, located, given_by, defined, tested, by_number, with_turn, with_turn_unless, after_call, moved_by, kept_by, Doing}
 use Rattle.c_step_text.proofs.Landings.{lands_first, follows_behind, found, same_order}
 use Rattle.c_step_text.proofs.Values.{value_evaluated, place_located, args_given, moved_alike}
 

@@ -2,7 +2,6 @@
 use Rattle.std.proofs.Common.{◌≡◌, ℕ, zero, suc, ◌+◌, ◌-◌, Bool, true, false, List, [], ◌∷◌, ◌++◌, length, Option, Some, None, refl, sym, ap, ◌∙◌, arith, take, drop}
 use Rattle.std.specs.Prelude.{if◌then◌else◌, nat_eq, slice_get, slice_range}
 use Rattle.std.proofs.lemmas.List.{append_assoc, length-append, take_at, drop_at}
-use Rattle.c_text.specs.declared.kinds.CNumber.{CNumber}
 use Rattle.c_text.specs.CTree.{TypeTree, ExprTree, Args, no_arg, expr_arg, sizeof_arg, Code, finish, nested, empty, assign, call, jump, branch, repeat, select, leave, case_label, default_label, name_label}
 use Rattle.c_meaning.specs.declared.values.Number.{Number}
 use Rattle.c_meaning.specs.CValues.{literal_number, converted}

@@ -1,11 +1,11 @@
 -- A label's number stands for the place where the label is found.
-use Rattle.std.proofs.Common.{◌≡◌, ℕ, ◌+◌, ◌<◌, ◌≤◌, Bool, true, false, Option, Some, None, refl, sym, ◌∙◌, subst, arith}
+use Rattle.std.proofs.Common.{◌≡◌, ℕ, ◌+◌, Bool, true, false, Option, Some, None, refl, arith}
 use Rattle.std.specs.Prelude.{if◌then◌else◌, nat_lt}
 use Rattle.std.proofs.lemmas.Bool.Decides.{nat_tests}
 use Rattle.c_text.specs.CTree.{Code, finish, nested, empty, assign, call, jump, branch, repeat, select, leave, case_label, default_label, name_label}
-use Rattle.c_meaning.specs.CStep.{Continuation, behind, again, Place, at, code_weight, continuation_weight, place_weight, Label, enters_switch, is_case, is_default, is_named, first_of, here, find}
+use Rattle.c_meaning.specs.CStep.{Continuation, behind, again, Place, at, code_weight, continuation_weight, Label, enters_switch, is_case, is_default, is_named, first_of, here, find}
 use Rattle.c_step_text.specs.Flat.{FlatText}
-use Rattle.c_step_text.specs.Layout.{Names, go, past, past_both, second, first_number, number_here, seek, Laid, Follows, Stands}
+use Rattle.c_step_text.specs.Layout.{Names, go, past, past_both, second, first_number, number_here, seek, Laid, Follows}
 use Rattle.c_step_text.specs.Labels.{Lands, Landing}
 
 module _ (t : FlatText) (names : Names) (end : ℕ) where

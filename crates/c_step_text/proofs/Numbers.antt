@@ -1,5 +1,5 @@
 -- Functions by number are those by name.
-use Rattle.std.proofs.Common.{◌≡◌, ℕ, zero, suc, ◌+◌, ◌<◌, ◌≤◌, Bool, true, false, List, [], ◌∷◌, ◌++◌, length, Option, Some, None, refl, sym, ap, ◌∙◌, subst, arith}
+use Rattle.std.proofs.Common.{◌≡◌, ℕ, zero, suc, ◌<◌, ◌≤◌, Bool, true, false, List, [], ◌∷◌, ◌++◌, length, Option, Some, None, refl, sym, ap, ◌∙◌, subst, arith}
 use Rattle.std.specs.Prelude.{if◌then◌else◌, nat_eq, option_and_then, bytes_eq}
 use Rattle.std.proofs.lemmas.Bool.Decides.{nat_tests}
 use Rattle.std.proofs.lemmas.List.{length-append}
@@ -12,8 +12,8 @@ use Rattle.c_text.proofs.Names.{bytes_eq-true}
 use Rattle.c_meaning.specs.declared.values.Value.{Value}
 use Rattle.c_meaning.specs.CMemory.{Memory}
 use Rattle.c_meaning.specs.CTypes.{Function}
-use Rattle.c_meaning.specs.CStep.{stop, Returned, Meaning, Running, state, weight, step}
-use Rattle.c_meaning.specs.CCall.{Program, ExprMeaning, expression_meaning, expression_call, entered, initialized, frame_object, without_frame, body_run, running, started, function_meaning, call_of}
+use Rattle.c_meaning.specs.CStep.{stop, Returned, Running, state, weight, step}
+use Rattle.c_meaning.specs.CCall.{Program, expression_meaning, expression_call, entered, initialized, frame_object, without_frame, body_run, running, started, function_meaning, call_of}
 use Rattle.c_meaning.proofs.Weights.{step_falls}
 use Rattle.c_step_exprs.specs.Resolving.{function_number}
 use Rattle.c_step_exprs.specs.Values.{called_by}

@@ -1,6 +1,6 @@
 -- The instructions of expressions give what the meaning gives.
 use Rattle.std.proofs.Common.{◌≡◌, ℕ, List, [], ◌∷◌, ◌++◌, Option, Some, None, refl, sym, ap, ◌∙◌}
-use Rattle.std.specs.Prelude.{option_map, option_and_then, reverse, map, slice_get}
+use Rattle.std.specs.Prelude.{option_map, option_and_then, reverse, slice_get}
 use Rattle.std.proofs.lemmas.List.{append-nil, reverse-reverse}
 use Rattle.c_text.specs.CTree.{ExprTree, Args}
 use Rattle.c_meaning.specs.declared.values.Pointer.{Pointer}
@@ -10,7 +10,7 @@ use Rattle.c_meaning.specs.CMemory.{Memory}
 use Rattle.c_meaning.specs.CExprs.{Surroundings, pointed_place, value, place, arg_values, all_some}
 use Rattle.c_meaning.specs.CStep.{as_size, moves, move_given}
 use Rattle.c_step_exprs.specs.declared.instrs.Instr.{Instr}
-use Rattle.c_step_exprs.specs.Instrs.{Around, exec}
+use Rattle.c_step_exprs.specs.Instrs.{exec}
 use Rattle.c_step_exprs.specs.Resolving.{value_code, place_code, args_code}
 use Rattle.c_step_exprs.specs.Values.{around, AreCalled}
 use Rattle.c_step_exprs.proofs.ValueRuns.{value_runs, place_runs, args_run}

@@ -3,7 +3,7 @@
 use Rattle.std.specs.Prelude.{◌≡◌, ℕ, zero, suc, ◌+◌, ◌<◌, Bool, true, false, if◌then◌else◌, nat_lt, List, [], map, reverse, slice_get, Option, Some, None, option_map, option_and_then}
 use Rattle.turns.specs.Run.{Outcome, Got, More, Lost, run}
 use Rattle.turns.specs.Steps.{LeavesFewer}
-use Rattle.c_text.specs.CTree.{Code, Args}
+use Rattle.c_text.specs.CTree.{Code}
 use Rattle.c_meaning.specs.declared.values.Number.{Number}
 use Rattle.c_meaning.specs.declared.values.Pointer.{Pointer}
 use Rattle.c_meaning.specs.declared.values.Value.{Value}
@@ -12,8 +12,8 @@ use Rattle.c_meaning.specs.declared.cells.CellType.{CellType}
 use Rattle.c_meaning.specs.CValues.{holds}
 use Rattle.c_meaning.specs.CMemory.{Memory, stored}
 use Rattle.c_meaning.specs.CTypes.{Function}
-use Rattle.c_meaning.specs.CExprs.{pointed_place, all_some}
-use Rattle.c_meaning.specs.CStep.{Continuation, code_weight, by_name, Returned, Meaning, Running, State, state, weight, step, surroundings, one_place, assigned, zeroes, move_given}
+use Rattle.c_meaning.specs.CExprs.{pointed_place}
+use Rattle.c_meaning.specs.CStep.{Continuation, code_weight, by_name, Returned, Meaning, Running, state, weight, step, surroundings, one_place, assigned, zeroes, move_given}
 use Rattle.c_step_exprs.specs.declared.instrs.Instr.{Instr}
 use Rattle.c_step_exprs.specs.Instrs.{Around, as_cell, exec}
 use Rattle.c_step_exprs.specs.Resolving.{function_number}

@@ -1,7 +1,7 @@
 -- A text by hand, of the body
 --     l: switch (1) { case 1: ; default: ; } while (1) { if (1) { goto l; } else { ; } } return;
 -- Its numbers 6 and 11 are of no statement.
-use Rattle.std.specs.Prelude.{ℕ, [], ◌∷◌, List, Option, None, codes}
+use Rattle.std.specs.Prelude.{[], ◌∷◌, List, Option, None, codes}
 use Rattle.wf_num.specs.declared.c_arithmetic.CTy.TheVariants.{Int}
 use Rattle.c_text.specs.declared.kinds.CNumber.TheVariants as literal
 use Rattle.c_text.specs.declared.kinds.Otherwise.{Otherwise}
@@ -10,7 +10,7 @@ use Rattle.c_meaning.specs.CTypes.{Function, Scope}
 use Rattle.c_meaning.specs.CStep.{by_name}
 use Rattle.c_step_exprs.specs.declared.instrs.Instr.TheVariants as does
 use Rattle.c_step_exprs.specs.declared.instrs.Put.TheVariants as put
-use Rattle.c_step_text.specs.Flat.{Span, Arm, StmtInstr, Goto, Test, Back, Switch, Finish, Stuck, FlatText}
+use Rattle.c_step_text.specs.Flat.{Span, Goto, Test, Back, Switch, Finish, Stuck, FlatText}
 use Rattle.c_step_text.specs.Layout.{Names, seek}
 
 abbrev pub one : ExprTree

@@ -1,5 +1,5 @@
 -- A text of instructions, and what stands in it.
-use Rattle.std.specs.Prelude.{◌≡◌, ℕ, Bool, if◌then◌else◌, nat_eq, List, [], ◌∷◌, slice_get, slice_range, Option, Some, None}
+use Rattle.std.specs.Prelude.{◌≡◌, ℕ, if◌then◌else◌, nat_eq, List, [], ◌∷◌, slice_get, slice_range, Option, Some, None}
 use Rattle.c_meaning.specs.declared.values.Number.{Number}
 use Rattle.c_meaning.specs.CValues.{converted}
 use Rattle.c_meaning.specs.CTypes.{Scope}

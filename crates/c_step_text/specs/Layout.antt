@@ -6,9 +6,9 @@ use Rattle.c_text.specs.CTree.{TypeTree, ExprTree, Args, no_arg, expr_arg, sizeo
 use Rattle.c_meaning.specs.declared.values.Number.{Number}
 use Rattle.c_meaning.specs.CTypes.{Function, Scope}
 use Rattle.c_meaning.specs.CExprs.{cell_type}
-use Rattle.c_meaning.specs.CStep.{Continuation, stop, behind, again, code_weight, continuation_weight, Label, by_name, by_case, by_default, enters_switch, is_case, is_default, is_named, Callee, memory_move, memory_set, own, callee_of}
+use Rattle.c_meaning.specs.CStep.{Continuation, stop, behind, again, code_weight, continuation_weight, Label, by_case, by_default, enters_switch, is_case, is_default, is_named, Callee, memory_move, memory_set, own, callee_of}
 use Rattle.c_step_exprs.specs.Resolving.{function_number, place_code, args_code}
-use Rattle.c_step_text.specs.Flat.{Span, StmtInstr, Assign, Call, Move, Zero, Goto, Test, Back, Switch, Return, Finish, Stuck, FlatText, Has, HasOf, code_in, arms_in, arm_of}
+use Rattle.c_step_text.specs.Flat.{Span, Assign, Call, Move, Zero, Goto, Test, Back, Switch, Return, Finish, Stuck, FlatText, Has, HasOf, code_in, arms_in, arm_of}
 
 -- What a function's text depends on beside its body: the names of its expressions, the functions that it can call, the
 -- type of its result, and the numbers of its labels.

@@ -1,9 +1,7 @@
 -- Functions by number. The number of a function is that of the functions that stand in front of it in the text; the
 -- functions of a program are in the reverse order of the text.
-use Rattle.std.specs.Prelude.{◌≡◌, ℕ, if◌then◌else◌, nat_eq, List, [], ◌∷◌, length, Option, Some, None}
-use Rattle.turns.specs.Run.{Outcome, Lost}
-use Rattle.c_meaning.specs.declared.values.Value.{Value}
-use Rattle.c_meaning.specs.CMemory.{Memory}
+use Rattle.std.specs.Prelude.{◌≡◌, ℕ, if◌then◌else◌, nat_eq, List, [], ◌∷◌, length, None}
+use Rattle.turns.specs.Run.{Lost}
 use Rattle.c_meaning.specs.CTypes.{Function}
 use Rattle.c_meaning.specs.CStep.{Meaning}
 use Rattle.c_meaning.specs.CCall.{Program, ExprMeaning, expression_meaning, expression_call, running, function_meaning, call_of}
