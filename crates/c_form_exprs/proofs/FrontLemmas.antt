@@ -1,0 +1,73 @@
+-- What a table finds is what is to be found.
+use Rattle.std.proofs.Common.{◌≡◌, ◌<◌, ◌≤◌, ℕ, Bool, true, false, List, [], ◌∷◌, ◌++◌, map, take, length, find, Option, Some, None, is_some, refl, sym, ◌∙◌, ap, subst, nat_eq}
+use Rattle.std.specs.List.{slice_get}
+use Rattle.std.specs.Option.{option_and_then}
+use Rattle.std.specs.Str.{bytes_eq}
+use Rattle.std.proofs.lemmas.Bool.{eqb-true, eq-eqb}
+use Rattle.std.proofs.lemmas.Option.{slice_get_within}
+use Rattle.c_text.specs.declared.nodes.CField.{CField}
+use Rattle.c_text.specs.CNodes.{Nodes, unit_tree}
+use Rattle.c_meaning.specs.CTypes.{StructDecl, TextDecl, Function, structs_of, texts_of, functions_of, struct_named, function_named, field_named}
+use Rattle.c_form_exprs.specs.declared.front.Head.{Head}
+use Rattle.c_form_exprs.specs.Tables.{named}
+use Rattle.c_form_exprs.specs.Front.{Lists, Finds, IsText, IsField, IsStruct, IsHead, TellsFront}
+
+nat_eq-swap : (m n : ℕ) → nat_eq m n ≡ nat_eq n m
+nat_eq-swap m n =
+    let one : (b c : Bool) → nat_eq m n ≡ b → nat_eq n m ≡ c → nat_eq m n ≡ nat_eq n m = elim [
+      | true ↦ elim [
+        | true ↦ λ p q. p ∙ sym q
+        | false ↦ λ p q. absurd (let r = eq-eqb n m (sym (eqb-true m n p)) in cc (r, q))
+      ]
+      | false ↦ elim [
+        | true ↦ λ p q. absurd (let r = eq-eqb m n (sym (eqb-true n m q)) in cc (r, p))
+        | false ↦ λ p q. p ∙ sym q
+      ]
+    ] in
+    one (nat_eq m n) (nat_eq n m) refl refl
+
+pub bytes_eq-swap : (xs ys : List ℕ) → bytes_eq xs ys ≡ bytes_eq ys xs
+bytes_eq-swap [] [] = refl
+bytes_eq-swap [] (y ∷ ys) = refl
+bytes_eq-swap (x ∷ xs) [] = refl
+bytes_eq-swap (x ∷ xs) (y ∷ ys) = rw (nat_eq-swap x y, bytes_eq-swap xs ys) refl
+
+pub find_listed : {V X : Type 0} (tells : V → X → Type 0) (name : X → List ℕ) (es : List (List ℕ × V)) (xs : List X) → Lists tells name es xs → (q : List ℕ) → Finds tells (named es q) (find (λ x. bytes_eq (name x) q) xs)
+find_listed tells name [] [] h q = refl
+find_listed tells name [] (x ∷ xs) h q = absurd h
+find_listed tells name (e ∷ es) [] h q = absurd h
+find_listed {V} {X} tells name (e ∷ es) (x ∷ xs) h q =
+    let same : bytes_eq (name x) q ≡ bytes_eq q e.0 = ap (λ n. bytes_eq n q) (sym h.0) ∙ bytes_eq-swap e.0 q in
+    let by : (b : Bool) → bytes_eq q e.0 ≡ b → Finds tells (named (e ∷ es) q) (find (λ y. bytes_eq (name y) q) (x ∷ xs)) = elim [
+      | true ↦ λ p. rw (same, p) (x, refl, h.1)
+      | false ↦ λ p. rw (same, p) (find_listed tells name es xs h.2 q)
+    ] in
+    by (bytes_eq q e.0) refl
+
+pub found_alike : {V X : Type 0} (tells : V → X → Type 0) (v : Option V) (x : Option X) → Finds tells v x → is_some v ≡ is_some x
+found_alike tells None x h = rw h refl
+found_alike tells (Some v) x h = rw h.1 refl
+
+pub struct_listed : (nodes : Nodes) (count : ℕ) (structs : List (List ℕ × ℕ)) (fields : List (List (List ℕ × CField))) (texts : List (List ℕ × Unit {0})) (functions : List (List ℕ × Head)) → TellsFront nodes count structs fields texts functions → (q : List ℕ) → is_some (named structs q) ≡ is_some (struct_named (structs_of (take count (unit_tree nodes))) q)
+struct_listed nodes count structs fields texts functions h q = found_alike (IsStruct nodes fields) (named structs q) (struct_named (structs_of (take count (unit_tree nodes))) q) (find_listed (IsStruct nodes fields) (λ s. s.name) structs (structs_of (take count (unit_tree nodes))) h.structs q)
+
+pub text_listed : (nodes : Nodes) (count : ℕ) (structs : List (List ℕ × ℕ)) (fields : List (List (List ℕ × CField))) (texts : List (List ℕ × Unit {0})) (functions : List (List ℕ × Head)) → TellsFront nodes count structs fields texts functions → (q : List ℕ) → is_some (named texts q) ≡ is_some (find (λ it. bytes_eq it.name q) (texts_of (take count (unit_tree nodes))))
+text_listed nodes count structs fields texts functions h q = found_alike IsText (named texts q) (find (λ it. bytes_eq it.name q) (texts_of (take count (unit_tree nodes)))) (find_listed IsText (λ t. t.name) texts (texts_of (take count (unit_tree nodes))) h.texts q)
+
+pub function_listed : (nodes : Nodes) (count : ℕ) (structs : List (List ℕ × ℕ)) (fields : List (List (List ℕ × CField))) (texts : List (List ℕ × Unit {0})) (functions : List (List ℕ × Head)) → TellsFront nodes count structs fields texts functions → (q : List ℕ) → Finds (IsHead nodes) (named functions q) (function_named (functions_of (take count (unit_tree nodes))) q)
+function_listed nodes count structs fields texts functions h q = find_listed (IsHead nodes) (λ f. f.name) functions (functions_of (take count (unit_tree nodes))) h.functions q
+
+-- Where a struct isn't found, no field is; where it is, its table tells.
+pub no_struct : (nodes : Nodes) (fields : List (List (List ℕ × CField))) (x : Option StructDecl) (q : List ℕ) → Finds (IsStruct nodes fields) None x → Finds (IsField nodes) None (option_and_then (λ it. field_named it.fields q) x)
+no_struct nodes fields x q h = rw h refl
+
+pub field_listed : (nodes : Nodes) (fields : List (List (List ℕ × CField))) (k : ℕ) (x : Option StructDecl) (table : List (List ℕ × CField)) (q : List ℕ) → Finds (IsStruct nodes fields) (Some k) x → slice_get fields k ≡ Some table → Finds (IsField nodes) (named table q) (option_and_then (λ it. field_named it.fields q) x)
+field_listed nodes fields k x table q h is =
+    let same : table ≡ h.2.fields = (let p = h.2.stands in cc (is, p)) in
+    rw (h.1, same) (find_listed (IsField nodes) (λ f. f.name) h.2.fields h.0.fields h.2.tells q)
+
+pub struct_at : (nodes : Nodes) (count : ℕ) (structs : List (List ℕ × ℕ)) (fields : List (List (List ℕ × CField))) (texts : List (List ℕ × Unit {0})) (functions : List (List ℕ × Head)) → TellsFront nodes count structs fields texts functions → (q : List ℕ) (r o : Option ℕ) → r ≡ named structs q → r ≡ o → Finds (IsStruct nodes fields) o (struct_named (structs_of (take count (unit_tree nodes))) q)
+struct_at nodes count structs fields texts functions h q r o is some = subst (λ (x : Option ℕ). Finds (IsStruct nodes fields) x (struct_named (structs_of (take count (unit_tree nodes))) q)) (sym is ∙ some) (find_listed (IsStruct nodes fields) (λ s. s.name) structs (structs_of (take count (unit_tree nodes))) h.structs q)
+
+pub index_within : (nodes : Nodes) (fields : List (List (List ℕ × CField))) (k : ℕ) (x : Option StructDecl) → Finds (IsStruct nodes fields) (Some k) x → k < length fields
+index_within nodes fields k x h = slice_get_within fields k h.2.fields h.2.stands

@@ -1,0 +1,5 @@
+pub mod ArgLemmas
+pub mod FrontLemmas
+pub mod ScopeLemmas
+pub mod SpineLemmas
+pub mod TableLemmas

@@ -1,0 +1,50 @@
+-- The names of a scope.
+use Rattle.std.proofs.Common.{◌≡◌, ℕ, Bool, true, false, if◌then◌else◌, List, [], ◌∷◌, ◌++◌, map, find, Option, Some, None, is_some, Result, Ok, Err, IfOk, OnErr, refl, sym, ◌∙◌, ap, subst}
+use Rattle.std.specs.Option.{option_map, option_and_then}
+use Rattle.std.specs.Str.{bytes_eq}
+use Rattle.wf_text.specs.declared.faults.NoMemory.{NoMemory}
+use Rattle.c_text.specs.declared.nodes.CType.{CType}
+use Rattle.c_text.specs.declared.nodes.CField.{CField}
+use Rattle.c_text.specs.CTree.{FieldTree, ParamTree}
+use Rattle.c_text.specs.CNodes.{Nodes, field_tree, type_in}
+use Rattle.c_text.specs.CFits.{HasType}
+use Rattle.c_meaning.specs.CTypes as by_name
+use Rattle.c_meaning.specs.CTypes.{TextDecl, Scope, variable_held}
+use Rattle.c_form_exprs.specs.declared.types.Held.{Held}
+use Rattle.c_form_exprs.specs.declared.types.Held.TheVariants as held
+use Rattle.c_form_exprs.specs.Tables.{named}
+use Rattle.c_form_exprs.proofs.FrontLemmas.{find_listed}
+use Rattle.c_form_exprs.specs.Front.{Front, Within, Lists, Finds, IsTyped, IsField, IsText, TellsNames, entry_param}
+use Rattle.c_form_exprs.specs.TypeViews.{held_in, TellsHeld}
+
+names_grow : (nodes : Nodes) (es : List (List ℕ × CType)) (name : List ℕ) (ty : CType) → Lists (IsTyped nodes) (λ p. p.name) es (map (entry_param nodes.names) es) → HasType nodes ty → Lists (IsTyped nodes) (λ p. p.name) (es ++ (name, ty) ∷ []) (map (entry_param nodes.names) (es ++ (name, ty) ∷ []))
+names_grow nodes [] name ty h has = (refl, record { same = refl; has = has }, tt)
+names_grow nodes (e ∷ es) name ty h has = (h.0, h.1, names_grow nodes es name ty h.2 has)
+
+pub names_after : (nodes : Nodes) (old new : List (List ℕ × CType)) (name : List ℕ) (ty : CType) (r : Result Bool NoMemory) → IfOk r (λ fresh. new ≡ (if fresh then old ++ (name, ty) ∷ [] else old)) → OnErr r (new ≡ old) → HasType nodes ty → Lists (IsTyped nodes) (λ p. p.name) old (map (entry_param nodes.names) old) → Lists (IsTyped nodes) (λ p. p.name) new (map (entry_param nodes.names) new)
+names_after nodes old new name ty (Ok true) is same has h = rw is (names_grow nodes old name ty h has)
+names_after nodes old new name ty (Ok false) is same has h = rw is h
+names_after nodes old new name ty (Err fault) is same has h = rw same h
+
+pub name_at : (nodes : Nodes) (es : List (List ℕ × CType)) → Lists (IsTyped nodes) (λ p. p.name) es (map (entry_param nodes.names) es) → (q : List ℕ) (r o : Option CType) → r ≡ named es q → r ≡ o → Finds (IsTyped nodes) o (find (λ it. bytes_eq it.name q) (map (entry_param nodes.names) es))
+name_at nodes es h q r o is some = subst (λ (x : Option CType). Finds (IsTyped nodes) x (find (λ it. bytes_eq it.name q) (map (entry_param nodes.names) es))) (sym is ∙ some) (find_listed (IsTyped nodes) (λ p. p.name) es (map (entry_param nodes.names) es) h q)
+
+pub param_held : (nodes : Nodes) (scope : Scope) (name : List ℕ) (ty : CType) → Finds (IsTyped nodes) (Some ty) (find (λ it. bytes_eq it.name name) scope.names) → TellsHeld nodes (Some (held.One ty)) (variable_held scope name)
+param_held nodes scope name ty h = rw h.1 (ap (λ t. Some (by_name.one t)) h.2.same, h.2.has)
+
+text_held_by : (nodes : Nodes) (scope : Scope) (name : List ℕ) (text : Option TextDecl) → find (λ it. bytes_eq it.name name) scope.names ≡ None → find (λ it. bytes_eq it.name name) scope.texts ≡ text → is_some text ≡ true → TellsHeld nodes (Some held.Characters) (variable_held scope name)
+text_held_by nodes scope name None h is some = absurd (cc (some))
+text_held_by nodes scope name (Some t) h is some = rw (h, is) (refl, tt)
+
+pub text_held : (nodes : Nodes) (scope : Scope) (name : List ℕ) → find (λ it. bytes_eq it.name name) scope.names ≡ None → is_some (find (λ it. bytes_eq it.name name) scope.texts) ≡ true → TellsHeld nodes (Some held.Characters) (variable_held scope name)
+text_held nodes scope name h some = text_held_by nodes scope name (find (λ it. bytes_eq it.name name) scope.texts) h refl some
+
+none_held_by : (nodes : Nodes) (scope : Scope) (name : List ℕ) (text : Option TextDecl) → find (λ it. bytes_eq it.name name) scope.names ≡ None → find (λ it. bytes_eq it.name name) scope.texts ≡ text → is_some text ≡ false → TellsHeld nodes None (variable_held scope name)
+none_held_by nodes scope name None h is none = rw (h, is) (refl, tt)
+none_held_by nodes scope name (Some t) h is none = absurd (cc (none))
+
+pub none_held : (nodes : Nodes) (scope : Scope) (name : List ℕ) → find (λ it. bytes_eq it.name name) scope.names ≡ None → is_some (find (λ it. bytes_eq it.name name) scope.texts) ≡ false → TellsHeld nodes None (variable_held scope name)
+none_held nodes scope name h none = none_held_by nodes scope name (find (λ it. bytes_eq it.name name) scope.texts) h refl none
+
+pub member_found : (nodes : Nodes) (of : List ℕ) (field : CField) (r : Held) (x : Option FieldTree) → Finds (IsField nodes) (Some field) x → held_in nodes.names r ≡ by_name.field_held of (field_tree nodes.names field) → option_map (held_in nodes.names) (Some r) ≡ option_map (by_name.field_held of) x
+member_found nodes of field r x h is = rw h.1 (ap Some (is ∙ ap (by_name.field_held of) h.2.same))

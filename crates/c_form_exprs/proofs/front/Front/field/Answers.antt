@@ -1,0 +1,24 @@
+use Rattle.std.proofs.Common.{◌<◌, length, take, Some, None, refl, arith}
+use Rattle.std.proofs.lemmas.Option.{slice_get_read}
+use Rattle.c_text.specs.CNodes.{unit_tree}
+use Rattle.c_meaning.specs.CTypes.{structs_of, struct_named}
+use Rattle.c_form_exprs.proofs.FrontLemmas.{struct_at, index_within, no_struct, field_listed}
+use Rattle.c_form_exprs.proofs.front.Front.field.Goals as goal
+
+pub index-requires : goal.index-requires
+index-requires c =
+    let struct = struct_at c.self.inside.unit.now c.self.inside.count c.self.inside.structs c.self.inside.fields.items c.self.inside.texts c.self.inside.functions c.self.invariant c.args.of.now c.get.result (Some c.in-Some.k) c.get.ensures c.in-Some.is in
+    let within : c.in-Some.k < length c.self.inside.fields.items = index_within c.self.inside.unit.now c.self.inside.fields.items c.in-Some.k (struct_named (structs_of (take c.self.inside.count (unit_tree c.self.inside.unit.now))) c.args.of.now) struct in
+    omega (arith, within, c.self.inside.fields.ok)
+
+pub returns-in-Some : goal.returns-in-Some
+returns-in-Some c =
+    let struct = struct_at c.self.inside.unit.now c.self.inside.count c.self.inside.structs c.self.inside.fields.items c.self.inside.texts c.self.inside.functions c.self.invariant c.args.of.now c.get.result (Some c.in-Some.k) c.get.ensures c.in-Some.is in
+    let within : c.in-Some.k < length c.self.inside.fields.items = index_within c.self.inside.unit.now c.self.inside.fields.items c.in-Some.k (struct_named (structs_of (take c.self.inside.count (unit_tree c.self.inside.unit.now))) c.args.of.now) struct in
+    let is = slice_get_read c.self.inside.fields.items _ c.in-Some.k c.index.result.now refl within c.index.ensures in
+    rw (← c.self.view_is, c.get-in-Some.ensures) (field_listed c.self.inside.unit.now c.self.inside.fields.items c.in-Some.k (struct_named (structs_of (take c.self.inside.count (unit_tree c.self.inside.unit.now))) c.args.of.now) c.index.result.now c.args.name.now struct is)
+
+pub returns-in-None : goal.returns-in-None
+returns-in-None c =
+    let struct = struct_at c.self.inside.unit.now c.self.inside.count c.self.inside.structs c.self.inside.fields.items c.self.inside.texts c.self.inside.functions c.self.invariant c.args.of.now c.get.result None c.get.ensures c.in-None.is in
+    rw (← c.self.view_is) (no_struct c.self.inside.unit.now c.self.inside.fields.items (struct_named (structs_of (take c.self.inside.count (unit_tree c.self.inside.unit.now))) c.args.of.now) c.args.name.now struct)

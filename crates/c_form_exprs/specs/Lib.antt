@@ -1,0 +1,4 @@
+pub mod Front
+pub mod Spines
+pub mod Tables
+pub mod TypeViews

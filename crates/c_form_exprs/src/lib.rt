@@ -1,0 +1,10 @@
+//! Names of a C text in tables, and the types of its expressions (ISO/IEC 9899:1999, 6.2.1, 6.5), exactly as `CTypes`
+//! has them. A look-up takes time in proportion to the name, and the depth of recursion is that of the brackets.
+#![tactic(auto)]
+
+pub mod front;
+mod operators;
+mod parts;
+pub mod scope;
+pub mod tables;
+pub mod types;
