@@ -1,4 +1,4 @@
--- What the items in front of a function declare, and the names of its parameters and locals, as tables tell them.
+-- What the items before a function declare, and the names of its parameters and locals, as tables tell them.
 use Rattle.std.specs.Prelude.{◌≡◌, ◌≤◌, ℕ, Bool, List, [], ◌∷◌, map, take, length, slice_get, Option, Some, None, option_map, ⊤, IfSome}
 use Rattle.c_text.specs.declared.nodes.CType.{CType}
 use Rattle.c_text.specs.declared.nodes.CField.{CField}

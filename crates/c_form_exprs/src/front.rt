@@ -1,4 +1,4 @@
-// What the items in front of a function declare.
+// What the first items of a unit declare.
 
 ghost use Rattle.std.specs.Prelude.{◌≡◌, is_some, find, option_and_then};
 ghost use Rattle.std.specs.Str.{bytes_eq};

@@ -1,5 +1,5 @@
-//! Names of a C text in tables, and the types of its expressions (ISO/IEC 9899:1999, 6.2.1, 6.5), exactly as `CTypes`
-//! has them. A look-up takes time in proportion to the name, and the depth of recursion is that of the brackets.
+//! Names of a C text in tables, and the types of its forms by those of their parts (ISO/IEC 9899:1999, 6.2.1, 6.5),
+//! exactly as `CTypes` has them. A look-up takes time in proportion to the name.
 #![tactic(auto)]
 
 pub mod front;

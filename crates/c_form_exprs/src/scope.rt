@@ -17,7 +17,7 @@ use std::alloc::Global;
 use std::marker::Model;
 use wf_text::NoMemory;
 
-/// What the items in front declare, and the parameters and locals of a function.
+/// What the items before a function declare, and the function's parameters and locals.
 pub struct Scope<'k, 'u> {
     front: &'k Front<'u>,
     unit: &'u Unit,
