@@ -132,8 +132,9 @@ pub data Called : Type 0 where
   own : (method : ℕ) → Called
   sub : (field method : ℕ) → Called
 
--- An axiom's text, and what is given for its letters.
+-- An axiom's text, the place of its opening quote, and what is given for its letters.
 pub record Axiom : Type 0 where
+  pub at : Place
   pub text : List ℕ
   pub given : List (List ℕ × NumTree)
 

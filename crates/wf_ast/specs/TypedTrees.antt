@@ -259,7 +259,7 @@ text_of nodes t = unwrap_or (slice_get nodes.texts t.0) []
 
 abbrev pub axiom_made : TypedNodes → (ExprId → ValueTree) → Option AxiomRef → Option Axiom
 axiom_made nodes look None = None
-axiom_made nodes look (Some a) = Some (record { text = text_of nodes a.name; given = map (λ g. (text_of nodes g.0, num_in (look g.1))) a.given })
+axiom_made nodes look (Some a) = Some (record { at = a.at; text = text_of nodes a.name; given = map (λ g. (text_of nodes g.0, num_in (look g.1))) a.given })
 
 abbrev pub head_made : (ExprId → ValueTree) → Place → LoopHead → Head
 head_made look close head =

@@ -89,10 +89,11 @@ pub struct LoopHead {
     pub has_break: bool,
 }
 
-/// An axiom by its text, and the expressions that are given for its letters.
+/// An axiom by its text, whose opening quote stands at `at`, and the expressions that are given for its letters.
 #[derive(Drop)]
 pub struct AxiomRef {
     pub name: TextId,
+    pub at: Place,
     pub given: Sequence<(TextId, ExprId)>,
 }
 

@@ -65,8 +65,8 @@ given_refusal fs [] = None
 given_refusal fs (g ∷ gs) = or_else (num_refusal fs false g.1) (given_refusal fs gs)
 
 -- An assertion alone is required. By an axiom its condition is checked, and follows from the axiom's premises. `at` is the
--- statement's place, and `text` that of the axiom's text.
-abbrev pub claim_refusal : List Claim → (at text : Place) → CondTree → Option typed.Axiom → Option Refusal
-claim_refusal fs at text goal None = required fs B6 at goal
-claim_refusal fs at text goal (Some a) =
-    or_else (cond_refusal fs goal) (or_else (given_refusal fs a.given) (axiom_refusal fs text goal a.given (axiom_named a.text)))
+-- statement's place.
+abbrev pub claim_refusal : List Claim → (at : Place) → CondTree → Option typed.Axiom → Option Refusal
+claim_refusal fs at goal None = required fs B6 at goal
+claim_refusal fs at goal (Some a) =
+    or_else (cond_refusal fs goal) (or_else (given_refusal fs a.given) (axiom_refusal fs a.at goal a.given (axiom_named a.text)))

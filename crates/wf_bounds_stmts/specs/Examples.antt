@@ -15,7 +15,7 @@ use Rattle.wf_ast.specs.TypedTree.{local, field, arg, NumType, plus, minus, time
 use Rattle.wf_ast.specs.TypedPackage.{Variable, MethodTree, PackageTree}
 use Rattle.wf_ast.specs.BaseStatuses.{base_statuses}
 use Rattle.wf_facts_exprs.specs.Claims.{Claim, compared, single}
-use Rattle.wf_bounds_stmts.specs.MethodRules.{Places, methods_refusal, front_in_methods}
+use Rattle.wf_bounds_stmts.specs.MethodRules.{methods_refusal, front_in_methods}
 
 -- A place in the only file, a statement there, and types without bounds.
 abbrev pub on : (line col : ℕ) → Place
@@ -44,16 +44,13 @@ abbrev pub with_method : (fields : List Variable) → Mark → (args locals : Li
 with_method fields mark args locals gives body =
     record { package_name = codes "s"; statuses = base_statuses; structs = record { name = codes "s"; public = true; fields = fields } ∷ []; methods = record { name = codes "f"; of = 0; public = true; mark = mark; args = args; locals = locals; gives = gives; body = body } ∷ []; order = 0 ∷ [] }
 
--- Where the first locals' names stand, and an axiom's text.
-abbrev pub placed_at : (local_at text_at : Place) → ℕ → Places
-placed_at here there m = record { local_at = λ n. here; text_at = λ n. there }
-
-abbrev pub refusal_of : (local_at text_at : Place) → PackageTree → Option Refusal
-refusal_of here there p = methods_refusal (placed_at here there) p 0 p.methods
+-- What is refused, where the names of locals stand at this place.
+abbrev pub refusal_of : (local_at : Place) → PackageTree → Option Refusal
+refusal_of here p = methods_refusal (λ m n. here) p 0 p.methods
 
 -- What the rules of facts refuse of a package, in which no axiom stands.
 abbrev pub refused : PackageTree → Option Refusal
-refused p = refusal_of (on 3 9) (on 0 0) p
+refused p = refusal_of (on 3 9) p
 
 abbrev pub refusal : Rule → (line col : ℕ) → Option Refusal
 refusal rule line col = Some (record { rule = rule; at = on line col })
@@ -180,7 +177,7 @@ word_arg line col n = read (on line col) word_type (arg n)
 abbrev axiom_used : (line shift : ℕ) → Simple
 axiom_used line shift =
     claim (compare (on line (shift + 23)) (on line (shift + 23)) (word_arg line (shift + 16) 0) less (word_arg line (shift + 25) 2))
-    (Some (record { text = codes "a < b: a < c; c <= b"; given = (codes "c", word_arg line (shift + 62) 1) ∷ [] }))
+    (Some (record { at = on line (shift + 36); text = codes "a < b: a < c; c <= b"; given = (codes "c", word_arg line (shift + 62) 1) ∷ [] }))
 
 abbrev pub asserting : (inner : Block) → PackageTree
 asserting inner =
@@ -274,7 +271,7 @@ about_the_digit =
     ∷ []
 
 abbrev pub known_at : (statement : ℕ) → PackageTree → Option (List Claim)
-known_at n p = front_in_methods (placed_at (on 10 9) (on 0 0)) p 0 p.methods n
+known_at n p = front_in_methods (λ m n. on 10 9) p 0 p.methods n
 
 -- Calls, of methods with bounds.
 --

@@ -22,12 +22,10 @@ use Rattle.wf_bounds_stmts.specs.Assertions.{claim_refusal}
 abbrev pub Known : Type 0
 Known = Option (List Claim)
 
--- What stands round a statement: its package and its method, the loops round it by their numbers, the innermost first, and,
--- by the number of an assertion, where the text of its axiom stands.
+-- What stands round a statement: its package and its method, and the loops round it by their numbers, the innermost first.
 pub record Around : Type 0 where
   pub context : Context
   pub loops : List (ℕ × Head)
-  pub text_at : ℕ → Place
 
 abbrev pub loop_numbered : List (ℕ × Head) → ℕ → Option Head
 loop_numbered [] w = None
@@ -35,7 +33,7 @@ loop_numbered (l ∷ loops) w = if nat_eq l.0 w then Some l.1 else loop_numbered
 
 -- A loop's blocks stand inside it.
 abbrev pub inside : Around → Site → Form → Around
-inside a site (repeated head) = record { context = a.context; loops = (site.number, head) ∷ a.loops; text_at = a.text_at }
+inside a site (repeated head) = record { context = a.context; loops = (site.number, head) ∷ a.loops }
 inside a site form = a
 
 -- Statements without blocks: what they require, and what is known after them.
@@ -58,7 +56,7 @@ single_refusal a fs site (break_from w) = jump_refusal (break_refusal fs site.at
 single_refusal a fs site (continue_in w) = jump_refusal (way_back_refusal fs site.at) (loop_numbered a.loops w)
 single_refusal a fs site (give_back v) = return_refusal fs a.context.method.gives v
 single_refusal a fs site (yield status) = None
-single_refusal a fs site (claim goal by) = claim_refusal fs site.at (a.text_at site.number) goal by
+single_refusal a fs site (claim goal by) = claim_refusal fs site.at goal by
 
 abbrev pub known_behind : List Claim → Simple → Known
 known_behind fs (assign target op v) = Some (assigned fs target op v)

@@ -13,13 +13,8 @@ use Rattle.wf_facts_exprs.specs.Demands.{or_else}
 use Rattle.wf_bounds_stmts.specs.Statements.{Form, Body, nothing_more, statement, Blocks, no_block, block, body_of}
 use Rattle.wf_bounds_stmts.specs.FactRules.{Known, Around, inside, fronts, behind, and_then, through_body, through_blocks}
 
--- Where parts of a method stand that its tree doesn't place: its locals' names, and, by the number of an assertion, the text of
--- its axiom.
-pub record Places : Type 0 where
-  pub local_at : ℕ → Place
-  pub text_at : ℕ → Place
-
--- A method begins with each of its numeric locals being 0, in order; `n` is the number of the first.
+-- A method begins with each of its numeric locals being 0, in order; `n` is the number of the first. Where the names of the
+-- locals stand, which the trees don't tell, is `local_at`, by the local's number; and by the numbers of both for all methods.
 abbrev pub zero_fact : (at : Place) → (n : ℕ) → Ty → List Claim
 zero_fact at n (types.Num width lo hi) = compared (single (read at (num_type (types.Num width lo hi)) (local n))) equal (single (number no_place 0)) ∷ []
 zero_fact at n ty = []
@@ -28,20 +23,20 @@ abbrev pub zero_facts : (local_at : ℕ → Place) → (n : ℕ) → List Variab
 zero_facts local_at n [] = []
 zero_facts local_at n (x ∷ xs) = zero_fact (local_at n) n x.ty ++ zero_facts local_at (suc n) xs
 
-abbrev pub around_body : Places → PackageTree → MethodTree → Around
-around_body places p m = record { context = record { within = p; method = m }; loops = []; text_at = places.text_at }
+abbrev pub around_body : PackageTree → MethodTree → Around
+around_body p m = record { context = record { within = p; method = m }; loops = [] }
 
-abbrev pub through_method : Places → PackageTree → MethodTree → Result Known Refusal
-through_method places p m = through_body (around_body places p m) (zero_facts places.local_at 0 m.locals) (body_of m.body)
+abbrev pub through_method : (local_at : ℕ → Place) → PackageTree → MethodTree → Result Known Refusal
+through_method local_at p m = through_body (around_body p m) (zero_facts local_at 0 m.locals) (body_of m.body)
 
 abbrev pub refusal_in : {X : Type 0} → Result X Refusal → Option Refusal
 refusal_in (Ok x) = None
 refusal_in (Err refusal) = Some refusal
 
 -- The first refusal of the methods in order; `n` is the number of the first.
-abbrev pub methods_refusal : (places : ℕ → Places) → PackageTree → (n : ℕ) → List MethodTree → Option Refusal
-methods_refusal places p n [] = None
-methods_refusal places p n (m ∷ ms) = or_else (refusal_in (through_method (places n) p m)) (methods_refusal places p (suc n) ms)
+abbrev pub methods_refusal : (local_at : ℕ → ℕ → Place) → PackageTree → (n : ℕ) → List MethodTree → Option Refusal
+methods_refusal local_at p n [] = None
+methods_refusal local_at p n (m ∷ ms) = or_else (refusal_in (through_method (local_at n) p m)) (methods_refusal local_at p (suc n) ms)
 
 -- What is known before the statement with a number; None where it isn't reached.
 
@@ -72,28 +67,22 @@ abbrev mutual
   front_in_blocks a n [] (block body blocks) = None
   front_in_blocks a n (fs ∷ lists) (block body blocks) = first_known (front_in_body a n fs body) (front_in_blocks a n lists blocks)
 
-abbrev pub front_in_method : Places → PackageTree → MethodTree → (n : ℕ) → Known
-front_in_method places p m n = front_in_body (around_body places p m) n (zero_facts places.local_at 0 m.locals) (body_of m.body)
+abbrev pub front_in_method : (local_at : ℕ → Place) → PackageTree → MethodTree → (n : ℕ) → Known
+front_in_method local_at p m n = front_in_body (around_body p m) n (zero_facts local_at 0 m.locals) (body_of m.body)
 
-abbrev pub front_in_methods : (places : ℕ → Places) → PackageTree → (i : ℕ) → List MethodTree → (n : ℕ) → Known
-front_in_methods places p i [] n = None
-front_in_methods places p i (m ∷ ms) n = first_known (front_in_method (places i) p m n) (front_in_methods places p (suc i) ms n)
+abbrev pub front_in_methods : (local_at : ℕ → ℕ → Place) → PackageTree → (i : ℕ) → List MethodTree → (n : ℕ) → Known
+front_in_methods local_at p i [] n = None
+front_in_methods local_at p i (m ∷ ms) n = first_known (front_in_method (local_at i) p m n) (front_in_methods local_at p (suc i) ms n)
 
--- Typed packages, whose nodes tell these places.
+-- Typed packages, whose nodes tell where the names of locals stand.
 
 abbrev pub local_at : TypedNodes → (m n : ℕ) → Place
 local_at nodes m n = unwrap_or (option_map (λ x. x.at) (option_and_then (λ method. slice_get method.locals n) (slice_get nodes.methods m))) no_place
 
-abbrev pub text_at : TypedNodes → (statement : ℕ) → Place
-text_at nodes s = unwrap_or (option_map (λ node. node.inner) (slice_get nodes.stmts s)) no_place
-
-abbrev pub places_of : TypedNodes → (m : ℕ) → Places
-places_of nodes m = record { local_at = local_at nodes m; text_at = text_at nodes }
-
 -- The first refusal of a typed package by the rules of facts; None where there is none.
 unfoldable pub facts_refusal : TypedNodes → Option Refusal
-facts_refusal nodes = methods_refusal (places_of nodes) (package_of nodes) 0 (package_of nodes).methods
+facts_refusal nodes = methods_refusal (local_at nodes) (package_of nodes) 0 (package_of nodes).methods
 
 -- What is known before a statement of a typed package.
 unfoldable pub facts_in_front : TypedNodes → (statement : ℕ) → Known
-facts_in_front nodes s = front_in_methods (places_of nodes) (package_of nodes) 0 (package_of nodes).methods s
+facts_in_front nodes s = front_in_methods (local_at nodes) (package_of nodes) 0 (package_of nodes).methods s

@@ -25,12 +25,11 @@ use wf_facts_exprs::{Cmp, Fact, Side, check_value, gives, gives_sides};
 use wf_text::{Place, Refusal, Rule};
 
 /// An assertion. A refusal is the first of what it requires, or that of a list which would hold too much, at the statement's
-/// first token `at`. `text_at` is the place of the opening quote of the axiom's text, where an axiom is named.
+/// first token `at`.
 pub(crate) fn assert(
     t: &Typed,
     facts: &mut Facts,
     at: Place,
-    text_at: Place,
     goal: ExprId,
     by: &Option<AxiomRef>,
 ) -> Result<(), Refusal>
@@ -38,9 +37,9 @@ pub(crate) fn assert(
     requires by { MayBeAxiomOf t.now by.now }
     requires over { IsOver t.now facts.old }
     ensures over { IsOver t.now facts.new }
-    ensures answers { Answers t.now at (claim_refusal (claims_in t.now facts.old.list) at text_at (node_cond t.now goal) (axiom_made t.now (tree_of t.now) by.now)) (with_condition (claims_in t.now facts.old.list) (node_cond t.now goal) true) result facts.new }
+    ensures answers { Answers t.now at (claim_refusal (claims_in t.now facts.old.list) at (node_cond t.now goal) (axiom_made t.now (tree_of t.now) by.now)) (with_condition (claims_in t.now facts.old.list) (node_cond t.now goal) true) result facts.new }
 {
-    match check_assertion(t, facts.as_slice(), at, text_at, goal, by) {
+    match check_assertion(t, facts.as_slice(), at, goal, by) {
         Ok(()) => {}
         Err(refusal) => return Err(refusal),
     }
@@ -58,18 +57,17 @@ fn check_assertion(
     t: &Typed,
     facts: &[Fact],
     at: Place,
-    text_at: Place,
     goal: ExprId,
     by: &Option<AxiomRef>,
 ) -> Result<(), Refusal>
     requires known { AreFacts t.now facts.now }
     requires goal { IsTrue (is_condition_at t.now goal) }
     requires by { MayBeAxiomOf t.now by.now }
-    ensures { result ≡ unless_refused (claim_refusal (claims_in t.now facts.now) at text_at (node_cond t.now goal) (axiom_made t.now (tree_of t.now) by.now)) tt }
+    ensures { result ≡ unless_refused (claim_refusal (claims_in t.now facts.now) at (node_cond t.now goal) (axiom_made t.now (tree_of t.now) by.now)) tt }
 {
     match by {
         None => check_required(t, facts, at, goal),
-        Some(by) => check_by_axiom(t, facts, text_at, goal, by),
+        Some(by) => check_by_axiom(t, facts, goal, by),
     }
 }
 
@@ -92,21 +90,15 @@ fn check_required(t: &Typed, facts: &[Fact], at: Place, goal: ExprId) -> Result<
 }
 
 // By an axiom the condition and what is given for letters have values, and all premises are given.
-fn check_by_axiom(
-    t: &Typed,
-    facts: &[Fact],
-    text_at: Place,
-    goal: ExprId,
-    by: &AxiomRef,
-) -> Result<(), Refusal>
+fn check_by_axiom(t: &Typed, facts: &[Fact], goal: ExprId, by: &AxiomRef) -> Result<(), Refusal>
     requires known { AreFacts t.now facts.now }
     requires goal { IsTrue (is_condition_at t.now goal) }
     requires by { IsAxiomOf t.now by.now }
-    ensures { result ≡ unless_refused (or_else (cond_refusal (claims_in t.now facts.now) (node_cond t.now goal)) (or_else (given_refusal (claims_in t.now facts.now) (given_trees t.now by.now.given)) (axiom_refusal (claims_in t.now facts.now) text_at (node_cond t.now goal) (given_trees t.now by.now.given) (axiom_named (text_of t.now by.now.name))))) tt }
+    ensures { result ≡ unless_refused (or_else (cond_refusal (claims_in t.now facts.now) (node_cond t.now goal)) (or_else (given_refusal (claims_in t.now facts.now) (given_trees t.now by.now.given)) (axiom_refusal (claims_in t.now facts.now) by.now.at (node_cond t.now goal) (given_trees t.now by.now.given) (axiom_named (text_of t.now by.now.name))))) tt }
 {
     match check_condition(t, facts, goal) {
         Ok(()) => match check_given(t, facts, by.given.as_slice()) {
-            Ok(()) => check_axiom(t, facts, text_at, goal, by),
+            Ok(()) => check_axiom(t, facts, goal, by),
             Err(refusal) => Err(refusal),
         },
         Err(refusal) => Err(refusal),
@@ -114,26 +106,20 @@ fn check_by_axiom(
 }
 
 // The axiom that is named is known, matches, and has its premises.
-fn check_axiom(
-    t: &Typed,
-    facts: &[Fact],
-    text_at: Place,
-    goal: ExprId,
-    by: &AxiomRef,
-) -> Result<(), Refusal>
+fn check_axiom(t: &Typed, facts: &[Fact], goal: ExprId, by: &AxiomRef) -> Result<(), Refusal>
     requires known { AreFacts t.now facts.now }
     requires goal { IsTrue (is_condition_at t.now goal) }
     requires by { IsAxiomOf t.now by.now }
     requires fine { cond_refusal (claims_in t.now facts.now) (node_cond t.now goal) ≡ None }
     requires given_fine { given_refusal (claims_in t.now facts.now) (given_trees t.now by.now.given) ≡ None }
-    ensures { result ≡ unless_refused (axiom_refusal (claims_in t.now facts.now) text_at (node_cond t.now goal) (given_trees t.now by.now.given) (axiom_named (text_of t.now by.now.name))) tt }
+    ensures { result ≡ unless_refused (axiom_refusal (claims_in t.now facts.now) by.now.at (node_cond t.now goal) (given_trees t.now by.now.given) (axiom_named (text_of t.now by.now.name))) tt }
 {
     let named = axiom(t.text(by.name));
     match named {
-        Some(a) => check_matched(t, facts, text_at, a, goal, by.given.as_slice()),
+        Some(a) => check_matched(t, facts, by.at, a, goal, by.given.as_slice()),
         None => Err(Refusal {
             rule: Rule::B6,
-            at: text_at,
+            at: by.at,
         }),
     }
 }

@@ -52,8 +52,8 @@ pub fn a_byte_ahead()
 /// An axiom's premises are given; one that isn't is refused inside the axiom's text.
 #[tactic(auto, unfolding(wf_facts_exprs::specs::RangeOf::met))]
 pub fn an_axiom()
-    ensures founded { refusal_of (on 1 1) (on 5 40) (asserting founded) ≡ None }
-    ensures unfounded { refusal_of (on 1 1) (on 4 36) (asserting unfounded) ≡ refusal B7 4 51 }
+    ensures founded { refusal_of (on 1 1) (asserting founded) ≡ None }
+    ensures unfounded { refusal_of (on 1 1) (asserting unfounded) ≡ refusal B7 4 51 }
 {}
 
 /// Arguments lie in their types. Of two that don't, the one that is written first is refused, whichever is declared first.

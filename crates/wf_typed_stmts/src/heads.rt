@@ -163,6 +163,7 @@ pub fn add_via(
             match add_letters(alloc, nodes, named, around, via.given.as_slice()) {
                 Ok(given) => Ok(Some(AxiomRef {
                     name: via.axiom.text,
+                    at: via.axiom.at,
                     given,
                 })),
                 Err(fault) => Err(fault),

@@ -71,7 +71,7 @@ letter_trees s (more_letters letter e others) = (letter.text, num_in (expr_tree 
 
 abbrev pub axiom_tree : Setting → NamedViaTree → Option Axiom
 axiom_tree s by_itself = None
-axiom_tree s (via name given) = Some (record { text = name.text; given = letter_trees s given })
+axiom_tree s (via name given) = Some (record { at = name.at; text = name.text; given = letter_trees s given })
 
 -- A jump means the loop that stands so many loops outwards; `loops` are the numbers of those round it, the innermost first.
 abbrev pub loop_meant : (loops : List ℕ) → (outwards : ℕ) → ℕ

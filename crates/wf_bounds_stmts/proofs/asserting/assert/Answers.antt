@@ -15,7 +15,7 @@ pub returns-in-Err-clause-answers : goal.returns-in-Err-clause-answers
 returns-in-Err-clause-answers c =
     let t = c.args.t.now in
     let fs = claims_in t c.args.facts.now.list in
-    let p = claim_refusal fs c.args.at c.args.text_at (node_cond t c.args.goal) (axiom_made t (tree_of t) c.args.by.now) in
+    let p = claim_refusal fs c.args.at (node_cond t c.args.goal) (axiom_made t (tree_of t) c.args.by.now) in
     let found : p ≡ Some c.in-Err.refusal = is-refused p c.in-Err.refusal (rw c.as_slice.ensures at (sym c.check_assertion.ensures ∙ c.in-Err.is)) in
     ap (λ q. or_else q (limit c.args.at (with_condition fs (node_cond t c.args.goal) true))) found
 
@@ -23,7 +23,7 @@ pub returns-in-Ok-add_condition-clause-answers : goal.returns-in-Ok-add_conditio
 returns-in-Ok-add_condition-clause-answers c =
     let t = c.args.t.now in
     let fs = claims_in t c.args.facts.now.list in
-    let p = claim_refusal fs c.args.at c.args.text_at (node_cond t c.args.goal) (axiom_made t (tree_of t) c.args.by.now) in
+    let p = claim_refusal fs c.args.at (node_cond t c.args.goal) (axiom_made t (tree_of t) c.args.by.now) in
     let list = c.add_condition.new.self.list in
     let known = with_condition fs (node_cond t c.args.goal) true in
     let made : claims_in t list ≡ known = c.in-Ok-add_condition.ensures.ok in
@@ -34,7 +34,7 @@ pub returns-in-Err-add_condition-clause-answers : goal.returns-in-Err-add_condit
 returns-in-Err-add_condition-clause-answers c =
     let t = c.args.t.now in
     let fs = claims_in t c.args.facts.now.list in
-    let p = claim_refusal fs c.args.at c.args.text_at (node_cond t c.args.goal) (axiom_made t (tree_of t) c.args.by.now) in
+    let p = claim_refusal fs c.args.at (node_cond t c.args.goal) (axiom_made t (tree_of t) c.args.by.now) in
     let known = with_condition fs (node_cond t c.args.goal) true in
     let stop = c.in-Err-add_condition.ensures.full in
     let large : 512 < length known = too_many (facts_of (node_cond t c.args.goal) true) fs stop.count stop.next _ stop.is stop.so_far stop.many stop.other in

@@ -13,6 +13,6 @@ returns-in-Ok-check_given c =
     let t = c.args.t.now in
     let fs = claims_in t c.args.facts.now in
     let given = given_trees t c.args.by.now.given in
-    let last = axiom_refusal fs c.args.text_at (node_cond t c.args.goal) given (axiom_named (text_of t c.args.by.now.name)) in
+    let last = axiom_refusal fs c.args.by.now.at (node_cond t c.args.goal) given (axiom_named (text_of t c.args.by.now.name)) in
     third-of (cond_refusal fs (node_cond t c.args.goal)) (given_refusal fs given) last last c.check_axiom.result c.check_axiom.ensures refl (sym c.check_condition.ensures ∙ c.in-Ok.is)
     (rw c.as_slice.ensures at (sym c.check_given.ensures ∙ c.in-Ok-check_given.is))
