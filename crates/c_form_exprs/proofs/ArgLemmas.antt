@@ -7,7 +7,7 @@ use Rattle.c_text.specs.declared.nodes.CArg.TheVariants as arg
 use Rattle.c_text.specs.declared.nodes.CParam.{CParam}
 use Rattle.c_text.specs.CTree.{ExprTree, ParamTree}
 use Rattle.c_text.specs.CNodes.{Nodes, expr_of, operands_in, args_in, param_tree}
-use Rattle.c_text.proofs.Progress.{unroll}
+use Rattle.pens.proofs.Progress.{unroll}
 use Rattle.c_text.proofs.Parts.{no_expr, no_arg_given, no_param}
 use Rattle.c_meaning.specs.CTypes as by_name
 use Rattle.c_meaning.specs.CTypes.{Scope, type_of, operand_types, operations_type, arg_types, passable}

@@ -5,8 +5,6 @@ pub mod Lawful
 pub mod Lines
 pub mod Names
 pub mod Parts
-pub mod PenLemmas
-pub mod Progress
 pub mod Spelled
 pub mod SpelledCode
 pub mod Trees

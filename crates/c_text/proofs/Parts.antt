@@ -14,7 +14,7 @@ use Rattle.c_text.specs.CNodes.{Nodes, expr_of, operands_in, args_in, field_tree
 use Rattle.c_text.specs.CFits.{HasField, HasFields, HasParam, HasParams, HasLocal, HasLocals, HasExprs, HasArg, HasArgs}
 use Rattle.c_text.specs.CLayout.{fields_text, more_params_text, locals_text, operands_text, args_text, more_args_text}
 use Rattle.c_text.specs.CLines.{arg_text}
-use Rattle.c_text.proofs.Progress.{unroll}
+use Rattle.pens.proofs.Progress.{unroll}
 
 abbrev pub fields_written : Nodes → List CField → List ℕ
 fields_written nodes fs = fields_text (map (field_tree nodes.names) fs)

@@ -3,8 +3,6 @@ pub mod CGrammar
 pub mod CLayout
 pub mod CLines
 pub mod CNodes
-pub mod CPenLaws
-pub mod CPens
 pub mod CSpelling
 pub mod CTree
 pub mod CUnit

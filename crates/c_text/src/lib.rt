@@ -5,9 +5,9 @@
 pub mod ids;
 pub mod kinds;
 pub mod laws;
+mod lengths;
 pub mod lists;
 pub mod nodes;
-mod pens;
 mod print_code;
 mod print_exprs;
 mod print_items;

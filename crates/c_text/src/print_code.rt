@@ -10,9 +10,9 @@ ghost use Rattle.c_text.specs.CLines.{IsIfAt, IsRest, is_branch};
 use crate::ids::{CExprId, CStmtId};
 use crate::kinds::Otherwise;
 use crate::nodes::{CCall, CStmt};
-use crate::pens::Pen;
 use crate::print_exprs::{call, expr, literal};
 use crate::unit::Unit;
+use pens::Pen;
 
 /// Prints the spaces at the front of a line.
 pub fn indent<P: Pen>(depth: usize, pen: &mut P)

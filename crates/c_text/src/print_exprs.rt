@@ -11,8 +11,8 @@ ghost use Rattle.c_text.specs.CTree.{choice as choice_tree, operation as operati
 use crate::ids::CExprId;
 use crate::kinds::{CNumber, COp, CUint, CUnary};
 use crate::nodes::{CArg, CCall, CExpr, CType};
-use crate::pens::Pen;
 use crate::unit::Unit;
+use pens::Pen;
 use wf_text::number_text;
 
 fn decimal_number<P: Pen>(n: u64, pen: &mut P)

@@ -10,10 +10,10 @@ ghost use Rattle.c_text.specs.CSpelling.{includes};
 use crate::ids::{CExprId, CItemId, CNameId, CStmtId};
 use crate::kinds::{CNumber, Linkage};
 use crate::nodes::{CField, CFieldType, CItem, CLocal, CParam, CType};
-use crate::pens::Pen;
 use crate::print_code::code;
 use crate::print_exprs::{expr, literal, value_type};
 use crate::unit::Unit;
+use pens::Pen;
 
 fn field_type<P: Pen>(u: &Unit, kind: CFieldType, pen: &mut P)
     requires has { HasFieldType u.now kind }

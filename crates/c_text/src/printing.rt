@@ -3,12 +3,13 @@
 ghost use Rattle.std.specs.Prelude.{◌≡◌, ◌<◌, ◌-◌, ◌^◌, length, min};
 ghost use Rattle.c_text.specs.CNodes.{unit_tree};
 ghost use Rattle.c_text.specs.CLayout.{text_of};
-ghost use Rattle.c_text.specs.CPens.{Prints, KeepsLongest};
+ghost use Rattle.pens.specs.Pens.{Prints, KeepsLongest};
 ghost use Rattle.wf_outside.specs.Sinks.{CountsPut, FitsRoom};
 
-use crate::pens::{LengthPen, SinkPen};
+use crate::lengths::LengthPen;
 use crate::print_items::unit;
 use crate::unit::Unit;
+use pens::SinkPen;
 use wf_outside::{Sink, SinkFault};
 
 /// Writes the text of a unit, in pieces of at most 4,096 bytes, and takes no memory. At a fault, which the sink

@@ -1,5 +1,5 @@
 use Rattle.std.proofs.Common.{arith}
-use Rattle.c_text.proofs.Progress.{shift_on}
+use Rattle.pens.proofs.Progress.{shift_on}
 use Rattle.c_text.proofs.Lines.{block_text, chained_text, chained_branch}
 use Rattle.c_text.proofs.Trees.{code_of-node}
 use Rattle.c_text.proofs.print_code.+print_code.Goals as goal

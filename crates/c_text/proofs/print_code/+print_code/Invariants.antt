@@ -2,7 +2,7 @@ use Rattle.std.proofs.Common.{◌+◌, ◌*◌, ◌<◌, length, true, false, Is
 use Rattle.c_text.specs.CNodes.{code_of}
 use Rattle.c_text.specs.CLayout.{code_text}
 use Rattle.c_text.specs.CLines.{is_branch}
-use Rattle.c_text.proofs.Progress.{Shifted}
+use Rattle.pens.proofs.Progress.{Shifted}
 use Rattle.c_text.proofs.print_code.+print_code.Given as goal
 
 abbrev pub decreases-line : goal.decreases-line

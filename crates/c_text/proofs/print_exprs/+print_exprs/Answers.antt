@@ -1,6 +1,6 @@
 use Rattle.std.proofs.Common.{◌<◌, length, ap, ◌∙◌, get_or, arith}
 use Rattle.std.proofs.lemmas.List.{take_rest}
-use Rattle.c_text.proofs.Progress.{goes_on, unroll}
+use Rattle.pens.proofs.Progress.{goes_on, unroll}
 use Rattle.c_text.proofs.Trees.{expr_of-node}
 use Rattle.c_text.proofs.Parts.{args_written, args_rest, args_step, args_first, no_arg_given, operands_written, exprs_rest, no_expr}
 use Rattle.c_text.proofs.print_exprs.+print_exprs.Goals as goal

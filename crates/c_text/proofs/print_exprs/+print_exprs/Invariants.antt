@@ -1,6 +1,6 @@
 use Rattle.std.proofs.Common.{◌+◌, ◌*◌, drop}
 use Rattle.c_text.specs.CFits.{HasArgs, HasExprs}
-use Rattle.c_text.proofs.Progress.{Progress}
+use Rattle.pens.proofs.Progress.{Progress}
 use Rattle.c_text.proofs.Parts.{args_written, operands_written}
 use Rattle.c_text.proofs.print_exprs.+print_exprs.Given as goal
 

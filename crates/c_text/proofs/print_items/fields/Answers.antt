@@ -1,5 +1,5 @@
 use Rattle.std.proofs.Common.{◌<◌, length, ap}
-use Rattle.c_text.proofs.Progress.{goes_on, unroll}
+use Rattle.pens.proofs.Progress.{goes_on, unroll}
 use Rattle.c_text.proofs.Parts.{fields_written, no_field, fields_rest}
 use Rattle.c_text.proofs.print_items.fields.Goals as goal
 

@@ -1,5 +1,5 @@
 use Rattle.std.proofs.Common.{drop}
-use Rattle.c_text.proofs.Progress.{Progress}
+use Rattle.pens.proofs.Progress.{Progress}
 use Rattle.c_text.specs.CFits.{HasFields}
 use Rattle.c_text.proofs.Parts.{fields_written}
 use Rattle.c_text.proofs.print_items.fields.Given as goal

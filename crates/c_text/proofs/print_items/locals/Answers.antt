@@ -1,5 +1,5 @@
 use Rattle.std.proofs.Common.{◌<◌, length, ap}
-use Rattle.c_text.proofs.Progress.{goes_on, unroll}
+use Rattle.pens.proofs.Progress.{goes_on, unroll}
 use Rattle.c_text.proofs.Parts.{locals_written, no_local, locals_rest}
 use Rattle.c_text.proofs.print_items.locals.Goals as goal
 

@@ -1,5 +1,5 @@
 use Rattle.std.proofs.Common.{◌<◌, length, ap}
-use Rattle.c_text.proofs.Progress.{goes_on, unroll}
+use Rattle.pens.proofs.Progress.{goes_on, unroll}
 use Rattle.c_text.proofs.Parts.{params_written, no_param, params_rest}
 use Rattle.c_text.proofs.print_items.more_params.Goals as goal
 

@@ -1,5 +1,5 @@
 use Rattle.std.proofs.Common.{drop}
-use Rattle.c_text.proofs.Progress.{Progress}
+use Rattle.pens.proofs.Progress.{Progress}
 use Rattle.c_text.specs.CFits.{HasParams}
 use Rattle.c_text.proofs.Parts.{params_written}
 use Rattle.c_text.proofs.print_items.more_params.Given as goal

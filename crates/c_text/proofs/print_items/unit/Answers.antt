@@ -2,7 +2,7 @@ use Rattle.std.proofs.Common.{◌<◌, ◌≤◌, length, arith}
 use Rattle.c_text.specs.CNodes.{unit_tree}
 use Rattle.c_text.specs.CLayout.{item_text, text_of}
 use Rattle.c_text.proofs.Items.{item_wrote, unit_length, item_at, items_over}
-use Rattle.c_text.proofs.Progress.{shift_on, shift_over}
+use Rattle.pens.proofs.Progress.{shift_on, shift_over}
 use Rattle.c_text.proofs.print_items.unit.Goals as goal
 
 pub loop-i-preserved : goal.loop-i-preserved

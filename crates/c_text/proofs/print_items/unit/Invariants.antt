@@ -2,7 +2,7 @@ use Rattle.std.proofs.Common.{◌++◌, drop}
 use Rattle.c_text.specs.CNodes.{unit_tree}
 use Rattle.c_text.specs.CSpelling.{includes}
 use Rattle.c_text.specs.CLayout.{items_text}
-use Rattle.c_text.proofs.Progress.{Shifted}
+use Rattle.pens.proofs.Progress.{Shifted}
 use Rattle.c_text.proofs.print_items.unit.Given as goal
 
 abbrev pub invariant-loop-i : goal.invariant-loop-i

@@ -2,8 +2,8 @@ use Rattle.std.proofs.Common.{rules, take, refl, ap, length}
 use Rattle.wf_outside.specs.Sinks.{FitsRoom}
 use Rattle.c_text.specs.CNodes.{unit_tree}
 use Rattle.c_text.specs.CLayout.{text_of}
-use Rattle.c_text.specs.CPens.{Prints}
-use Rattle.c_text.proofs.PenLemmas.{print_done}
+use Rattle.pens.specs.Pens.{Prints}
+use Rattle.pens.proofs.PenLemmas.{print_done}
 use Rattle.c_text.proofs.printing.print.Goals as goal
 
 pub returns-clause-bytes : goal.returns-clause-bytes

@@ -1,0 +1,194 @@
+#!/usr/bin/env python3
+"""How the cost of `check` grows with a package. It isn't part of .ci/run.
+
+usage: check_benchmark.py PROGRAM [SHAPE..]    all shapes are the default
+Each shape is a package that is accepted and grows in one way, by steps of two, up to what its limit allows. Where valgrind is
+there, what is counted is instructions, which are the same on every run; else it is seconds, of the least of three runs. The cost
+of a package without declarations is taken off. For each step comes the exponent of its growth: 1.00 is in proportion, and what
+passes 1.10 at the last step, where the package is largest, is told as too much. The memory is the most that the process held,
+beyond that of the package without declarations, a byte of source; above 64 is told as too much.
+At last, where tcc is there, `check` of a package of 1 MiB is timed beside `tcc -c` of a C text of that size.
+"""
+import math
+import os
+import pathlib
+import re
+import resource
+import shutil
+import subprocess
+import sys
+import tempfile
+import time
+
+MOST_EXPONENT = 1.10
+MOST_BYTES_A_BYTE = 64
+
+
+def method(name, arguments, result, lines, mark=""):
+    return "".join([f"pub func s.{name}{mark}({arguments}){result} {{\n", *(f"    {line}\n" for line in lines), "}\n"])
+
+
+def package(*parts, fields=""):
+    return "".join([f"pub struct s?({fields})\n", *parts])
+
+
+def tokens(n):
+    return "".join(f"pri const C_{i} : base.u32 = {i % 1000}\n" for i in range(n))
+
+
+def methods(n):
+    return package(*(method(f"m{i}", "a: base.u32", " base.u32", ["return args.a"]) for i in range(n)))
+
+
+def statements(n):
+    return package(method("f", "a: base.u32", "", ["var x : base.u32", *(["x = args.a", "x = 7"] * (n // 2 - 1))]))
+
+
+def facts(n):
+    fields = "".join(f"f{i} : base.u32, " for i in range(n))
+    given = " and ".join(f"(this.f{i} < {i + 9})" for i in range(n))
+    body = [f"    x = this.f{i % n} & 0xFFFF" for i in range(256)]
+    return package(method("f", "", "", ["var x : base.u32", f"if {given} {{", *body, "}"]), fields=fields)
+
+
+def points(n):
+    return package(method("f", "src: base.io_reader", "", ["args.src.skip_u32?(n: 1)"] * n, mark="?"))
+
+
+def nested_loops(n):
+    opening = ["    " * i + "while x < 100, inv x <= 100, inv y < 9, {" for i in range(n)]
+    closing = ["    " * i + "} endwhile" for i in reversed(range(n))]
+    body = ["var x : base.u32", "var y : base.u32", *opening, *closing]
+    return package(*(method(f"m{i}", "", "", body) for i in range(64)))
+
+
+def else_ifs(n):
+    lines = ["var x : base.u32", "if args.a == 0 {"]
+    for i in range(1, n):
+        lines += [f"}} else if args.a == {i % 100} {{"]
+    return package(method("f", "a: base.u32", "", [*lines, "    x = 1", "}"]))
+
+
+def operands(n):
+    return package(method("f", "a: base.u32", " base.u32", ["return " + " & ".join(["args.a"] * n)]))
+
+
+def conditions(n):
+    return package(method("f", "a: base.u32, p: base.bool", "", ["if " + " or ".join(["args.p", "(args.a < 7)"] * (n // 2)) + " {", "}"]))
+
+
+SHAPES = {
+    "tokens": (tokens, (3584, 7168, 14336, 28672)),
+    "methods": (methods, (128, 256, 512, 1024)),
+    "statements": (statements, (512, 1024, 2048, 4096)),
+    "facts": (facts, (64, 128, 256, 511)),
+    "points": (points, (128, 256, 512, 1024)),
+    "nested loops": (nested_loops, (5, 10, 20, 40)),
+    "else ifs": (else_ifs, (512, 1024, 2048, 4096)),
+    "operands": (operands, (500, 1000, 2000, 4000)),
+    "conditions": (conditions, (500, 1000, 2000, 4000)),
+}
+
+
+class Meter:
+    """Runs `check` on a text and tells what it costs."""
+
+    def __init__(self, program, folder):
+        self.program, self.folder = program, folder
+        self.counts = shutil.which("valgrind") is not None
+        self.start = self.cost("")
+
+    def words(self, text):
+        (self.folder / "n.wuffs").write_text(text)
+        return [self.program, "check", "n", "n.wuffs"]
+
+    def answer(self, words):
+        ran = subprocess.run(words, cwd=self.folder, capture_output=True, text=True)
+        if not ran.stdout.startswith("ok "):
+            sys.exit(f"the package isn't accepted: {ran.stdout}{ran.stderr}")
+        return ran
+
+    def memory(self, words):
+        """The most that the process held, in bytes."""
+        read, write = os.pipe()
+        child = os.fork()
+        if child == 0:
+            subprocess.run(words, cwd=self.folder, stdout=subprocess.DEVNULL)
+            os.write(write, str(resource.getrusage(resource.RUSAGE_CHILDREN).ru_maxrss * 1024).encode())
+            os._exit(0)
+        os.waitpid(child, 0)
+        return int(os.read(read, 64))
+
+    def seconds(self, words):
+        least = math.inf
+        for _ in range(3):
+            begun = time.perf_counter()
+            self.answer(words)
+            least = min(least, time.perf_counter() - begun)
+        return least
+
+    def cost(self, text):
+        """What is counted, and the bytes of memory."""
+        words = self.words(text)
+        held = self.memory(words)
+        if not self.counts:
+            return self.seconds(words), held
+        ran = self.answer(["valgrind", "--tool=callgrind", "--callgrind-out-file=/dev/null", *words])
+        return int(re.search(r"Collected : (\d+)", ran.stderr)[1]), held
+
+
+def grows(meter, name, make, sizes):
+    """Prints the growth of one shape; whether it is within bounds."""
+    before, good = None, True
+    for n in sizes:
+        text = make(n)
+        counted, held = meter.cost(text)
+        cost, memory = counted - meter.start[0], (held - meter.start[1]) / len(text)
+        exponent = math.log2(cost / before) if before and before > 0 < cost else None
+        shown = f"{cost / 1e6:12.2f} M" if meter.counts else f"{cost:12.3f} s"
+        print(f"{name:14} {n:6} {len(text):8} bytes {shown} {'' if exponent is None else f'{exponent:6.2f}':6} {memory:7.1f} bytes a byte", flush=True)
+        before = cost
+    if exponent > MOST_EXPONENT:
+        good = False
+        print(f"{name}: it grows with an exponent of {exponent:.2f}, above {MOST_EXPONENT}")
+    if memory > MOST_BYTES_A_BYTE:
+        good = False
+        print(f"{name}: it takes {memory:.0f} bytes a byte, above {MOST_BYTES_A_BYTE}")
+    return good
+
+
+def beside_tcc(meter):
+    """`check` of 1 MiB beside tcc on a C text of that size, in seconds; True where tcc is missing."""
+    if not shutil.which("tcc"):
+        print("there is no tcc, so check wasn't timed beside it")
+        return True
+    large = pathlib.Path(__file__).with_name("large_package.py")
+    text = subprocess.run([sys.executable, large, str(1 << 20)], capture_output=True, text=True, check=True).stdout
+    line = "unsigned f%d(unsigned a, unsigned b) { unsigned x = 0; while (a < b) { x = x + a * %d; a = a + 1; } return x; }\n"
+    body, n = [], 0
+    while sum(map(len, body)) < len(text):
+        body += [line % (i, i) for i in range(n, n + 512)]
+        n += 512
+    (meter.folder / "n.c").write_text("".join(body)[:len(text)].rpartition("\n")[0] + "\n")
+    ours = meter.seconds(meter.words(text))
+    begun = time.perf_counter()
+    subprocess.run(["tcc", "-c", "n.c", "-o", "n.o"], cwd=meter.folder, check=True)
+    theirs = time.perf_counter() - begun
+    print(f"1 MiB: check {ours:.3f} s, tcc -c {theirs:.3f} s")
+    return True
+
+
+def main():
+    if len(sys.argv) < 2 or any(name not in SHAPES for name in sys.argv[2:]):
+        print(__doc__)
+        return 2
+    with tempfile.TemporaryDirectory() as folder:
+        meter = Meter(os.path.abspath(sys.argv[1]), pathlib.Path(folder))
+        good = [grows(meter, name, *SHAPES[name]) for name in sys.argv[2:] or SHAPES]
+        if not sys.argv[2:]:
+            good.append(beside_tcc(meter))
+    return 0 if all(good) else 1
+
+
+if __name__ == "__main__":
+    sys.exit(main())
