@@ -1,7 +1,13 @@
 pub mod AssertLemmas
 pub mod AssignLemmas
+pub mod BaseLemmas
 pub mod BufferLemmas
+pub mod CallLemmas
+pub mod FastLemmas
 pub mod LimitLemmas
 pub mod OutcomeLemmas
+pub mod PassLemmas
 pub mod PlaceLemmas
+pub mod StepLemmas
 pub mod TargetLemmas
+pub mod TypeLemmas

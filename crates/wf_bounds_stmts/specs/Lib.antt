@@ -6,6 +6,7 @@ pub mod FactRules
 pub mod MethodRules
 pub mod Nodes
 pub mod Outcomes
+pub mod Passing
 pub mod Requirements
 pub mod Statements
 pub mod Targets

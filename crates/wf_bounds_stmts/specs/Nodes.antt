@@ -6,11 +6,13 @@ use Rattle.wf_ast.specs.declared.types.Ty.{Ty}
 use Rattle.wf_ast.specs.declared.types.Ty.TheVariants as types
 use Rattle.wf_ast.specs.declared.resolved.Expr.{Expr}
 use Rattle.wf_ast.specs.declared.resolved.Expr.TheVariants as exprs
-use Rattle.wf_ast.specs.TypedTree.{ValueTree, numeric}
-use Rattle.wf_ast.specs.TypedTrees.{num_in, target_of}
+use Rattle.wf_ast.specs.TypedTree.{NumTree, read, ValueTree, numeric}
+use Rattle.wf_ast.specs.TypedTrees.{Sort, arithmetic, num_in, target_of}
+use Rattle.wf_ast.specs.Same.{same_num}
 use Rattle.wf_facts_exprs.specs.Claims.{Claim}
+use Rattle.wf_facts.specs.declared.changes.Change.{Change}
 use Rattle.wf_bounds_stmts.specs.Requirements.{number_type}
-use Rattle.wf_bounds_stmts.specs.Targets.{taken_by, written_by, number_written, known_equal}
+use Rattle.wf_bounds_stmts.specs.Targets.{taken_by, written_by, number_written, known_equal, step_by, step_of, stepped, without_some}
 
 -- A variable of this type may be written as a whole.
 abbrev pub variable_written : Ty → Thing → Option Thing
@@ -61,3 +63,27 @@ buffer_named ty expr = None
 abbrev pub constant_or_buffer : Ty → Option ℕ → Expr → Option Thing
 constant_or_buffer ty None expr = buffer_named ty expr
 constant_or_buffer ty (Some value) expr = None
+
+-- A number that a variable holds.
+abbrev pub is_read : NumTree → Bool
+is_read (read at of path) = true
+is_read t = false
+
+-- How a variable changes by a value that is written to it with an operator; and by an operator between two operands, of which
+-- the right one may be constant.
+abbrev pub step_in : (variable : NumTree) → ValueTree → Option Change
+step_in x (numeric t) = step_of x t
+step_in x v = None
+
+abbrev pub step_by_sort : Sort → ℕ → Option Change
+step_by_sort (arithmetic op) k = step_by op k
+step_by_sort sort k = None
+
+abbrev pub step_of_two : (variable : NumTree) → Sort → (a : NumTree) → (right : Option ℕ) → Option Change
+step_of_two x sort a None = None
+step_of_two x sort a (Some k) = if same_num x a then step_by_sort sort k else None
+
+-- What stands after an assignment with an operator.
+abbrev pub stepped_or_dropped : List Claim → (variable written : Option Thing) → Option Change → List Claim
+stepped_or_dropped fs (Some x) written step = stepped fs x step
+stepped_or_dropped fs None written step = without_some written fs

@@ -104,8 +104,8 @@ fn drop_handed(t: &Typed, facts: &mut Facts, args: &[ExprId])
     }
 }
 
-// The reader or writer that a value is.
-fn handed(t: &Typed, e: ExprId) -> Option<Thing>
+/// The reader or writer that a value is.
+pub(crate) fn handed(t: &Typed, e: ExprId) -> Option<Thing>
     requires there { IsTrue (is_expr t.now e) }
     ensures thing { result ≡ handed_thing (tree_of t.now e) }
     ensures few { MayBeDropped result }

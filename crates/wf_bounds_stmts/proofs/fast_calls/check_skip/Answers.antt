@@ -1,0 +1,86 @@
+use Rattle.std.proofs.Common.{◌≡◌, [], ◌∷◌, None, ap, sym, ◌∙◌}
+use Rattle.wf_text.specs.declared.rules.Rule.TheVariants.{B8, B9}
+use Rattle.wf_base.specs.declared.widths.Width.TheVariants.{W32}
+use Rattle.wf_ast.specs.TypedTree.{asked, at_most, at_least, reader_length, numeric, skip_fast}
+use Rattle.wf_ast.specs.TypedTrees.{io_in, tree_of}
+use Rattle.wf_facts_exprs.specs.Claims.{claims_in, single}
+use Rattle.wf_facts_exprs.specs.Demands.{demand, unless_refused}
+use Rattle.wf_facts_exprs.specs.Given.{gives_sides}
+use Rattle.wf_facts_exprs.specs.Operands.{node_number}
+use Rattle.wf_bounds_stmts.specs.Requirements.{all_handed, number_type}
+use Rattle.wf_bounds_stmts.specs.Calls.{all_of, premise_refusal}
+use Rattle.wf_bounds_stmts.proofs.OutcomeLemmas.{is-fine}
+use Rattle.wf_bounds_stmts.proofs.FastLemmas.{numeric_by, two-handed, two-fine, reader-given, first-stops, second-stops, last-decides}
+use Rattle.wf_bounds_stmts.proofs.fast_calls.check_skip.Goals as goal
+
+pub returns-in-Err : goal.returns-in-Err
+returns-in-Err c =
+    let t = c.args.t.now in
+    let fs = claims_in t c.args.facts.now in
+    let a = numeric_by t c.args.actual c.look_at-2.ensures c.requires.actual in
+    let w = numeric_by t c.args.worst_case c.look_at-3.ensures c.requires.worst_case in
+    let call = skip_fast (io_in (tree_of t c.args.on)) (node_number t c.args.actual) (node_number t c.args.worst_case) in
+    first-stops _ (premise_refusal fs c.args.at call) c.in-Err.refusal
+    (rw (two-handed t fs W32 (number_type c.all_of.result) c.all_of.ensures c.args.actual c.args.worst_case a w) at (sym c.check_two.ensures ∙ c.in-Err.is))
+
+pub returns-in-Err-check_given : goal.returns-in-Err-check_given
+returns-in-Err-check_given c =
+    let t = c.args.t.now in
+    let fs = claims_in t c.args.facts.now in
+    let a = numeric_by t c.args.actual c.look_at-2.ensures c.requires.actual in
+    let w = numeric_by t c.args.worst_case c.look_at-3.ensures c.requires.worst_case in
+    let x = node_number t c.args.actual in
+    let y = node_number t c.args.worst_case in
+    let p = all_handed B8 fs ((all_of W32, numeric x) ∷ (all_of W32, numeric y) ∷ []) in
+    let q = demand (gives_sides fs (single x) at_most (single y)) B9 c.args.at in
+    let d = demand (gives_sides fs (single (asked c.args.at reader_length (io_in (tree_of t c.args.on)))) at_least (single y)) B9 c.args.at in
+    let fine : p ≡ None =
+    is-fine p (rw (two-handed t fs W32 (number_type c.all_of.result) c.all_of.ensures c.args.actual c.args.worst_case a w) at (sym c.check_two.ensures ∙ c.in-Ok.is)) in
+    second-stops p q d c.in-Err-check_given.refusal fine (sym c.check_given.ensures ∙ c.in-Err-check_given.is)
+
+pub returns : goal.returns
+returns c =
+    let t = c.args.t.now in
+    let fs = claims_in t c.args.facts.now in
+    let a = numeric_by t c.args.actual c.look_at-2.ensures c.requires.actual in
+    let w = numeric_by t c.args.worst_case c.look_at-3.ensures c.requires.worst_case in
+    let x = node_number t c.args.actual in
+    let y = node_number t c.args.worst_case in
+    let p = all_handed B8 fs ((all_of W32, numeric x) ∷ (all_of W32, numeric y) ∷ []) in
+    let q = demand (gives_sides fs (single x) at_most (single y)) B9 c.args.at in
+    let d = demand (gives_sides fs (single (asked c.args.at reader_length (io_in (tree_of t c.args.on)))) at_least (single y)) B9 c.args.at in
+    let fine : p ≡ None =
+    is-fine p (rw (two-handed t fs W32 (number_type c.all_of.result) c.all_of.ensures c.args.actual c.args.worst_case a w) at (sym c.check_two.ensures ∙ c.in-Ok.is)) in
+    let met : q ≡ None = is-fine q (sym c.check_given.ensures ∙ c.in-Ok-check_given.is) in
+    let length = reader-given fs t c.args.on c.args.at y c.requires.on c.look_at.ensures in
+    last-decides p q d c.check_given-2.result fine met (c.check_given-2.ensures ∙ ap (λ b. unless_refused (demand b B9 c.args.at) tt) length)
+
+pub check_given-requires-clause-left_fine : goal.check_given-requires-clause-left_fine
+check_given-requires-clause-left_fine c =
+    let t = c.args.t.now in
+    let fs = claims_in t c.args.facts.now in
+    let a = numeric_by t c.args.actual c.look_at-2.ensures c.requires.actual in
+    let w = numeric_by t c.args.worst_case c.look_at-3.ensures c.requires.worst_case in
+    let p = all_handed B8 fs ((all_of W32, numeric (node_number t c.args.actual)) ∷ (all_of W32, numeric (node_number t c.args.worst_case)) ∷ []) in
+    let fine : p ≡ None = is-fine p (rw (two-handed t fs W32 (number_type c.all_of.result) c.all_of.ensures c.args.actual c.args.worst_case a w) at (sym c.check_two.ensures ∙ c.in-Ok.is)) in
+    (two-fine fs (all_of W32) (node_number t c.args.actual) (node_number t c.args.worst_case) fine).0
+
+pub check_given-requires-clause-right_fine : goal.check_given-requires-clause-right_fine
+check_given-requires-clause-right_fine c =
+    let t = c.args.t.now in
+    let fs = claims_in t c.args.facts.now in
+    let a = numeric_by t c.args.actual c.look_at-2.ensures c.requires.actual in
+    let w = numeric_by t c.args.worst_case c.look_at-3.ensures c.requires.worst_case in
+    let p = all_handed B8 fs ((all_of W32, numeric (node_number t c.args.actual)) ∷ (all_of W32, numeric (node_number t c.args.worst_case)) ∷ []) in
+    let fine : p ≡ None = is-fine p (rw (two-handed t fs W32 (number_type c.all_of.result) c.all_of.ensures c.args.actual c.args.worst_case a w) at (sym c.check_two.ensures ∙ c.in-Ok.is)) in
+    (two-fine fs (all_of W32) (node_number t c.args.actual) (node_number t c.args.worst_case) fine).1
+
+pub check_given-requires-2-clause-right_fine : goal.check_given-requires-2-clause-right_fine
+check_given-requires-2-clause-right_fine c =
+    let t = c.args.t.now in
+    let fs = claims_in t c.args.facts.now in
+    let a = numeric_by t c.args.actual c.look_at-2.ensures c.requires.actual in
+    let w = numeric_by t c.args.worst_case c.look_at-3.ensures c.requires.worst_case in
+    let p = all_handed B8 fs ((all_of W32, numeric (node_number t c.args.actual)) ∷ (all_of W32, numeric (node_number t c.args.worst_case)) ∷ []) in
+    let fine : p ≡ None = is-fine p (rw (two-handed t fs W32 (number_type c.all_of.result) c.all_of.ensures c.args.actual c.args.worst_case a w) at (sym c.check_two.ensures ∙ c.in-Ok.is)) in
+    (two-fine fs (all_of W32) (node_number t c.args.actual) (node_number t c.args.worst_case) fine).1
