@@ -2,6 +2,7 @@ pub mod Accessors
 pub mod Arena
 pub mod Depends
 pub mod MentionLaws
+pub mod LocalNodes
 pub mod PlaceLemmas
 pub mod SameChains
 pub mod SameLaws

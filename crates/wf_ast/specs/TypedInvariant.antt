@@ -1,6 +1,6 @@
 -- What holds of the nodes of every typed package.
-use Rattle.std.specs.Prelude.{◌≡◌, ℕ, ◌+◌, ◌^◌, ◌<◌, Bool, true, false, not, ◌&&◌, ◌||◌, take, drop, List, [], ◌∷◌, length, Option, None, Some, nat_lt}
-use Rattle.std.specs.List.{list_all}
+use Rattle.std.specs.Prelude.{◌≡◌, ℕ, zero, suc, ◌+◌, ◌^◌, ◌<◌, ⊤, Bool, true, false, not, ◌&&◌, ◌||◌, take, drop, List, [], ◌∷◌, ◌++◌, length, slice_get, Option, None, Some, if◌then◌else◌, nat_lt, nat_le}
+use Rattle.std.specs.List.{list_all, flat_map}
 use Rattle.wf_base.specs.declared.base_methods.Kind.TheVariants as kinds
 use Rattle.wf_base.specs.declared.base_methods.Gives.{Gives}
 use Rattle.wf_base.specs.declared.base_methods.Gives.TheVariants as gives
@@ -20,9 +20,11 @@ use Rattle.wf_ast.specs.declared.resolved.Stmt.{Stmt}
 use Rattle.wf_ast.specs.declared.resolved.Stmt.TheVariants as stmts
 use Rattle.wf_ast.specs.declared.resolved.AxiomRef.{AxiomRef}
 use Rattle.wf_ast.specs.declared.resolved.Block as resolved
+use Rattle.wf_ast.specs.declared.declarations.Var.{Var}
+use Rattle.wf_ast.specs.declared.declarations.Method.{Method}
 use Rattle.wf_ast.specs.declared.typed_nodes.TypedNodes.{TypedNodes}
-use Rattle.wf_ast.specs.TypedTree.{equal, differs, ValueTree, numeric, logical, state, elements, io}
-use Rattle.wf_ast.specs.TypedTrees.{Sort, arithmetic, ordering, joining, sort_of, type_of_node, constant_of_node}
+use Rattle.wf_ast.specs.TypedTree.{equal, differs, local, ValueTree, numeric, logical, state, elements, io, Block, end, plain, choose, loop}
+use Rattle.wf_ast.specs.TypedTrees.{Sort, arithmetic, ordering, joining, sort_of, named, tree_of, type_of_node, constant_of_node, place_of_node}
 use Rattle.wf_ast.specs.TypedPackage.{package_of}
 use Rattle.wf_ast.specs.StatementOrder.{stand_in_order}
 use Rattle.wf_ast.specs.BaseStatuses.{base_statuses}
@@ -70,10 +72,20 @@ abbrev pub is_optional_expr : TypedNodes → Option ExprId → Bool
 is_optional_expr nodes None = true
 is_optional_expr nodes (Some e) = is_expr nodes e
 
+-- Whether a base method of this kind of receiver is known of a type.
+abbrev pub has_kind : Kind → Ty → Bool
+has_kind kinds.Reader types.Reader = true
+has_kind kinds.Writer types.Writer = true
+has_kind (kinds.Slice width) (types.Slice own) = true
+has_kind (kinds.Array width) (types.Array own lo hi count) = true
+has_kind kinds.Status types.Status = true
+has_kind kind ty = false
+
+-- What is called is there; a base method is called on what has it.
 abbrev pub callee_exists : TypedNodes → Callee → Bool
 callee_exists nodes (callees.Own m) = nat_lt m.0 (length nodes.methods)
 callee_exists nodes (callees.Sub x m) = nat_lt m.0 (length nodes.methods)
-callee_exists nodes (callees.Base on sig) = is_expr nodes on
+callee_exists nodes (callees.Base on sig) = is_expr nodes on && has_kind (row_of sig).on (type_of_node nodes on.0)
 
 abbrev pub axiom_exists : TypedNodes → Option AxiomRef → Bool
 axiom_exists nodes None = true
@@ -113,14 +125,6 @@ abbrev pub is_io : Ty → Bool
 is_io types.Reader = true
 is_io types.Writer = true
 is_io ty = false
-
-abbrev pub has_kind : Kind → Ty → Bool
-has_kind kinds.Reader types.Reader = true
-has_kind kinds.Writer types.Writer = true
-has_kind (kinds.Slice width) (types.Slice own) = true
-has_kind (kinds.Array width) (types.Array own lo hi count) = true
-has_kind kinds.Status types.Status = true
-has_kind kind ty = false
 
 abbrev pub is_given : Gives → Ty → Bool
 is_given (gives.Num width) ty = is_numeric ty
@@ -185,8 +189,43 @@ node_fits nodes ty (Some value) expr = is_numeric ty && nat_lt value 18446744073
 abbrev pub has_kind_byte : List ℕ → Bool
 has_kind_byte text = not (same_category Fine (category_of text))
 
+-- At most 64 arguments and 256 locals.
+abbrev pub has_few_variables : Method → Bool
+has_few_variables m = nat_le (length m.args) 64 && nat_le (length m.locals) 256
+
+-- The expression with the number `e` is the local with the number `x`, at the place of the name in its declaration.
+pub record IsLocal (nodes : TypedNodes) (e x : ℕ) (v : Var) : Type 0 where
+  pub there : e < length nodes.exprs
+  pub tree : tree_of nodes (record { 0 = e }) ≡ named v.at v.ty (local x)
+  pub placed : place_of_node nodes e ≡ v.at
+  pub typed : type_of_node nodes e ≡ v.ty
+
+-- Each local of a method has such an expression: that of the first has this number, and those of the others follow it.
+pub record HasLocals (nodes : TypedNodes) (first : ℕ) (m : Method) : Type 0 where
+  pub each : (x : ℕ) (v : Var) → slice_get m.locals x ≡ Some v → IsLocal nodes (first + x) x v
+
+abbrev pub HaveLocals : TypedNodes → (firsts : List ExprId) → List Method → Type 0
+HaveLocals nodes [] [] = ⊤
+HaveLocals nodes (e ∷ es) (m ∷ ms) = HasLocals nodes e.0 m × HaveLocals nodes es ms
+HaveLocals nodes es ms = ⊥
+
+-- The numbers of the statements of a block, each behind those of the statements inside it. What an `else if` stands in
+-- front of is no statement of its own.
+abbrev pub numbers_in : Block → List ℕ
+numbers_in end = []
+numbers_in (plain site s rest) = site.number ∷ numbers_in rest
+numbers_in (choose site chained c a b rest) = numbers_in a ++ (numbers_in b ++ ((if chained then [] else site.number ∷ []) ++ numbers_in rest))
+numbers_in (loop site head body rest) = numbers_in body ++ site.number ∷ numbers_in rest
+
+-- So many numbers, from `n` on.
+abbrev pub numbers_from : (n count : ℕ) → List ℕ
+numbers_from n zero = []
+numbers_from n (suc count) = n ∷ numbers_from (suc n) count
+
 -- Every number names something; parts stand in front of their wholes, and have the kinds that these want; the package
--- keeps the rules of types and effects; and the statements of each method stand in order of place.
+-- keeps the rules of types and effects; the statements of each method stand in order of place; no method has too many
+-- variables; each local is an expression at its name; and each statement stands in one method, and once: they are
+-- numbered in order, method by method, each behind those inside it.
 pub record IsTyped (nodes : TypedNodes) : Type 0 where
   pub exprs_ordered : each_numbered (λ e node. parts_below e node.expr) 0 nodes.exprs ≡ true
   pub stmts_ordered : each_numbered (λ s node. stmt_below nodes s node.stmt) 0 nodes.stmts ≡ true
@@ -204,3 +243,6 @@ pub record IsTyped (nodes : TypedNodes) : Type 0 where
   pub kinds : each_numbered (λ e node. node_fits nodes (type_of_node nodes e) (constant_of_node nodes e) node.expr) 0 nodes.exprs ≡ true
   pub rules : well_typed (package_of nodes) ≡ true
   pub placed : stand_in_order (package_of nodes) ≡ true
+  pub few_variables : list_all has_few_variables nodes.methods ≡ true
+  pub locals_stand : HaveLocals nodes nodes.first_locals nodes.methods
+  pub numbered : flat_map (λ m. numbers_in m.body) (package_of nodes).methods ≡ numbers_from 0 (length nodes.stmts)

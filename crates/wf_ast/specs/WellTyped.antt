@@ -298,10 +298,33 @@ abbrev pub number_of : Called → ℕ
 number_of (own m) = m
 number_of (sub x m) = m
 
+-- The reader or writer that is handed on, by its number among the arguments of the calling method.
+abbrev pub io_handed : ValueTree → Option ℕ
+io_handed (io at a) = Some a
+io_handed t = None
+
+abbrev pub is_that : ℕ → Option ℕ → Bool
+is_that a None = false
+is_that a (Some b) = nat_eq a b
+
+abbrev pub hands_on : (a : ℕ) → List ValueTree → Bool
+hands_on a ts = list_any (λ t. is_that a (io_handed t)) ts
+
+-- It isn't handed on again by the arguments behind.
+abbrev pub never_again : Option ℕ → List ValueTree → Bool
+never_again None ts = true
+never_again (Some a) ts = not (hands_on a ts)
+
+-- No reader and no writer is handed on twice.
+abbrev pub hands_on_once : List ValueTree → Bool
+hands_on_once [] = true
+hands_on_once (t ∷ ts) = never_again (io_handed t) ts && hands_on_once ts
+
 abbrev pub well_invoked : Context → Target → (keep : Bool) → Mark → Called → List ValueTree → Option MethodTree → Bool
 well_invoked c target keep mark called args None = false
 well_invoked c target keep mark called args (Some callee) =
-    same_mark mark callee.mark && (allows c.method.mark mark && (calls_method c called callee && (fit_types c callee.args args && takes_answer c target keep mark callee.gives)))
+    same_mark mark callee.mark && (allows c.method.mark mark && (calls_method c called callee && (fit_types c callee.args args
+    && (takes_answer c target keep mark callee.gives && hands_on_once args))))
 
 abbrev pub well_returned : Context → Mark → Option Ty → Option ValueTree → Bool
 well_returned c Coroutine gives (Some (state t)) = well_status c t

@@ -2,7 +2,7 @@
 
 ghost use Rattle.std.specs.Prelude.{◌≡◌, ℕ, ◌<◌, ◌↔◌, length, slice_get, Some, None, Option, IsTrue, IfSome, IfNone, option_map};
 ghost use Rattle.wf_ast.specs.Places.{expr_places, stmt_places, IsFirstAt};
-ghost use Rattle.wf_ast.specs.TypedInvariant.{IsTyped, parts_below, node_fits, stmt_below, parts_fit};
+ghost use Rattle.wf_ast.specs.TypedInvariant.{IsTyped, IsLocal, parts_below, node_fits, stmt_below, parts_fit};
 ghost use Rattle.wf_ast.specs.TypedTrees.{tree_of, made_or_number, type_of_node, constant_of_node, place_of_node, signs_of_node};
 
 use crate::declarations::{Method, Struct};
@@ -10,6 +10,7 @@ use crate::numbers::{ExprId, StmtId, TextId};
 use crate::resolved::{Block, Expr, Stmt};
 use crate::typed_nodes::TypedNodes;
 use crate::types::Ty;
+use crate::variables::LocalId;
 use std::marker::Model;
 use wf_text::{MethodId, Place, StatusId, StructId};
 
@@ -150,6 +151,18 @@ impl Typed {
         ensures { result.now ≡ signs_of_node self.now e.0 }
     {
         self.nodes.exprs.as_slice()[e.0 as usize].signs.as_slice()
+    }
+
+    /// The expression that is this local of a method, at the place of the name in its declaration. Beside those in its body,
+    /// a method has one for each of its locals.
+    pub fn local_expr(&self, m: MethodId, x: LocalId) -> ExprId
+        requires method { m.0 < length self.now.methods }
+        requires local { IfSome (slice_get self.now.methods m.0) (λ method. x.0 < length method.locals) }
+        ensures there { result.0 < length self.now.exprs }
+        ensures is { IfSome (slice_get self.now.methods m.0) (λ method. IfSome (slice_get method.locals x.0) (λ v. IsLocal self.now result.0 x.0 v)) }
+    {
+        let first = self.nodes.first_locals.as_slice()[m.0 as usize];
+        ExprId(first.0 + x.0)
     }
 
     /// The node of a statement. Its parts are there, and those that are statements have smaller numbers.

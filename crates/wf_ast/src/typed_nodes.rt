@@ -1,6 +1,7 @@
 // The parts of a typed package.
 
 use crate::declarations::{Method, Struct};
+use crate::numbers::ExprId;
 use crate::resolved::{Block, ExprNode, StmtNode};
 use crate::sequences::Sequence;
 use crate::types::Ty;
@@ -24,6 +25,8 @@ pub struct TypedNodes {
     pub methods: Sequence<Method>,
     /// The body of each method.
     pub bodies: Sequence<Block>,
+    /// Of each method: the expression that is its first local. Those that are its other locals follow it, in order.
+    pub first_locals: Sequence<ExprId>,
     /// The numbers of all methods, each behind those that it calls.
     pub order: Sequence<u32>,
 }
@@ -41,6 +44,7 @@ impl Drop for TypedNodes {
             structs: _,
             methods: _,
             bodies: _,
+            first_locals: _,
             order: _,
         } = self;
     }

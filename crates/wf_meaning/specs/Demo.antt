@@ -54,28 +54,28 @@ next_val line col ten val_col sum_sign digit_col as_sign times_sign =
 
 abbrev pub parse_loop : Block
 parse_loop =
-    plain (site 0 12 9) (await (on 12 22) (to_number (on 12 9) byte_type (local 0)) 0 (take_number ReadU8))
-    (choose (site 2 13 9) false (compare (on 13 14) (on 13 14) (digit 13 12) equal (number (on 13 17) 0))
-    (plain (site 1 14 13) (give_back (Some (state (status (on 14 20) 0)))) end) end
-    (choose (site 4 16 9) false
+    plain (site 1 12 9) (await (on 12 22) (to_number (on 12 9) byte_type (local 0)) 0 (take_number ReadU8))
+    (choose (site 3 13 9) false (compare (on 13 14) (on 13 14) (digit 13 12) equal (number (on 13 17) 0))
+    (plain (site 2 14 13) (give_back (Some (state (status (on 14 20) 0)))) end) end
+    (choose (site 5 16 9) false
     (junction (on 16 24) false false
     (compare (on 16 15) (on 16 15) (digit 16 13) less (number (on 16 17) 48))
     (compare (on 16 33) (on 16 33) (number (on 16 28) 57) less (digit 16 35)))
-    (plain (site 3 17 13) (give_back (Some (state (status (on 17 20) 10)))) end) end
-    (plain (site 5 19 9) (assign (to_number (on 19 9) byte_type (local 0)) (Some minus)
+    (plain (site 4 17 13) (give_back (Some (state (status (on 17 20) 10)))) end) end
+    (plain (site 6 19 9) (assign (to_number (on 19 9) byte_type (local 0)) (Some minus)
     (numeric (link (on 19 11) (on 19 11) minus 8 false (digit 19 9) (number (on 19 14) 48))))
-    (choose (site 9 20 9) false (compare (on 20 21) (on 20 21) (val 20 12) less (number (on 20 23) 429496729))
-    (plain (site 6 21 13) (next_val 21 13 25 30 40 43 45 28) (plain (site 7 22 13) (continue_in 11) end))
-    (choose (site 9 20 9) true
+    (choose (site 10 20 9) false (compare (on 20 21) (on 20 21) (val 20 12) less (number (on 20 23) 429496729))
+    (plain (site 7 21 13) (next_val 21 13 25 30 40 43 45 28) (plain (site 8 22 13) (continue_in 12) end))
+    (choose (site 10 20 9) true
     (junction (on 23 44) false false
     (compare (on 23 29) (on 23 29) (val 23 20) greater (number (on 23 31) 429496729))
     (compare (on 23 50) (on 23 50) (digit 23 48) greater (number (on 23 52) 5)))
-    (plain (site 8 24 13) (give_back (Some (state (status (on 24 20) 11)))) end) end end)
-    (plain (site 10 26 9) (next_val 26 9 21 26 36 39 41 24) end)))))
+    (plain (site 9 24 13) (give_back (Some (state (status (on 24 20) 11)))) end) end end)
+    (plain (site 11 26 9) (next_val 26 9 21 26 36 39 41 24) end)))))
 
 abbrev pub demo : PackageTree
 demo =
-    record { package_name = codes "demo"; statuses = base_statuses ++ (codes "#demo: not a digit" ∷ codes "#demo: too large" ∷ []); structs = record { name = codes "parser"; public = true; fields = variable (codes "val") word_ty ∷ [] } ∷ []; methods = record { name = codes "value"; of = 0; public = true; mark = Pure; args = []; locals = []; gives = Some word_ty; body = plain (site 12 7 5) (give_back (Some (numeric (val 7 12)))) end } ∷ record { name = codes "parse"; of = 0; public = true; mark = Coroutine; args = variable (codes "src") types.Reader ∷ []; locals = variable (codes "c") byte_ty ∷ []; gives = None; body = loop (site 11 11 5) (record { cond = truth (on 11 11) true; clauses = []; is_left = false; close = on 27 5 }) parse_loop end } ∷ []; order = 0 ∷ 1 ∷ [] }
+    record { package_name = codes "demo"; statuses = base_statuses ++ (codes "#demo: not a digit" ∷ codes "#demo: too large" ∷ []); structs = record { name = codes "parser"; public = true; fields = variable (codes "val") word_ty ∷ [] } ∷ []; methods = record { name = codes "value"; of = 0; public = true; mark = Pure; args = []; locals = []; gives = Some word_ty; body = plain (site 0 7 5) (give_back (Some (numeric (val 7 12)))) end } ∷ record { name = codes "parse"; of = 0; public = true; mark = Coroutine; args = variable (codes "src") types.Reader ∷ []; locals = variable (codes "c") byte_ty ∷ []; gives = None; body = loop (site 12 11 5) (record { cond = truth (on 11 11) true; clauses = []; is_left = false; close = on 27 5 }) parse_loop end } ∷ []; order = 0 ∷ 1 ∷ [] }
 
 -- What a host knows of it.
 abbrev pub demo_surface : Surface

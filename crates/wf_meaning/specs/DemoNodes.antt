@@ -88,6 +88,7 @@ expr_nodes =
     ∷ node (exprs.Chain ops.Add (expr_id 39 ∷ expr_id 41 ∷ [])) (on 26 36) (on 26 36 ∷ [])
     ∷ node (exprs.Truth true) (on 11 11) []
     ∷ node (exprs.Field (record { 0 = 0 })) (on 7 12) []
+    ∷ node (exprs.Local (record { 0 = 0 })) (on 10 9) []
     ∷ []
 
 abbrev expr_types : List Ty
@@ -137,6 +138,7 @@ expr_types =
     ∷ word_ty
     ∷ types.Flag
     ∷ word_ty
+    ∷ byte_ty
     ∷ []
 
 abbrev expr_constants : List (Option ℕ)
@@ -186,25 +188,26 @@ expr_constants =
     ∷ None
     ∷ None
     ∷ None
+    ∷ None
     ∷ []
 
 abbrev stmt_nodes : List StmtNode
 stmt_nodes =
-    statement (stmts.Call (Some (expr_id 0)) false (callees.Base (expr_id 1) (sigs.Read ReadU8)) []) (on 12 9) (on 12 22)
+    statement (stmts.Return (Some (expr_id 44))) (on 7 5) (on 7 5)
+    ∷ statement (stmts.Call (Some (expr_id 0)) false (callees.Base (expr_id 1) (sigs.Read ReadU8)) []) (on 12 9) (on 12 22)
     ∷ statement (stmts.Return (Some (expr_id 2))) (on 14 13) (on 14 13)
-    ∷ statement (stmts.If (record { cond = expr_id 5; body = (record { items = (stmt_id 1 ∷ []) }) } ∷ []) None) (on 13 9) (on 13 9)
+    ∷ statement (stmts.If (record { cond = expr_id 5; body = (record { items = (stmt_id 2 ∷ []) }) } ∷ []) None) (on 13 9) (on 13 9)
     ∷ statement (stmts.Return (Some (expr_id 6))) (on 17 13) (on 17 13)
-    ∷ statement (stmts.If (record { cond = expr_id 13; body = (record { items = (stmt_id 3 ∷ []) }) } ∷ []) None) (on 16 9) (on 16 9)
+    ∷ statement (stmts.If (record { cond = expr_id 13; body = (record { items = (stmt_id 4 ∷ []) }) } ∷ []) None) (on 16 9) (on 16 9)
     ∷ statement (stmts.Assign (expr_id 14) (Some ops.Sub) (expr_id 17)) (on 19 9) (on 19 9)
     ∷ statement (stmts.Assign (expr_id 18) None (expr_id 24)) (on 21 13) (on 21 13)
-    ∷ statement (stmts.Continue (stmt_id 11)) (on 22 13) (on 22 13)
+    ∷ statement (stmts.Continue (stmt_id 12)) (on 22 13) (on 22 13)
     ∷ statement (stmts.Return (Some (expr_id 25))) (on 24 13) (on 24 13)
-    ∷ statement (stmts.If (record { cond = expr_id 28; body = (record { items = (stmt_id 6 ∷ stmt_id 7 ∷ []) }) } ∷ record { cond = expr_id 35; body = (record { items = (stmt_id 8 ∷ []) }) } ∷ []) None) (on 20 9) (on 20 9)
+    ∷ statement (stmts.If (record { cond = expr_id 28; body = (record { items = (stmt_id 7 ∷ stmt_id 8 ∷ []) }) } ∷ record { cond = expr_id 35; body = (record { items = (stmt_id 9 ∷ []) }) } ∷ []) None) (on 20 9) (on 20 9)
     ∷ statement (stmts.Assign (expr_id 36) None (expr_id 42)) (on 26 9) (on 26 9)
-    ∷ statement (stmts.While (record { cond = expr_id 43; clauses = []; has_break = false }) (record { items = (stmt_id 0 ∷ stmt_id 2 ∷ stmt_id 4 ∷ stmt_id 5 ∷ stmt_id 9 ∷ stmt_id 10 ∷ []) })) (on 11 5) (on 27 5)
-    ∷ statement (stmts.Return (Some (expr_id 44))) (on 7 5) (on 7 5)
+    ∷ statement (stmts.While (record { cond = expr_id 43; clauses = []; has_break = false }) (record { items = (stmt_id 1 ∷ stmt_id 3 ∷ stmt_id 5 ∷ stmt_id 6 ∷ stmt_id 10 ∷ stmt_id 11 ∷ []) })) (on 11 5) (on 27 5)
     ∷ []
 
 abbrev pub demo_nodes : TypedNodes
 demo_nodes =
-    record { «package» = codes "demo"; statuses = base_statuses ++ (codes "#demo: not a digit" ∷ codes "#demo: too large" ∷ []); texts = codes "parser" ∷ codes "val" ∷ codes "value" ∷ codes "parse" ∷ codes "src" ∷ codes "c" ∷ []; exprs = expr_nodes; types = expr_types; constants = expr_constants; stmts = stmt_nodes; structs = record { name = text_id 0; public = true; fields = var 1 word_ty (on 4 5) ∷ []; at = on 3 12 } ∷ []; methods = record { name = text_id 2; of = record { 0 = 0 }; public = true; mark = Pure; args = []; locals = []; gives = Some word_ty; at = on 6 17 } ∷ record { name = text_id 3; of = record { 0 = 0 }; public = true; mark = Coroutine; args = var 4 types.Reader (on 9 24) ∷ []; locals = var 5 byte_ty (on 10 9) ∷ []; gives = None; at = on 9 17 } ∷ []; bodies = record { items = stmt_id 12 ∷ [] } ∷ record { items = stmt_id 11 ∷ [] } ∷ []; order = 0 ∷ 1 ∷ [] }
+    record { «package» = codes "demo"; statuses = base_statuses ++ (codes "#demo: not a digit" ∷ codes "#demo: too large" ∷ []); texts = codes "parser" ∷ codes "val" ∷ codes "value" ∷ codes "parse" ∷ codes "src" ∷ codes "c" ∷ []; exprs = expr_nodes; types = expr_types; constants = expr_constants; stmts = stmt_nodes; structs = record { name = text_id 0; public = true; fields = var 1 word_ty (on 4 5) ∷ []; at = on 3 12 } ∷ []; methods = record { name = text_id 2; of = record { 0 = 0 }; public = true; mark = Pure; args = []; locals = []; gives = Some word_ty; at = on 6 17 } ∷ record { name = text_id 3; of = record { 0 = 0 }; public = true; mark = Coroutine; args = var 4 types.Reader (on 9 24) ∷ []; locals = var 5 byte_ty (on 10 9) ∷ []; gives = None; at = on 9 17 } ∷ []; bodies = record { items = stmt_id 0 ∷ [] } ∷ record { items = stmt_id 12 ∷ [] } ∷ []; first_locals = expr_id 0 ∷ expr_id 45 ∷ []; order = 0 ∷ 1 ∷ [] }

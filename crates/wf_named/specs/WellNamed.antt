@@ -1,7 +1,7 @@
 -- What the rules of names leave true of a resolved package: every number names something that may stand there, a call
--- has an argument for each that its method declares, no method reaches itself by calls and no struct holds itself. Each
--- is a test that computes.
-use Rattle.std.specs.Prelude.{ℕ, zero, suc, ◌+◌, Bool, true, false, not, ◌&&◌, List, [], ◌∷◌, length, Option, None, Some, option_map, option_and_then, if◌then◌else◌, nat_eq, nat_lt, slice_get, is_some}
+-- has an argument for each that its method declares and hands on no reader or writer twice, no method reaches itself by calls, no
+-- struct holds itself and no method has too many variables. Each is a test that computes.
+use Rattle.std.specs.Prelude.{ℕ, zero, suc, ◌+◌, Bool, true, false, not, ◌&&◌, ◌||◌, List, [], ◌∷◌, length, Option, None, Some, option_map, option_and_then, if◌then◌else◌, nat_eq, nat_lt, nat_le, slice_get, is_some}
 use Rattle.std.specs.List.{list_all, list_any}
 use Rattle.wf_base.specs.declared.widths.Width.{Width}
 use Rattle.wf_base.specs.declared.base_methods.Kind.{Kind}
@@ -91,6 +91,33 @@ abbrev pub count_args : NamedArgTrees → ℕ
 count_args no_arg = 0
 count_args (more_args value others) = suc (count_args others)
 
+-- The reader or writer that an expression hands on, by its number among the arguments of the calling method.
+abbrev pub is_io : Option Kind → Bool
+is_io (Some kinds.Reader) = true
+is_io (Some kinds.Writer) = true
+is_io kind = false
+
+abbrev pub io_named : Scope → Variable → Option ℕ
+io_named s (variables.Arg x) = if is_io (option_and_then kind_of (type_of_variable s (variables.Arg x))) then Some x.0 else None
+io_named s x = None
+
+abbrev pub io_handed : Scope → NamedExprTree → Option ℕ
+io_handed s (path p) = io_named s p.of
+io_handed s e = None
+
+abbrev pub is_that : ℕ → Option ℕ → Bool
+is_that a None = false
+is_that a (Some b) = nat_eq a b
+
+abbrev pub hands_on : Scope → (a : ℕ) → NamedArgTrees → Bool
+hands_on s a no_arg = false
+hands_on s a (more_args e others) = is_that a (io_handed s e) || hands_on s a others
+
+-- It isn't handed on again by the arguments behind.
+abbrev pub never_again : Scope → Option ℕ → NamedArgTrees → Bool
+never_again s None others = true
+never_again s (Some a) others = not (hands_on s a others)
+
 abbrev mutual
   pub named_expr : Scope → NamedExprTree → Bool
   named_expr s (number value at) = true
@@ -114,7 +141,7 @@ abbrev mutual
 
   pub named_args : Scope → NamedArgTrees → Bool
   named_args s no_arg = true
-  named_args s (more_args e others) = named_expr s e && named_args s others
+  named_args s (more_args e others) = named_expr s e && (named_args s others && never_again s (io_handed s e) others)
 
   pub named_call : Scope → NamedCallTree → Bool
   named_call s (call callee at mark args) = is_wanted (args_wanted s callee) (count_args args) && named_args s args
@@ -295,8 +322,12 @@ abbrev pub all_whole : NamedPackageTree → (n : ℕ) → List NamedStructTree �
 all_whole p n [] = true
 all_whole p n (it ∷ ss) = is_whole p (length p.structs) n && all_whole p (suc n) ss
 
+-- At most 64 arguments and 256 locals.
+abbrev pub has_few_variables : NamedMethodTree → Bool
+has_few_variables m = nat_le (length m.args) 64 && nat_le (length m.locals) 256
+
 -- A package that the rules of names leave.
 unfoldable pub well_named : NamedPackageTree → Bool
 well_named p =
     named_consts p 0 p.consts && (named_structs p 0 p.structs && (list_all (named_method p) p.methods
-    && (all_whole p 0 p.structs && (nat_eq (length p.order) (length p.methods) && calls_in_front p [] p.order))))
+    && (all_whole p 0 p.structs && (nat_eq (length p.order) (length p.methods) && (calls_in_front p [] p.order && list_all has_few_variables p.methods)))))

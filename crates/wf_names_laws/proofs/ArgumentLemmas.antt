@@ -6,33 +6,15 @@ use Rattle.std.proofs.lemmas.Bool.Decides.{nat_tests}
 use Rattle.wf_ast.specs.ParsedTree as tree
 use Rattle.wf_ast.specs.ParsedTree.{ExprTree, GivenTrees}
 use Rattle.wf_named.specs.NamedTree.{NamedArgTrees}
-use Rattle.wf_named.specs.WellNamed.{Scope as NamedScope, count_args, named_expr, named_args}
+use Rattle.wf_named.specs.WellNamed.{Scope as NamedScope, count_args, named_expr}
 use Rattle.wf_names_rules.specs.Declarations.{is_spelt}
 use Rattle.wf_names_rules.specs.Meanings.{GivenValue, given_values}
-use Rattle.wf_names_uses.proofs.FoundLemmas.{both-so}
 use Rattle.wf_names_resolve.specs.Standing.{Standing}
 use Rattle.wf_names_resolve.specs.Resolved.{NamedGiven, with_arg, args_named, args_spelt, resolved_expr, resolved_given}
-use Rattle.wf_names_laws.proofs.ListLemmas.{all-found}
 
 -- Values that are named.
 abbrev pub AreNamed : NamedScope → List NamedGiven → Type 0
 AreNamed s given = AllByRecursion (λ (g : NamedGiven). named_expr s g.value ≡ true) given
-
-module _ (s : NamedScope) (given : List NamedGiven) (named : AreNamed s given) where
-  with-named : (p : NamedGiven → Bool) (o : Option NamedGiven) (others : NamedArgTrees) → find p given ≡ o → named_args s others ≡ true → named_args s (with_arg o others) ≡ true
-  with-named p None others e h = h
-  with-named p (Some g) others e h = both-so (named_expr s g.value) (named_args s others) (all-found (λ (x : NamedGiven). named_expr s x.value ≡ true) p given g named e) h
-
-  pub named-args-named : (wanted : List ℕ) → named_args s (args_named given wanted) ≡ true
-  named-args-named [] = refl
-  named-args-named (text ∷ texts) =
-      with-named (λ (g : NamedGiven). is_spelt text g.name) (find (λ (g : NamedGiven). is_spelt text g.name) given) (args_named given texts) refl (named-args-named texts)
-
-  pub spelt-args-named : (bytes : ℕ → List ℕ) (wanted : List (List ℕ)) → named_args s (args_spelt bytes given wanted) ≡ true
-  spelt-args-named bytes [] = refl
-  spelt-args-named bytes (name ∷ names) =
-      with-named (λ (g : NamedGiven). bytes_eq name (bytes g.name.text.0)) (find (λ (g : NamedGiven). bytes_eq name (bytes g.name.text.0)) given) (args_spelt bytes given names) refl
-      (spelt-args-named bytes names)
 
 -- A text that is given is found among what is given.
 abbrev pub texts_given : GivenTrees → List ℕ

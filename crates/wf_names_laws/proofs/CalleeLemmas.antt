@@ -1,5 +1,6 @@
 -- What is called may be called there, and wants as many arguments as it declares.
 use Rattle.std.proofs.Common.{◌≡◌, ℕ, Bool, true, false, ◌&&◌, if◌then◌else◌, List, map, length, Option, Some, None, IfSome, option_and_then, slice_get, nat_eq, is_some, refl, sym, ap, ◌∙◌, subst, inl, inr}
+use Rattle.std.specs.List.{IsDistinct}
 use Rattle.std.proofs.lemmas.List.{length-map}
 use Rattle.wf_text.specs.declared.place.Place.{Place}
 use Rattle.wf_base.specs.declared.base_methods.Kind.{Kind}
@@ -26,18 +27,20 @@ use Rattle.wf_names_rules.specs.declared.callees.Callee.TheVariants as callees
 use Rattle.wf_names_rules.specs.declared.sorts.Sort.{Sort}
 use Rattle.wf_names_rules.specs.declared.sorts.Sort.TheVariants as sorts
 use Rattle.wf_names_rules.specs.Declarations.{Method, Declared, is_spelt, text_of, struct_named, method_named}
-use Rattle.wf_names_rules.specs.Uses.{Scope}
+use Rattle.wf_names_rules.specs.Uses.{Scope, given_uses}
 use Rattle.wf_names_rules.specs.Meanings.{method_known, public_in, args_in, known_at, sort_at, path_sort, this_callee, public_callee, found_base, part_callee, sorted_callee, callee_on, parameters_of, lacks_one}
 use Rattle.graphs.proofs.NumberLemmas.{same_number, number_self}
 use Rattle.wf_names_uses.specs.Fitting.{is_open, Fits}
 use Rattle.wf_names_uses.proofs.FoundLemmas.{both, both-so}
 use Rattle.wf_names_resolve.specs.Standing.{Standing, standing_at}
 use Rattle.wf_names_resolve.specs.Resolved.{number_or, variable_at, resolved_path, callee_at, resolved_type, resolved_given, resolved_call, args_for}
+use Rattle.wf_names_laws.specs.Kept.{AreKept}
 use Rattle.wf_names_laws.specs.ResolvedScopes.{IsScopeOf, IsMethodOf}
 use Rattle.wf_names_laws.proofs.ListLemmas.{FoundAt, found-or-not, place-of, chosen}
 use Rattle.wf_names_laws.proofs.KindLemmas.{struct-type, kind-same, kind-itself}
 use Rattle.wf_names_laws.proofs.VariableLemmas.{Names, root-named}
-use Rattle.wf_names_laws.proofs.ArgumentLemmas.{AreNamed, named-args-named, spelt-args-named, texts_given, named-args-counted, spelt-args-counted}
+use Rattle.wf_names_laws.proofs.ArgumentLemmas.{AreNamed, texts_given, named-args-counted, spelt-args-counted}
+use Rattle.wf_names_laws.proofs.HandedLemmas.{AreHandedOnce, named-args-named, spelt-args-named, args-distinct, base-args-distinct, given-apart}
 
 -- How many arguments a callee declares.
 abbrev pub wanted_by : (args : ℕ → List ℕ) → Callee → ℕ
@@ -163,25 +166,26 @@ module _ (k : Standing) (given : GivenTrees) where
   args-counted callees.Missing h whole = absurd (cc h)
   args-counted callees.Baseless h whole = absurd (cc h)
 
-  args-named : (s : NamedScope) → AreNamed s (resolved_given k given) → (callee : Callee) → named_args s (args_for k callee (resolved_given k given)) ≡ true
-  args-named s named (callees.Own m) = named-args-named s (resolved_given k given) named (k.args m)
-  args-named s named (callees.Base sig) = spelt-args-named s (resolved_given k given) named k.bytes (map (λ arg. arg.0) (row_of sig).args)
-  args-named s named (callees.Hidden m) = refl
-  args-named s named callees.Foreign = refl
-  args-named s named callees.Missing = refl
-  args-named s named callees.Baseless = refl
+  args-named : (s : NamedScope) → AreNamed s (resolved_given k given) → AreHandedOnce s (resolved_given k given) → ((m : ℕ) → IsDistinct nat_eq (k.args m)) → (callee : Callee)
+      → named_args s (args_for k callee (resolved_given k given)) ≡ true
+  args-named s named once distinct (callees.Own m) = named-args-named s (resolved_given k given) named once (k.args m) (distinct m)
+  args-named s named once distinct (callees.Base sig) = spelt-args-named s (resolved_given k given) named once k.bytes (map (λ arg. arg.0) (row_of sig).args) (base-args-distinct sig)
+  args-named s named once distinct (callees.Hidden m) = refl
+  args-named s named once distinct callees.Foreign = refl
+  args-named s named once distinct callees.Missing = refl
+  args-named s named once distinct callees.Baseless = refl
 
 wanted-so : (o : Option ℕ) (n count : ℕ) → o ≡ Some n → count ≡ n → is_wanted o count ≡ true
 wanted-so o n count e c = ap (λ x. is_wanted x count) e ∙ ap (nat_eq n) c ∙ number_self n
 
 -- A call that fits is named, where the values of its arguments are.
 pub call-named : (d : Declared) (scope : Scope) (s : NamedScope) → IsScopeOf d scope s → (on : Receiver) (name : Name) (mark : WrittenMark) (given : GivenTrees)
-    → Fits d scope (tree.call on name mark given) → AreNamed s (resolved_given (standing_at d scope) given)
+    → Fits d scope (tree.call on name mark given) → AreKept d scope (given_uses given) → AreNamed s (resolved_given (standing_at d scope) given)
     → named_call s (resolved_call (standing_at d scope) (tree.call on name mark given)) ≡ true
-call-named d scope s known on name mark given fits named =
+call-named d scope s known on name mark given fits kept named =
     let k = standing_at d scope in
     let callee = callee_on (known_at d scope) on name.text.0 in
     let args = args_for k callee (resolved_given k given) in
     both-so (is_wanted (args_wanted s (callee_at k on callee)) (count_args args)) (named_args s args)
     (wanted-so (args_wanted s (callee_at k on callee)) (wanted_by k.args callee) (count_args args) (callee-wanted d scope s known on name.text.0 fits.open_here) (args-counted k given callee fits.open_here fits.whole))
-    (args-named k given s named callee)
+    (args-named k given s named (given-apart d scope s known on name mark given fits kept) (λ m. args-distinct (slice_get d.methods m)) callee)

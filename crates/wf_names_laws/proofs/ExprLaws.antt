@@ -112,7 +112,8 @@ module _ (d : Declared) (scope : Scope) (s : NamedScope) (known : IsScopeOf d sc
         let c = tree.call on name mark args in
         let b = behind (receiver_uses on) (given_uses args ++ uses.method c ∷ []) a in
         let fits = behind (given_uses args) (uses.method c ∷ []) b in
-        call-named d scope s known on name mark args fits.0 (given-named args (front (given_uses args) (uses.method c ∷ []) b))
+        let kept = front (given_uses args) (uses.method c ∷ []) b in
+        call-named d scope s known on name mark args fits.0 kept (given-named args kept)
 
     pub type-named : (t : TypeTree) → AreKept d scope (type_uses t) → named_type s (resolved_type (standing_at d scope) t) ≡ true
     type-named (tree.slice_of at element) a = type-named element a

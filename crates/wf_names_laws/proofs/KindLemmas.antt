@@ -11,10 +11,12 @@ use Rattle.wf_ast.specs.declared.numbers.TextId.{TextId}
 use Rattle.wf_ast.specs.declared.parsed.Name.{Name}
 use Rattle.wf_ast.specs.ParsedTree as tree
 use Rattle.wf_ast.specs.ParsedTree.{TypeTree}
+use Rattle.wf_named.specs.declared.nodes.BaseType.TheVariants as bases
 use Rattle.wf_named.specs.NamedTree.{NamedBoundsTree, base_type}
-use Rattle.wf_named.specs.WellNamed.{width_in, kind_of, same_kind}
+use Rattle.wf_named.specs.WellNamed.{width_in, kind_of, is_io, same_kind}
 use Rattle.wf_names_rules.specs.declared.sorts.Sort.TheVariants as sorts
-use Rattle.wf_names_rules.specs.Meanings.{width_of, slice_sort, array_sort, sort_of}
+use Rattle.wf_names_rules.specs.Meanings.{width_named, width_of, slice_sort, array_sort, sort_of}
+use Rattle.wf_names_rules.specs.Meanings as meanings
 use Rattle.graphs.proofs.NumberLemmas.{number_self}
 use Rattle.wf_names_resolve.specs.Standing.{Standing}
 use Rattle.wf_names_resolve.specs.Resolved.{sized_type, plain_type_named, base_type_named, resolved_bounds, resolved_type}
@@ -96,3 +98,30 @@ kind-itself kinds.Writer = refl
 kind-itself kinds.Status = refl
 kind-itself (kinds.Slice width) = number_self (bits_of width)
 kind-itself (kinds.Array width) = number_self (bits_of width)
+
+-- A reader or writer in the resolved tree is one in the parsed tree.
+io-named : (width : Option Width) (flag reader writer : Bool) (at : Place) (bounds : NamedBoundsTree)
+    → is_io (kind_of (base_type (sized_type width (if flag then Some bases.Flag else if reader then Some bases.Reader else if writer then Some bases.Writer else None)) at bounds)) ≡ true
+    → meanings.is_io (Some (if reader then sorts.Methods kinds.Reader else if writer then sorts.Methods kinds.Writer else sorts.Plain)) ≡ true
+io-named (Some width) flag reader writer at bounds h = absurd (cc h)
+io-named None true reader writer at bounds h = absurd (cc h)
+io-named None false true writer at bounds h = refl
+io-named None false false true at bounds h = refl
+io-named None false false false at bounds h = absurd (cc h)
+
+no-io-slice : (o : Option Width) → is_io (option_map kinds.Slice o) ≡ true → ⊥
+no-io-slice None h = cc h
+no-io-slice (Some width) h = cc h
+
+no-io-array : (o : Option Width) → is_io (option_map kinds.Array o) ≡ true → ⊥
+no-io-array None h = cc h
+no-io-array (Some width) h = cc h
+
+pub io-sort : (k : Standing) (of : TypeTree) → is_io (kind_of (resolved_type k of)) ≡ true → meanings.is_io (Some (sort_of k.bytes of)) ≡ true
+io-sort k (tree.slice_of at element) h = absurd (no-io-slice (width_in (resolved_type k element)) h)
+io-sort k (tree.array_of length at element) h = absurd (no-io-array (width_in (resolved_type k element)) h)
+io-sort k (tree.base_type name at bounds) h =
+    let text = k.bytes name.text.0 in
+    io-named (width_named text) (bytes_eq text (codes "bool")) (bytes_eq text (codes "io_reader")) (bytes_eq text (codes "io_writer")) at (resolved_bounds k bounds) h
+io-sort k (tree.status_type at bounds) h = absurd (cc h)
+io-sort k (tree.struct_type name) h = absurd (cc h)

@@ -4,7 +4,9 @@ pub mod CalleeLemmas
 pub mod CallingLemmas
 pub mod DeclLaws
 pub mod ExprLaws
+pub mod FewLemmas
 pub mod FrontLemmas
+pub mod HandedLemmas
 pub mod KeptLaws
 pub mod KindLemmas
 pub mod ListLemmas

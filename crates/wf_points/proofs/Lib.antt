@@ -1,4 +1,5 @@
 pub mod LoopLemmas
 pub mod NumberLemmas
+pub mod OnceLemmas
 pub mod PointLemmas
 pub mod StatementArena

@@ -19,6 +19,7 @@ use Rattle.wf_meaning.proofs.Numbers.{numbered}
 use Rattle.wf_meaning.proofs.Order.{points_ascend}
 use Rattle.wf_points.specs.declared.finding.FoundPoint.{FoundPoint}
 use Rattle.wf_points.specs.PointNumbers.{number_at, point_with, number_in, earlier, point_number, most_points, HasTooMany, StandOnce, IsPoint}
+use Rattle.wf_points.proofs.OnceLemmas.{stand_once}
 use Rattle.wf_points.specs.FoundPoints.{found_at, refused_at, too_many, numbered_from, limit_at, limit_of, NumbersMethod}
 
 -- Points that are numbered from `n` on have the numbers that are found.
@@ -289,11 +290,10 @@ not_there (x ∷ xs) s none =
         by false e = refl
 
 pub each_point : (nodes : TypedNodes) (m i : ℕ) (method : MethodTree) (point : Site)
-    → IsTyped nodes → StandOnce (package_of nodes).methods
-    → slice_get (package_of nodes).methods m ≡ Some method → slice_get (points_in method.body) i ≡ Some point
-    → point_number (package_of nodes).methods point.number ≡ Some (1 + i)
-each_point nodes m i method point typed once known stands =
+    → IsTyped nodes → slice_get (package_of nodes).methods m ≡ Some method → slice_get (points_in method.body) i ≡ Some point → point_number (package_of nodes).methods point.number ≡ Some (1 + i)
+each_point nodes m i method point typed known stands =
     let ms = (package_of nodes).methods in
+    let once : StandOnce ms = stand_once nodes typed in
     let first = first_with (points_in method.body) i point stands in
     let is = with_number point.number (points_in method.body) first.0 first.1 in
     let same = once.by m m method method is.0 i first.0 point known known is.1 stands is.2 in

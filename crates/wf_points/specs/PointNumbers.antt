@@ -1,5 +1,5 @@
 -- The numbers of a package's suspension points, how many points a method may have, and which locals are kept at one.
-use Rattle.std.specs.Prelude.{◌≡◌, ℕ, ◌+◌, Bool, true, false, List, [], ◌∷◌, Option, None, Some, option_map, slice_get, unwrap_or, nat_eq, if◌then◌else◌}
+use Rattle.std.specs.Prelude.{◌≡◌, ℕ, suc, ◌+◌, Bool, true, false, List, [], ◌∷◌, Option, None, Some, option_map, slice_get, unwrap_or, nat_eq, if◌then◌else◌}
 use Rattle.wf_text.specs.declared.rules.Refusal.{Refusal}
 use Rattle.wf_text.specs.declared.rules.Rule.TheVariants.{L9}
 use Rattle.wf_text.specs.declared.faults.PhaseFault.{PhaseFault}
@@ -10,6 +10,7 @@ use Rattle.wf_ast.specs.declared.types.Ty.TheVariants as types
 use Rattle.wf_ast.specs.declared.variables.LocalId.{LocalId}
 use Rattle.wf_ast.specs.TypedTree.{Site, Block}
 use Rattle.wf_ast.specs.TypedPackage.{Variable, MethodTree, PackageTree}
+use Rattle.wf_ast.specs.TypedInvariant.{numbers_in}
 use Rattle.wf_meaning.specs.Remaining.{points_in, number_of}
 
 -- The point that is the statement with the number `s`.
@@ -80,6 +81,18 @@ pub record StandOnce (methods : List MethodTree) : Type 0 where
       → slice_get methods m ≡ Some one → slice_get methods n ≡ Some other
       → slice_get (points_in one.body) i ≡ Some point → slice_get (points_in other.body) j ≡ Some twin
       → point.number ≡ twin.number → (m ≡ n) × (i ≡ j)
+
+-- How often a number stands in a list.
+abbrev pub times : ℕ → List ℕ → ℕ
+times s [] = 0
+times s (n ∷ ns) = if nat_eq n s then suc (times s ns) else times s ns
+
+-- The statement with the number `s` stands in this method, once.
+pub record StandsIn (methods : List MethodTree) (s : ℕ) : Type 0 where
+  pub number : ℕ
+  pub method : MethodTree
+  pub known : slice_get methods number ≡ Some method
+  pub once : times s (numbers_in method.body) ≡ 1
 
 -- The statement with the number `s` is a point of a method, which has there the number `n`.
 pub record IsPoint (methods : List MethodTree) (s n : ℕ) : Type 0 where

@@ -122,7 +122,7 @@ kind-no-struct k (meanings.Typed (types.Slice w)) h = refl
 kind-no-struct k (meanings.Typed (types.Array w lo hi count)) h = refl
 kind-no-struct k (meanings.Constant w v) h = refl
 
-kind-typed : (k : Kind) (m : Meaning) → names.has_kind k (kind_meant m) ≡ true → has_kind k (type_meant (Some m)) ≡ true
+pub kind-typed : (k : Kind) (m : Meaning) → names.has_kind k (kind_meant m) ≡ true → has_kind k (type_meant (Some m)) ≡ true
 kind-typed kinds.Reader (meanings.Typed types.Reader) h = refl
 kind-typed kinds.Writer (meanings.Typed types.Writer) h = refl
 kind-typed kinds.Status (meanings.Typed types.Status) h = refl

@@ -69,6 +69,13 @@ impl Building {
         }
     }
 
+    /// The number of the expression that is added next.
+    pub fn next_expr(&self) -> ExprId
+        ensures { result.0 ≡ length self.now.exprs }
+    {
+        ExprId(self.exprs.len() as u32)
+    }
+
     /// The package that is built.
     pub fn finish(self, alloc: Global) -> Result<TypedNodes, NoMemory>
         ensures nodes { IfOk result (λ nodes. nodes ≡ self) }

@@ -1,6 +1,6 @@
 // The walk over expressions: it makes the nodes of each, parts in front of their whole, and tells what it means.
 
-ghost use Rattle.std.specs.Prelude.{◌≡◌, ◌<◌, ◌++◌, ◌∷◌, [], true, length, IfOk, OnOk};
+ghost use Rattle.std.specs.Prelude.{◌≡◌, ◌<◌, ◌+◌, ◌++◌, ◌∷◌, [], true, length, IfOk, OnOk};
 ghost use Rattle.wf_ast.specs.ParsedParts.{IsBelow, LinksBelow};
 ghost use Rattle.wf_ast.specs.TypedTrees.{tree_of, made_or_number};
 ghost use Rattle.wf_ast.specs.TypedInvariant.{parts_below, node_fits};
@@ -44,6 +44,8 @@ fn put(nodes: &mut Building, made: MadeNode, at: Place) -> Result<Elaborated, No
     ensures entries { OnOk result (AddsEntries nodes.old nodes.new (record { at = made.node.at; ty = type_of_meaning made.of; constant = number_meant made.of } ∷ [])) }
     ensures stands { IfOk result (λ r. Stands (made_or_number (tree_of nodes.old) made.node.at made.node.signs (type_of_meaning made.of) (number_meant made.of) made.node.expr) made.of nodes.new r.node) }
     ensures value { IfOk result (λ r. r.value ≡ record { of = made.of; at = at }) }
+    ensures number { IfOk result (λ r. r.node.0 ≡ length nodes.old.exprs) }
+    ensures count { OnOk result (length nodes.new.exprs ≡ length nodes.old.exprs + 1) }
 {
     let of = made.of;
     let one = TypedExpr {
@@ -72,6 +74,8 @@ pub fn elaborate_path(
     ensures entries { OnOk result (AddsEntries nodes.old nodes.new (path_entry around.now path ∷ [])) }
     ensures stands { IfOk result (λ r. StandsForPath around.now path nodes.new r.node) }
     ensures value { IfOk result (λ r. r.value ≡ record { of = variable_in around.now path.of; at = path.at }) }
+    ensures number { IfOk result (λ r. r.node.0 ≡ length nodes.old.exprs) }
+    ensures count { OnOk result (length nodes.new.exprs ≡ length nodes.old.exprs + 1) }
 {
     match put(nodes, path_node(alloc, around, path), path.at) {
         Ok(made) => Ok(made),

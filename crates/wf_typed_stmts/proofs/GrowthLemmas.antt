@@ -3,6 +3,7 @@ use Rattle.std.proofs.Common.{◌≡◌, ℕ, ◌<◌, ◌≤◌, Bool, true, �
 use Rattle.std.specs.Prelude.{slice_get, unwrap_or}
 use Rattle.std.specs.List.{list_all}
 use Rattle.std.proofs.lemmas.Bool.Decides.{nat_tests}
+use Rattle.wf_base.specs.BaseTable.{row_of}
 use Rattle.wf_ast.specs.declared.numbers.ExprId.{ExprId}
 use Rattle.wf_ast.specs.declared.numbers.StmtId.{StmtId}
 use Rattle.wf_ast.specs.declared.numbers.TextId.{TextId}
@@ -22,8 +23,8 @@ use Rattle.wf_ast.specs.declared.typed_nodes.TypedNodes.{TypedNodes}
 use Rattle.wf_ast.specs.declared.types.Ty.{Ty}
 use Rattle.wf_ast.specs.declared.types.Ty.TheVariants as types
 use Rattle.wf_ast.specs.TypedTree.{ValueTree, Block, lost}
-use Rattle.wf_ast.specs.TypedTrees.{sort_of, chain_of, made_or_number, expr_trees, tree_of, no_stmt, onto, stmt_makers, stmts_after}
-use Rattle.wf_ast.specs.TypedInvariant.{each_numbered, is_expr, is_optional_expr, callee_exists, axiom_exists, block_below}
+use Rattle.wf_ast.specs.TypedTrees.{sort_of, chain_of, type_of_node, made_or_number, expr_trees, tree_of, no_stmt, onto, stmt_makers, stmts_after}
+use Rattle.wf_ast.specs.TypedInvariant.{each_numbered, is_expr, has_kind, is_optional_expr, callee_exists, axiom_exists, block_below}
 use Rattle.wf_ast.proofs.Arena.{both_true}
 use Rattle.wf_named.specs.NamedParts.{NamedParts}
 use Rattle.wf_types_rules.specs.declared.meanings.Meaning.{Meaning}
@@ -65,11 +66,14 @@ module _ (p q : TypedNodes) (exprs : length p.exprs ≤ length q.exprs) where
   pub conditions_more : (cs : List (Clause × ExprId)) → list_all (λ c. is_expr p c.1) cs ≡ true → list_all (λ c. is_expr q c.1) cs ≡ true
   conditions_more cs h = all_more (λ (c : Clause × ExprId). is_expr p c.1) (λ c. is_expr q c.1) cs (λ c. expr_more c.1) h
 
-  module _ (methods : q.methods ≡ p.methods) (texts : q.texts ≡ p.texts) (statuses : q.statuses ≡ p.statuses) where
+  module _ (methods : q.methods ≡ p.methods) (texts : q.texts ≡ p.texts) (statuses : q.statuses ≡ p.statuses) (kept_types : Keeps (length p.exprs) p.types q.types) where
     pub callee_more : (c : Callee) → callee_exists p c ≡ true → callee_exists q c ≡ true
     callee_more (callees.Own m) h = rw methods h
     callee_more (callees.Sub x m) h = rw methods h
-    callee_more (callees.Base on sig) h = expr_more on h
+    callee_more (callees.Base on sig) h =
+        let k = both_true (is_expr p on) (has_kind (row_of sig).on (type_of_node p on.0)) h in
+        let P : Option Ty → Type 0 = λ o. has_kind (row_of sig).on (unwrap_or o types.Flag) ≡ true in
+        and-true (is_expr q on) _ (expr_more on k.0) (subst P (kept_types on.0 (below on.0 (length p.exprs) k.0)) k.1)
 
     pub letters_more : (gs : List (TextId × ExprId)) → list_all (λ g. nat_lt g.0.0 (length p.texts) && is_expr p g.1) gs ≡ true → list_all (λ g. nat_lt g.0.0 (length q.texts) && is_expr q g.1) gs ≡ true
     letters_more gs h =
@@ -139,7 +143,7 @@ module _ (p q : TypedNodes) (built : AreStmtsBuilt p) (g : Grows p q) where
   pub built_more : AreStmtsBuilt q
   built_more =
       let test : ℕ → StmtNode → Bool = λ s node. stmt_there q s node.stmt in
-      let all = numbered_more (λ s node. stmt_there p s node.stmt) test 0 p.stmts (λ s node h. there_more p q g.exprs same_methods same_texts same_statuses s node.stmt h) built.ordered in
+      let all = numbered_more (λ s node. stmt_there p s node.stmt) test 0 p.stmts (λ s node h. there_more p q g.exprs same_methods same_texts same_statuses g.same_types s node.stmt h) built.ordered in
       record {
         ordered = ap (each_numbered test 0) same_stmts ∙ all;
         few = omega (arith, built.few, ap (λ (xs : List StmtNode). length xs) same_stmts);

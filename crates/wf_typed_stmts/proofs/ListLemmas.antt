@@ -211,7 +211,7 @@ module _ (s : Setting) (k : Known) (named : NamedParts) (es : List NamedExprTree
       record {
         grows = exprs_more_still p q r m.grows g;
         begun = b;
-        there = all_push (letter_exists r) made one (letters_more q r g.exprs.exprs methods texts statuses made m.there) (and-true (nat_lt x.name.text.0 (length r.texts)) (is_expr r e) low_there is.there);
+        there = all_push (letter_exists r) made one (letters_more q r g.exprs.exprs methods texts statuses g.exprs.same_types made m.there) (and-true (nat_lt x.name.text.0 (length r.texts)) (is_expr r e) low_there is.there);
         trees = ap (λ ts. ts ++ rest) (map-append (L r) made (one ∷ [])) ∙ chained (letters_made r (tree_of r) made) (letters_made q (tree_of q) made) (L r one) Y rest (letter_trees s (letters_at named.texts es given)) old new here;
         right = (letter_right given i d h m.right).1;
         entries =

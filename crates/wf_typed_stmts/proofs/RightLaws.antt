@@ -38,10 +38,11 @@ use Rattle.wf_typed_tree.specs.ElaboratedStmts.{unrefined, written_to, status_in
 use Rattle.wf_typed_tree.specs.ElaboratedPackage.{context_of}
 use Rattle.wf_typed_tree.specs.Grammar.{by_grammar, end_by_grammar, args_by_grammar, call_by_grammar, target_by_grammar, gives_number, updates, clauses_by_grammar, letters_by_grammar, via_by_grammar, has_condition, stmt_by_grammar, block_by_grammar, arms_by_grammar, package_by_grammar}
 use Rattle.wf_typed_tree.specs.MeaningTrees.{kind_meant}
-use Rattle.wf_typed_tree.proofs.NumberLemmas.{both}
+use Rattle.wf_typed_tree.proofs.NumberLemmas.{both, named-more}
 use Rattle.wf_typed_tree.proofs.NoBreaks.{Fine, AllFine, fine-split, at-none, either-false, not-not, holds}
 use Rattle.wf_typed_tree.proofs.OperandLaws.{one-width-parts}
 use Rattle.wf_typed_tree.proofs.AllOperators.{shift-parts}
+use Rattle.wf_typed_exprs.proofs.FormLaws.{kind-typed}
 use Rattle.wf_typed_tree.proofs.KnownMeanings.{then-known, map-known, front-known, pure-known, expr-known}
 use Rattle.wf_typed_tree.proofs.Agreement.{PackageIs, MethodIs, package-is, method-is, method-known, method-agrees}
 use Rattle.wf_typed_tree.proofs.ArgLaws.{ArgFine, split-arg, value-is}
@@ -135,7 +136,7 @@ module _ (p : NamedPackageTree) (m : NamedMethodTree) (is : MethodIs p m) (whole
   args-right callee j (more_args e others) h g k =
       let parts = split-arg p 0 m is callee j e others h in
       let grammar = both (by_grammar e) (args_by_grammar others) g in
-      let named = both (named_expr names e) (named_args names others) k in
+      let named = named-more names e others k in
       (arg-right callee j e parts.0 parts.1 grammar.0 named.0, args-right callee (j + 1) others parts.2 grammar.1 named.1)
 
   mark-at : (k : ℕ) (of : NamedMethodTree) (mark : Mark) → slice_get p.methods k ≡ Some of → mark ≡ of.mark → slice_get known.marks k ≡ Some mark
@@ -152,7 +153,8 @@ module _ (p : NamedPackageTree) (m : NamedMethodTree) (is : MethodIs p m) (whole
       let it = sub-calls p 0 m is whole x k (count_args args) w in
       mark-at k.0 it.0.of mark it.0.at (same-marks mark it.0.of.mark (mark-same p 0 m is whole (callees.Sub x k) at mark it.0.of.mark args h it.0.mark))
   callee-right (callees.Base on sig) at mark args h w =
-      let it = on-base p 0 m is whole on sig (count_args args) w in path-right on it.of it.meant (kind-whole (row_of sig).on it.of it.kind)
+      let it = on-base p 0 m is whole on sig (count_args args) w in
+      (path-right on it.of it.meant (kind-whole (row_of sig).on it.of it.kind), rw it.meant (kind-typed (row_of sig).on it.of it.kind))
 
   written-right : (callee : NamedCallee) (at : Place) (mark : Mark) (args : NamedArgTrees) → AllFine p around (whole_call_parts (call callee at mark args)) → args_by_grammar args ≡ true
       → named_call names (call callee at mark args) ≡ true → IsRightCall around known (call callee at mark args)

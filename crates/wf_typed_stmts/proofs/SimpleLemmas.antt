@@ -6,6 +6,7 @@ use Rattle.std.proofs.lemmas.Bool.Decides.{nat_tests}
 use Rattle.wf_text.specs.declared.place.Place.{Place}
 use Rattle.wf_text.specs.declared.numbers.MethodId.{MethodId}
 use Rattle.wf_base.specs.declared.marks.Mark.{Mark}
+use Rattle.wf_base.specs.BaseTable.{row_of}
 use Rattle.wf_ast.specs.declared.declarations.Method.{Method}
 use Rattle.wf_ast.specs.declared.numbers.ExprId.{ExprId}
 use Rattle.wf_ast.specs.declared.numbers.StmtId.{StmtId}
@@ -20,8 +21,8 @@ use Rattle.wf_ast.specs.declared.resolved.StmtNode.{StmtNode}
 use Rattle.wf_ast.specs.declared.typed_nodes.TypedNodes.{TypedNodes}
 use Rattle.wf_ast.specs.TypedTree.{ValueTree, Target, Simple, break_from, continue_in, give_back, yield, invoke, own, sub, Block, plain}
 use Rattle.wf_ast.specs.TypedTree as typed
-use Rattle.wf_ast.specs.TypedTrees.{cond_in, sort_of, tree_of, target_of, optional_target, arith_in, mark_of, base_call, call_made, axiom_made}
-use Rattle.wf_ast.specs.TypedInvariant.{is_expr, is_optional_expr, callee_exists, axiom_exists}
+use Rattle.wf_ast.specs.TypedTrees.{cond_in, sort_of, tree_of, type_of_node, target_of, optional_target, arith_in, mark_of, base_call, call_made, axiom_made}
+use Rattle.wf_ast.specs.TypedInvariant.{is_expr, is_optional_expr, callee_exists, axiom_exists, has_kind}
 use Rattle.wf_ast.proofs.Arena.{both_true}
 use Rattle.wf_named.specs.declared.nodes.NamedCallee.{NamedCallee}
 use Rattle.wf_named.specs.declared.nodes.NamedCallee.TheVariants as named_callees
@@ -30,16 +31,18 @@ use Rattle.wf_base.specs.declared.base_methods.BaseSig.{BaseSig}
 use Rattle.wf_named.specs.NamedParts.{NamedParts, named_package}
 use Rattle.wf_named.specs.NamedTree.{NamedExprTree, number, status, truth, path, index, slice, answer, chain, convert, negation, NamedPartTree, NamedArgTrees, NamedCallTree, call, NamedTargetTree, NamedViaTree, NamedStmtTree, leave, again}
 use Rattle.wf_types_rules.specs.declared.settings.Setting.{Setting}
-use Rattle.wf_typed_tree.specs.ElaboratedExprs.{path_tree, expr_tree, arg_trees}
+use Rattle.wf_types_rules.specs.Meanings.{variable}
+use Rattle.wf_typed_tree.specs.ElaboratedExprs.{type_meant, path_tree, expr_tree, arg_trees}
 use Rattle.wf_typed_tree.specs.ElaboratedStmts.{target_tree, update_tree, call_tree, assign_tree, returned_tree, axiom_tree, loop_meant, count_stmt, site, stmt_tree}
 use Rattle.wf_typed_tree.proofs.NumberLemmas.{and-true}
 use Rattle.wf_typed_stmts.specs.Parts.{HasTree, StandForArgs, call_meant, StandsForCallee, value_assigned, StandsForPart, StandsForVia, MakesSimple}
 use Rattle.wf_types_exprs.specs.Paths.{path_in}
 use Rattle.wf_types_stmts.specs.Targets.{call_in}
+use Rattle.wf_typed_exprs.specs.Nodes.{StandsForPath}
 use Rattle.wf_typed_exprs.specs.Right.{IsRight}
 use Rattle.wf_typed_stmts.specs.Right.{Known, is_answer, IsRightArg, IsRightBy, IsRightValue}
 use Rattle.wf_typed_stmts.specs.StmtGrowth.{loops_below, GrowsExprs, IsBegun, MakesStmt}
-use Rattle.wf_typed_stmts.proofs.GrowthLemmas.{count_same, callee_more, stmts_of_exprs, tree_kept}
+use Rattle.wf_typed_stmts.proofs.GrowthLemmas.{less, count_same, callee_more, stmts_of_exprs, tree_kept}
 
 -- A statement without blocks is one.
 pub made_simple : (s : Setting) (loops : List ℕ) (p q : TypedNodes) (t : NamedStmtTree) (x : Simple) (at : Place) (node : StmtNode) → GrowsExprs p q → count_stmt t ≡ 1
@@ -93,8 +96,12 @@ module _ (s : Setting) (named : NamedParts) (p : TypedNodes) (b : IsBegun named 
       let it = method_is named p m.0 mark b h in
       record { there = it.0; calls = λ at target kept args. ap (λ k. invoke at target kept k (sub x.0 m.0) args) it.1 }
 
-pub base_callee : (s : Setting) (p : TypedNodes) (mark : Mark) (on : NamedPath) (sig : BaseSig) (e : ExprId) → HasTree (path_tree s on) p e → StandsForCallee s (named_callees.Base on sig) mark p (callees.Base e sig)
-base_callee s p mark on sig e h = record { there = h.there; calls = λ at target kept args. ap (λ t. base_call at target t sig args) h.is }
+pub base_callee : (s : Setting) (p : TypedNodes) (mark : Mark) (on : NamedPath) (sig : BaseSig) (e : ExprId) → StandsForPath s on p e → has_kind (row_of sig).on (type_meant (variable s on.of)) ≡ true
+    → StandsForCallee s (named_callees.Base on sig) mark p (callees.Base e sig)
+base_callee s p mark on sig e h kind = record {
+  there = and-true (is_expr p e) (has_kind (row_of sig).on (type_of_node p e.0)) (less e.0 (length p.exprs) h.there) (rw h.typed kind);
+  calls = λ at target kept args. ap (λ t. base_call at target t sig args) h.tree_is;
+}
 
 pub callee_kept : (s : Setting) (callee : NamedCallee) (mark : Mark) (p q : TypedNodes) (c : Callee) → GrowsExprs p q → StandsForCallee s callee mark p c → StandsForCallee s callee mark q c
 callee_kept s callee mark p q c g h =
@@ -102,7 +109,7 @@ callee_kept s callee mark p q c g h =
     let texts : q.texts ≡ p.texts = ap (λ (n : TypedNodes). n.texts) g.exprs.rest in
     let statuses : q.statuses ≡ p.statuses = ap (λ (n : TypedNodes). n.statuses) g.exprs.rest in
     record {
-      there = callee_more p q g.exprs.exprs methods texts statuses c h.there;
+      there = callee_more p q g.exprs.exprs methods texts statuses g.exprs.same_types c h.there;
       calls = λ at target kept args. by_callee methods c h.there at target kept args ∙ h.calls at target kept args;
     }
   where
@@ -110,7 +117,8 @@ callee_kept s callee mark p q c g h =
         → call_made q (tree_of q) at target kept c args ≡ call_made p (tree_of p) at target kept c args
     by_callee e (callees.Own m) k at target kept args = ap (λ ms. invoke at target kept (unwrap_or (option_map (λ (x : Method). x.mark) (slice_get ms m.0)) Pure) (own m.0) args) e
     by_callee e (callees.Sub x m) k at target kept args = ap (λ ms. invoke at target kept (unwrap_or (option_map (λ (x : Method). x.mark) (slice_get ms m.0)) Pure) (sub x.0 m.0) args) e
-    by_callee e (callees.Base on sig) k at target kept args = ap (λ t. base_call at target t sig args) (tree_kept p q (stmts_of_exprs p q g) on k)
+    by_callee e (callees.Base on sig) k at target kept args =
+        ap (λ t. base_call at target t sig args) (tree_kept p q (stmts_of_exprs p q g) on (both_true (is_expr p on) (has_kind (row_of sig).on (type_of_node p on.0)) k).0)
 
 call_is : (s : Setting) (target : Target) (kept : Bool) (callee : NamedCallee) (at : Place) (mark : Mark) (args : NamedArgTrees)
     → call_meant s target kept callee at mark (arg_trees s args) ≡ call_tree s target kept (call callee at mark args)

@@ -3,6 +3,7 @@ use Rattle.std.proofs.Common.{◌≡◌, ℕ, ◌+◌, ◌<◌, Bool, true, ◌&
 use Rattle.std.specs.List.{list_all}
 use Rattle.std.proofs.lemmas.Bool.Decides.{nat_tests}
 use Rattle.wf_text.specs.declared.place.Place.{Place}
+use Rattle.wf_base.specs.BaseTable.{row_of}
 use Rattle.wf_ast.specs.declared.numbers.ExprId.{ExprId}
 use Rattle.wf_ast.specs.declared.numbers.StmtId.{StmtId}
 use Rattle.wf_ast.specs.declared.numbers.TextId.{TextId}
@@ -17,8 +18,8 @@ use Rattle.wf_ast.specs.declared.resolved.Stmt.TheVariants as stmts
 use Rattle.wf_ast.specs.declared.resolved.StmtNode.{StmtNode}
 use Rattle.wf_ast.specs.declared.typed_nodes.TypedNodes.{TypedNodes}
 use Rattle.wf_ast.specs.TypedTree.{ValueTree, Target, Site, Block, plain, give_back}
-use Rattle.wf_ast.specs.TypedTrees.{optional_target, call_made, axiom_made, otherwise_made, if_made, stmt_made, onto, stmts_after}
-use Rattle.wf_ast.specs.TypedInvariant.{each_numbered, is_expr, is_optional_expr, callee_exists, axiom_exists, block_below, optional_block_below}
+use Rattle.wf_ast.specs.TypedTrees.{type_of_node, optional_target, call_made, axiom_made, otherwise_made, if_made, stmt_made, onto, stmts_after}
+use Rattle.wf_ast.specs.TypedInvariant.{each_numbered, is_expr, is_optional_expr, callee_exists, has_kind, axiom_exists, block_below, optional_block_below}
 use Rattle.wf_ast.proofs.Arena.{both_true}
 use Rattle.wf_typed_stmts.specs.Parts.{conditions_made, letters_made}
 use Rattle.wf_typed_stmts.specs.StmtGrowth.{stmt_there}
@@ -43,7 +44,7 @@ module _ (p q : TypedNodes) (methods : q.methods ≡ p.methods) (texts : q.texts
   call_same : (at : Place) (t : Target) (keep : Bool) (callee : Callee) (args : List ValueTree) → callee_exists p callee ≡ true → call_made q g at t keep callee args ≡ call_made p f at t keep callee args
   call_same at t keep (callees.Own m) args h = rw methods refl
   call_same at t keep (callees.Sub x m) args h = rw methods refl
-  call_same at t keep (callees.Base on sig) args h = rw (look on h) refl
+  call_same at t keep (callees.Base on sig) args h = rw (look on (both_true (is_expr p on) (has_kind (row_of sig).on (type_of_node p on.0)) h).0) refl
 
   given_same : (gs : List (TextId × ExprId)) → list_all (λ x. nat_lt x.0.0 (length p.texts) && is_expr p x.1) gs ≡ true
       → letters_made q g gs ≡ letters_made p f gs

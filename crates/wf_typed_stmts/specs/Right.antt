@@ -4,7 +4,7 @@ use Rattle.wf_base.specs.declared.marks.Mark.{Mark}
 use Rattle.wf_base.specs.BaseTable.{row_of}
 use Rattle.wf_ast.specs.declared.operators.Op.{Op}
 use Rattle.wf_ast.specs.TypedTrees.{sort_of}
-use Rattle.wf_ast.specs.TypedInvariant.{is_numeric}
+use Rattle.wf_ast.specs.TypedInvariant.{is_numeric, has_kind}
 use Rattle.wf_ast.specs.WellTyped.{is_pure}
 use Rattle.wf_named.specs.declared.nodes.NamedCallee.{NamedCallee}
 use Rattle.wf_named.specs.declared.nodes.NamedCallee.TheVariants as callees
@@ -38,7 +38,7 @@ AreRightArgs s k (more_args e others) = IsRightArg s k e × AreRightArgs s k oth
 abbrev pub IsRightCallee : Setting → Known → NamedCallee → Mark → Type 0
 IsRightCallee s k (callees.Own m) mark = slice_get k.marks m.0 ≡ Some mark
 IsRightCallee s k (callees.Sub x m) mark = slice_get k.marks m.0 ≡ Some mark
-IsRightCallee s k (callees.Base on sig) mark = IsRightPath s k.statuses on
+IsRightCallee s k (callees.Base on sig) mark = IsRightPath s k.statuses on × (has_kind (row_of sig).on (type_meant (variable s on.of)) ≡ true)
 
 -- A call that is a whole statement, or a whole right side.
 abbrev pub IsRightCall : Setting → Known → NamedCallTree → Type 0

@@ -1,7 +1,7 @@
 // The nodes of a typed package with its statements, as they are built. A statement's parts stand in front of it, but for the
 // loop that a jump tells.
 
-ghost use Rattle.std.specs.Prelude.{◌≡◌, ◌<◌, ◌++◌, [], ◌∷◌, true, length, IfOk, OnOk, None};
+ghost use Rattle.std.specs.Prelude.{◌≡◌, ◌<◌, ◌+◌, ◌++◌, [], ◌∷◌, true, length, IfOk, OnOk, None};
 ghost use Rattle.wf_ast.specs.declared.resolved.Expr.TheVariants as exprs;
 ghost use Rattle.wf_ast.specs.TypedTrees.{sort_of, chain_of, tree_of, stmt_made, stmt_makers, onto};
 ghost use Rattle.wf_ast.specs.TypedInvariant.{chain_fits};
@@ -86,6 +86,13 @@ impl BodyBuilding {
         self.stmts.len()
     }
 
+    /// The number of the expression that is added next.
+    pub fn next_expr(&self) -> ExprId
+        ensures { result.0 ≡ length self.now.exprs }
+    {
+        self.building.next_expr()
+    }
+
     /// Adds the node of a path.
     pub fn push_path(
         &mut self,
@@ -101,6 +108,8 @@ impl BodyBuilding {
         ensures begun { OnOk result (IsBegun named.now self.new) }
         ensures stands { IfOk result (λ r. StandsForPath around.now path self.new r.node) }
         ensures value { IfOk result (λ r. r.value ≡ record { of = variable_in around.now path.of; at = path.at }) }
+        ensures number { IfOk result (λ r. r.node.0 ≡ length self.old.exprs) }
+        ensures count { OnOk result (length self.new.exprs ≡ length self.old.exprs + 1) }
     {
         elaborate_path(alloc, &mut self.building, around, path)
     }

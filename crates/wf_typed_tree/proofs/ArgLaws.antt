@@ -26,7 +26,7 @@ use Rattle.wf_typed_tree.specs.ElaboratedExprs.{variable_tree, expr_tree, arg_tr
 use Rattle.wf_typed_tree.specs.ElaboratedPackage.{type_declared, typed_variable}
 use Rattle.wf_typed_tree.specs.Grammar.{by_grammar, args_by_grammar}
 use Rattle.wf_typed_tree.specs.MeaningTrees.{HasMeaning}
-use Rattle.wf_typed_tree.proofs.NumberLemmas.{both, and-true}
+use Rattle.wf_typed_tree.proofs.NumberLemmas.{both, and-true, named-more}
 use Rattle.wf_typed_tree.proofs.NoBreaks.{Fine, AllFine, fine-split, at-none, either-false, both-hold}
 use Rattle.wf_typed_tree.proofs.VariableLaws.{variable-means}
 use Rattle.wf_typed_tree.proofs.Agreement.{MethodIs, AllDeclared, method-known, method-agrees}
@@ -124,7 +124,7 @@ module _ (p : NamedPackageTree) (n : ℕ) (m : NamedMethodTree) (is : MethodIs p
   args-fit callee j (more_args e others) (x ∷ xs) h g k count all w =
       let parts = split-arg callee j e others h in
       let grammar = both (by_grammar e) (args_by_grammar others) g in
-      let named_parts = both (named_expr (names p n m is) e) (named_args (names p n m is) others) k in
+      let named_parts = named-more (names p n m is) e others k in
       let front : j + 0 ≡ j = omega arith in
       let W : ℕ → Type 0 = λ i. wanted (around p n m is) callee i ≡ Some all.0.0 in
       let asked = subst W front (w 0 x refl ∙ all.0.1) in

@@ -7,13 +7,13 @@ use Rattle.wf_base.specs.declared.base_methods.Kind.{Kind}
 use Rattle.wf_ast.specs.declared.types.Ty.{Ty}
 use Rattle.wf_named.specs.declared.nodes.NamedCallee.{NamedCallee}
 use Rattle.wf_named.specs.NamedTree.{NamedArgTrees, no_arg, more_args, NamedMethodTree, NamedPackageTree}
-use Rattle.wf_named.specs.WellNamed.{count_args, named_expr, named_args}
+use Rattle.wf_named.specs.WellNamed.{count_args, named_args}
 use Rattle.wf_types_rules.specs.declared.meanings.Meaning.{Meaning}
 use Rattle.wf_types_rules.specs.Parts.{args_parts}
 use Rattle.wf_types_rules.specs.Judgements.{takes, base_arg, wanted, meaning_of_argument, is_argument, are_arguments}
 use Rattle.wf_typed_tree.specs.ElaboratedExprs.{arg_trees}
 use Rattle.wf_typed_tree.specs.Grammar.{by_grammar, args_by_grammar}
-use Rattle.wf_typed_tree.proofs.NumberLemmas.{both, and-true}
+use Rattle.wf_typed_tree.proofs.NumberLemmas.{both, and-true, named-more}
 use Rattle.wf_typed_tree.proofs.NoBreaks.{AllFine}
 use Rattle.wf_typed_tree.proofs.KnownMeanings.{HasValue}
 use Rattle.wf_typed_tree.proofs.Agreement.{MethodIs}
@@ -36,7 +36,7 @@ module _ (p : NamedPackageTree) (n : ℕ) (m : NamedMethodTree) (is : MethodIs p
   args-taken callee j (more_args e others) h g k w =
       let parts = split-arg p n m is callee j e others h in
       let grammar = both (by_grammar e) (args_by_grammar others) g in
-      let named_parts = both (named_expr (names p n m is) e) (named_args (names p n m is) others) k in
+      let named_parts = named-more (names p n m is) e others k in
       let front : j + 0 ≡ j = omega arith in
       let next : j + 1 ≡ suc j = omega arith in
       let some : nat_lt 0 (suc (count_args others)) ≡ true = grind (arith, nat_tests) in
@@ -64,7 +64,7 @@ module _ (p : NamedPackageTree) (n : ℕ) (m : NamedMethodTree) (is : MethodIs p
   row-args-fit callee kind j (more_args e others) (a ∷ rest) h g k count w =
       let parts = split-arg p n m is callee j e others h in
       let grammar = both (by_grammar e) (args_by_grammar others) g in
-      let named_parts = both (named_expr (names p n m is) e) (named_args (names p n m is) others) k in
+      let named_parts = named-more (names p n m is) e others k in
       let front : j + 0 ≡ j = omega arith in
       let W : ℕ → Type 0 = λ i. wanted (around p n m is) callee i ≡ Some (base_arg kind a.1) in
       let first = (arg-is p n m is callee j e (base_arg kind a.1) parts.0 parts.1 grammar.0 named_parts.0 (subst W front (w 0 a refl))).fits in

@@ -37,6 +37,7 @@ use Rattle.wf_typed_tree.proofs.Agreement.{PackageIs, MethodIs, method-is, metho
 use Rattle.wf_typed_tree.proofs.CallLaws.{method-at}
 use Rattle.wf_typed_tree.proofs.BodyLaws.{around, names, context}
 use Rattle.wf_typed_tree.proofs.ArgLaws.{args-fit}
+use Rattle.wf_typed_tree.proofs.HandedLaws.{handed-once}
 
 -- Where no rule of effects is broken, the mark may be called.
 pub allowed : (outer inner : Mark) → (is_impure inner && is_pure outer) ≡ false → (is_coroutine inner && not (is_coroutine outer)) ≡ false → allows outer inner ≡ true
@@ -212,4 +213,5 @@ module _ (p : NamedPackageTree) (n : ℕ) (m : NamedMethodTree) (is : MethodIs p
       subst P (sym found)
       (and-true (same_mark mark it.of.mark) _ (mark-same callee at mark it.of.mark args h it.mark) (and-true (allows m.mark mark) _ (mark-allowed callee at mark args h)
       (and-true (calls_method (context p n m is) called (typed_method p typed.0 it.of)) _ (it.may typed.0)
-      (and-true (fit_types (context p n m is) (map (typed_variable p roles.Arg) it.of.args) (arg_trees (around p n m is) args)) _ fit answer))))
+      (and-true (fit_types (context p n m is) (map (typed_variable p roles.Arg) it.of.args) (arg_trees (around p n m is) args)) _ fit
+      (and-true (takes_answer (context p n m is) target kept mark (option_map (type_declared p (roles.Result it.of.mark)) it.of.gives)) _ answer (handed-once p n m is args k))))))

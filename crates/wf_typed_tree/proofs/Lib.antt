@@ -14,10 +14,12 @@ pub mod DeclarationLaws
 pub mod DeclaredLaws
 pub mod EndLaws
 pub mod ExprLaws
+pub mod HandedLaws
 pub mod KnownMeanings
 pub mod LoopLaws
 pub mod NoBreaks
 pub mod NumberLemmas
+pub mod NumberingLaws
 pub mod OperandLaws
 pub mod OperatorLaws
 pub mod SimpleLaws

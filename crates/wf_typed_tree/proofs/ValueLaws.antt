@@ -10,7 +10,6 @@ use Rattle.wf_ast.specs.WellTyped.{Context, type_at, is_flag, is_status, is_slic
 use Rattle.wf_types_rules.specs.declared.meanings.Meaning.{Meaning}
 use Rattle.wf_types_rules.specs.declared.meanings.Meaning.TheVariants as meanings
 use Rattle.wf_types_rules.specs.Meanings as meant
-use Rattle.wf_types_rules.specs.declared.settings.Setting.{Setting}
 use Rattle.wf_types_rules.specs.Meanings.{all_of, variable, is_value, same_width, place_of}
 use Rattle.wf_types_rules.specs.Operands.{differs_in}
 use Rattle.wf_types_rules.specs.ExprTypes.{element_of}

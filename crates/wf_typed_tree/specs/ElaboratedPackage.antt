@@ -45,6 +45,11 @@ abbrev pub typed_methods : NamedPackageTree → (n : ℕ) → List NamedMethodTr
 typed_methods p n [] = []
 typed_methods p n (m ∷ ms) = typed_method p n m ∷ typed_methods p (n + count_block m.body) ms
 
+-- How many statements stand in methods.
+abbrev pub count_methods : List NamedMethodTree → ℕ
+count_methods [] = 0
+count_methods (m ∷ ms) = count_block m.body + count_methods ms
+
 -- The typed tree of a package. Constants have gone: each stands as its number where it is named.
 unfoldable pub typed_package : NamedPackageTree → PackageTree
 typed_package p =

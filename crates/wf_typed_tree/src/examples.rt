@@ -94,6 +94,6 @@ pub fn typed_trees_of_calls_and_statuses()
     ensures status_returned { body_typed samples.status_returned ≡ alone (give_back (Some (state (status (here 12) 10)))) }
     ensures number_returned { body_typed samples.number_returned ≡ alone (give_back (Some (numeric (typed_number 7 12)))) }
     ensures yielding { body_typed samples.yielding ≡ alone (yield 11) }
-    ensures claiming { body_typed samples.claiming ≡ alone (claim (compare (here 30) (here 30) (typed_x 28) less (typed_a 32)) (Some (record { text = codes "a < b: a < c; c < b"; given = (codes "c", typed_number 48 65) ∷ [] }))) }
+    ensures claiming { body_typed samples.claiming ≡ alone (claim (compare (here 30) (here 30) (typed_x 28) less (typed_a 32)) (Some (record { at = here 40; text = codes "a < b: a < c; c < b"; given = (codes "c", typed_number 48 65) ∷ [] }))) }
     ensures claiming_alone { body_typed samples.claiming_alone ≡ alone (claim (flag (here 12) (local 3)) None) }
 {}

@@ -1,7 +1,8 @@
 // The laws of typed trees. Each is the contract of a function that does nothing.
 
 ghost use Rattle.std.specs.Prelude.{◌≡◌, ℕ, true, ◌&&◌, Some, None, [], length, nat_eq, slice_get};
-ghost use Rattle.std.specs.List.{list_all};
+ghost use Rattle.std.specs.List.{list_all, flat_map};
+ghost use Rattle.wf_ast.specs.TypedInvariant.{numbers_in, numbers_from};
 ghost use Rattle.wf_ast.specs.WellTyped.{Context, all_structs_whole, may_be_arg, may_be_local, may_be_result, answers_always, calls_in_front, well_typed};
 ghost use Rattle.wf_named.specs.NamedTree.{NamedExprTree, NamedMethodTree, NamedPackageTree};
 ghost use Rattle.wf_named.specs.WellNamed.{Scope, named_expr, scope_of_method, well_named};
@@ -11,7 +12,7 @@ ghost use Rattle.wf_types_rules.specs.DeclaredTypes.{in_method};
 ghost use Rattle.wf_types_rules.specs.ExprTypes.{meaning};
 ghost use Rattle.wf_types_rules.specs.FirstBreak.{deciding};
 ghost use Rattle.wf_typed_tree.specs.ElaboratedExprs.{expr_tree};
-ghost use Rattle.wf_typed_tree.specs.ElaboratedPackage.{typed_method, typed_package, context_of};
+ghost use Rattle.wf_typed_tree.specs.ElaboratedPackage.{count_methods, typed_method, typed_package, context_of};
 ghost use Rattle.wf_typed_tree.specs.Grammar.{by_grammar, block_by_grammar, package_by_grammar};
 ghost use Rattle.wf_typed_tree.specs.MeaningTrees.{HasMeaning, Agree};
 
@@ -44,4 +45,10 @@ pub fn declarations_keep_the_rules()
 /// typed packages.
 pub fn typed_packages_keep_the_rules()
     ensures { (p : NamedPackageTree) → deciding p ≡ None → well_named p ≡ true → package_by_grammar p ≡ true → well_typed (typed_package p) ≡ true }
+{}
+
+/// The statements of the typed tree of a package of the grammar are numbered in order, method by method, each behind those
+/// inside it.
+pub fn statements_are_numbered_in_order()
+    ensures { (p : NamedPackageTree) → package_by_grammar p ≡ true → flat_map (λ m. numbers_in m.body) (typed_package p).methods ≡ numbers_from 0 (count_methods p.methods) }
 {}

@@ -6,6 +6,7 @@ use Rattle.std.proofs.lemmas.Bool.Decides.{nat_tests}
 use Rattle.std.proofs.lemmas.List.{length-map, map-append, take_more, take_all}
 use Rattle.std.proofs.lemmas.Option.{slice_get-map}
 use Rattle.wf_ast.specs.declared.declarations.Method.{Method}
+use Rattle.wf_ast.specs.declared.numbers.ExprId.{ExprId}
 use Rattle.wf_ast.specs.declared.numbers.StmtId.{StmtId}
 use Rattle.wf_ast.specs.declared.resolved.Block as resolved
 use Rattle.wf_ast.specs.declared.resolved.Stmt.{Stmt}
@@ -21,12 +22,12 @@ use Rattle.wf_named.specs.NamedParts.{NamedParts, exprs_of, stmts_of, named_pack
 use Rattle.wf_named.specs.NamedTree.{Word, NamedMethodTree, NamedPackageTree}
 use Rattle.wf_named.specs.NamedTrees.{word_at, method_made}
 use Rattle.wf_types_rules.specs.DeclaredTypes.{in_method}
-use Rattle.wf_typed_tree.specs.ElaboratedPackage.{seen_text}
+use Rattle.wf_typed_tree.specs.ElaboratedPackage.{seen_text, count_methods}
 use Rattle.wf_typed_tree.specs.ElaboratedStmts.{count_block}
 use Rattle.wf_typed_tree.specs.Entries.{entries, method_entries}
 use Rattle.wf_typed_exprs.specs.Growth.{AddsEntries}
 use Rattle.wf_typed_stmts.specs.StmtGrowth.{jump_below, jumps_below, GrowsStmts, Adds, IsBegun, StandsForBlock}
-use Rattle.wf_types.specs.Bodies.{IsBody, AreBodies, count_methods, BodiesMade}
+use Rattle.wf_types.specs.Bodies.{IsBody, AreBodies, BodiesMade}
 use Rattle.wf_types.specs.DeclaredNodes.{declared_method, declared_nodes}
 use Rattle.wf_types.specs.Locals.{places_of, HaveNodes, MethodsHaveNodes}
 use Rattle.wf_types.proofs.EntryLemmas.{entries_more}
@@ -162,19 +163,20 @@ bodies_over q i nodes bs past made =
     subst P (ap (map (method_made q.texts (exprs_of q) (stmts_of q))) (take_all i q.methods past) ∙ sym (methods_are q)) made
 
 -- The nodes of their locals likewise.
-pub locals_with : (q : NamedParts) (i : ℕ) (m : NamedMethod) → i < length q.methods → m ≡ get_or q.methods i m → (old new : TypedNodes)
-    → MethodsHaveNodes (named_package q) old (map (method_made q.texts (exprs_of q) (stmts_of q)) (take i q.methods)) → Adds [] old new
-    → HaveNodes (in_method (named_package q) (method_made q.texts (exprs_of q) (stmts_of q) m)) new (places_of (method_made q.texts (exprs_of q) (stmts_of q) m).locals)
-    → MethodsHaveNodes (named_package q) new (map (method_made q.texts (exprs_of q) (stmts_of q)) (take (i + 1) q.methods))
-locals_with q i m low is old new done adds here =
+pub locals_with : (q : NamedParts) (i : ℕ) (m : NamedMethod) → i < length q.methods → m ≡ get_or q.methods i m → (old new : TypedNodes) (es fs : List ExprId) (e : ExprId)
+    → MethodsHaveNodes (named_package q) old es (map (method_made q.texts (exprs_of q) (stmts_of q)) (take i q.methods)) → Adds [] old new
+    → HaveNodes (in_method (named_package q) (method_made q.texts (exprs_of q) (stmts_of q) m)) new e.0 (places_of (method_made q.texts (exprs_of q) (stmts_of q) m).locals) → fs ≡ es ++ e ∷ []
+    → MethodsHaveNodes (named_package q) new fs (map (method_made q.texts (exprs_of q) (stmts_of q)) (take (i + 1) q.methods))
+locals_with q i m low is old new es fs e done adds here all =
     let of = method_made q.texts (exprs_of q) (stmts_of q) in
-    let P : List NamedMethodTree → Type 0 = λ ms. MethodsHaveNodes (named_package q) new ms in
-    subst P (sym (methods_more of q.methods i m low is)) (methods_with (named_package q) old new (map of (take i q.methods)) (of m) adds.grows done here)
+    let P : List NamedMethodTree → Type 0 = λ ms. MethodsHaveNodes (named_package q) new fs ms in
+    let Q : List ExprId → Type 0 = λ xs. MethodsHaveNodes (named_package q) new xs (map of (take i q.methods) ++ of m ∷ []) in
+    subst P (sym (methods_more of q.methods i m low is)) (subst Q (sym all) (methods_with (named_package q) old new es (map of (take i q.methods)) e (of m) adds.grows done here))
 
-pub locals_over : (q : NamedParts) (i : ℕ) (nodes : TypedNodes) → length q.methods ≤ i
-    → MethodsHaveNodes (named_package q) nodes (map (method_made q.texts (exprs_of q) (stmts_of q)) (take i q.methods)) → MethodsHaveNodes (named_package q) nodes (named_package q).methods
-locals_over q i nodes past done =
-    let P : List NamedMethodTree → Type 0 = λ ms. MethodsHaveNodes (named_package q) nodes ms in
+pub locals_over : (q : NamedParts) (i : ℕ) (nodes : TypedNodes) (es : List ExprId) → length q.methods ≤ i
+    → MethodsHaveNodes (named_package q) nodes es (map (method_made q.texts (exprs_of q) (stmts_of q)) (take i q.methods)) → MethodsHaveNodes (named_package q) nodes es (named_package q).methods
+locals_over q i nodes es past done =
+    let P : List NamedMethodTree → Type 0 = λ ms. MethodsHaveNodes (named_package q) nodes es ms in
     subst P (ap (map (method_made q.texts (exprs_of q) (stmts_of q))) (take_all i q.methods past) ∙ sym (methods_are q)) done
 
 pub method_at : (q : NamedParts) (i : ℕ) (m : NamedMethod) → slice_get q.methods i ≡ Some m → slice_get (named_package q).methods i ≡ Some (method_made q.texts (exprs_of q) (stmts_of q) m)

@@ -1,9 +1,9 @@
 -- Which entries a package has, method by method.
-use Rattle.std.proofs.Common.{◌≡◌, ◌∙◌, refl, sym, ap, subst, ℕ, zero, suc, ◌+◌, ◌<◌, ◌≤◌, List, [], ◌∷◌, ◌++◌, length, map, drop, get_or, Option, Some, slice_get, arith}
-use Rattle.std.specs.List.{flat_map}
+use Rattle.std.proofs.Common.{◌≡◌, ◌∙◌, refl, sym, ap, subst, ℕ, ◌+◌, ◌≤◌, List, [], ◌∷◌, ◌++◌, length, map, drop, get_or, Some, slice_get}
 use Rattle.std.proofs.lemmas.List.{append_assoc, append-nil, drop_all}
 use Rattle.std.proofs.lemmas.Option.{slice_get-get_or}
 use Rattle.wf_text.specs.declared.place.Place.{Place}
+use Rattle.wf_ast.specs.declared.numbers.ExprId.{ExprId}
 use Rattle.wf_ast.specs.declared.resolved.Block as resolved
 use Rattle.wf_ast.specs.declared.typed_nodes.TypedNodes.{TypedNodes}
 use Rattle.wf_named.specs.declared.declarations.NamedVar.{NamedVar}
@@ -12,7 +12,7 @@ use Rattle.wf_named.specs.NamedTree.{NamedExprTree, NamedBlockTree, NamedMethodT
 use Rattle.wf_named.specs.NamedTrees.{var_made}
 use Rattle.wf_types_rules.specs.declared.settings.Setting.{Setting}
 use Rattle.wf_types_exprs.proofs.ListLemmas.{drop-one}
-use Rattle.wf_typed_tree.specs.Entries.{Entry, entries_in, entries, path_entry, local_entries, block_entries, method_entries, methods_entries}
+use Rattle.wf_typed_tree.specs.Entries.{entries, path_entry, local_entries, block_entries, method_entries, methods_entries}
 use Rattle.wf_typed_exprs.specs.Growth.{AddsEntries}
 use Rattle.wf_typed_exprs.proofs.EntryLemmas.{adds_then}
 use Rattle.wf_typed_stmts.proofs.EntryLemmas.{EntriesTo, entries_to_next, entries_to_end}
@@ -58,6 +58,6 @@ pub entries_more : (p : NamedPackageTree) (ms : List NamedMethodTree) (m : Named
 entries_more p ms m old new is adds = adds.is ∙ ap (λ es. es ++ method_entries p m) is ∙ sym (methods_added p ms m)
 
 -- Bodies have no entries.
-pub entries_with : (nodes : TypedNodes) (bs : List resolved.Block) → entries (record nodes { bodies = bs }) ≡ entries nodes
+pub entries_with : (nodes : TypedNodes) (bs : List resolved.Block) (es : List ExprId) → entries (record nodes { bodies = bs; first_locals = es }) ≡ entries nodes
 unfolding entries
-entries_with nodes bs = refl
+entries_with nodes bs es = refl

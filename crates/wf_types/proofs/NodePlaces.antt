@@ -1,7 +1,6 @@
 -- A node whose tree is the path of a local has the place of that tree.
 use Rattle.std.proofs.Common.{◌≡◌, ◌∙◌, refl, sym, ap, ℕ, zero, suc, ◌<◌, Bool, true, false, List, [], ◌∷◌, length, map, slice_get, Option, Some, None, arith}
-use Rattle.std.specs.Prelude.{option_map}
-use Rattle.std.proofs.lemmas.Option.{slice_get-map}
+use Rattle.std.specs.Prelude.{option_map, unwrap_or}
 use Rattle.wf_text.specs.declared.place.Place.{Place}
 use Rattle.wf_base.specs.declared.base_methods.BaseSig.{BaseSig}
 use Rattle.wf_base.specs.declared.base_methods.BaseSig.TheVariants as sigs
@@ -12,10 +11,9 @@ use Rattle.wf_ast.specs.declared.resolved.ExprNode.{ExprNode}
 use Rattle.wf_ast.specs.declared.typed_nodes.TypedNodes.{TypedNodes}
 use Rattle.wf_ast.specs.declared.types.Ty.{Ty}
 use Rattle.wf_ast.specs.declared.types.Ty.TheVariants as types
-use Rattle.wf_ast.specs.Places.{expr_places}
 use Rattle.wf_ast.specs.TypedTree.{Path, local, Arith, NumTree, read, link, SliceTree, slice, StatusTree, held, CondTree, flag, junction, Order, equal, differs, ValueTree, numeric, logical, state, elements}
 use Rattle.wf_ast.specs.TypedTree as typed
-use Rattle.wf_ast.specs.TypedTrees.{Sort, arithmetic, joining, ordering, sort_of, num_in, cond_in, named, num_type, num_chain, cond_chain, comparison, chain_of, answer_of, made, made_or_number, tree_of, type_of_node, constant_of_node}
+use Rattle.wf_ast.specs.TypedTrees.{Sort, arithmetic, joining, ordering, sort_of, num_in, cond_in, named, num_type, num_chain, cond_chain, comparison, chain_of, answer_of, made, made_or_number, no_place, tree_of, type_of_node, constant_of_node, place_of_node}
 use Rattle.wf_ast.specs.TypedInvariant.{chain_fits, kind_fits, node_fits}
 use Rattle.wf_ast.proofs.Arena.{numbered_from_zero, tree_made}
 use Rattle.wf_types_rules.specs.declared.settings.Role.TheVariants as roles
@@ -128,8 +126,7 @@ there_is [] i h = absurd (omega (arith, h))
 there_is (x ∷ xs) zero h = (x, refl)
 there_is (x ∷ xs) (suc i) h = there_is xs i (omega (arith, h))
 
-pub place_of_read : (nodes : TypedNodes) (e : ExprId) (p : Place) → IsBuilt nodes → e.0 < length nodes.exprs → read_of (tree_of nodes e) ≡ Some p
-    → slice_get (expr_places nodes) e.0 ≡ Some p
+pub place_of_read : (nodes : TypedNodes) (e : ExprId) (p : Place) → IsBuilt nodes → e.0 < length nodes.exprs → read_of (tree_of nodes e) ≡ Some p → place_of_node nodes e.0 ≡ p
 place_of_read nodes e p built low h =
     let it = there_is nodes.exprs e.0 low in
     let n = it.0 in
@@ -137,4 +134,4 @@ place_of_read nodes e p built low h =
     let fits = numbered_from_zero (λ e node. node_fits nodes (type_of_node nodes e) (constant_of_node nodes e) node.expr) nodes.exprs e.0 n built.kinds it.1 in
     let at_is : n.at ≡ p = node_place nodes (tree_of nodes) n.at p n.signs (type_of_node nodes e.0) (constant_of_node nodes e.0) n.expr fits (sym (ap read_of made_so) ∙ h) in
     let P : ExprNode → Place = λ node. node.at in
-    slice_get-map P nodes.exprs e.0 ∙ ap (option_map P) it.1 ∙ ap Some at_is
+    ap (λ o. unwrap_or (option_map P o) no_place) it.1 ∙ at_is

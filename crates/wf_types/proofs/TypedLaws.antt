@@ -1,28 +1,34 @@
 -- The nodes of a package that breaks no rule are those of a typed package.
-use Rattle.std.proofs.Common.{◌≡◌, ◌∙◌, refl, sym, ap, subst, ℕ, ◌+◌, ◌<◌, true, not, List, [], ◌∷◌, length, map, take, drop, None, nat_lt, arith}
-use Rattle.std.specs.List.{list_all}
+use Rattle.std.proofs.Common.{◌≡◌, ◌∙◌, refl, sym, ap, subst, ℕ, ◌+◌, ◌<◌, true, not, List, [], ◌∷◌, length, map, take, drop, Option, None, nat_lt, nat_le, ◌≤◌, arith}
+use Rattle.std.specs.List.{list_all, flat_map}
 use Rattle.std.proofs.lemmas.Bool.Decides.{nat_tests}
 use Rattle.std.proofs.lemmas.List.{length-map}
 use Rattle.wf_text.specs.declared.rules.Rule.TheVariants.{T5}
 use Rattle.wf_text.specs.declared.categories.Category.TheVariants.{Fine}
 use Rattle.wf_text.specs.StatusText.{category_of}
+use Rattle.wf_ast.specs.declared.numbers.ExprId.{ExprId}
+use Rattle.wf_ast.specs.declared.types.Ty.{Ty}
 use Rattle.wf_ast.specs.declared.resolved.Block as resolved
 use Rattle.wf_ast.specs.declared.resolved.Stmt.{Stmt}
 use Rattle.wf_ast.specs.declared.resolved.Stmt.TheVariants as stmts
 use Rattle.wf_ast.specs.declared.resolved.StmtNode.{StmtNode}
 use Rattle.wf_ast.specs.declared.typed_nodes.TypedNodes.{TypedNodes}
 use Rattle.wf_ast.specs.StatementOrder.{stand_in_order}
-use Rattle.wf_ast.specs.TypedInvariant.{each_numbered, stmt_below, block_below, has_kind_byte, IsTyped}
-use Rattle.wf_ast.specs.TypedPackage.{PackageTree}
+use Rattle.wf_ast.specs.TypedInvariant.{each_numbered, stmt_below, block_below, has_kind_byte, has_few_variables, numbers_in, numbers_from, IsTyped}
+use Rattle.wf_ast.specs.TypedPackage.{MethodTree, PackageTree}
 use Rattle.wf_ast.specs.TypedTrees.{block_of, expr_trees, stmt_makers}
 use Rattle.wf_ast.specs.Value.{same_category}
 use Rattle.wf_ast.specs.WellTyped.{well_typed}
 use Rattle.wf_ast.proofs.Arena.{both_true}
 use Rattle.wf_named.specs.NamedParts.{NamedParts, exprs_of, stmts_of, named_package}
-use Rattle.wf_named.specs.NamedTree.{Word, NamedMethodTree, NamedPackageTree}
-use Rattle.wf_named.specs.NamedTrees.{word_at, method_made}
+use Rattle.wf_named.specs.NamedTree.{Word, NamedExprTree, NamedMethodTree, NamedPackageTree}
+use Rattle.wf_named.specs.NamedTrees.{word_at, var_made, method_made}
 use Rattle.wf_named.specs.WellNamed.{well_named}
-use Rattle.wf_types_rules.specs.DeclaredTypes.{for_types}
+use Rattle.wf_named.specs.WellNamed as names
+use Rattle.wf_named.specs.declared.declarations.NamedMethod.{NamedMethod}
+use Rattle.wf_named.specs.declared.declarations.NamedVar.{NamedVar}
+use Rattle.wf_types_rules.specs.declared.settings.Role.TheVariants as roles
+use Rattle.wf_types_rules.specs.DeclaredTypes.{for_types, types_in}
 use Rattle.wf_types_rules.specs.FirstBreak.{deciding}
 use Rattle.wf_types_rules.specs.Judgements.{is_status_text, wrong_status}
 use Rattle.wf_types_rules.specs.Parts.{status_declared, at_sites, const_sites, sites}
@@ -30,14 +36,18 @@ use Rattle.wf_types_rules.specs.TypeRules as rules
 use Rattle.wf_typed_tree.specs.ElaboratedPackage.{seen_text, typed_package}
 use Rattle.wf_typed_tree.specs.ElaboratedStmts.{count_block}
 use Rattle.wf_typed_tree.specs.Grammar.{package_by_grammar}
+use Rattle.wf_typed_tree.proofs.Agreement.{package-is}
 use Rattle.wf_typed_tree.proofs.BlockLaws.{package-keeps}
 use Rattle.wf_typed_tree.proofs.ConstantLaws.{AllFineSites, sites-fine, sites-split, parts-fine}
 use Rattle.wf_typed_tree.proofs.NoBreaks.{AllFine, at-none, not-not}
+use Rattle.wf_typed_tree.proofs.NumberingLaws.{package-numbers}
 use Rattle.wf_typed_exprs.specs.Growth.{IsBuilt}
 use Rattle.wf_typed_stmts.specs.StmtGrowth.{without_nodes, stmt_there, jump_below, jumps_below}
 use Rattle.wf_types.specs.Bodies.{without_bodies, AreBodies, BodiesMade, IsWhole, has_numbers}
-use Rattle.wf_types.specs.DeclaredNodes.{declared_method, seen_statuses, declared_nodes}
+use Rattle.wf_types.specs.DeclaredNodes.{variables_with, declared_method, seen_statuses, declared_nodes}
+use Rattle.wf_types.specs.Locals.{MethodsHaveNodes}
 use Rattle.wf_types.proofs.EntryLemmas.{entries_with}
+use Rattle.wf_types.proofs.LocalLemmas.{locals_placed, locals_stand}
 use Rattle.wf_types.proofs.PackageLaws.{package_same}
 
 -- Status texts that break no rule begin with the byte of their kind, also as a caller sees them.
@@ -115,42 +125,82 @@ unfolding declared_nodes named_package
 methods_long q = length-map q.methods (declared_method q) ∙ sym (length-map q.methods (method_made q.texts (exprs_of q) (stmts_of q)))
 
 -- The bodies change no tree.
-blocks_same : (nodes : TypedNodes) (bs : List resolved.Block) (b : resolved.Block) → block_of (record nodes { bodies = bs }) b ≡ block_of nodes b
+blocks_same : (nodes : TypedNodes) (bs : List resolved.Block) (es : List ExprId) (b : resolved.Block) → block_of (record nodes { bodies = bs; first_locals = es }) b ≡ block_of nodes b
 unfolding stmt_makers expr_trees
-blocks_same nodes bs b = refl
+blocks_same nodes bs es b = refl
 
-bodies_placed : (p : NamedPackageTree) (nodes : TypedNodes) (all : List resolved.Block) (n : ℕ) (ms : List NamedMethodTree) (bs : List resolved.Block) → AreBodies p nodes n ms bs
-    → AreBodies p (record nodes { bodies = all }) n ms bs
-bodies_placed p nodes all n [] [] h = tt
-bodies_placed p nodes all n [] (b ∷ bs) h = absurd h
-bodies_placed p nodes all n (m ∷ ms) [] h = absurd h
-bodies_placed p nodes all n (m ∷ ms) (b ∷ bs) h =
-    (record { below = h.0.below; makes = blocks_same nodes all b ∙ h.0.makes }, bodies_placed p nodes all (n + count_block m.body) ms bs h.1)
+bodies_placed : (p : NamedPackageTree) (nodes : TypedNodes) (all : List resolved.Block) (es : List ExprId) (n : ℕ) (ms : List NamedMethodTree) (bs : List resolved.Block) → AreBodies p nodes n ms bs
+    → AreBodies p (record nodes { bodies = all; first_locals = es }) n ms bs
+bodies_placed p nodes all es n [] [] h = tt
+bodies_placed p nodes all es n [] (b ∷ bs) h = absurd h
+bodies_placed p nodes all es n (m ∷ ms) [] h = absurd h
+bodies_placed p nodes all es n (m ∷ ms) (b ∷ bs) h =
+    (record { below = h.0.below; makes = blocks_same nodes all es b ∙ h.0.makes }, bodies_placed p nodes all es (n + count_block m.body) ms bs h.1)
 
 declared_alone : (q : NamedParts) → without_bodies (declared_nodes q) ≡ declared_nodes q
 unfolding declared_nodes
 declared_alone q = refl
 
-whole_made : (q : NamedParts) (nodes : TypedNodes) (bs : List resolved.Block) → BodiesMade q (named_package q).methods nodes bs → IsBuilt nodes → IsWhole q (record nodes { bodies = bs })
-whole_made q nodes bs made built = record {
+whole_made : (q : NamedParts) (nodes : TypedNodes) (bs : List resolved.Block) (es : List ExprId) → BodiesMade q (named_package q).methods nodes bs
+    → MethodsHaveNodes (named_package q) nodes es (named_package q).methods → IsBuilt nodes → IsWhole q (record nodes { bodies = bs; first_locals = es })
+whole_made q nodes bs es made locals built = record {
   declared = ap without_bodies made.declared ∙ declared_alone q;
-  bodies = bodies_placed (named_package q) nodes bs 0 (named_package q).methods bs made.bodies;
-  entries = entries_with nodes bs ∙ made.entries;
+  bodies = bodies_placed (named_package q) nodes bs es 0 (named_package q).methods bs made.bodies;
+  entries = entries_with nodes bs es ∙ made.entries;
   exprs = record { ordered = built.ordered; kinds = built.kinds; typed = built.typed; counted = built.counted; few = built.few };
   stmts = record { ordered = made.begun.stmts.ordered; few = made.begun.stmts.few };
   jumps = made.jumps;
+  count = made.count;
+  locals = locals_placed (named_package q) nodes bs es es (named_package q).methods locals;
 }
 
 pub declared_bare : (q : NamedParts) → without_nodes (declared_nodes q) ≡ declared_nodes q
 unfolding declared_nodes
 declared_bare q = refl
 
-pub whole_at : (q : NamedParts) (nodes all whole : TypedNodes) (bs : List resolved.Block) → BodiesMade q (named_package q).methods nodes bs → all ≡ nodes → IsBuilt all
-    → whole ≡ record all { bodies = bs } → IsWhole q whole
-whole_at q nodes all whole bs made same built is =
+pub whole_at : (q : NamedParts) (nodes all whole : TypedNodes) (bs : List resolved.Block) (es : List ExprId) → BodiesMade q (named_package q).methods nodes bs
+    → MethodsHaveNodes (named_package q) nodes es (named_package q).methods → all ≡ nodes → IsBuilt all → whole ≡ record all { bodies = bs; first_locals = es } → IsWhole q whole
+whole_at q nodes all whole bs es made locals same built is =
     let M : TypedNodes → Type 0 = λ x. BodiesMade q (named_package q).methods x bs in
+    let L : TypedNodes → Type 0 = λ x. MethodsHaveNodes (named_package q) x es (named_package q).methods in
     let W : TypedNodes → Type 0 = λ x. IsWhole q x in
-    subst W (sym is) (whole_made q all bs (subst M (sym same) made) built)
+    subst W (sym is) (whole_made q all bs es (subst M (sym same) made) (subst L (sym same) locals) built)
+
+-- A method has as many variables as in the resolved tree, and not more.
+variables_few : (xs : List NamedVar) (tys : List (Option Ty)) → length (variables_with xs tys) ≤ length xs
+variables_few [] tys = omega arith
+variables_few (x ∷ xs) [] = omega arith
+variables_few (x ∷ xs) (ty ∷ tys) = let k = variables_few xs tys in omega (arith, k)
+
+still_few : (texts : List (List ℕ)) (es : List NamedExprTree) (xs : List NamedVar) (tys : List (Option Ty)) (most : ℕ) → nat_le (length (map (var_made texts es) xs)) most ≡ true
+    → nat_le (length (variables_with xs tys)) most ≡ true
+still_few texts es xs tys most h =
+    let long = length-map xs (var_made texts es) in
+    let k = variables_few xs tys in
+    grind (arith, nat_tests, h, k, long)
+
+module _ (q : NamedParts) where
+  methods_few : (ms : List NamedMethod) → list_all names.has_few_variables (map (method_made q.texts (exprs_of q) (stmts_of q)) ms) ≡ true → list_all has_few_variables (map (declared_method q) ms) ≡ true
+  methods_few [] h = refl
+  methods_few (m ∷ ms) h =
+      let it = method_made q.texts (exprs_of q) (stmts_of q) m in
+      let parts = both_true (names.has_few_variables it) _ h in
+      let vars = both_true (nat_le (length it.args) 64) (nat_le (length it.locals) 256) parts.0 in
+      let args = still_few q.texts (exprs_of q) m.args (types_in (named_package q) roles.Arg it.args) 64 vars.0 in
+      let locals = still_few q.texts (exprs_of q) m.locals (types_in (named_package q) roles.Local it.locals) 256 vars.1 in
+      let others = methods_few ms parts.1 in
+      rw (args, locals, others) refl
+
+  named_methods : (named_package q).methods ≡ map (method_made q.texts (exprs_of q) (stmts_of q)) q.methods
+  unfolding named_package
+  named_methods = refl
+
+  methods_declared : (declared_nodes q).methods ≡ map (declared_method q) q.methods
+  unfolding declared_nodes
+  methods_declared = refl
+
+  all_few : list_all names.has_few_variables (named_package q).methods ≡ true → list_all has_few_variables (map (declared_method q) q.methods) ≡ true
+  all_few h = methods_few q.methods (ap (list_all names.has_few_variables) (sym named_methods) ∙ h)
 
 -- The whole.
 below : (m n : ℕ) → nat_lt m n ≡ true → m < n
@@ -166,6 +216,7 @@ nodes_typed q nodes whole none named grammar placed numbers =
     let others = both_true (nat_lt (length nodes.structs) 4294967296) (nat_lt (length nodes.methods) 4294967296) first.1 in
     let W : PackageTree → Type 0 = λ t. well_typed t ≡ true in
     let P : PackageTree → Type 0 = λ t. stand_in_order t ≡ true in
+    let methods : nodes.methods ≡ map (declared_method q) q.methods = ap (λ (x : TypedNodes). x.methods) whole.declared ∙ methods_declared q in
     record {
       exprs_ordered = whole.exprs.ordered;
       stmts_ordered = stmts_kept nodes 0 nodes.stmts whole.stmts.ordered whole.jumps;
@@ -183,4 +234,7 @@ nodes_typed q nodes whole none named grammar placed numbers =
       kinds = whole.exprs.kinds;
       rules = subst W (sym same) (package-keeps p none named grammar);
       placed = subst P (sym same) placed;
+      few_variables = ap (list_all has_few_variables) methods ∙ all_few q (package-is p none named).few;
+      locals_stand = locals_stand q nodes none named whole.exprs nodes.first_locals methods whole.locals;
+      numbered = ap (λ (t : PackageTree). flat_map (λ (m : MethodTree). numbers_in m.body) t.methods) same ∙ (package-numbers p grammar ∙ ap (numbers_from 0) (sym whole.count));
     }

@@ -8,16 +8,18 @@ use Rattle.wf_named.specs.NamedParts.{NamedParts, named_package}
 use Rattle.wf_named.specs.NamedTree.{NamedMethodTree, NamedPackageTree}
 use Rattle.wf_types_rules.specs.DeclaredTypes.{in_method}
 use Rattle.wf_typed_tree.specs.ElaboratedStmts.{count_block, block_tree}
+use Rattle.wf_typed_tree.specs.ElaboratedPackage.{count_methods}
 use Rattle.wf_typed_tree.specs.Entries as known
 use Rattle.wf_typed_tree.specs.Entries.{methods_entries}
 use Rattle.wf_typed_exprs.specs.Growth.{IsBuilt}
 use Rattle.wf_typed_stmts.specs.Right.{known_in, IsRightBlock}
 use Rattle.wf_typed_stmts.specs.StmtGrowth.{without_nodes, jumps_below, AreStmtsBuilt, IsBegun}
 use Rattle.wf_types.specs.DeclaredNodes.{declared_nodes}
+use Rattle.wf_types.specs.Locals.{MethodsHaveNodes}
 
 -- What is declared there.
 abbrev pub without_bodies : TypedNodes → TypedNodes
-without_bodies nodes = record nodes { exprs = []; types = []; constants = []; stmts = []; bodies = [] }
+without_bodies nodes = record nodes { exprs = []; types = []; constants = []; stmts = []; bodies = []; first_locals = [] }
 
 -- The body of a method, `n` being the number of the first statement in it.
 pub record IsBody (p : NamedPackageTree) (nodes : TypedNodes) (n : ℕ) (m : NamedMethodTree) (body : resolved.Block) : Type 0 where
@@ -30,11 +32,6 @@ AreBodies p nodes n [] [] = ⊤
 AreBodies p nodes n (m ∷ ms) (body ∷ bodies) = IsBody p nodes n m body × AreBodies p nodes (n + count_block m.body) ms bodies
 AreBodies p nodes n ms bodies = ⊥
 
--- How many statements stand in methods.
-abbrev pub count_methods : List NamedMethodTree → ℕ
-count_methods [] = 0
-count_methods (m ∷ ms) = count_block m.body + count_methods ms
-
 -- What is made while the bodies of methods are added one by one: `done` are the methods that have theirs.
 pub record BodiesMade (q : NamedParts) (done : List NamedMethodTree) (nodes : TypedNodes) (made : List resolved.Block) : Type 0 where
   pub declared : without_nodes nodes ≡ declared_nodes q
@@ -44,7 +41,7 @@ pub record BodiesMade (q : NamedParts) (done : List NamedMethodTree) (nodes : Ty
   pub bodies : AreBodies (named_package q) nodes 0 done made
   pub entries : known.entries nodes ≡ methods_entries (named_package q) done
 
--- The nodes of a package with all its bodies. Each jump tells a statement.
+-- The nodes of a package with all its bodies. Each jump tells a statement, and each local has its expression.
 pub record IsWhole (q : NamedParts) (nodes : TypedNodes) : Type 0 where
   pub declared : without_bodies nodes ≡ declared_nodes q
   pub bodies : AreBodies (named_package q) nodes 0 (named_package q).methods nodes.bodies
@@ -52,6 +49,8 @@ pub record IsWhole (q : NamedParts) (nodes : TypedNodes) : Type 0 where
   pub exprs : IsBuilt nodes
   pub stmts : AreStmtsBuilt nodes
   pub jumps : jumps_below (length nodes.stmts) nodes.stmts ≡ true
+  pub count : length nodes.stmts ≡ count_methods (named_package q).methods
+  pub locals : MethodsHaveNodes (named_package q) nodes nodes.first_locals (named_package q).methods
 
 -- The bodies of all methods break no rule.
 abbrev pub AreRightBodies : NamedPackageTree → Type 0

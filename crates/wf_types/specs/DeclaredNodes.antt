@@ -74,5 +74,6 @@ declared_nodes q =
       structs = map (declared_struct q) q.structs;
       methods = map (declared_method q) q.methods;
       bodies = [];
+      first_locals = [];
       order = q.order;
     }

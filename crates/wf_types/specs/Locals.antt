@@ -1,9 +1,8 @@
 -- The nodes of the names in `var`: each local of a method has one at the place of its name.
-use Rattle.std.specs.Prelude.{◌≡◌, ◌<◌, ℕ, List, map, Some, slice_get}
+use Rattle.std.specs.Prelude.{◌≡◌, ◌+◌, ◌<◌, ℕ, ⊤, List, [], ◌∷◌, map, Some, slice_get}
 use Rattle.wf_text.specs.declared.place.Place.{Place}
 use Rattle.wf_ast.specs.declared.numbers.ExprId.{ExprId}
 use Rattle.wf_ast.specs.declared.typed_nodes.TypedNodes.{TypedNodes}
-use Rattle.wf_ast.specs.Places.{expr_places}
 use Rattle.wf_named.specs.declared.declarations.NamedVar.{NamedVar}
 use Rattle.wf_named.specs.declared.nodes.NamedPath.{NamedPath}
 use Rattle.wf_named.specs.declared.nodes.Variable.TheVariants as variables
@@ -25,32 +24,23 @@ places_named locals = map (λ x. x.name.at) locals
 abbrev pub local_path : ℕ → Place → NamedPath
 local_path l at = record { of = variables.Local (record { 0 = l }); at = at }
 
--- An expression among the nodes is the path of the local, at this place and of the local's type.
-pub record HasNode (s : Setting) (nodes : TypedNodes) (l : ℕ) (at : Place) : Type 0 where
-  pub e : ExprId
-  pub stands : StandsForPath s (local_path l at) nodes e
+-- The expression with the number `e` is the path of the local, at this place and of the local's type.
+abbrev pub IsNode : Setting → TypedNodes → (e l : ℕ) → Place → Type 0
+IsNode s nodes e l at = StandsForPath s (local_path l at) nodes (record { 0 = e })
 
--- So it is for each of the first locals, whose names stand at these places, and for each of all.
-abbrev pub FirstHaveNodes : Setting → TypedNodes → (count : ℕ) → List Place → Type 0
-FirstHaveNodes s nodes count places = (l : ℕ) (at : Place) → l < count → slice_get places l ≡ Some at → HasNode s nodes l at
+-- So it is for each of the first locals, whose names stand at these places, and for each of all: the expression of the first has
+-- the number `first`, and those of the others follow it.
+abbrev pub FirstHaveNodes : Setting → TypedNodes → (first count : ℕ) → List Place → Type 0
+FirstHaveNodes s nodes first count places = (l : ℕ) (at : Place) → l < count → slice_get places l ≡ Some at → IsNode s nodes (first + l) l at
 
-abbrev pub HaveNodes : Setting → TypedNodes → List Place → Type 0
-HaveNodes s nodes places = (l : ℕ) (at : Place) → slice_get places l ≡ Some at → HasNode s nodes l at
+abbrev pub HaveNodes : Setting → TypedNodes → (first : ℕ) → List Place → Type 0
+HaveNodes s nodes first places = (l : ℕ) (at : Place) → slice_get places l ≡ Some at → IsNode s nodes (first + l) l at
 
 -- Each local of each of these methods has a node, which is its path.
-abbrev pub MethodsHaveNodes : NamedPackageTree → TypedNodes → List NamedMethodTree → Type 0
-MethodsHaveNodes p nodes ms = (i : ℕ) (m : NamedMethodTree) → slice_get ms i ≡ Some m → HaveNodes (in_method p m) nodes (places_of m.locals)
-
--- The same, and the expression stands at that place.
-pub record HasPlacedNode (s : Setting) (nodes : TypedNodes) (l : ℕ) (at : Place) : Type 0 where
-  pub e : ExprId
-  pub stands : StandsForPath s (local_path l at) nodes e
-  pub placed : slice_get (expr_places nodes) e.0 ≡ Some at
-
--- Each local of each method of a package has such a node, at the place of its name.
-abbrev pub LocalsHaveNodes : NamedPackageTree → TypedNodes → Type 0
-LocalsHaveNodes p nodes =
-    (i : ℕ) (m : NamedMethodTree) (l : ℕ) (at : Place) → slice_get p.methods i ≡ Some m → slice_get (places_of m.locals) l ≡ Some at → HasPlacedNode (in_method p m) nodes l at
+abbrev pub MethodsHaveNodes : NamedPackageTree → TypedNodes → (firsts : List ExprId) → List NamedMethodTree → Type 0
+MethodsHaveNodes p nodes [] [] = ⊤
+MethodsHaveNodes p nodes (e ∷ es) (m ∷ ms) = HaveNodes (in_method p m) nodes e.0 (places_of m.locals) × MethodsHaveNodes p nodes es ms
+MethodsHaveNodes p nodes es ms = ⊥
 
 -- The paths of locals, whose names stand at these places, break no rule.
 abbrev pub AreRightPaths : Setting → (statuses : ℕ) → List Place → Type 0

@@ -15,18 +15,26 @@ ghost use Rattle.wf_types.specs.Locals.{places_of, HaveNodes, AreRightPaths, Met
 
 use crate::locals::elaborate_locals;
 use std::alloc::Global;
-use wf_ast::{Block, Sequence, Ty};
+use wf_ast::{Block, ExprId, Sequence, Ty};
 use wf_named::{NamedMethod, NamedNodes};
 use wf_text::faults::NoMemory;
 use wf_typed_stmts::{BodyBuilding, elaborate_body};
 use wf_types_decls::packages::{judge_head, round_body};
 use wf_types_rules::Setting;
 
-// The body of a method, and what stands round it.
+// The body of a method, the expression that is its first local, and what stands round it.
 #[derive(Drop)]
 struct MadeBody {
     body: Block,
+    first_local: ExprId,
     around: Setting,
+}
+
+/// The bodies of all methods, and the expressions that are their first locals.
+#[derive(Drop)]
+pub struct MadeBodies {
+    pub bodies: Sequence<Block>,
+    pub first_locals: Sequence<ExprId>,
 }
 
 // Adds the nodes of a method: of the names of its locals, and behind them those of its body.
@@ -50,7 +58,7 @@ fn elaborate_method(
     ensures entries { OnOk result (AddsEntries nodes.old nodes.new (method_entries (named_package named.now) (method_made named.now.texts (exprs_of named.now) (stmts_of named.now) method.now))) }
     ensures begun { OnOk result (IsBegun named.now nodes.new) }
     ensures stands { IfOk result (λ made. StandsForBlock (in_method (named_package named.now) (method_made named.now.texts (exprs_of named.now) (stmts_of named.now) method.now)) [] (length nodes.old.stmts) (method_made named.now.texts (exprs_of named.now) (stmts_of named.now) method.now).body nodes.new made.body) }
-    ensures locals { OnOk result (HaveNodes (in_method (named_package named.now) (method_made named.now.texts (exprs_of named.now) (stmts_of named.now) method.now)) nodes.new (places_of (method_made named.now.texts (exprs_of named.now) (stmts_of named.now) method.now).locals)) }
+    ensures locals { IfOk result (λ made. HaveNodes (in_method (named_package named.now) (method_made named.now.texts (exprs_of named.now) (stmts_of named.now) method.now)) nodes.new made.first_local.0 (places_of (method_made named.now.texts (exprs_of named.now) (stmts_of named.now) method.now).locals)) }
     ensures around { IfOk result (λ made. IsAround (named_package named.now) made.around) }
 {
     let head = match judge_head(alloc, None, named, types, method) {
@@ -59,6 +67,7 @@ fn elaborate_method(
     };
     match round_body(alloc, named, around, head, fields, method) {
         Ok(inside) => {
+            let first_local = nodes.next_expr();
             match elaborate_locals(alloc, nodes, named, &inside, method.locals.as_slice()) {
                 Ok(()) => {}
                 Err(fault) => return Err(fault),
@@ -66,6 +75,7 @@ fn elaborate_method(
             match elaborate_body(alloc, nodes, named, &inside, &method.body) {
                 Ok(body) => Ok(MadeBody {
                     body,
+                    first_local,
                     around: inside,
                 }),
                 Err(fault) => Err(fault),
@@ -75,7 +85,8 @@ fn elaborate_method(
     }
 }
 
-/// Adds the nodes of the locals and of the bodies of all methods, and answers the blocks of their bodies. `types` knows the
+/// Adds the nodes of the locals and of the bodies of all methods, and answers the blocks of their bodies with the expressions
+/// that are their first locals. `types` knows the
 /// constants, `fields` are the types of fields by struct, and `around` stands round every method. `Err` also comes where no
 /// number is left.
 pub fn elaborate_bodies(
@@ -85,23 +96,28 @@ pub fn elaborate_bodies(
     types: &Setting,
     fields: &[Sequence<Option<Ty>>],
     around: Setting,
-) -> Result<Sequence<Block>, NoMemory>
+) -> Result<MadeBodies, NoMemory>
     requires types { types.now ≡ for_types (named_package named.now) }
     requires fields { fields.now ≡ field_types (named_package named.now) }
     requires around { IsAround (named_package named.now) around }
     requires declared { nodes.old ≡ declared_nodes named.now }
     requires right { AreRightBodies (named_package named.now) }
     requires paths { AreRightLocals (named_package named.now) }
-    ensures bodies { IfOk result (λ bodies. BodiesMade named.now (named_package named.now).methods nodes.new bodies) }
-    ensures locals { OnOk result (MethodsHaveNodes (named_package named.now) nodes.new (named_package named.now).methods) }
+    ensures bodies { IfOk result (λ made. BodiesMade named.now (named_package named.now).methods nodes.new made.bodies) }
+    ensures locals { IfOk result (λ made. MethodsHaveNodes (named_package named.now) nodes.new made.first_locals (named_package named.now).methods) }
 {
-    let mut all = Sequence::new(alloc);
+    let mut bodies = Sequence::new(alloc);
+    let mut first_locals = Sequence::new(alloc);
     let mut around = around;
     for method in named.methods() {
         match elaborate_method(alloc, nodes, named, types, fields, around, method) {
             Ok(made) => {
                 around = made.around;
-                match all.push(made.body) {
+                match bodies.push(made.body) {
+                    Ok(()) => {}
+                    Err(_) => return Err(NoMemory),
+                }
+                match first_locals.push(made.first_local) {
                     Ok(()) => {}
                     Err(_) => return Err(NoMemory),
                 }
@@ -109,5 +125,8 @@ pub fn elaborate_bodies(
             Err(fault) => return Err(fault),
         }
     }
-    Ok(all)
+    Ok(MadeBodies {
+        bodies,
+        first_locals,
+    })
 }

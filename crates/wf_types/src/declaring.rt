@@ -88,6 +88,7 @@ pub fn declared(
             structs,
             methods,
             bodies: Sequence::new(alloc),
+            first_locals: Sequence::new(alloc),
             order: names.order,
         }),
         Err(fault) => Err(fault),

@@ -1,7 +1,7 @@
 // The names in `var` as nodes: the checker of bounds begins a method with what its locals begin as, and says so of the local
 // at its name.
 
-ghost use Rattle.std.specs.Prelude.{OnOk};
+ghost use Rattle.std.specs.Prelude.{length, OnOk};
 ghost use Rattle.wf_named.specs.NamedParts.{named_package};
 ghost use Rattle.wf_typed_tree.specs.Entries.{local_entries};
 ghost use Rattle.wf_typed_exprs.specs.Growth.{AddsEntries};
@@ -33,7 +33,7 @@ pub fn elaborate_locals(
     ensures grows { OnOk result (GrowsExprs nodes.old nodes.new) }
     ensures entries { OnOk result (AddsEntries nodes.old nodes.new (local_entries around.now 0 (places_named locals.now))) }
     ensures begun { OnOk result (IsBegun named.now nodes.new) }
-    ensures stand { OnOk result (HaveNodes around.now nodes.new (places_named locals.now)) }
+    ensures stand { OnOk result (HaveNodes around.now nodes.new (length nodes.old.exprs) (places_named locals.now)) }
 {
     for number in 0..locals.len() {
         if number >= NUMBERS {

@@ -16,13 +16,13 @@ ghost use Rattle.wf_types.specs.Bodies.{AreRightBodies, IsWhole, has_numbers as 
 ghost use Rattle.wf_types.specs.DeclaredNodes.{declared_nodes};
 ghost use Rattle.wf_typed_tree.specs.Entries as known;
 ghost use Rattle.wf_typed_tree.specs.Entries.{package_entries};
-ghost use Rattle.wf_types.specs.Locals.{MethodsHaveNodes, LocalsHaveNodes, AreRightLocals};
+ghost use Rattle.wf_types.specs.Locals.{AreRightLocals};
 ghost use Rattle.wf_types.specs.Typing.{IsMistyped, IsElaborated};
 
-use crate::bodies::elaborate_bodies;
+use crate::bodies::{MadeBodies, elaborate_bodies};
 use crate::declaring::declared;
 use std::alloc::Global;
-use wf_ast::{Block, Sequence, Ty, Typed, TypedNodes};
+use wf_ast::{Sequence, Ty, Typed, TypedNodes};
 use wf_named::{Named, NamedNodes};
 use wf_text::faults::{NoMemory, PhaseFault};
 use wf_typed_stmts::BodyBuilding;
@@ -35,11 +35,12 @@ use wf_types_rules::Setting;
 const NUMBERS: usize = 4294967296;
 
 // The package with these bodies.
-fn with_bodies(nodes: TypedNodes, bodies: Sequence<Block>) -> TypedNodes
-    ensures { result ≡ record nodes { bodies = bodies } }
+fn with_bodies(nodes: TypedNodes, made: MadeBodies) -> TypedNodes
+    ensures { result ≡ record nodes { bodies = made.bodies; first_locals = made.first_locals } }
 {
     let mut whole = nodes;
-    whole.bodies = bodies;
+    whole.bodies = made.bodies;
+    whole.first_locals = made.first_locals;
     whole
 }
 
@@ -58,19 +59,18 @@ fn whole_nodes(
     requires right { AreRightBodies (named_package named.now) }
     requires paths { AreRightLocals (named_package named.now) }
     ensures whole { IfOk result (IsWhole named.now) }
-    ensures locals { IfOk result (λ nodes. MethodsHaveNodes (named_package named.now) nodes (named_package named.now).methods) }
 {
     let nodes = match declared(alloc, named, types, fields, around.statuses.as_slice()) {
         Ok(nodes) => nodes,
         Err(fault) => return Err(fault),
     };
     let mut building = BodyBuilding::new(alloc, nodes);
-    let bodies = match elaborate_bodies(alloc, &mut building, named, types, fields, around) {
-        Ok(bodies) => bodies,
+    let made = match elaborate_bodies(alloc, &mut building, named, types, fields, around) {
+        Ok(made) => made,
         Err(fault) => return Err(fault),
     };
     match building.finish(alloc) {
-        Ok(all) => Ok(with_bodies(all, bodies)),
+        Ok(all) => Ok(with_bodies(all, made)),
         Err(fault) => Err(fault),
     }
 }
@@ -80,7 +80,6 @@ fn typed_nodes(alloc: Global, named: &NamedNodes) -> Result<TypedNodes, NoMemory
     requires right { AreRightBodies (named_package named.now) }
     requires paths { AreRightLocals (named_package named.now) }
     ensures whole { IfOk result (IsWhole named.now) }
-    ensures locals { IfOk result (λ nodes. MethodsHaveNodes (named_package named.now) nodes (named_package named.now).methods) }
 {
     let consts = match judge_consts(alloc, named) {
         Ok(consts) => consts,
@@ -114,7 +113,6 @@ fn typed(alloc: Global, named: &NamedNodes) -> Result<Typed, NoMemory>
     ensures tree { IfOk result (λ typed. package_of typed ≡ typed_package (named_package named.now)) }
     ensures declared { IfOk result (λ typed. without_bodies typed ≡ declared_nodes named.now) }
     ensures entries { IfOk result (λ typed. known.entries typed ≡ package_entries (named_package named.now)) }
-    ensures locals { IfOk result (LocalsHaveNodes (named_package named.now)) }
     ensures kept { IfOk result (λ typed. IsTyped typed) }
 {
     match typed_nodes(alloc, named) {
@@ -139,7 +137,6 @@ pub fn type_check(alloc: Global, named: Named) -> Result<Typed, PhaseFault>
     requires placed { stand_in_order (typed_package (named_package named)) ≡ true }
     ensures refused { IfErr result (IsMistyped named) }
     ensures typed { IfOk result (IsElaborated named) }
-    ensures locals { IfOk result (LocalsHaveNodes (named_package named)) }
     ensures kept { IfOk result (λ typed. IsTyped typed) }
 {
     match type_refusal(alloc, &named) {

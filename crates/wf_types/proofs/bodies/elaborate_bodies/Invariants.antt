@@ -10,4 +10,4 @@ abbrev pub invariant-loop-method : goal.invariant-loop-method
 invariant-loop-method l =
     let q = l.named in
     let done = map (method_made q.texts (expr_trees q.exprs) (stmt_trees q.texts q.exprs q.stmts)) (take l.method-index q.methods) in
-    IsAround (named_package q) l.around × (BodiesMade q done l.nodes l.all × MethodsHaveNodes (named_package q) l.nodes done)
+    IsAround (named_package q) l.around × (BodiesMade q done l.nodes l.bodies × MethodsHaveNodes (named_package q) l.nodes l.first_locals done)

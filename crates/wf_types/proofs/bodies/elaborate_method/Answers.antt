@@ -1,3 +1,4 @@
+use Rattle.std.proofs.Common.{length}
 use Rattle.wf_named.specs.NamedParts.{exprs_of, stmts_of, named_package}
 use Rattle.wf_named.specs.NamedTrees.{block_at, method_made}
 use Rattle.wf_types_rules.specs.DeclaredTypes.{in_method}
@@ -25,7 +26,8 @@ returns-in-Ok-elaborate_body-clause-locals c =
     let q = c.args.named.now in
     let m = c.args.method.now in
     let s = in_method (named_package q) (method_made q.texts (exprs_of q) (stmts_of q) m) in
-    nodes_inside q.texts (exprs_of q) m.locals c.as_slice.result.now c.as_slice.ensures c.in-Ok-round_body.inside s c.in-Ok-round_body.ensures c.elaborate_locals.new.nodes c.elaborate_body.new.nodes c.in-Ok-elaborate_body.ensures.adds.grows c.in-Ok-elaborate_locals.ensures.stand
+    nodes_inside q.texts (exprs_of q) m.locals c.as_slice.result.now c.as_slice.ensures c.in-Ok-round_body.inside s c.in-Ok-round_body.ensures c.elaborate_locals.new.nodes c.elaborate_body.new.nodes (length c.args.nodes.now.exprs)
+    c.next_expr-first_local.result.0 c.in-Ok-elaborate_body.ensures.adds.grows c.next_expr-first_local.ensures c.in-Ok-elaborate_locals.ensures.stand
 
 pub returns-in-Ok-elaborate_body-clause-entries : goal.returns-in-Ok-elaborate_body-clause-entries
 returns-in-Ok-elaborate_body-clause-entries c =

@@ -1,4 +1,4 @@
-use Rattle.std.proofs.Common.{◌≤◌, length, get_or, arith}
+use Rattle.std.proofs.Common.{◌≤◌, ◌∙◌, length, get_or, arith}
 use Rattle.std.proofs.lemmas.List.{length-map}
 use Rattle.wf_named.specs.declared.declarations.NamedVar.{NamedVar}
 use Rattle.wf_text.specs.declared.place.Place.{Place}
@@ -20,8 +20,12 @@ loop-number-preserved c =
       (
         c.in-Ok.ensures.begun,
         (
-          first_more c.args.around.now old new (places_named xs) n (get_or xs n x).name.at c.in-Ok.field-0.node c.in-Ok.ensures.grows (place_at xs n x c.loop-number-test.true) c.in-Ok.ensures.stands made.1.1.0,
-          local_next c.args.around.now c.args.nodes.now old new (places_named xs) n (get_or xs n x).name.at (place_at xs n x c.loop-number-test.true) made.1.1.1 c.in-Ok.ensures.entries,
+          first_more c.args.around.now old new (places_named xs) (length c.args.nodes.now.exprs) n (get_or xs n x).name.at c.in-Ok.field-0.node c.in-Ok.ensures.grows (place_at xs n x c.loop-number-test.true)
+          (c.in-Ok.ensures.number ∙ made.1.1.1.1) c.in-Ok.ensures.stands made.1.1.0,
+          (
+            local_next c.args.around.now c.args.nodes.now old new (places_named xs) n (get_or xs n x).name.at (place_at xs n x c.loop-number-test.true) made.1.1.1.0 c.in-Ok.ensures.entries,
+            omega (arith, c.in-Ok.ensures.count, made.1.1.1.1),
+          ),
         ),
       ),
     )
@@ -32,7 +36,7 @@ returns-clause-stand c =
     let P : NamedVar → Place = λ y. y.name.at in
     let long = length-map xs P in
     let past : length (places_named xs) ≤ c.loop-number.number = omega (arith, long, c.loop-number-test.false) in
-    first_all c.args.around.now c.loop-number.nodes c.loop-number.number (places_named xs) past c.loop-number.invariant.1.1.0
+    first_all c.args.around.now c.loop-number.nodes (length c.args.nodes.now.exprs) c.loop-number.number (places_named xs) past c.loop-number.invariant.1.1.0
 
 pub returns-clause-entries : goal.returns-clause-entries
 returns-clause-entries c =
@@ -40,4 +44,4 @@ returns-clause-entries c =
     let P : NamedVar → Place = λ y. y.name.at in
     let long = length-map xs P in
     let past : length (places_named xs) ≤ c.loop-number.number = omega (arith, long, c.loop-number-test.false) in
-    locals_end c.args.around.now c.args.nodes.now c.loop-number.nodes (places_named xs) c.loop-number.number past c.loop-number.invariant.1.1.1
+    locals_end c.args.around.now c.args.nodes.now c.loop-number.nodes (places_named xs) c.loop-number.number past c.loop-number.invariant.1.1.1.0

@@ -6,8 +6,7 @@ use Rattle.wf_named.specs.NamedParts.{named_package}
 use Rattle.wf_typed_tree.specs.Entries.{entries, package_entries}
 use Rattle.wf_typed_stmts.proofs.RightLaws.{body_is_right}
 use Rattle.wf_types.specs.Bodies.{has_numbers, without_bodies}
-use Rattle.wf_types.specs.Locals.{LocalsHaveNodes}
-use Rattle.wf_types.proofs.LocalLemmas.{locals_are_right, locals_placed_so}
+use Rattle.wf_types.proofs.LocalLemmas.{locals_are_right}
 use Rattle.wf_types.proofs.PackageLaws.{package_same}
 use Rattle.wf_types.proofs.TypedLaws.{nodes_typed}
 use Rattle.wf_types.proofs.typing.typed.Goals as goal
@@ -28,12 +27,6 @@ returns-then-has_numbers-clause-tree c = ap package_of c.new.ensures ∙ package
 
 pub returns-then-has_numbers-clause-declared : goal.returns-then-has_numbers-clause-declared
 returns-then-has_numbers-clause-declared c = ap without_bodies c.new.ensures ∙ c.in-Ok.ensures.whole.declared
-
-pub returns-then-has_numbers-clause-locals : goal.returns-then-has_numbers-clause-locals
-returns-then-has_numbers-clause-locals c =
-    let q = c.args.named.now in
-    let P : TypedNodes → Type 0 = λ x. LocalsHaveNodes (named_package q) x in
-    subst P (sym c.new.ensures) (locals_placed_so (named_package q) c.in-Ok.nodes c.requires.kept c.requires.names c.in-Ok.ensures.whole.exprs c.in-Ok.ensures.locals)
 
 pub returns-then-has_numbers-clause-entries : goal.returns-then-has_numbers-clause-entries
 unfolding package_entries

@@ -1,4 +1,4 @@
-use Rattle.std.proofs.Common.{◌≡◌, ℕ, List, [], ◌∷◌, ◌++◌, Some, length, map, sym, ap, subst, ◌∙◌}
+use Rattle.std.proofs.Common.{◌≡◌, ℕ, List, [], ◌∷◌, ◌++◌, Some, length, ap, subst, ◌∙◌}
 use Rattle.std.specs.List.{slice_get}
 use Rattle.wf_ast.specs.TextNumbers.{keyed}
 use Rattle.wf_ast.proofs.TextLemmas.{both-joined}
