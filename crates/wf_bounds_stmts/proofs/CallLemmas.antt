@@ -1,5 +1,5 @@
 -- Calls of methods of the package, by the methods' declarations.
-use Rattle.std.proofs.Common.{◌≡◌, ℕ, zero, suc, Bool, true, List, [], ◌∷◌, length, map, Option, Some, None, Result, refl, sym, ap, ◌∙◌, subst, arith}
+use Rattle.std.proofs.Common.{◌≡◌, ℕ, zero, suc, Bool, true, false, List, [], ◌∷◌, length, map, Option, Some, None, Result, refl, sym, ap, ◌∙◌, subst, arith}
 use Rattle.std.specs.Prelude.{option_and_then, option_map, slice_get, unwrap_or}
 use Rattle.std.proofs.lemmas.Bool.{and_parts}
 use Rattle.std.proofs.lemmas.List.{length-map}
@@ -76,7 +76,11 @@ invoked_well : (c : Context) (target : Target) (keep : Bool) (mark : Mark) (call
 invoked_well c target keep mark called vs None h = absurd (cc (h))
 invoked_well c target keep mark called vs (Some callee) h =
     let last = and_parts (fit_types c callee.args vs) _ (and_parts (calls_method c called callee) _ (and_parts (allows c.method.mark mark) _ (and_parts (same_mark mark callee.mark) _ h).1).1).1 in
-    (callee, refl, record { fit = last.0; taken = last.1 })
+    (callee, refl, record { fit = last.0; taken = by (takes_answer c target keep mark callee.gives) refl (λ e. rw e at last.1) })
+  where
+    by : (b : Bool) → takes_answer c target keep mark callee.gives ≡ b → (takes_answer c target keep mark callee.gives ≡ false → false ≡ true) → takes_answer c target keep mark callee.gives ≡ true
+    by true e k = e
+    by false e k = absurd (cc (k e))
 
 pub call_there : (nodes : TypedNodes) (c : Context) (loops : List ℕ) (at : Place) (target : Target) (keep : Bool) (callee : Callee) (vs : List ValueTree)
     → well_simple c loops (call_made nodes (tree_of nodes) at target keep callee vs) ≡ true → names_there c target ≡ true

@@ -21,7 +21,7 @@ loop-number-preserved c =
         c.in-Ok.ensures.begun,
         (
           first_more c.args.around.now old new (places_named xs) (length c.args.nodes.now.exprs) n (get_or xs n x).name.at c.in-Ok.field-0.node c.in-Ok.ensures.grows (place_at xs n x c.loop-number-test.true)
-          (c.in-Ok.ensures.number ∙ made.1.1.1.1) c.in-Ok.ensures.stands made.1.1.0,
+              (c.in-Ok.ensures.number ∙ made.1.1.1.1) c.in-Ok.ensures.stands made.1.1.0,
           (
             local_next c.args.around.now c.args.nodes.now old new (places_named xs) n (get_or xs n x).name.at (place_at xs n x c.loop-number-test.true) made.1.1.1.0 c.in-Ok.ensures.entries,
             omega (arith, c.in-Ok.ensures.count, made.1.1.1.1),

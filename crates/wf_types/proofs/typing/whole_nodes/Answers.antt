@@ -10,5 +10,5 @@ pub returns-in-Ok-finish : goal.returns-in-Ok-finish
 returns-in-Ok-finish c =
     record {
       whole = whole_at c.args.named.now c.elaborate_bodies.new.nodes c.in-Ok-finish.all c.with_bodies.result c.in-Ok-elaborate_bodies.made.bodies c.in-Ok-elaborate_bodies.made.first_locals
-      c.in-Ok-elaborate_bodies.ensures.bodies c.in-Ok-elaborate_bodies.ensures.locals c.in-Ok-finish.ensures.nodes c.in-Ok-finish.ensures.exprs c.with_bodies.ensures;
+          c.in-Ok-elaborate_bodies.ensures.bodies c.in-Ok-elaborate_bodies.ensures.locals c.in-Ok-finish.ensures.nodes c.in-Ok-finish.ensures.exprs c.with_bodies.ensures;
     }
