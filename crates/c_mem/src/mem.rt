@@ -22,7 +22,7 @@ pub struct Mem {
 }
 
 impl Mem {
-    ghost use Rattle.std.specs.Prelude.{ℕ, ◌+◌, ◌^◌, ◌<◌, [], ◌∷◌, ◌++◌, length, map, option_to_list, IfOk, IsSome, ◌≤ℤ◌, ◌<ℤ◌, pos, negsuc};
+    ghost use Rattle.std.specs.Prelude.{ℕ, ◌+◌, ◌^◌, ◌<◌, [], ◌∷◌, ◌++◌, length, map, option_to_list, IfOk, IfNone, IsSome, ◌≤ℤ◌, ◌<ℤ◌, pos, negsuc};
     ghost use Rattle.c_meaning.specs.CMemory.{load, store, offset, cell_at, part_at};
     ghost use Rattle.c_mem.specs.FieldParts.{declared_object};
     ghost use Rattle.c_mem.specs.Leaving.{Leaves};
@@ -61,6 +61,7 @@ impl Mem {
     /// Takes the last object out, which leaves room for it; None where there is none.
     pub fn leave(&mut self) -> Option<Object>
         ensures objects { memory self.old ≡ memory self.new ++ option_to_list result }
+        ensures none { IfNone result (memory self.old ≡ []) }
         ensures room { (more : ℕ) → HasRoom self.old more → IsSome result → HasRoom self.new (more + 1) }
     {
         let _ = self.marks.pop();

@@ -1,5 +1,5 @@
 -- Where a run of instructions comes to, as far as calls are made by who runs it.
-use Rattle.std.specs.Prelude.{◌≡◌, ℕ, true, List, drop, slice_get, Option, Some, None, option_map}
+use Rattle.std.specs.Prelude.{◌≡◌, ℕ, ◌+◌, ◌≤◌, true, List, drop, slice_get, Option, Some, None, option_map}
 use Rattle.c_meaning.specs.declared.values.Value.{Value}
 use Rattle.c_step_exprs.specs.declared.instrs.Instr.{Instr}
 use Rattle.c_step_exprs.specs.declared.running.Stop.{Stop}
@@ -21,3 +21,9 @@ abbrev pub StopsAt : Around → List Instr → (given : Option (List Value)) →
 StopsAt a code given End now = given ≡ Some now
 StopsAt a code given (Call at) now = (given ≡ run_from a code at now) × IsCallAt code at
 StopsAt a code given Undefined now = given ≡ None
+
+-- Up to a call at most one value is put for each instruction.
+abbrev pub PutsAtMost : (from before : ℕ) → Stop → (now : ℕ) → Type 0
+PutsAtMost from before End now = Unit {0}
+PutsAtMost from before (Call at) now = (from ≤ at) × (now + from ≤ before + at)
+PutsAtMost from before Undefined now = Unit {0}

@@ -3,7 +3,7 @@
 ghost use Rattle.std.specs.Prelude.{◌≡◌, ◌+◌, ◌≤◌, ℕ, List, Option, length};
 ghost use Rattle.c_meaning.specs.declared.values.Value.{Value as AnyValue};
 ghost use Rattle.c_mem.specs.MemoryViews.{memory};
-ghost use Rattle.c_step_exprs.specs.Running.{run_from, StopsAt};
+ghost use Rattle.c_step_exprs.specs.Running.{run_from, StopsAt, PutsAtMost};
 ghost use Rattle.c_step_exprs.specs.Stacks.{on_stack, most};
 ghost use Rattle.c_step_exprs.specs.Values.{placed, is_call};
 
@@ -30,6 +30,7 @@ pub fn run(code: &[Instr], from: usize, mem: &Mem, frame: usize, stack: &mut Sta
     requires room { length (on_stack stack.old) + length code.now ≤ most stack.old + from }
     ensures stops { (called : ℕ → List AnyValue → Option AnyValue)
         → StopsAt (placed frame (memory mem.now) called) code.now (run_from (placed frame (memory mem.now) called) code.now from (on_stack stack.old)) result (on_stack stack.new) }
+    ensures puts { PutsAtMost from (length (on_stack stack.old)) result (length (on_stack stack.new)) }
     ensures room { most stack.old ≤ most stack.new }
 {
     let mut at = from;

@@ -1,6 +1,6 @@
 // The stack of values.
 
-ghost use Rattle.std.specs.Prelude.{◌≡◌, ◌<◌, ◌≤◌, [], ◌∷◌, length, drop, slice_get, IfOk};
+ghost use Rattle.std.specs.Prelude.{◌≡◌, ◌<◌, ◌≤◌, ◌-◌, [], ◌∷◌, length, drop, slice_get, IfOk};
 ghost use Rattle.c_step_exprs.specs.Stacks.{on_stack, most};
 
 use c_meaning::values::Value;
@@ -40,6 +40,23 @@ impl Stack {
         ensures room { most self.new ≡ most self.old }
     {
         self.values.pop()
+    }
+
+    /// How many values there are.
+    #[tactic(auto, using(crate::proofs::Stacks::stack_length))]
+    pub fn len(&self) -> usize
+        ensures { result ≡ length (on_stack self.now) }
+    {
+        self.values.len()
+    }
+
+    /// Takes the values on top, up to where so many are left.
+    #[tactic(auto, using(crate::proofs::Stacks::lowest, crate::proofs::Stacks::stack_length))]
+    pub fn cut(&mut self, count: usize)
+        ensures values { on_stack self.new ≡ drop (length (on_stack self.old) - count) (on_stack self.old) }
+        ensures room { most self.new ≡ most self.old }
+    {
+        self.values.truncate(count);
     }
 
     /// Takes all values.

@@ -11,7 +11,9 @@ invariant-loop-at l =
     (l.at ≤ length l.code)
     × ((length (on_stack l.stack) + length l.code ≤ most l.stack + l.at)
     × ((most l.fn.stack ≤ most l.stack)
-    × ((called : ℕ → List Value → Option Value) → run_from (placed l.frame (memory l.mem) called) l.code l.fn.from (on_stack l.fn.stack) ≡ run_from (placed l.frame (memory l.mem) called) l.code l.at (on_stack l.stack))))
+    × ((l.fn.from ≤ l.at)
+    × ((length (on_stack l.stack) + l.fn.from ≤ length (on_stack l.fn.stack) + l.at)
+    × ((called : ℕ → List Value → Option Value) → run_from (placed l.frame (memory l.mem) called) l.code l.fn.from (on_stack l.fn.stack) ≡ run_from (placed l.frame (memory l.mem) called) l.code l.at (on_stack l.stack))))))
 
 abbrev pub decreases-loop-at : goal.decreases-loop-at
 decreases-loop-at l = length l.code - l.at

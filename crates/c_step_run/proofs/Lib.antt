@@ -1,0 +1,12 @@
+pub mod Advancing
+pub mod CallSteps
+pub mod EvalSteps
+pub mod Inlines
+pub mod Leading
+pub mod Lookups
+pub mod Objects
+pub mod Ranges
+pub mod Rooms
+pub mod RunSteps
+pub mod Shapes
+pub mod Starts
