@@ -27,7 +27,8 @@ use wf_text::{Place, Refusal};
 
 /// Passes statement `s` of method `m`, which has no blocks, under these facts. Ok(true) tells that the statement goes on, and
 /// the facts are then those that are known after it; Ok(false) that it never goes on. Err tells the first of what it requires
-/// that isn't met, or L8 at its first token where more than 512 facts would be known after it.
+/// that isn't met, or L8 at its first token where more than 512 facts would be known after it. Where the statement doesn't go
+/// on, or is refused, nothing is told of the facts that are left. It takes no memory.
 pub fn pass(t: &Typed, m: MethodId, facts: &mut Facts, s: StmtId) -> Result<bool, Refusal>
     requires typed { IsTyped t.now }
     requires method { m.0 < length t.now.methods }
