@@ -82,14 +82,8 @@ fn add_promises(
     Ok(())
 }
 
-/// The facts of a condition with an answer, in order. L8 comes exactly where the list would have more than 512.
-pub(crate) fn add(
-    facts: &mut Facts,
-    t: &Typed,
-    e: ExprId,
-    answer: bool,
-    at: Place,
-) -> Result<(), Refusal>
+/// Adds the facts of a condition with an answer, in order. L8 at `at` comes exactly where the list would have more than 512.
+pub fn add(facts: &mut Facts, t: &Typed, e: ExprId, answer: bool, at: Place) -> Result<(), Refusal>
     requires over { IsOver t.now facts.old }
     requires condition { is_condition_at t.now e ≡ true }
     ensures over { IsOver t.now facts.new }

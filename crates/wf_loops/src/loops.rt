@@ -10,7 +10,7 @@ use wf_ast::{Expr, ExprId, LoopHead, Stmt, StmtId, Typed};
 use wf_text::Place;
 
 /// What stands in front of a loop's body.
-pub(crate) fn head_of(t: &Typed, w: StmtId) -> &LoopHead
+pub fn head_of(t: &Typed, w: StmtId) -> &LoopHead
     requires { is_loop t.now w ≡ true }
     ensures cond { (head_at t.now w).cond ≡ node_cond t.now result.now.cond }
     ensures promises { (head_at t.now w).clauses ≡ promises_in t.now result.now.clauses }
@@ -25,7 +25,7 @@ pub(crate) fn head_of(t: &Typed, w: StmtId) -> &LoopHead
 }
 
 /// The place of a loop's `while`.
-pub(crate) fn place_of(t: &Typed, w: StmtId) -> Place
+pub fn place_of(t: &Typed, w: StmtId) -> Place
     requires { is_loop t.now w ≡ true }
     ensures { result ≡ place_at t.now w }
 {
@@ -33,7 +33,7 @@ pub(crate) fn place_of(t: &Typed, w: StmtId) -> Place
 }
 
 /// Whether a condition is the word `true`.
-pub(crate) fn is_word_true(t: &Typed, e: ExprId) -> bool
+pub fn is_word_true(t: &Typed, e: ExprId) -> bool
     requires { is_condition_at t.now e ≡ true }
     ensures { result ≡ word_true (node_cond t.now e) }
 {

@@ -1,0 +1,24 @@
+use Rattle.std.proofs.Common.{◌∙◌, sym, arith}
+use Rattle.wf_bounds.proofs.MethodLemmas.{refusal_first, refusal_last, refusal_stops, refusal_goes}
+use Rattle.wf_bounds.proofs.deciding.check_methods.Goals as goal
+
+pub loop-m-init : goal.loop-m-init
+loop-m-init c = refusal_first c.args.t.now c.requires
+
+pub returns-in-Err : goal.returns-in-Err
+returns-in-Err c =
+    let t = c.loop-m-test.true in
+    let n = c.methods-m-end.ensures in
+    refusal_stops c.args.t.now c.requires c.loop-m.m (omega (arith, t, n)) c.in-Err.fault c.loop-m.invariant c.in-Err.ensures
+
+pub loop-m-preserved : goal.loop-m-preserved
+loop-m-preserved c =
+    let t = c.loop-m-test.true in
+    let n = c.methods-m-end.ensures in
+    refusal_goes c.args.t.now c.requires c.loop-m.m (omega (arith, t, n)) c.loop-m.invariant c.in-Ok.ensures
+
+pub returns : goal.returns
+returns c =
+    let t = c.loop-m-test.false in
+    let n = c.methods-m-end.ensures in
+    sym c.loop-m.invariant ∙ refusal_last c.args.t.now c.requires c.loop-m.m (omega (arith, t, n))

@@ -1,0 +1,5 @@
+pub mod Acceptance
+pub mod MethodWalks
+pub mod WalkAnswers
+pub mod WalkNodes
+pub mod Walks

@@ -1,0 +1,20 @@
+// The value of a condition.
+
+ghost use Rattle.std.specs.Prelude.{◌≡◌, true};
+ghost use Rattle.wf_facts_exprs.specs.Claims.{claims_in, is_condition_at, AreFacts};
+ghost use Rattle.wf_facts_exprs.specs.Demands.{cond_refusal, unless_refused};
+ghost use Rattle.wf_facts_exprs.specs.Operands.{node_cond};
+
+use wf_ast::{ExprId, Typed};
+use wf_facts_exprs::{Fact, check_value};
+use wf_text::Refusal;
+
+/// Checks the value of a condition under these facts.
+pub(crate) fn check_condition(t: &Typed, facts: &[Fact], e: ExprId) -> Result<(), Refusal>
+    requires known { AreFacts t.now facts.now }
+    requires condition { is_condition_at t.now e ≡ true }
+    ensures { result ≡ unless_refused (cond_refusal (claims_in t.now facts.now) (node_cond t.now e)) tt }
+{
+    let _node = t.expr(e);
+    check_value(t, facts, e)
+}
