@@ -1,0 +1,9 @@
+pub mod AnyOrder
+pub mod BodyRefusals
+pub mod DecidedPoints
+pub mod ExprRefusals
+pub mod ExprTyping
+pub mod RefusalFiles
+pub mod StatementRefusals
+pub mod StmtTyping
+pub mod TypedBounds

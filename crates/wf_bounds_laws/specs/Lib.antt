@@ -1,0 +1,3 @@
+pub mod BoundsLaws
+pub mod BoundsRules
+pub mod TypedPlaces
