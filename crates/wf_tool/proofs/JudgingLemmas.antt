@@ -9,6 +9,8 @@ use Rattle.wf_text.proofs.PrecedenceLaws.{Decides-map}
 use Rattle.wf_ast.specs.ParsedParts.{Parsed}
 use Rattle.wf_ast.specs.ParsedTree.{DeclTree, status, constant, structure, method}
 use Rattle.wf_ast.specs.StatementOrder.{stand_in_order}
+use Rattle.wf_ast.specs.declared.typed_nodes.TypedNodes.{TypedNodes}
+use Rattle.wf_ast.specs.TypedPackage.{package_of}
 use Rattle.wf_parse.specs.Parsing.{IsParsed, decls_of}
 use Rattle.wf_named.specs.declared.declarations.NamedMethod.{NamedMethod}
 use Rattle.wf_named.specs.NamedParts.{NamedParts, exprs_of, stmts_of, named_package}
@@ -20,12 +22,17 @@ use Rattle.wf_names_resolve.specs.Package.{resolved_methods, resolved_package}
 use Rattle.wf_types_rules.specs.TypeRules.{Breaks}
 use Rattle.wf_typed_tree.specs.ElaboratedPackage.{typed_package}
 use Rattle.wf_typed_tree.specs.Grammar.{package_by_grammar}
-use Rattle.wf_types.specs.Typing.{IsMistyped}
-use Rattle.wf_tool.specs.Built.{first_unbuilt}
+use Rattle.wf_types.specs.Typing.{IsMistyped, IsElaborated}
+use Rattle.wf_points.specs.PointNumbers.{HasTooMany}
+use Rattle.wf_bounds_stmts.specs.MethodRules.{facts_refusal}
+use Rattle.wf_bounds.specs.Acceptance.{IsRefusedFor}
+use Rattle.wf_bounds_laws.specs.BoundsRules.{bounds_refusal, BreaksPoints}
+use Rattle.wf_bounds_laws.proofs.AnyOrder.{bounds_ignore_order, points_ignore_order}
+use Rattle.wf_bounds_laws.proofs.TypedBounds.{typing_keeps_bounds, typing_keeps_points}
 use Rattle.wf_tool.specs.Sizes.{too_large}
-use Rattle.wf_tool.specs.Taken.{Judges, JudgesNamed, JudgesRead}
+use Rattle.wf_tool.specs.Taken.{Judges, RefusesTyped, JudgesNamed, JudgesRead}
 use Rattle.wf_tool.specs.Verdict as verdicts
-use Rattle.wf_tool.specs.Verdict.{BreaksTypes, misnamed, mistyped}
+use Rattle.wf_tool.specs.Verdict.{BreaksTypes, resolved, misnamed, mistyped}
 use Rattle.wf_tool.proofs.OrderLemmas.{any-order}
 
 -- A resolved package has as many methods as its nodes tell.
@@ -35,9 +42,31 @@ methods-told p q told are same =
     ap length (are ∙ ap (λ (x : NamedParts). x.methods) same) ∙ sym (length-map p.methods (method_made p.texts (exprs_of p) (stmts_of p)))
 
 -- What the phase of types refuses is refused.
-pub mistyped-judged : (named : NamedParts) (found : Option Refusal) (fault : PhaseFault) → IsMistyped named fault → JudgesNamed (named_package named) found (Err fault)
-mistyped-judged named found (phase.Refused refusal) h = inl h
-mistyped-judged named found phase.Memory h = tt
+pub mistyped-judged : (named : NamedParts) (fault : PhaseFault) → IsMistyped named fault → JudgesNamed (named_package named) (Err fault)
+mistyped-judged named (phase.Refused refusal) h = inl h
+mistyped-judged named phase.Memory h = tt
+
+-- Nodes that are those of a package have as few points as it.
+pub few-typed : (nodes typed : TypedNodes) → nodes ≡ typed → Decides (HasTooMany (package_of nodes)) None → Decides (HasTooMany (package_of typed)) None
+few-typed nodes typed same h =
+    let D : TypedNodes → Type 0 = λ t. Decides (HasTooMany (package_of t)) None in
+    subst D same h
+
+-- What the phase of bounds says of the typed nodes of a package it says of the package.
+module _ (named : NamedParts) (typed : TypedNodes) (is : IsElaborated named typed) where
+  pub bounded-judged : (methods : ℕ) → facts_refusal typed ≡ None → Decides (HasTooMany (package_of typed)) None → methods ≡ length (named_package named).methods → JudgesNamed (named_package named) (Ok methods)
+  bounded-judged methods bounds points counted =
+      (is.kept, sym (typing_keeps_bounds named typed is) ∙ bounds, typing_keeps_points named typed is None points, counted)
+
+  refuses-typed : (refusal : Refusal) → IsRefusedFor typed (phase.Refused refusal) → RefusesTyped (named_package named) refusal
+  refuses-typed refusal h = elim h [
+    | inl found ↦ inl (sym (typing_keeps_bounds named typed is) ∙ found)
+    | inr points ↦ inr (sym (typing_keeps_bounds named typed is) ∙ points.0, typing_keeps_points named typed is (Some refusal) points.1)
+  ]
+
+  pub refused-judged : (fault : PhaseFault) → IsRefusedFor typed fault → JudgesNamed (named_package named) (Err fault)
+  refused-judged (phase.Refused refusal) h = inr (is.kept, refuses-typed refusal h)
+  refused-judged phase.Memory h = tt
 
 -- As many methods are resolved as are declared.
 methods-counted : (d : Declared) (decls : List DeclTree) → length (resolved_methods d decls) ≡ length (methods_of decls)
@@ -56,29 +85,47 @@ module _ (read : Parsed) where
   types-decide order found h =
       Decides-map (Breaks (in_order order)) (BreaksTypes read) found (any-order read.name read.texts (decls_of read) order []) (any-order read.name read.texts (decls_of read) [] order) h
 
-  ordered-judged : (order : List ℕ) (found : Option Refusal) (result : Result ℕ PhaseFault) → found ≡ first_unbuilt (decls_of read) → verdicts.KeepsNames read
-      → JudgesNamed (in_order order) found result → JudgesRead read result
-  ordered-judged order found (Ok methods) is names h = (names, types-decide order None h.0, sym is ∙ h.1, h.2 ∙ methods-counted (declared read.texts (decls_of read)) (decls_of read))
-  ordered-judged order found (Err (phase.Refused refusal)) is names h = elim h [
-    | inl first ↦ inr (inl (names, types-decide order (Some refusal) first))
-    | inr u ↦ inr (inr (names, types-decide order None u.0, sym is ∙ u.1))
-  ]
-  ordered-judged order found (Err phase.Memory) is names h = tt
+  -- And so it is of bounds and of points.
+  bounds-decide : (order : List ℕ) → bounds_refusal (in_order order) ≡ bounds_refusal (resolved read)
+  bounds-decide order = bounds_ignore_order (resolved read) order
 
-  pub named-judged : (named : NamedParts) (found : Option Refusal) (result : Result ℕ PhaseFault) → found ≡ first_unbuilt (decls_of read) → IsResolved read named
-      → JudgesNamed (named_package named) found result → JudgesRead read result
-  named-judged named found result is resolved h =
-      let J : NamedPackageTree → Type 0 = λ p. JudgesNamed p found result in
-      ordered-judged resolved.order found result is resolved.kept (subst J resolved.tree h)
+  points-decide : (order : List ℕ) (found : Option Refusal) → Decides (BreaksPoints (in_order order)) found → Decides (verdicts.BreaksPoints read) found
+  points-decide order found h =
+      Decides-map (BreaksPoints (in_order order)) (verdicts.BreaksPoints read) found (points_ignore_order (resolved read) order) (points_ignore_order (in_order order) []) h
+
+  refuses-ordered : (order : List ℕ) (refusal : Refusal) → RefusesTyped (in_order order) refusal → RefusesTyped (resolved read) refusal
+  refuses-ordered order refusal h = elim h [
+    | inl found ↦ inl (sym (bounds-decide order) ∙ found)
+    | inr points ↦ inr (sym (bounds-decide order) ∙ points.0, points-decide order (Some refusal) points.1)
+  ]
+
+  ordered-judged : (order : List ℕ) (result : Result ℕ PhaseFault) → verdicts.KeepsNames read → JudgesNamed (in_order order) result → JudgesRead read result
+  ordered-judged order (Ok methods) names h = (
+    names,
+    types-decide order None h.0,
+    sym (bounds-decide order) ∙ h.1,
+    points-decide order None h.2,
+    h.3 ∙ methods-counted (declared read.texts (decls_of read)) (decls_of read),
+  )
+  ordered-judged order (Err (phase.Refused refusal)) names h = elim h [
+    | inl first ↦ inr (inl (names, types-decide order (Some refusal) first))
+    | inr t ↦ inr (inr (names, types-decide order None t.0, refuses-ordered order refusal t.1))
+  ]
+  ordered-judged order (Err phase.Memory) names h = tt
+
+  pub named-judged : (named : NamedParts) (result : Result ℕ PhaseFault) → IsResolved read named → JudgesNamed (named_package named) result → JudgesRead read result
+  named-judged named result is h =
+      let J : NamedPackageTree → Type 0 = λ p. JudgesNamed p result in
+      ordered-judged is.order result is.kept (subst J is.tree h)
 
   -- What holds of the resolved package in whatever order its methods stand, holds of the one that is resolved.
   pub named-by-grammar : (named : NamedParts) → IsResolved read named → ((order : List ℕ) → package_by_grammar (resolved_package read.name read.texts (decls_of read) order) ≡ true)
       → package_by_grammar (named_package named) ≡ true
-  named-by-grammar named resolved all = ap package_by_grammar resolved.tree ∙ all resolved.order
+  named-by-grammar named is all = ap package_by_grammar is.tree ∙ all is.order
 
   pub named-placed : (named : NamedParts) → IsResolved read named → ((order : List ℕ) → stand_in_order (typed_package (resolved_package read.name read.texts (decls_of read) order)) ≡ true)
       → stand_in_order (typed_package (named_package named)) ≡ true
-  named-placed named resolved all = ap (λ (p : NamedPackageTree). stand_in_order (typed_package p)) resolved.tree ∙ all resolved.order
+  named-placed named is all = ap (λ (p : NamedPackageTree). stand_in_order (typed_package p)) is.tree ∙ all is.order
 
   pub misnamed-judged : (fault : PhaseFault) → IsMisnamed read fault → JudgesRead read (Err fault)
   misnamed-judged (phase.Refused refusal) h = inl h
@@ -92,15 +139,21 @@ read-judged name files read (Ok methods) sized parsed h = record {
   parsed = parsed;
   names = h.0;
   types = h.1;
-  built = h.2;
-  counted = h.3;
+  bounds = h.2;
+  points = h.3;
+  counted = h.4;
 }
 read-judged name files read (Err (phase.Refused refusal)) sized parsed h = elim h [
   | inl first ↦ misnamed (record { sized = sized; read = read; parsed = parsed; decides = first })
-  | inr behind ↦ behind-judged behind
+  | inr other ↦ later-judged other
 ]
   where
-    behind-judged : ((verdicts.KeepsNames read × IsFirst (BreaksTypes read) refusal) ⊎ (verdicts.KeepsNames read × verdicts.KeepsTypes read × (first_unbuilt (decls_of read) ≡ Some refusal))) → verdicts.IsRefused name files refusal
-    behind-judged (inl t) = mistyped (record { sized = sized; read = read; parsed = parsed; names = t.0; decides = t.1 })
-    behind-judged (inr u) = verdicts.unbuilt (record { sized = sized; read = read; parsed = parsed; names = u.0; types = u.1; unbuilt = u.2 })
+    typed-judged : verdicts.KeepsNames read → verdicts.KeepsTypes read → RefusesTyped (resolved read) refusal → verdicts.IsRefused name files refusal
+    typed-judged names types (inl found) = verdicts.out_of_bounds (record { sized = sized; read = read; parsed = parsed; names = names; types = types; first = found })
+    typed-judged names types (inr points) =
+        verdicts.has_too_many_points (record { sized = sized; read = read; parsed = parsed; names = names; types = types; bounds = points.0; decides = points.1 })
+
+    later-judged : ((verdicts.KeepsNames read × IsFirst (BreaksTypes read) refusal) ⊎ (verdicts.KeepsNames read × verdicts.KeepsTypes read × RefusesTyped (resolved read) refusal)) → verdicts.IsRefused name files refusal
+    later-judged (inl t) = mistyped (record { sized = sized; read = read; parsed = parsed; names = t.0; decides = t.1 })
+    later-judged (inr t) = typed-judged t.0 t.1 t.2
 read-judged name files read (Err phase.Memory) sized parsed h = tt

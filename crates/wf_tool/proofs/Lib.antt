@@ -1,7 +1,7 @@
-pub mod BuiltLemmas
 pub mod JudgingLemmas
 pub mod OrderLemmas
 pub mod RefusalFiles
 pub mod RefusedLine
 pub mod TakingLemmas
 pub mod VerdictLaws
+pub mod WholeVerdicts

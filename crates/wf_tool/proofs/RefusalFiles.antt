@@ -1,25 +1,17 @@
 -- A refusal stands in one of the package's files.
 use Rattle.std.proofs.Common.{◌≡◌, ◌<◌, ◌+◌, ◌-◌, ℕ, Bool, true, false, if◌then◌else◌, nat_le, List, [], ◌∷◌, length, Option, None, Some, refl, sym, ap, ◌∙◌, arith}
 use Rattle.std.proofs.lemmas.Bool.{leb-false}
-use Rattle.std.specs.List.{AllByRecursion}
 use Rattle.std.specs.Option.{option_or}
-use Rattle.wf_text.specs.declared.place.Place.{Place}
 use Rattle.wf_text.specs.declared.rules.Refusal.{Refusal}
 use Rattle.wf_text.specs.declared.rules.Rule.TheVariants.{L1, L2}
-use Rattle.wf_ast.specs.ParsedTree.{DeclTree, status, constant, structure, method}
-use Rattle.wf_parse.specs.Parsing.{decls_of}
-use Rattle.wf_parse.proofs.DeclPlaces.{decls_have_files}
 use Rattle.wf_parse.proofs.RefusalPlaces.{refusals_have_files}
-use Rattle.wf_read_laws.specs.Places.{DeclIsIn}
 use Rattle.wf_read_laws.proofs.FilePlaces as naming
-use Rattle.wf_read_laws.proofs.FilePlaces.{Below, decls-below}
 use Rattle.wf_read_laws.proofs.ReadPlaces as typing
 use Rattle.wf_tokens.specs.Places.{first_place}
 use Rattle.wf_tool.specs.Answer.{AreHeld}
-use Rattle.wf_tool.specs.Built.{has_statement, if_stated, unbuilt, first_unbuilt}
+use Rattle.wf_bounds_laws.proofs.RefusalFiles.{read_bounds_have_files, read_points_have_files}
 use Rattle.wf_tool.specs.Sizes.{most_bytes, most_files, too_many, too_long, too_large}
-use Rattle.wf_tool.specs.Verdict as verdicts
-use Rattle.wf_tool.specs.Verdict.{IsRefused, RefusalsHaveFiles, large, misread, misnamed, mistyped}
+use Rattle.wf_tool.specs.Verdict.{IsRefused, RefusalsHaveFiles, large, misread, misnamed, mistyped, out_of_bounds, has_too_many_points}
 use Rattle.wf_tool.proofs.TakingLemmas.{AreHeld-length}
 
 some-is : {A : Type 0} (a b : A) → Some a ≡ Some b → a ≡ b
@@ -63,35 +55,13 @@ large-file files refusal e = by_case (too_many (length files)) refl
         omega (arith, below)
     by_case (Some r) h = many-file (length files) refusal (h ∙ (sym (ap (λ (f : Option Refusal). option_or f (too_long 0 most_bytes files)) h) ∙ e))
 
--- A method that isn't built stands in one of the files, with the word that is refused.
-stated-below : (count : ℕ) (at : Place) (stated : Bool) (refusal : Refusal) → Below count at → if_stated at stated ≡ Some refusal → refusal.at.file < count
-stated-below count at false refusal h e = none-is refusal e
-stated-below count at true refusal h e =
-    let file : at.file ≡ refusal.at.file = ap (λ (r : Refusal). r.at.file) (some-is _ refusal e) in
-    omega (arith, file, h)
-
-unbuilt-below : (count : ℕ) (decl : DeclTree) (refusal : Refusal) → DeclIsIn (Below count) decl → unbuilt decl ≡ Some refusal → refusal.at.file < count
-unbuilt-below count (status public text at) refusal h e = none-is refusal e
-unbuilt-below count (constant public name of value at) refusal h e = none-is refusal e
-unbuilt-below count (structure public name mark fields at) refusal h e = none-is refusal e
-unbuilt-below count (method public owner name mark args result body at) refusal h e = stated-below count at (has_statement body) refusal h.5 e
-
-either-file : (count : ℕ) (first second : Option Refusal) (refusal : Refusal) → (first ≡ Some refusal → refusal.at.file < count) → (second ≡ Some refusal → refusal.at.file < count) → option_or first second ≡ Some refusal → refusal.at.file < count
-either-file count None second refusal f s e = s e
-either-file count (Some r) second refusal f s e = f e
-
-unbuilt-files : (count : ℕ) (decls : List DeclTree) (refusal : Refusal) → AllByRecursion (DeclIsIn (Below count)) decls → first_unbuilt decls ≡ Some refusal → refusal.at.file < count
-unbuilt-files count [] refusal a e = none-is refusal e
-unbuilt-files count (d ∷ decls) refusal a e =
-    either-file count (unbuilt d) (first_unbuilt decls) refusal (unbuilt-below count d refusal a.0) (unbuilt-files count decls refusal a.1) e
-
 pub verdict-files : RefusalsHaveFiles
 verdict-files name files refusal (large r) = large-file files refusal r
 verdict-files name files refusal (misread r) = refusals_have_files files refusal r.misread
 verdict-files name files refusal (misnamed r) = naming.packages_break_in_files name files r.read r.parsed refusal r.decides.breaks
 verdict-files name files refusal (mistyped r) = typing.packages_break_in_files name files r.read r.parsed [] refusal r.decides.breaks
-verdict-files name files refusal (verdicts.unbuilt r) =
-    unbuilt-files (length files) (decls_of r.read) refusal (decls-below (length files) (decls_of r.read) (decls_have_files name files r.read r.parsed)) r.unbuilt
+verdict-files name files refusal (out_of_bounds r) = read_bounds_have_files name files r.read r.parsed [] refusal r.first
+verdict-files name files refusal (has_too_many_points r) = read_points_have_files name files r.read r.parsed [] refusal r.decides.breaks
 
 -- It is one of the files that the words name.
 pub held-file : (held : List ℕ → Option (List ℕ)) (name : List ℕ) (names files : List (List ℕ)) (refusal : Refusal) → AreHeld held names files → IsRefused name files refusal → refusal.at.file < length names

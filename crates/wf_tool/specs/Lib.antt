@@ -1,5 +1,4 @@
 pub mod Answer
-pub mod Built
 pub mod Lines
 pub mod Sizes
 pub mod Statuses

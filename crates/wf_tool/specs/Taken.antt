@@ -6,16 +6,15 @@ use Rattle.wf_text.specs.declared.rules.Refusal.{Refusal}
 use Rattle.wf_text.specs.declared.rules.Rule.TheVariants.{L1}
 use Rattle.wf_text.specs.Precedence.{Decides, IsFirst}
 use Rattle.wf_ast.specs.ParsedParts.{Parsed}
-use Rattle.wf_parse.specs.Parsing.{decls_of}
 use Rattle.wf_tokens.specs.Places.{first_place}
 use Rattle.wf_named.specs.NamedTree.{NamedPackageTree}
 use Rattle.wf_types_rules.specs.TypeRules.{Breaks}
+use Rattle.wf_bounds_laws.specs.BoundsRules as bounds
 use Rattle.wf_tool.specs.declared.taking.TakingFault.{TakingFault}
 use Rattle.wf_tool.specs.declared.taking.TakingFault.TheVariants.{Refused, Failed, Memory}
 use Rattle.wf_tool.specs.Answer.{AreHeld, FailsAt, file_name}
-use Rattle.wf_tool.specs.Built.{first_unbuilt, method_count}
 use Rattle.wf_tool.specs.Sizes.{most_bytes, too_long, too_many}
-use Rattle.wf_tool.specs.Verdict.{BreaksNames, KeepsNames, BreaksTypes, KeepsTypes, IsAccepted, IsRefused}
+use Rattle.wf_tool.specs.Verdict.{BreaksNames, KeepsNames, resolved, BreaksTypes, KeepsTypes, out_of_bounds_at, KeepsPoints, method_count, IsAccepted, IsRefused}
 
 -- One file, with `most` bytes left for it: these are its bytes.
 abbrev pub TakesFile : (held : List ℕ → Option (List ℕ)) → (most : ℕ) → (name : List ℕ) → (bytes : List ℕ) → Type 0
@@ -55,21 +54,26 @@ NamesFailed failed names (Refused refusal) = ⊤
 NamesFailed failed names (Failed at) = IfSome failed (λ last. last ≡ file_name names at)
 NamesFailed failed names Memory = ⊤
 
--- The verdict on a package that is read, with the number of its methods: its names come in front of its types, and these
--- in front of what isn't built.
+-- Why a package is refused that keeps the rules of types: by those of bounds, and where these refuse nothing by that of
+-- suspension points.
+abbrev pub RefusesTyped : NamedPackageTree → Refusal → Type 0
+RefusesTyped p refusal = (bounds.bounds_refusal p ≡ Some refusal) ⊎ ((bounds.bounds_refusal p ≡ None) × IsFirst (bounds.BreaksPoints p) refusal)
+
+-- The verdict on a package whose names are resolved, with the number of its methods: by its types, then by its bounds, and then by
+-- its suspension points.
+abbrev pub JudgesNamed : NamedPackageTree → Result ℕ PhaseFault → Type 0
+JudgesNamed p (Ok methods) = Decides (Breaks p) None × (bounds.bounds_refusal p ≡ None) × Decides (bounds.BreaksPoints p) None × (methods ≡ length p.methods)
+JudgesNamed p (Err (phase.Refused refusal)) = IsFirst (Breaks p) refusal ⊎ (Decides (Breaks p) None × RefusesTyped p refusal)
+JudgesNamed p (Err phase.Memory) = ⊤
+
+-- The verdict on a package that is read: its names come before all these.
 abbrev pub JudgesRead : Parsed → Result ℕ PhaseFault → Type 0
-JudgesRead read (Ok methods) = KeepsNames read × KeepsTypes read × (first_unbuilt (decls_of read) ≡ None) × (methods ≡ method_count (decls_of read))
+JudgesRead read (Ok methods) = KeepsNames read × KeepsTypes read × (out_of_bounds_at read ≡ None) × KeepsPoints read × (methods ≡ method_count read)
 JudgesRead read (Err (phase.Refused refusal)) =
     IsFirst (BreaksNames read) refusal
     ⊎ ((KeepsNames read × IsFirst (BreaksTypes read) refusal)
-    ⊎ (KeepsNames read × KeepsTypes read × (first_unbuilt (decls_of read) ≡ Some refusal)))
+    ⊎ (KeepsNames read × KeepsTypes read × RefusesTyped (resolved read) refusal))
 JudgesRead read (Err phase.Memory) = ⊤
-
--- The verdict on a package whose names are resolved: by its types, and then by what isn't built.
-abbrev pub JudgesNamed : NamedPackageTree → (unbuilt : Option Refusal) → Result ℕ PhaseFault → Type 0
-JudgesNamed p unbuilt (Ok methods) = Decides (Breaks p) None × (unbuilt ≡ None) × (methods ≡ length p.methods)
-JudgesNamed p unbuilt (Err (phase.Refused refusal)) = IsFirst (Breaks p) refusal ⊎ (Decides (Breaks p) None × (unbuilt ≡ Some refusal))
-JudgesNamed p unbuilt (Err phase.Memory) = ⊤
 
 -- The verdict on files whose bytes are within the limits.
 abbrev pub Judges : (name : List ℕ) → (files : List (List ℕ)) → Result ℕ PhaseFault → Type 0

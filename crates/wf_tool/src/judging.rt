@@ -2,22 +2,24 @@
 
 ghost use Rattle.std.specs.Prelude.{◌≡◌, ◌-◌, ◌^◌, ◌<◌, ◌≤◌, ℕ, true, None, List, length, map, string_bytes, IfErr, IfNone, OnOk};
 ghost use Rattle.wf_ast.specs.StatementOrder.{stand_in_order};
+ghost use Rattle.wf_ast.specs.TypedInvariant.{IsTyped};
+ghost use Rattle.wf_ast.specs.TypedPackage.{package_of};
 ghost use Rattle.wf_parse.specs.Parsing.{decls_of};
 ghost use Rattle.wf_named.specs.NamedParts.{named_package};
 ghost use Rattle.wf_names_resolve.specs.Package.{resolved_package};
 ghost use Rattle.wf_typed_tree.specs.ElaboratedPackage.{typed_package};
 ghost use Rattle.wf_typed_tree.specs.Grammar.{package_by_grammar};
 ghost use Rattle.wf_text.specs.Precedence.{Decides};
-ghost use Rattle.wf_types_rules.specs.TypeRules.{Breaks};
-ghost use Rattle.wf_types.specs.Typing.{IsMistyped};
-ghost use Rattle.wf_tool.specs.Built.{first_unbuilt};
+ghost use Rattle.wf_points.specs.PointNumbers.{HasTooMany};
+ghost use Rattle.wf_bounds_stmts.specs.MethodRules.{facts_refusal};
+ghost use Rattle.wf_bounds.specs.Acceptance.{IsRefusedFor};
 ghost use Rattle.wf_tool.specs.Sizes.{too_large, too_many};
 ghost use Rattle.wf_tool.specs.Taken.{CountsTaking, Judges, JudgesNamed, JudgesPackage, JudgesRead, NamesFailed};
 
-use crate::building::first_unbuilt;
 use crate::taking::{TakingFault, first_place, take_files};
 use std::alloc::Global;
-use wf_ast::Package;
+use wf_ast::{Package, Typed};
+use wf_bounds::check;
 use wf_named::Named;
 use wf_names::resolving::resolve;
 use wf_outside::Inputs;
@@ -50,46 +52,46 @@ fn number_of_methods(named: &Named) -> usize
     named.nodes().methods().len()
 }
 
-/// Gives the types of a package whose names are resolved. Its typed tree is let go, since nothing behind the types reads it.
-fn give_types(alloc: Global, named: Named) -> Result<(), PhaseFault>
+/// Checks the bounds of a package whose types are known, and how many suspension points its methods have. The package is let
+/// go, since nothing after this phase reads it.
+fn check_bounds(alloc: Global, typed: Typed) -> Result<(), PhaseFault>
+    requires { IsTyped typed }
+    ensures bounds { OnOk result (facts_refusal typed ≡ None) }
+    ensures points { OnOk result (Decides (HasTooMany (package_of typed)) None) }
+    ensures refused { IfErr result (IsRefusedFor typed) }
+{
+    match check(alloc, typed) {
+        Ok(_) => Ok(()),
+        Err(refused) => Err(refused),
+    }
+}
+
+/// Decides whether a package whose names are resolved is accepted: by its types and effects, then by its bounds and its points. Ok
+/// is the number of its methods.
+fn judge_named(alloc: Global, named: Named) -> Result<usize, PhaseFault>
     requires grammar { package_by_grammar (named_package named) ≡ true }
     requires placed { stand_in_order (typed_package (named_package named)) ≡ true }
-    ensures refused { IfErr result (IsMistyped named) }
-    ensures kept { OnOk result (Decides (Breaks (named_package named)) None) }
+    ensures { JudgesNamed (named_package named) result }
 {
+    let methods = number_of_methods(&named);
     match type_check(alloc, named) {
-        Ok(_) => Ok(()),
+        Ok(typed) => match check_bounds(alloc, typed) {
+            Ok(()) => Ok(methods),
+            Err(outside) => Err(outside),
+        },
         Err(mistyped) => Err(mistyped),
     }
 }
 
-/// Decides whether a package whose names are resolved is accepted: by its types and effects, then by what isn't built. Ok is
-/// the number of its methods.
-fn judge_named(alloc: Global, named: Named, unbuilt: Option<Refusal>) -> Result<usize, PhaseFault>
-    requires grammar { package_by_grammar (named_package named) ≡ true }
-    requires placed { stand_in_order (typed_package (named_package named)) ≡ true }
-    ensures { JudgesNamed (named_package named) unbuilt result }
-{
-    let methods = number_of_methods(&named);
-    match give_types(alloc, named) {
-        Ok(()) => match unbuilt {
-            None => Ok(methods),
-            Some(refusal) => Err(PhaseFault::Refused(refusal)),
-        },
-        Err(fault) => Err(fault),
-    }
-}
-
-/// Decides whether a package that is read is accepted: by its names, then by its types, then by what isn't built.
+/// Decides whether a package that is read is accepted: by its names, and then by all that comes after them.
 fn judge_read(alloc: Global, parsed: Package) -> Result<usize, PhaseFault>
     requires few { length parsed.decls < 2 ^ 32 - 1 }
     requires grammar { (order : List ℕ) → package_by_grammar (resolved_package parsed.name parsed.texts (decls_of parsed) order) ≡ true }
     requires placed { (order : List ℕ) → stand_in_order (typed_package (resolved_package parsed.name parsed.texts (decls_of parsed) order)) ≡ true }
     ensures { JudgesRead parsed result }
 {
-    let unbuilt = first_unbuilt(&parsed);
     match resolve(alloc, parsed) {
-        Ok(named) => judge_named(alloc, named, unbuilt),
+        Ok(named) => judge_named(alloc, named),
         Err(misnamed) => Err(misnamed),
     }
 }

@@ -1,10 +1,15 @@
 // The laws of the verdict. Each is the contract of a function that does nothing.
 
-ghost use Rattle.wf_tool.specs.Verdict.{RefusalsHaveFiles, VerdictsExclude};
+ghost use Rattle.wf_tool.specs.Verdict.{NamedHaveVerdicts, RefusalsHaveFiles, VerdictsExclude};
 
 /// A package isn't both accepted and refused, and is refused by one rule at one place.
 pub fn one_verdict()
     ensures { VerdictsExclude }
+{}
+
+/// A package that is read from files within the limits, and keeps the rules of names, is accepted or refused.
+pub fn named_packages_have_verdicts()
+    ensures { NamedHaveVerdicts }
 {}
 
 /// A refusal stands in one of the package's files.

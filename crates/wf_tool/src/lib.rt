@@ -1,9 +1,8 @@
 // The program as one call: from the words of a command to what is written and how the program ends, over any
-// inputs and any sink. `check PACKAGE FILE...` is the one command. A package is read whole and judged by the rules of names,
-// of types and of effects; methods without statements are built.
+// inputs and any sink. `check PACKAGE FILE...` is the one command. A package is read whole and judged by the rules of names, of
+// types and effects, of bounds and of suspension points.
 #![tactic(auto)]
 
-mod building;
 pub mod ending;
 mod judging;
 mod laws;
@@ -13,5 +12,5 @@ pub mod tool;
 mod words;
 
 pub use ending::Ending;
-pub use laws::{a_refusal_has_its_file, one_verdict};
+pub use laws::{a_refusal_has_its_file, named_packages_have_verdicts, one_verdict};
 pub use tool::wuffs_tool;

@@ -11,4 +11,4 @@ judge_named-requires-clause-placed c =
 
 pub returns-in-Ok : goal.returns-in-Ok
 returns-in-Ok c =
-    named-judged c.args.parsed c.in-Ok.named c.first_unbuilt-unbuilt.result c.judge_named.result c.first_unbuilt-unbuilt.ensures c.in-Ok.ensures.resolved c.judge_named.ensures
+    named-judged c.args.parsed c.in-Ok.named c.judge_named.result c.in-Ok.ensures.resolved c.judge_named.ensures
