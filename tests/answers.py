@@ -15,7 +15,8 @@ USAGE = "usage: wuffsc COMMAND PKG [SCRIPT] FILE\n"
 # 262,144 tokens, the semicolons that line ends add included: ten of each constant, four of the status.
 TOKENS = b"".join(b"pri const c%d:base.u8=0\n" % n for n in range(26214)) + b'pub status "#a"\n'
 
-# A method with its first statement.
+# A method with its first statement, and a coroutine without one.
+POINTS = b'pub status "$a"\npub struct s()\npub func s.f?() {\n'
 METHOD = b"pub struct s()\npub func s.f() {\n    var x : base.u32\n"
 
 # name, files, words, what is written, exit status
@@ -50,7 +51,9 @@ ANSWERS = [
     ("a sum", {"t.wuffs": b"pri const X : base.u8 = 1 + 2\n"}, "check t t.wuffs", "ok 0 methods\n", 0),
     ("a product above the type", {"t.wuffs": b"pri const X : base.u8 = (1 + 2) * 100\npub struct s()\n"}, "check t t.wuffs", "refused T5 t.wuffs:1:33\n", 1),
     ("a method that only declares a local", {"t.wuffs": METHOD + b"}\n"}, "check t t.wuffs", "ok 1 methods\n", 0),
-    ("a method of 4,096 statements, which isn't built", {"t.wuffs": METHOD + b"    x = 1\n" * 4095 + b"}\n"}, "check t t.wuffs", "refused N9 t.wuffs:2:5\n", 1),
+    ("a method of 4,096 statements", {"t.wuffs": METHOD + b"    x = 1\n" * 4095 + b"}\n"}, "check t t.wuffs", "ok 1 methods\n", 0),
+    ("a method of 1,024 suspension points", {"t.wuffs": POINTS + b"    yield? \"$a\"\n" * 1024 + b"}\n"}, "check t t.wuffs", "ok 1 methods\n", 0),
+    ("one suspension point more", {"t.wuffs": POINTS + b"    yield? \"$a\"\n" * 1025 + b"}\n"}, "check t t.wuffs", "refused L9 t.wuffs:1028:5\n", 1),
     ("262,144 tokens", {"t.wuffs": TOKENS}, "check t t.wuffs", "ok 0 methods\n", 0),
     ("one token more", {"t.wuffs": TOKENS + b'pub status "#b"\n'}, "check t t.wuffs", "refused L3 t.wuffs:26216:1\n", 1),
     ("one statement more", {"t.wuffs": METHOD + b"    x = 1\n" * 4096 + b"}\n"}, "check t t.wuffs", "refused L5 t.wuffs:4099:5\n", 1),
@@ -125,8 +128,8 @@ ONE_FILE = [
     (b'pri const A : base.u8 = (1 + 2) * 100\npub struct n()', "refused T5 k.wuffs:1:33"),
     (b'pri const A : base.u8 = (1 + 2) * 80\npub struct n()', "ok 0 methods"),
     (b'pub struct s()\npub func s.f() {}\npri func s.g?(a: base.u8) {\nvar b : base.bool\n}', "ok 2 methods"),
-    (b'pub struct s()\npub func s.f() {\nreturn nothing\n}', "refused N9 k.wuffs:2:5"),
-    (b'pub struct s()\npub func s.f() {}\npri func s.g() {\nvar b : base.u8\nb = 1\n}\npri func s.h() {\nreturn nothing\n}', "refused N9 k.wuffs:3:5"),
+    (b'pub struct s()\npub func s.f() {\nreturn nothing\n}', "ok 1 methods"),
+    (b'pub struct s()\npub func s.f() {}\npri func s.g() {\nvar b : base.u8\nb = 1\n}\npri func s.h() {\nreturn nothing\n}', "ok 3 methods"),
     (b'pub struct s()\npub func s.f() {\nreturn 1\n}', "refused T4 k.wuffs:3:1"),
     (b'pub struct s()\npub func s.f() {\nreturn nothing\n}\npri const A : base.u8 = 256', "refused T5 k.wuffs:5:25"),
     (b'pub struct s()\npub func s.f() {\nyield? ok\n}', "refused E2 k.wuffs:3:1"),
@@ -136,13 +139,15 @@ ONE_FILE = [
 
 STATUS, OTHER, CUT, LARGE = b'pub status "#a"', b'pub status "#b"', b"\npub", b"pri const X : base.u8 = 256"
 UNKNOWN, KNOWN, RESERVED = b"pub struct s(x : t)", b"pri struct t()", b"\npri const _a : base.u8 = 1"
-UNBUILT = b"pri struct s()\npri func s.f() {\nreturn nothing\n}"
+OUTSIDE = b"pri struct s()\npri func s.f() base.u8 {\nreturn 300\n}"
+TOO_MANY = b"pri status \"$a\"\npri struct p()\npri func p.f?() {\n" + b"yield? \"$a\"\n" * 1025 + b"}"
 
 # Files f0, f1 and so on of a package, and what is written of them: of two places the one in the earlier file decides, but
-# reading comes before names, names before types, and these before what isn't built.
+# reading comes before names, names before types, types before bounds, and these before suspension points.
 FILES = [
     ([STATUS, OTHER], "ok 0 methods"), ([STATUS, CUT], "refused S5 f1:2:4"), ([CUT, CUT], "refused S5 f0:2:4"),
-    ([LARGE, CUT], "refused S5 f1:2:4"), ([STATUS, UNBUILT], "refused N9 f1:2:5"), ([UNBUILT, LARGE], "refused T5 f1:1:25"),
+    ([LARGE, CUT], "refused S5 f1:2:4"), ([STATUS, OUTSIDE], "refused B1 f1:3:8"), ([OUTSIDE, LARGE], "refused T5 f1:1:25"),
+    ([STATUS, TOO_MANY], "refused L9 f1:1028:1"), ([TOO_MANY, OUTSIDE], "refused B1 f1:3:8"),
     ([STATUS, LARGE], "refused T5 f1:1:25"), ([STATUS, STATUS], "refused N2 f1:1:12"),
     ([STATUS, UNKNOWN, RESERVED], "refused N1 f1:1:18"), ([STATUS, RESERVED, UNKNOWN], "refused N3 f1:2:11"),
     ([UNKNOWN, CUT], "refused S5 f1:2:4"), ([UNKNOWN, KNOWN], "ok 0 methods"), ([b""] * 17, "refused L2 f16:1:1"),

@@ -1,27 +1,34 @@
 #!/usr/bin/env python3
-"""The packages for the rules of bounds, judged by hand (bounds_packages.py), against the second opinion (second_opinion/).
+"""The packages for the rules of bounds, judged by hand (bounds_packages.py): what the program says of each, and the second opinion.
 
-usage: bounds_answers.py [NAME]    only the packages whose name has NAME in it
-The program doesn't judge bounds yet; these packages and the second opinion, which agree here, are what it will be held against.
-Prints each package of which the two say different things, and last how many passed.
+usage: bounds_answers.py PROGRAM [NAME]    only the packages whose name has NAME in it
+Prints each package of which one of the two says something else, and last how many passed.
 """
+import os
 import sys
+import tempfile
 
 from bounds_packages import packages
-from second_opinion import whole_verdict
+from random_answers import answer
+from second_opinion import verdict
+
+
+def is_right(came, right):
+    return came.startswith("ok ") if right == "ok" else came == f"refused {right.replace(' ', ' f0:')}"
 
 
 def main():
-    wanted, passed, failed = "".join(sys.argv[1:2]), 0, 0
-    for name, text, right in packages():
-        if wanted not in name:
-            continue
-        came = whole_verdict([text])
-        good = came.startswith("ok ") if right == "ok" else came == f"refused {right.replace(' ', ' f0:')}"
-        passed += good
-        failed += not good
-        if not good:
-            print(f"{name}: {came}, and by hand {right}")
+    program, wanted, passed, failed = os.path.abspath(sys.argv[1]), "".join(sys.argv[2:3]), 0, 0
+    with tempfile.TemporaryDirectory() as folder:
+        for name, text, right in packages():
+            if wanted not in name:
+                continue
+            said, thought = answer(program, folder, [text]), verdict([text])
+            good = is_right(said, right) and is_right(thought, right)
+            passed += good
+            failed += not good
+            if not good:
+                print(f"{name}: by hand {right}, the program {said}, the second opinion {thought}")
     print(f"bounds_answers.py: {passed} passed, {failed} failed")
     return 1 if failed or not passed else 0
 

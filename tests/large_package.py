@@ -3,8 +3,8 @@
 
 usage: large_package.py BYTES [SEED] >FILE    at most 1048576 bytes; the same seed gives the same bytes
 Structs with numbers, arrays and earlier structs as fields; methods of all three marks with locals, sums, conditions,
-loops, calls, reads and writes; statuses and constants. `check` refuses it by N9 at its first method with a statement,
-since that is what this version does behind names and types.
+loops, calls, reads and writes; statuses and constants. It is as random as to break the rules of bounds in its first methods: for
+measuring what comes before them.
 """
 import random
 import sys

@@ -2,6 +2,7 @@
 """Random packages: what `check` says of each, against a second opinion (second_opinion/).
 
 usage: random_answers.py PROGRAM [COUNT [SEED]]    1000 packages with the seed 1 are the default
+Every other package has its facts at the edge of what the rules of bounds accept (second_opinion/random_bounds.py).
 Ends with how often each rule decided. A package of which the two say different things is printed, and fails.
 """
 import collections
@@ -13,6 +14,7 @@ import sys
 import tempfile
 
 from second_opinion import verdict
+from second_opinion.random_bounds import random_bounds
 from second_opinion.random_packages import random_files
 
 
@@ -30,8 +32,8 @@ def main():
     count, seed = (int(word) for word in (sys.argv[2:] + ["1000", "1"][len(sys.argv) - 2:])[:2])
     source, decided, differ = random.Random(seed), collections.Counter(), 0
     with tempfile.TemporaryDirectory() as folder:
-        for _ in range(count):
-            files = random_files(source)
+        for number in range(count):
+            files = [random_bounds(source)] if number % 2 else random_files(source)
             said, wanted = answer(program, folder, files), verdict(files)
             decided[wanted.split(" ")[1] if wanted.startswith("refused") else "ok"] += 1
             if said != wanted:

@@ -1,9 +1,8 @@
 #!/usr/bin/env python3
 """rule_examples.py PROGRAM: the examples of docs/RULES.md and docs/LANGUAGE.md that are whole files, through the built program.
 
-A block that begins with ```wuffs refused RULE LINE:COL has to be refused so, and stands under its rule. One that begins with
-```wuffs passes must not be refused, but by N9, by which methods with statements are refused as long as their bounds aren't
-checked.
+A block that begins with ```wuffs refused RULE LINE:COL has to be refused so; under a rule's heading it is refused by that rule.
+One that begins with ```wuffs passes has to be accepted.
 """
 import pathlib
 import re
@@ -40,12 +39,12 @@ def answer(program, text):
 def fault(section, words, got):
     """What is wrong with an answer, or None."""
     if words and words[0] == "refused":
-        if words[1] != section:
+        if section and words[1] != section:
             return f"stands under {section}"
         want = f"refused {words[1]} demo.wuffs:{words[2]}"
         return None if got == want else f"want {want}, got {got}"
     if words == ["passes"]:
-        fine = re.fullmatch(r"ok \d+ methods", got) or (section != "N9" and got.startswith("refused N9 "))
+        fine = re.fullmatch(r"ok \d+ methods", got)
         return None if fine else f"want a package that passes, got {got}"
     return f"no such kind of example: {' '.join(words)}"
 

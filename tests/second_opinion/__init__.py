@@ -2,8 +2,7 @@
 Python from the rules as docs/LANGUAGE.md and docs/RULES.md tell them, with the choices of docs/DECISIONS.md, and sharing no
 code with the program. The two are compared on random packages by ../random_answers.py.
 
-`whole_verdict` is the whole of it; `verdict` is what the program says while it doesn't judge bounds. Not judged are the limits
-that random packages don't reach: bytes, files, tokens and statements (L1, L2, L3, L5).
+Not judged are the limits that random packages don't reach: bytes, files, tokens and statements (L1, L2, L3, L5).
 """
 from .bounds import judge_bounds
 from .names import judge_names
@@ -14,15 +13,11 @@ from .types import judge_types
 
 def verdict(files):
     """What `check` has to print of the files with these texts, which are named f0, f1 and so on."""
-    return judged(files, unbuilt)
-
-
-def whole_verdict(files):
-    """The same with bounds and points judged."""
     return judged(files, judge_bounds)
 
 
 def judged(files, judge_last):
+    """The same with another judge of bounds and points."""
     try:
         declarations = [declaration for number, text in enumerate(files) for declaration in read(text, number)]
     except Refused as refused:
@@ -34,11 +29,6 @@ def judged(files, judge_last):
             return refusal(rule.name, place)
     refused = judge_last(declarations)
     return refusal(*refused) if refused else f"ok {sum(isinstance(it, Method) for it in declarations)} methods"
-
-
-def unbuilt(declarations):
-    """While bounds aren't judged, the first method with a statement is refused."""
-    return next((("N9", it.word) for it in declarations if isinstance(it, Method) and it.body.statements), None)
 
 
 def refusal(rule, place):
