@@ -106,7 +106,6 @@ fn rules(rt: HostRuntime) {
         are_named(&[
             (Rule::S1, "S1"),
             (Rule::N8, "N8"),
-            (Rule::N9, "N9"),
             (Rule::T1, "T1"),
             (Rule::E5, "E5"),
             (Rule::B12, "B12"),

@@ -5,7 +5,7 @@ use Rattle.std.proofs.lemmas.Option.{none-some}
 use Rattle.wf_text.specs.declared.rules.Refusal.{Refusal}
 use Rattle.wf_text.specs.declared.place.Place.{Place}
 use Rattle.wf_text.specs.declared.rules.Rule.{Rule}
-use Rattle.wf_text.specs.declared.rules.Rule.TheVariants.{S1, S2, S3, S4, S5, S6, N1, N2, N3, N4, N5, N6, N7, N8, N9, T1, T2, T3, T4, T5, E1, E2, E3, E4, E5, B1, B2, B3, B4, B5, B6, B7, B8, B9, B10, B11, B12, L1, L2, L3, L4, L5, L6, L7, L8, L9}
+use Rattle.wf_text.specs.declared.rules.Rule.TheVariants.{S1, S2, S3, S4, S5, S6, N1, N2, N3, N4, N5, N6, N7, N8, T1, T2, T3, T4, T5, E1, E2, E3, E4, E5, B1, B2, B3, B4, B5, B6, B7, B8, B9, B10, B11, B12, L1, L2, L3, L4, L5, L6, L7, L8, L9}
 use Rattle.wf_text.specs.Precedence.{then_by, is_before, rank, sooner, soonest, IsFirst, Decides}
 
 then_by-self : (a : ℕ) (next : Bool) → next ≡ false → then_by a a next ≡ false
@@ -103,7 +103,7 @@ Decides-soonest P found (r ∷ rs) h =
 
 -- The rules in their order.
 abbrev rules : List Rule
-rules = S1 ∷ S2 ∷ S3 ∷ S4 ∷ S5 ∷ S6 ∷ N1 ∷ N2 ∷ N3 ∷ N4 ∷ N5 ∷ N6 ∷ N7 ∷ N8 ∷ N9 ∷ T1 ∷ T2 ∷ T3 ∷ T4 ∷ T5 ∷ E1 ∷ E2 ∷ E3 ∷ E4 ∷ E5 ∷ B1 ∷ B2 ∷ B3 ∷ B4 ∷ B5 ∷ B6 ∷ B7 ∷ B8 ∷ B9 ∷ B10 ∷ B11 ∷ B12 ∷ L1 ∷ L2 ∷ L3 ∷ L4 ∷ L5 ∷ L6 ∷ L7 ∷ L8 ∷ L9 ∷ []
+rules = S1 ∷ S2 ∷ S3 ∷ S4 ∷ S5 ∷ S6 ∷ N1 ∷ N2 ∷ N3 ∷ N4 ∷ N5 ∷ N6 ∷ N7 ∷ N8 ∷ T1 ∷ T2 ∷ T3 ∷ T4 ∷ T5 ∷ E1 ∷ E2 ∷ E3 ∷ E4 ∷ E5 ∷ B1 ∷ B2 ∷ B3 ∷ B4 ∷ B5 ∷ B6 ∷ B7 ∷ B8 ∷ B9 ∷ B10 ∷ B11 ∷ B12 ∷ L1 ∷ L2 ∷ L3 ∷ L4 ∷ L5 ∷ L6 ∷ L7 ∷ L8 ∷ L9 ∷ []
 
 rule_at-rank : (rule : Rule) → slice_get rules (rank rule) ≡ Some rule
 rule_at-rank S1 = refl
@@ -120,7 +120,6 @@ rule_at-rank N5 = refl
 rule_at-rank N6 = refl
 rule_at-rank N7 = refl
 rule_at-rank N8 = refl
-rule_at-rank N9 = refl
 rule_at-rank T1 = refl
 rule_at-rank T2 = refl
 rule_at-rank T3 = refl

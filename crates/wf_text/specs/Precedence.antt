@@ -2,7 +2,7 @@
 use Rattle.std.specs.Prelude.{ℕ, Bool, List, [], ◌∷◌, Option, Some, None, ◌≡◌, false, nat_eq, nat_lt, if◌then◌else◌}
 use Rattle.wf_text.specs.declared.rules.Refusal.{Refusal}
 use Rattle.wf_text.specs.declared.rules.Rule.{Rule}
-use Rattle.wf_text.specs.declared.rules.Rule.TheVariants.{S1, S2, S3, S4, S5, S6, N1, N2, N3, N4, N5, N6, N7, N8, N9, T1, T2, T3, T4, T5, E1, E2, E3, E4, E5, B1, B2, B3, B4, B5, B6, B7, B8, B9, B10, B11, B12, L1, L2, L3, L4, L5, L6, L7, L8, L9}
+use Rattle.wf_text.specs.declared.rules.Rule.TheVariants.{S1, S2, S3, S4, S5, S6, N1, N2, N3, N4, N5, N6, N7, N8, T1, T2, T3, T4, T5, E1, E2, E3, E4, E5, B1, B2, B3, B4, B5, B6, B7, B8, B9, B10, B11, B12, L1, L2, L3, L4, L5, L6, L7, L8, L9}
 
 -- The rules' order: by letter in the order of the phases, the limits last, then by number.
 abbrev pub rank : Rule → ℕ
@@ -20,38 +20,37 @@ rank N5 = 10
 rank N6 = 11
 rank N7 = 12
 rank N8 = 13
-rank N9 = 14
-rank T1 = 15
-rank T2 = 16
-rank T3 = 17
-rank T4 = 18
-rank T5 = 19
-rank E1 = 20
-rank E2 = 21
-rank E3 = 22
-rank E4 = 23
-rank E5 = 24
-rank B1 = 25
-rank B2 = 26
-rank B3 = 27
-rank B4 = 28
-rank B5 = 29
-rank B6 = 30
-rank B7 = 31
-rank B8 = 32
-rank B9 = 33
-rank B10 = 34
-rank B11 = 35
-rank B12 = 36
-rank L1 = 37
-rank L2 = 38
-rank L3 = 39
-rank L4 = 40
-rank L5 = 41
-rank L6 = 42
-rank L7 = 43
-rank L8 = 44
-rank L9 = 45
+rank T1 = 14
+rank T2 = 15
+rank T3 = 16
+rank T4 = 17
+rank T5 = 18
+rank E1 = 19
+rank E2 = 20
+rank E3 = 21
+rank E4 = 22
+rank E5 = 23
+rank B1 = 24
+rank B2 = 25
+rank B3 = 26
+rank B4 = 27
+rank B5 = 28
+rank B6 = 29
+rank B7 = 30
+rank B8 = 31
+rank B9 = 32
+rank B10 = 33
+rank B11 = 34
+rank B12 = 35
+rank L1 = 36
+rank L2 = 37
+rank L3 = 38
+rank L4 = 39
+rank L5 = 40
+rank L6 = 41
+rank L7 = 42
+rank L8 = 43
+rank L9 = 44
 
 -- Below, where two numbers that are the same leave it to what comes next.
 abbrev pub then_by : ℕ → ℕ → Bool → Bool

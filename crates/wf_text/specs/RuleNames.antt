@@ -1,7 +1,7 @@
 -- The rules' names, as they are printed.
 use Rattle.std.specs.Prelude.{ℕ, List, codes}
 use Rattle.wf_text.specs.declared.rules.Rule.{Rule}
-use Rattle.wf_text.specs.declared.rules.Rule.TheVariants.{S1, S2, S3, S4, S5, S6, N1, N2, N3, N4, N5, N6, N7, N8, N9, T1, T2, T3, T4, T5, E1, E2, E3, E4, E5, B1, B2, B3, B4, B5, B6, B7, B8, B9, B10, B11, B12, L1, L2, L3, L4, L5, L6, L7, L8, L9}
+use Rattle.wf_text.specs.declared.rules.Rule.TheVariants.{S1, S2, S3, S4, S5, S6, N1, N2, N3, N4, N5, N6, N7, N8, T1, T2, T3, T4, T5, E1, E2, E3, E4, E5, B1, B2, B3, B4, B5, B6, B7, B8, B9, B10, B11, B12, L1, L2, L3, L4, L5, L6, L7, L8, L9}
 
 abbrev pub name_of : Rule → List ℕ
 name_of S1 = codes "S1"
@@ -18,7 +18,6 @@ name_of N5 = codes "N5"
 name_of N6 = codes "N6"
 name_of N7 = codes "N7"
 name_of N8 = codes "N8"
-name_of N9 = codes "N9"
 name_of T1 = codes "T1"
 name_of T2 = codes "T2"
 name_of T3 = codes "T3"

@@ -37,8 +37,6 @@ pub enum Rule {
     N7,
     /// A method of another struct.
     N8,
-    /// A form that this compiler doesn't build yet.
-    N9,
     /// A wrong type.
     T1,
     /// Not assignable.
@@ -129,7 +127,6 @@ pub fn rule_name(rule: Rule) -> &'static str
         Rule::N6 => "N6",
         Rule::N7 => "N7",
         Rule::N8 => "N8",
-        Rule::N9 => "N9",
         Rule::T1 => "T1",
         Rule::T2 => "T2",
         Rule::T3 => "T3",
