@@ -29,11 +29,11 @@ well : IsWellTyped parsing
 unfolding well_typed
 well = record { whole = refl; method = refl }
 
-pub refused : statement_refusal (around parsing round_it) known_there (site 6 21 13) (single next_val) ≡ None
+pub refused : statement_refusal (around parsing round_it) known_there (site 7 21 13) (single next_val) ≡ None
 unfolding met
 refused = refl
 
-pub goes_on : (calls : Callees) → step parsing calls 3 (at_block (plain (site 6 21 13) next_val after_it) round_it (vars_with 7)) ≡ Go (at_block after_it round_it (vars_with 75))
+pub goes_on : (calls : Callees) → step parsing calls 3 (at_block (plain (site 7 21 13) next_val after_it) round_it (vars_with 7)) ≡ Go (at_block after_it round_it (vars_with 75))
 unfolding step with_some
 goes_on calls = refl
 
@@ -86,7 +86,7 @@ apart zero zero k h j = refl
 apart zero (suc n) k h j = absurd (cc (j))
 apart (suc n) other k h j = absurd (cc (h))
 
-pub running : IsRunning (IsLeftBy demo no_lists) one_parser parsing (plain (site 6 21 13) next_val after_it) round_it (vars_with 7)
+pub running : IsRunning (IsLeftBy demo no_lists) one_parser parsing (plain (site 7 21 13) next_val after_it) round_it (vars_with 7)
 running = record {
   lawful = record {
     world = record { objects = objects; fields = fields; remaining = remaining; arrays = arrays; buffers = buffers };

@@ -405,6 +405,7 @@ module _ (R : (method : ℕ) → Remaining → Type 0) (shape : Shape) (b : Body
           let w2 = and_parts (allows b.method.mark mark) _ w1.1 in
           let w3 = and_parts (calls_method c called m) _ w2.1 in
           let w4 = and_parts (fit_types c m.args vs) _ w3.1 in
+          let w5 = and_parts (takes_answer c target keep mark m.gives) _ w4.1 in
           let u = and_parts (list_all is_slice_value vs) _ once in
           let same = mark-same mark m.mark w1.0 in
           let P : Option MethodTree → Type 0 = λ o. or_else (all_handed B8 (known_to_call keep mark fs) (handed_to_method o vs)) (answer_refusal (left_by_call keep mark vs fs) at target (answered_by o)) ≡ None in
@@ -417,7 +418,7 @@ module _ (R : (method : ℕ) → Remaining → Type 0) (shape : Shape) (b : Body
           goes-with Comes (slice_get b.within.methods (number_of called)) m _ is
           (goes-with Comes (values_of s m.args vs) x.values _ x.is
           (goes-with Comes (receiver_of b called vars) o.object _ o.is
-          (held (through b.within calls m called (record { object = o.object; method = number_of called; args = x.values }) n vars.world) x.values x.is ran w4.1 w2.0 same r.1)))
+          (held (through b.within calls m called (record { object = o.object; method = number_of called; args = x.values }) n vars.world) x.values x.is ran w5.0 w2.0 same r.1)))
         where
           held : (out : Outcome (Answered × World)) (values : List Value) → values_of s m.args vs ≡ Some values → RunsWell b.within R shape m values vars.world out → takes_answer c target keep mark m.gives ≡ true → allows b.method.mark mark ≡ true → mark ≡ m.mark
               → answer_refusal (left_by_call keep mark vs fs) at target (answered_by (Some m)) ≡ None

@@ -28,13 +28,13 @@ next_val =
     (link (on 21 28) (on 21 28) times 32 false (number (on 21 25) 10) val) (convert (on 21 45) (on 21 45) 32 digit)))
 
 abbrev pub after_it : Block
-after_it = plain (site 7 22 13) (continue_in 11) end
+after_it = plain (site 8 22 13) (continue_in 12) end
 
 abbrev pub loop_head : Head
 loop_head = record { cond = truth (on 11 11) true; clauses = []; is_left = false; close = on 27 5 }
 
 abbrev pub round_it : Behind
-round_it = again (site 11 11 5) loop_head parse_loop end stop
+round_it = again (site 12 11 5) loop_head parse_loop end stop
 
 abbrev pub known_there : List Claim
 known_there = compared (single val) less (single (number (on 20 23) 429496729)) ∷ compared (single digit) at_most (single (number (on 16 28) 9)) ∷ []
