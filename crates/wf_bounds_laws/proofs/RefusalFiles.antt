@@ -1,10 +1,9 @@
 -- What the rules of facts and of points refuse of a package stands in one of its files.
-use Rattle.std.proofs.Common.{◌≡◌, ◌<◌, ℕ, zero, suc, Bool, true, false, if◌then◌else◌, List, [], ◌∷◌, ◌++◌, length, slice_get, Option, None, Some, IfSome, sym, ap, subst}
+use Rattle.std.proofs.Common.{◌≡◌, ◌<◌, ℕ, zero, suc, Bool, true, false, if◌then◌else◌, List, [], ◌∷◌, ◌++◌, length, slice_get, Some, sym, subst}
 use Rattle.std.specs.List.{AllByRecursion}
-use Rattle.std.proofs.lemmas.Option.{none-some}
 use Rattle.wf_text.specs.declared.place.Place.{Place}
 use Rattle.wf_text.specs.declared.rules.Refusal.{Refusal}
-use Rattle.wf_ast.specs.TypedTree.{Simple, Site, Block, end, plain, choose, loop}
+use Rattle.wf_ast.specs.TypedTree.{Site, Block, end, plain, choose, loop}
 use Rattle.wf_ast.specs.TypedPackage.{MethodTree}
 use Rattle.wf_meaning.specs.Remaining.{is_point, points_in}
 use Rattle.wf_parse.specs.Parsing.{decls_of}
@@ -15,7 +14,7 @@ use Rattle.wf_read_laws.proofs.FilePlaces.{decls-below}
 use Rattle.wf_read_laws.proofs.PackageResolved.{package-in}
 use Rattle.wf_bounds_laws.specs.BoundsRules.{name_of_local, bounds_refusal}
 use Rattle.wf_bounds_laws.specs.BoundsLaws.{IsInFiles, BoundsHaveFiles, PointsHaveFiles, ReadBoundsHaveFiles, ReadPointsHaveFiles}
-use Rattle.wf_bounds_laws.specs.TypedPlaces.{BlockIsIn, BodiesAreIn}
+use Rattle.wf_bounds_laws.specs.TypedPlaces.{BlockIsIn}
 use Rattle.wf_bounds_laws.proofs.ExprRefusals.{RefusalIsIn}
 use Rattle.wf_bounds_laws.proofs.BodyRefusals.{methods-in}
 use Rattle.wf_bounds_laws.proofs.StmtTyping.{typing_keeps_files}
