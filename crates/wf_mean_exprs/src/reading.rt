@@ -116,7 +116,7 @@ pub(crate) fn span_in(slot: Option<Slot>) -> Option<SliceSpan>
 impl Scene<'_> {
     /// The number in a local.
     #[tactic(auto, using(crate::proofs::Variables::local_number))]
-    pub(crate) fn local_number(&self, x: LocalId) -> Option<u64>
+    pub fn local_number(&self, x: LocalId) -> Option<u64>
         ensures { result ≡ (seen_from self.now).number_at (local x.0) }
     {
         number_in(slot_at(self.frame.locals.as_slice(), x.0))
@@ -192,7 +192,7 @@ impl Scene<'_> {
 
     /// The slice in a local.
     #[tactic(auto, using(crate::proofs::Variables::local_span))]
-    pub(crate) fn local_span(&self, x: LocalId) -> Option<SliceSpan>
+    pub fn local_span(&self, x: LocalId) -> Option<SliceSpan>
         ensures { option_map span_seen result ≡ (seen_from self.now).span_at (local x.0) }
     {
         span_in(slot_at(self.frame.locals.as_slice(), x.0))
@@ -216,7 +216,7 @@ impl Scene<'_> {
 
     /// The number of the buffer of a reader or a writer.
     #[tactic(auto, using(crate::proofs::Variables::arg_number_of_buffer))]
-    pub(crate) fn buffer_number(&self, x: ArgId) -> Option<u16>
+    pub fn buffer_number(&self, x: ArgId) -> Option<u16>
         ensures { result ≡ (seen_from self.now).buffer_number x.0 }
     {
         buffer_in(slot_at(self.frame.args.as_slice(), x.0))
@@ -244,9 +244,9 @@ impl Scene<'_> {
         }
     }
 
-    // The element of a store with this number.
+    /// The element of a store with this number.
     #[tactic(auto, using(crate::proofs::Variables::no_cell, crate::proofs::Variables::host_cells, crate::proofs::Variables::field_cells))]
-    fn cell(&self, store: SliceStore, k: u64) -> Option<u64>
+    pub fn cell(&self, store: SliceStore, k: u64) -> Option<u64>
         ensures { result ≡ slice_get ((seen_from self.now).cells_at (store_seen store)) k }
     {
         match store {

@@ -1,0 +1,12 @@
+pub mod StoringLemmas
+pub mod TargetLemmas
+pub mod AnyLemmas
+pub mod AwaitLemmas
+pub mod ChainTargets
+pub mod ArgumentLemmas
+pub mod ByteLemmas
+pub mod CopyLemmas
+pub mod CopyOutLemmas
+pub mod PerformLemmas
+pub mod BodyLemmas
+pub mod CallLemmas
