@@ -174,11 +174,21 @@ fn is_local(typed: &Typed, at: Place, number: u32, ty: Ty) -> bool {
     }
 }
 
+// Whether the second method tells the expression at this place of the local with this number.
+fn tells_local(typed: &Typed, at: Place, number: u32) -> bool {
+    let m = MethodId(1);
+    if typed.methods() <= 1 || typed.method(m).locals.as_slice().len() <= number as usize {
+        return false;
+    }
+    let told = typed.local_expr(m, LocalId(number));
+    typed.expr_at(at) == Some(told)
+}
+
 // Whether each local has a node where it is declared.
 fn has_locals(typed: &Typed) -> bool {
     let first = is_local(typed, place(18, 5), 0, number(Width::W8, 0, 255));
     let second = is_local(typed, place(19, 5), 1, Ty::Flag);
-    first && second
+    first && second && tells_local(typed, place(18, 5), 0) && tells_local(typed, place(19, 5), 1)
 }
 
 // Whether the second method calls the third with 2, and keeps its result in a local, where a condition holds.
