@@ -2,7 +2,7 @@
 
 ghost use Rattle.std.specs.Prelude.{◌≡◌, ◌+◌, ◌++◌, ◌∷◌, [], ℕ, true, not, length, map, IfOk, OnOk, MatchBool};
 ghost use Rattle.c_meaning.specs.CMemory.{Memory, Object as ObjectOfMemory};
-ghost use Rattle.c_mem.specs.FieldParts.{declared_field};
+ghost use Rattle.c_mem.specs.FieldParts.{declared_field, unset_field};
 ghost use Rattle.c_mem.specs.MemoryViews.{memory, HasRoom};
 ghost use Rattle.c_step_exprs.specs.Stacks.{on_stack, most};
 ghost use Rattle.c_step_frames.specs.Frames.{Enters, EndsWith, types_of, unset_cells};
@@ -42,6 +42,15 @@ fn declare(fields: &mut Vec<FieldDecl>, types: &[CellType]) -> Result<(), NoMemo
         fields.push(FieldDecl::Cells { ty: *ty, count: 1 })?;
     }
     Ok(())
+}
+
+/// An object once it is unset.
+fn rested(object: Object) -> Object
+    ensures { result ≡ map unset_field object }
+{
+    let mut it = object;
+    it.unset();
+    it
 }
 
 impl Frame {
@@ -86,8 +95,7 @@ impl Frame {
             return false;
         };
         if pass(self.params.as_slice(), &mut object, stack).is_none() {
-            object.unset();
-            self.object = Some(object);
+            self.object = Some(rested(object));
             return false;
         }
         mem.enter(object);
@@ -101,10 +109,9 @@ impl Frame {
         ensures frame { self.new ≡ record self.old { rests = true } }
         ensures room { (more : ℕ) → HasRoom mem.old more → HasRoom mem.new (more + 1) }
     {
-        let Some(mut last) = mem.leave() else {
+        let Some(last) = mem.leave() else {
             return;
         };
-        last.unset();
-        self.object = Some(last);
+        self.object = Some(rested(last));
     }
 }

@@ -17,4 +17,4 @@ pass-requires c =
 pub invariant_of-self-then-is_none : goal.invariant_of-self-then-is_none
 invariant_of-self-then-is_none c =
     let e = kept_is c.self.inside.object c.in-Some.object (unset_cells (c.self.inside.params.items ++ c.self.inside.locals.items)) c.in-Some.ensures.value c.self.invariant in
-    c.unset.ensures ∙ unset_again (c.self.inside.params.items ++ c.self.inside.locals.items) c.pass.new.object (c.pass.ensures.shape ∙ ap object_shape e)
+    c.rested.ensures ∙ unset_again (c.self.inside.params.items ++ c.self.inside.locals.items) c.pass.new.object (c.pass.ensures.shape ∙ ap object_shape e)

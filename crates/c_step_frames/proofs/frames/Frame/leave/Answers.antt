@@ -8,7 +8,7 @@ use Rattle.c_step_frames.proofs.frames.Frame.leave.Goals as goal
 pub invariant_of-self : goal.invariant_of-self
 invariant_of-self c =
     let r = last_one (memory c.leave.new.self) c.requires.front c.in-Some.last c.requires.last (sym c.in-Some.ensures.objects ∙ c.requires.is) in
-    c.unset.ensures ∙ unset_again (c.self.inside.params.items ++ c.self.inside.locals.items) c.in-Some.last
+    c.rested.ensures ∙ unset_again (c.self.inside.params.items ++ c.self.inside.locals.items) c.in-Some.last
     (ap object_shape r.1 ∙ (c.requires.shape ∙ ap (λ (f : FrameView). object_shape (unset_cells (types_of f))) (sym c.self.view_is)))
 
 pub returns-in_default-clause-memory : goal.returns-in_default-clause-memory
