@@ -28,7 +28,7 @@ use Rattle.wf_facts.specs.FactLists.{without}
 use Rattle.wf_meaning.specs.SourceState.{Behind, Remaining, Done, untouched, has_bytes, to_skip, to_write, has_yielded}
 use Rattle.wf_meaning.specs.Entry.{short_read, short_write}
 use Rattle.wf_meaning.specs.World.{World, Body, Vars, put_value}
-use Rattle.wf_meaning.specs.SourceStep.{Ending, Steps, state_of, at_block, with_some, either, change_buffer, io_of, bytes_so_far, kept_or, below, read_on, skip_on, write_on, suspending}
+use Rattle.wf_meaning.specs.SourceStep.{Ending, Steps, state_of, at_block, with_some, either, change_buffer, io_of, bytes_so_far, kept_count, kept_byte, below, read_on, skip_on, write_on, suspending}
 use Rattle.wf_meaning.specs.SourceStep as steps
 use Rattle.wf_bounds_stmts.specs.Requirements.{all_handed}
 use Rattle.wf_bounds_stmts.specs.Calls.{interrupted, all_of, handed_to_awaited, await_refusal, awaited}
@@ -196,10 +196,10 @@ module _ (R : (method : ℕ) → Remaining → Type 0) (shape : Shape) (b : Body
       (x.number, ap (option_and_then (below (bits_of width))) x.is ∙ below-is (bits_of width) x.number small, small)
 
   skip-left : (target : Target) (a : ℕ) (count : NumTree) (done : Done) → IsReached b vars fs (await at target a (skip count)) done → (may_go_into 32 count && well_num c count) ≡ true → await_refusal fs at target (skip count) ≡ None
-      → (m : ℕ) × (kept_or done (option_and_then (below 32) (value s count)) ≡ Some m) × (m < 2 ^ 32)
+      → (m : ℕ) × (kept_count done (option_and_then (below 32) (value s count)) ≡ Some m) × (m < 2 ^ 32)
   skip-left target a count done (afresh e h) w r =
       let x = fresh-number W32 target (skip count) count refl w r h in
-      let P : Done → Type 0 = λ done. kept_or done (option_and_then (below 32) (value s count)) ≡ Some x.0 in
+      let P : Done → Type 0 = λ done. kept_count done (option_and_then (below 32) (value s count)) ≡ Some x.0 in
       (x.0, subst P (sym e) x.1, x.2)
   skip-left target a count (to_skip left) (resumed e h) w r = (left, refl, e)
   skip-left target a count untouched (resumed e h) w r = absurd e
@@ -208,10 +208,10 @@ module _ (R : (method : ℕ) → Remaining → Type 0) (shape : Shape) (b : Body
   skip-left target a count has_yielded (resumed e h) w r = absurd e
 
   write-left : (target : Target) (a : ℕ) (byte : NumTree) (done : Done) → IsReached b vars fs (await at target a (write byte)) done → (may_go_into 8 byte && well_num c byte) ≡ true → await_refusal fs at target (write byte) ≡ None
-      → (m : ℕ) × (kept_or done (option_and_then (below 8) (value s byte)) ≡ Some m) × (m < 2 ^ 8)
+      → (m : ℕ) × (kept_byte done (option_and_then (below 8) (value s byte)) ≡ Some m) × (m < 2 ^ 8)
   write-left target a byte done (afresh e h) w r =
       let x = fresh-number W8 target (write byte) byte refl w r h in
-      let P : Done → Type 0 = λ done. kept_or done (option_and_then (below 8) (value s byte)) ≡ Some x.0 in
+      let P : Done → Type 0 = λ done. kept_byte done (option_and_then (below 8) (value s byte)) ≡ Some x.0 in
       (x.0, subst P (sym e) x.1, x.2)
   write-left target a byte (to_write it) (resumed e h) w r = (it, refl, e)
   write-left target a byte untouched (resumed e h) w r = absurd e
@@ -240,7 +240,7 @@ module _ (R : (method : ℕ) → Remaining → Type 0) (shape : Shape) (b : Body
         let x : IoAt R shape b vars lawful a = reader-at R shape b vars lawful a q.0 in
         let m = skip-left to_nothing a count done ready q.1 e in
         goes-with SkipComes (io_of b a vars) (x.k, x.buf) (λ io. steps.awaited b n to_nothing io.0 io.1 (skip count) done (plain site (await at to_nothing a (skip count)) rest) rest behind vars) x.is
-        (goes-with SkipComes (kept_or done (option_and_then (below 32) (value s count))) m.0
+        (goes-with SkipComes (kept_count done (option_and_then (below 32) (value s count))) m.0
         (λ left. skip_on n (ops.left_to_skip left x.buf) (plain site (await at to_nothing a (skip count)) rest) rest behind (change_buffer x.k (ops.skipped left) vars)) m.1 (skips x m.0 m.2))
 
   -- The step of a write.
@@ -266,7 +266,7 @@ module _ (R : (method : ℕ) → Remaining → Type 0) (shape : Shape) (b : Body
         let x : IoAt R shape b vars lawful a = writer-at R shape b vars lawful a q.0 in
         let m = write-left to_nothing a byte done ready q.1 e in
         goes-with WriteComes (io_of b a vars) (x.k, x.buf) (λ io. steps.awaited b n to_nothing io.0 io.1 (write byte) done (plain site (await at to_nothing a (write byte)) rest) rest behind vars) x.is
-        (goes-with WriteComes (kept_or done (option_and_then (below 8) (value s byte))) m.0
+        (goes-with WriteComes (kept_byte done (option_and_then (below 8) (value s byte))) m.0
         (λ it. write_on n x.k it x.buf (plain site (await at to_nothing a (write byte)) rest) rest behind vars) m.1 (writes x m.0 m.2))
 
   -- The step of any.

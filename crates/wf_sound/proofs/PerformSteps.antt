@@ -1,9 +1,10 @@
 -- The steps of base calls that write and don't suspend.
-use Rattle.std.proofs.Common.{◌≡◌, ℕ, ◌+◌, ◌-◌, ◌^◌, ◌<◌, ◌≤◌, Bool, true, false, not, ◌&&◌, ◌||◌, List, [], ◌∷◌, take, drop, Option, Some, None, refl, sym, ◌∙◌, subst, nat_eq, arith, length-take}
+use Rattle.std.proofs.Common.{◌≡◌, ℕ, ◌+◌, ◌-◌, ◌^◌, ◌<◌, ◌≤◌, Bool, true, false, not, ◌&&◌, ◌||◌, List, [], ◌∷◌, length, take, drop, Option, Some, None, refl, sym, ◌∙◌, subst, nat_eq, arith, length-take}
 use Rattle.std.specs.Prelude.{slice_get, unwrap_or, min, nat_lt, nat_le, All}
+use Rattle.std.specs.List.{list_all}
 use Rattle.std.proofs.lemmas.Bool.{and_parts}
 use Rattle.std.proofs.lemmas.Bool.Decides.{nat_tests}
-use Rattle.std.proofs.lemmas.List.Elements.{All-nil, All-take, All-drop, All-weaker}
+use Rattle.std.proofs.lemmas.List.Elements.{All-nil, All-head, All-tail, All-take, All-drop, All-weaker}
 use Rattle.std.proofs.lemmas.Nat.{pow_pos}
 use Rattle.turns.specs.Run.{Go}
 use Rattle.wf_text.specs.declared.place.Place.{Place}
@@ -28,8 +29,8 @@ use Rattle.wf_facts_exprs.proofs.Soundness.{SoundSpan, span-sound, sides-given}
 use Rattle.wf_facts.specs.FactLists.{without}
 use Rattle.wf_facts.specs.Forms.{number_in}
 use Rattle.wf_meaning.specs.SourceState.{Held, held_num, held_truth, held_status, held_cells, held_part, Behind, Remaining}
-use Rattle.wf_meaning.specs.World.{World, Body, Vars, held_at, cells_at, with_cells, put_value}
-use Rattle.wf_meaning.specs.SourceStep.{Ending, Steps, state_of, at_block, with_some, change_buffer, io_of, elements_of, copied_to_writer, copied_to_slice, skipped_fast, written_fast, with_target}
+use Rattle.wf_meaning.specs.World.{World, Body, Vars, held_at, cells_at, with_cells, fits_store, put_value}
+use Rattle.wf_meaning.specs.SourceStep.{Ending, Steps, state_of, at_block, with_some, change_buffer, io_of, elements_of, are_bytes, copied_to_writer, copied_to_slice, skipped_fast, written_fast, with_target}
 use Rattle.wf_meaning.specs.SourceStep as steps
 use Rattle.wf_bounds_stmts.specs.Requirements.{place_of_number, handed_refusal, all_handed}
 use Rattle.wf_bounds_stmts.specs.Targets.{taken_by, target_refusal, written_by, unwritten, holds_all, answer_refusal}
@@ -41,7 +42,7 @@ use Rattle.wf_sound.proofs.Views.{lawful-view}
 use Rattle.wf_sound.proofs.Drops.{drops-true}
 use Rattle.wf_sound.proofs.FieldWrites.{CellsKept}
 use Rattle.wf_sound.proofs.Agreements.{buffer-agree}
-use Rattle.wf_sound.proofs.TypedValues.{IsSpanOf, store_has, array_has, span-typed}
+use Rattle.wf_sound.proofs.TypedValues.{IsSpanOf, store_has, array_has, store-fits, span-typed}
 use Rattle.wf_sound.proofs.HandedValues.{demanded, neither, NumberOf, number-of, Accepted, all-accepted}
 use Rattle.wf_sound.proofs.Puts.{without_some-true, PutIn, put, CellsPut, cells-put}
 use Rattle.wf_sound.proofs.AssignSteps.{goes-with}
@@ -56,6 +57,11 @@ none-is-nothing target h = absurd (cc (h))
 both : (p q : Bool) → p ≡ true → q ≡ true → (p && q) ≡ true
 both true q h k = k
 both false q h k = absurd (cc (h))
+
+-- What holds of each element is found of each.
+each-passes : (P : ℕ → Type 0) (test : ℕ → Bool) → ((n : ℕ) → P n → test n ≡ true) → (xs : List ℕ) → All P xs → list_all test xs ≡ true
+each-passes P test h [] all = refl
+each-passes P test h (x ∷ xs) all = both (test x) _ (h x (All-head P x xs all)) (each-passes P test h xs (All-tail P x xs all))
 
 module _ (R : (method : ℕ) → Remaining → Type 0) (shape : Shape) (b : Body) where
   -- What a call gives goes to its target, from where the call has left.
@@ -220,6 +226,32 @@ module _ (R : (method : ℕ) → Remaining → Type 0) (shape : Shape) (b : Body
     slice-elements-lie : (t : SliceTree) (xs : Span) → IsSpanOf b.within shape (element_type t) xs → All (IsOf (element_type t)) (elements_of vars xs)
     slice-elements-lie t xs h = elements-lie (element_type t) xs.store xs.from xs.count h.has h.inside
 
+    -- A slice that lies in its store lies in the store's elements.
+    host-there : (a end : ℕ) (o : Option ℕ) → slice_get shape.arrays a ≡ o → end ≤ unwrap_or o 0 → end ≤ length (unwrap_or (slice_get vars.world.host.arrays a) [])
+    host-there a end None e h = omega (arith, h)
+    host-there a end (Some len) e h =
+        let found = lawful.world.arrays a len e in
+        rw found.1 (omega (arith, h, found.2))
+
+    field-there : (object n end : ℕ) (o : Option Ty) → field_type b.within shape object n ≡ o → end ≤ array_length o → end ≤ length (cells_at vars.world (field_array object n))
+    field-there object n end (Some (types.Array width lo hi len)) e h =
+        let found = lawful.world.fields object n (types.Array width lo hi len) e in
+        by found.0 found.1 found.2
+      where
+        by : (held : Held) → held_at vars.world object n ≡ Some held → IsHeldAs shape (types.Array width lo hi len) held → end ≤ length (cells_at vars.world (field_array object n))
+        by (held_cells cells) is lies = rw is (omega (arith, h, lies.0))
+        by (held_num m) is lies = absurd lies
+        by (held_truth t) is lies = absurd lies
+        by (held_status m) is lies = absurd lies
+        by (held_part object) is lies = absurd lies
+    field-there object n end None e h = omega (arith, h)
+    field-there object n end (Some ty) e h = omega (arith, h)
+
+    store-there : (store : Store) (end : ℕ) → end ≤ store_length b.within shape store → end ≤ length (cells_at vars.world store)
+    store-there nowhere end h = h
+    store-there (host_array a) end h = host-there a end (slice_get shape.arrays a) refl h
+    store-there (field_array object n) end h = field-there object n end (field_type b.within shape object n) refl h
+
     -- A type of elements lies in its width.
     width-holds : (t : SliceTree) → well_slice c t ≡ true → (element_type t).high < 2 ^ (element_type t).bits
     width-holds (slice at bits path) h = let p : 0 < 2 ^ bits = pow_pos bits in omega (arith, p)
@@ -261,7 +293,8 @@ module _ (R : (method : ℕ) → Remaining → Type 0) (shape : Shape) (b : Body
         let n : ℕ = ops.put_count (elements_of vars xs.0) x.buf in
         let lies : IsOf (record { bits = 64; low = 0; high = 2 ^ 64 - 1 }) (ops.put_count (elements_of vars xs.0) x.buf) = record { above = omega arith; below = omega (arith, length-take xs.0.count (drop xs.0.from (cells_at vars.world xs.0.store)), xs.2.few) } in
         let y = answered target 64 n (record { bits = 64; low = 0; high = 2 ^ 64 - 1 }) left (without (things.Arg (record { 0 = a })) fs) at fine (drop-well (things.Arg (record { 0 = a }))) facts w2.0 lies p.1 in
-        record { after = y.0; is = rw (x.is, xs.1) y.1; lawful = y.2; facts = y.3 }
+        let pass : are_bytes (elements_of vars xs.0) ≡ true = each-passes (λ cell. cell < 2 ^ 8) (λ cell. nat_lt cell (2 ^ 8)) (λ cell small. grind (arith, nat_tests, small)) (elements_of vars xs.0) bytes in
+        record { after = y.0; is = rw (x.is, xs.1, pass) y.1; lawful = y.2; facts = y.3 }
 
     -- A copy between slices.
     copy-kept : (of : NumType) (store : Store) (from count : ℕ) (source : List ℕ) → store_has b.within shape of store ≡ true → from + count ≤ store_length b.within shape store → All (IsOf of) source → CellsKept b.within R shape store (ops.copied from count source)
@@ -316,7 +349,11 @@ module _ (R : (method : ℕ) → Remaining → Type 0) (shape : Shape) (b : Body
         let facts : AllTrue (state_of b left) (without things.Element fs) = drops-true things.Element [] s (state_of b left) fs put.agrees known in
         let lies : IsOf (record { bits = 64; low = 0; high = 2 ^ 64 - 1 }) (min ts.0.count xs.0.count) = record { above = omega arith; below = omega (arith, ts.2.few) } in
         let y = answered target 64 (min ts.0.count xs.0.count) (record { bits = 64; low = 0; high = 2 ^ 64 - 1 }) left (without things.Element fs) at put.fine (drop-well things.Element) facts w1.0 lies p.1 in
-        record { after = y.0; is = rw (ts.1, xs.1) y.1; lawful = y.2; facts = y.3 }
+        let there : ts.0.from + ts.0.count ≤ length (cells_at vars.world ts.0.store) = store-there ts.0.store (ts.0.from + ts.0.count) ts.2.inside in
+        let inside : nat_le (ts.0.from + ts.0.count) (length (cells_at vars.world ts.0.store)) ≡ true = grind (arith, nat_tests, there) in
+        let pass : list_all (fits_store ts.0.store) (elements_of vars xs.0) ≡ true =
+        each-passes (IsOf (element_type to)) (fits_store ts.0.store) (λ n l. store-fits b.within shape (element_type to) ts.0.store n ts.2.has l) (elements_of vars xs.0) all in
+        record { after = y.0; is = rw (ts.1, xs.1, inside, pass) y.1; lawful = y.2; facts = y.3 }
 
     performs : (at : Place) (target : Target) (call : Written) → well_written c target call ≡ true → is_slice_target call ≡ true → perform_refusal fs at target call ≡ None → Performs target call vars fs
     performs at target (skip_fast a actual worst) w u e =

@@ -21,7 +21,7 @@ use Rattle.wf_facts_exprs.specs.Demands.{num_refusal}
 use Rattle.wf_facts_exprs.specs.LawfulState.{IsOf, well_claims}
 use Rattle.wf_facts_exprs.proofs.Soundness.{Sound, num-of}
 use Rattle.wf_meaning.specs.SourceState.{Held, held_num, held_truth, held_status, held_cells, Remaining}
-use Rattle.wf_meaning.specs.World.{Body, Vars, updated, held_at, held_of, cells_held, with_cells, set_path, in_range, put_value}
+use Rattle.wf_meaning.specs.World.{Body, Vars, updated, held_at, held_of, cells_held, with_cells, set_path, in_range, fits_store, put_value}
 use Rattle.wf_meaning.specs.SourceStep.{state_of}
 use Rattle.wf_meaning.proofs.Lists.{updated-at, updated-other}
 use Rattle.wf_meaning.proofs.Lists2.{Made, and_then_made}
@@ -30,7 +30,7 @@ use Rattle.wf_sound.specs.Worlds.{Shape, field_type, numbers_of, IsSliceOf, IsOf
 use Rattle.wf_sound.proofs.Drops.{AgreeBeside, drops-true, agree-same}
 use Rattle.wf_sound.proofs.FieldWrites.{same_or_not, held-changed, field-lawful, cells-lawful, CellsKept}
 use Rattle.wf_sound.proofs.Views.{FieldHas, field-has, lawful-view}
-use Rattle.wf_sound.proofs.TypedValues.{IsSpanOf, store_has, array_has, span-typed}
+use Rattle.wf_sound.proofs.TypedValues.{IsSpanOf, store_has, array_has, store-fits, span-typed}
 use Rattle.wf_sound.proofs.Agreements.{local-agree, field-agree, cells-agree, host-cells-agree}
 
 -- The value is one that the target takes, and the target is one that a method with its mark may write.
@@ -256,9 +256,10 @@ module _ (R : (method : ℕ) → Remaining → Type 0) (shape : Shape) (b : Body
           let fits : IsOf (element_type cells) n = record { above = omega (arith, low, k.above); below = omega (arith, high, k.below) } in
           let put : CellsPut x.0.store (λ xs. slice_set xs (x.0.from + x.1) n) = cells-put (element_type cells) x.0.store (λ xs. slice_set xs (x.0.from + x.1) n) y.has (set-kept (element_type cells) x.0.store (x.0.from + x.1) n y.has fits) in
           let inside : nat_le (suc x.1) x.0.count ≡ true = grind (arith, nat_tests, x.4) in
+          let goes : fits_store x.0.store n ≡ true = store-fits b.within shape (element_type cells) x.0.store n y.has fits in
           record {
             after = record vars { world = with_cells x.0.store (λ xs. slice_set xs (x.0.from + x.1) n) vars.world };
-            is = rw (in-range of n k, x.2, x.3, inside) refl;
+            is = rw (in-range of n k, x.2, x.3, inside, goes) refl;
             lawful = put.fine;
             agree = put.agrees;
           }

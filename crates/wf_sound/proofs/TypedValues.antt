@@ -15,7 +15,7 @@ use Rattle.wf_ast.specs.WellTyped.{type_at, same_num_type, is_unrefined, is_rang
 use Rattle.wf_ast.specs.Value.{Store, nowhere, host_array, field_array, Span, Value, span, span_of, end_value, part_of}
 use Rattle.wf_facts_exprs.specs.LawfulState.{IsOf, unrefined}
 use Rattle.wf_meaning.specs.SourceState.{Held, held_cells, Remaining}
-use Rattle.wf_meaning.specs.World.{Body, Vars, value_held, as_span}
+use Rattle.wf_meaning.specs.World.{Body, Vars, value_held, as_span, fits_store}
 use Rattle.wf_meaning.specs.SourceStep.{state_of}
 use Rattle.wf_meaning.proofs.Lists2.{Made, and_then_made}
 use Rattle.wf_bounds_stmts.specs.Requirements.{lies_in}
@@ -49,6 +49,17 @@ module _ (p : PackageTree) (shape : Shape) where
     pub few : xs.count < 2 ^ 64
     pub inside : xs.from + xs.count ≤ store_length p shape xs.store
     pub has : store_has of xs.store ≡ true
+
+  -- A number of the type goes into the store.
+  pub store-fits : (of : NumType) (store : Store) (n : ℕ) → store_has of store ≡ true → IsOf of n → fits_store store n ≡ true
+  store-fits of nowhere n h k = refl
+  store-fits of (host_array a) n h k =
+      let p = and_parts (nat_eq of.bits 8) _ h in
+      let q = and_parts (nat_eq of.low 0) _ p.1 in
+      let high : of.high ≡ 255 = grind (arith, nat_tests, q.1) in
+      let small : n < 2 ^ 8 = omega (arith, high, k.below) in
+      grind (arith, nat_tests, small)
+  store-fits of (field_array object m) n h k = refl
 
   same_bits : (bits b low high : ℕ) → nat_eq bits b ≡ true → (low ≡ 0) → (high ≡ 2 ^ b - 1) → same_num_type (unrefined bits) (record { bits = b; low = low; high = high }) ≡ true
   same_bits bits b low high h k l =
