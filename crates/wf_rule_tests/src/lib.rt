@@ -1,7 +1,9 @@
 // Tests of the phases of a package and of the top call, through their public calls: what the built program doesn't show.
-// The typed tree of a small package, and inputs and sinks that fail where they are told to. Nothing stands on this crate.
+// The typed tree of a small package, what is known before its statements, and inputs and sinks that fail where they are told to. Nothing stands on this crate.
 #![tactic(auto)]
 
+#[cfg(test)]
+mod accepted_tests;
 #[cfg(test)]
 mod statement_tests;
 #[cfg(test)]

@@ -2,6 +2,7 @@
 
 ghost use Rattle.std.specs.Prelude.{◌≡◌, true, ℕ, List, IfOk, codes};
 ghost use Rattle.wf_ast.specs.StatementOrder.{stand_in_order};
+ghost use Rattle.wf_ast.specs.TypedInvariant.{IsTyped};
 ghost use Rattle.wf_named.specs.NamedParts.{named_package};
 ghost use Rattle.wf_parse.specs.Parsing.{IsParsed};
 ghost use Rattle.wf_typed_tree.specs.ElaboratedPackage.{typed_package};
@@ -54,7 +55,9 @@ fn resolved(alloc: Global, text: &str) -> Result<Named, PhaseFault>
     }
 }
 
-pub(crate) fn typed(alloc: Global, text: &str) -> Result<Typed, PhaseFault> {
+pub(crate) fn typed(alloc: Global, text: &str) -> Result<Typed, PhaseFault>
+    ensures { IfOk result (λ typed. IsTyped typed) }
+{
     match resolved(alloc, text) {
         Ok(named) => type_check(alloc, named),
         Err(fault) => Err(fault),
