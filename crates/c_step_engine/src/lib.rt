@@ -1,0 +1,5 @@
+//! A text of C as an engine (wf_bufs): its state, what its inits and calls give, and that what is seen of such an engine is
+//! what is seen of the text by the meaning of C.
+#![tactic(auto)]
+
+pub mod laws;
