@@ -1,5 +1,5 @@
 -- What is seen of an engine is what is seen of the text.
-use Rattle.std.proofs.Common.{◌≡◌, ℕ, ◌+◌, zero, suc, Bool, true, false, List, [], ◌∷◌, length, drop, take, Option, Some, None, refl, sym, ap, ◌∙◌, subst}
+use Rattle.std.proofs.Common.{◌≡◌, ℕ, ◌+◌, suc, Bool, true, false, List, [], ◌∷◌, length, drop, take, Option, Some, None, refl, sym, ap, ◌∙◌, subst}
 use Rattle.std.specs.Prelude.{◌&&◌, ◌||◌, if◌then◌else◌, nat_eq, slice_get, get_or, option_map, option_and_then, bytes_eq}
 use Rattle.std.specs.List.{list_any}
 use Rattle.turns.specs.Run.{Outcome as RunOutcome, Got, More, Lost}

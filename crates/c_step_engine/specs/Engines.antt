@@ -1,6 +1,6 @@
 -- A text of C as an engine: its state, and what its inits and calls give. These are the meaning's, with a status by its
 -- number.
-use Rattle.std.specs.Prelude.{ℕ, suc, Bool, true, false, if◌then◌else◌, List, [], ◌∷◌, bytes_eq}
+use Rattle.std.specs.Prelude.{ℕ, suc, Bool, false, if◌then◌else◌, List, [], ◌∷◌, bytes_eq}
 use Rattle.wf_text.specs.Surface.{Surface}
 use Rattle.wf_text.specs.HostActions.{Receiver}
 use Rattle.wf_text.specs.Seen.{Answer}

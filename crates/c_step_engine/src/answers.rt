@@ -1,0 +1,77 @@
+// What an init or a call answers, by the kind of its answer.
+
+ghost use Rattle.std.specs.Prelude.{◌≡◌, ℕ, [], Some, option_map, slice_get};
+ghost use Rattle.wf_text.specs.Surface.{Surface};
+ghost use Rattle.wf_bufs.specs.SurfaceViews.{answer_kind_of};
+ghost use Rattle.c_meaning.specs.CValues.{is_nonzero};
+ghost use Rattle.c_meaning.specs.CCall.{Program};
+ghost use Rattle.c_meaning.specs.CRun.{answer_of};
+ghost use Rattle.c_step_engine.specs.Engines.{outcome_for};
+ghost use Rattle.c_step_engine.specs.Statuses.{AreStatuses, status_in, status_at};
+
+use c_meaning::values::{Number, Pointer, Value};
+use wf_bufs::{AnswerKind, Outcome};
+use wf_text::StatusId;
+
+/// The status whose text a pointer to the start of a string has. `statuses` has one for each string that has one.
+fn status_of(q: Pointer, statuses: &[Option<StatusId>]) -> Option<StatusId>
+    ensures { result ≡ status_at statuses.now q }
+{
+    if q.field != 0 {
+        return None;
+    }
+    if q.index != 0 {
+        return None;
+    }
+    match statuses.get(q.object) {
+        Some(status) => *status,
+        None => None,
+    }
+}
+
+/// Whether a number isn't 0.
+fn is_not_zero(n: Number) -> bool
+    ensures { result ≡ is_nonzero n }
+{
+    n.bits != 0
+}
+
+/// A status: ok, which is the first one, for a null pointer.
+fn status(v: Value, statuses: &[Option<StatusId>]) -> Option<Outcome>
+    ensures { result ≡ status_in statuses.now v }
+{
+    match v {
+        Value::NullPointer => Some(Outcome::Status(StatusId(0))),
+        Value::Address(q) => match status_of(q, statuses) {
+            Some(id) => Some(Outcome::Status(id)),
+            None => None,
+        },
+        Value::Numeric(_) => None,
+    }
+}
+
+/// What a function of the text has answered; none where that isn't defined.
+pub fn answer(
+    kind: AnswerKind,
+    value: Option<Value>,
+    statuses: &[Option<StatusId>],
+) -> Option<Outcome>
+    ensures { (p : Program) (surface : Surface) → slice_get surface.statuses 0 ≡ Some [] → AreStatuses p surface statuses.now
+        → result ≡ option_map (outcome_for surface) (answer_of p surface (answer_kind_of kind) value) }
+{
+    match kind {
+        AnswerKind::Nothing => Some(Outcome::Nothing),
+        AnswerKind::Status => match value {
+            Some(v) => status(v, statuses),
+            None => None,
+        },
+        AnswerKind::Number(_) => match value {
+            Some(Value::Numeric(n)) => Some(Outcome::Num(n.bits)),
+            Some(Value::Address(_)) | Some(Value::NullPointer) | None => None,
+        },
+        AnswerKind::Flag => match value {
+            Some(Value::Numeric(n)) => Some(Outcome::Flag(is_not_zero(n))),
+            Some(Value::Address(_)) | Some(Value::NullPointer) | None => None,
+        },
+    }
+}
