@@ -15,7 +15,7 @@ use Rattle.wf_ast.specs.TypedPackage.{MethodTree, PackageTree}
 use Rattle.wf_ast.specs.Value.{Value, num, truth_value, status_number, span, buffer}
 use Rattle.wf_ast.specs.WellTyped.{field_at, is_pure, is_coroutine, is_range, may_be_result, calls_method, struct_of_field}
 use Rattle.wf_meaning.specs.SourceState.{Life, raw, ready, disabled, Held, held_part, Object, Remaining}
-use Rattle.wf_meaning.specs.Entry.{Admission, refused, admitted, admission, admission_by, admission_of_args, is_other, Answered, returned, suspended, refusal_of, zero_of, ended, coroutine_ended, has_kind}
+use Rattle.wf_meaning.specs.Entry.{Admission, refused, admitted, admission, admission_by, admission_of_args, is_other, was_disabled, Answered, returned, suspended, refusal_of, zero_of, ended, coroutine_ended, has_kind}
 use Rattle.wf_meaning.specs.World.{World, Body, Vars, updated, with_object, held_at}
 use Rattle.wf_meaning.specs.SourceStep.{Call, Callees, part_in, receiver_of, settled, on_admission, entered, through}
 use Rattle.wf_meaning.proofs.Lists.{updated-other}
@@ -152,7 +152,7 @@ module _ (p : PackageTree) (R : (method : ℕ) → Remaining → Type 0) (shape 
     settles More h = tt
     settles Lost h = h
 
-    admits : (o : Object) → slice_get w.objects object ≡ Some o → (a : Admission) → AdmissionSame o a → RunsWell p R shape m args w (calls call n w) → RunsWell p R shape m args w (on_admission p calls m call n w a)
+    admits : (o : Object) → slice_get w.objects object ≡ Some o → (a : Admission) → AdmissionSame o a → (a ≡ admitted → RunsWell p R shape m args w (calls call n w)) → RunsWell p R shape m args w (on_admission p calls m call n w a)
     admits o e (refused status left) k h =
         let keeps : (x : Object) → slice_get w.objects object ≡ Some x → SameWithin x left = λ x i. by x (cc (e, i)) in
         record {
@@ -163,7 +163,7 @@ module _ (p : PackageTree) (R : (method : ℕ) → Remaining → Type 0) (shape 
       where
         by : (x : Object) → o ≡ x → SameWithin x left
         by x i = let P : Object → Type 0 = λ x. SameWithin x left in subst P i k
-    admits o e admitted k h = settles (calls call n w) h
+    admits o e admitted k h = settles (calls call n w) (h refl)
 
     pub through-runs : (called : Called) → is_some (slice_get w.objects object) ≡ true → RunsWell p R shape m args w (calls call n w) → RunsWell p R shape m args w (through p calls m called call n w)
     through-runs (own k) there h = h
@@ -171,7 +171,25 @@ module _ (p : PackageTree) (R : (method : ℕ) → Remaining → Type 0) (shape 
       where
         by : (o : Option Object) → slice_get w.objects object ≡ o → is_some o ≡ true → RunsWell p R shape m args w (entered p calls m call true n w o)
         by None e i = absurd (cc (i))
-        by (Some o) e i = admits o e (admission m.mark method true o) (life_same o.life m.mark method true o) h
+        by (Some o) e i = admits o e (admission m.mark method true o) (life_same o.life m.mark method true o) (λ _. h)
+
+    -- The same whether or not the arguments fit.
+    pub entered-runs : (fit : Bool) → is_some (slice_get w.objects object) ≡ true → (fit ≡ true → RunsWell p R shape m args w (calls call n w)) → RunsWell p R shape m args w (entered p calls m call fit n w (slice_get w.objects object))
+    entered-runs fit there h = by (slice_get w.objects object) refl there
+      where
+        fits : (t : Bool) → (life : Life) (o : Object) → admission_by life m.mark method t o ≡ admitted → t ≡ true
+        fits true life o i = refl
+        fits false raw o i = absurd (cc (i))
+        fits false ready o i = absurd (cc (i))
+        fits false disabled o i = absurd (never (is_pure m.mark) i)
+          where
+            never : (t : Bool) → (if t then admission_of_args m.mark method false o else refused was_disabled o) ≡ admitted → ⊥
+            never true i = cc (i)
+            never false i = cc (i)
+
+        by : (o : Option Object) → slice_get w.objects object ≡ o → is_some o ≡ true → RunsWell p R shape m args w (entered p calls m call fit n w o)
+        by None e i = absurd (cc (i))
+        by (Some o) e i = admits o e (admission m.mark method fit o) (life_same o.life m.mark method fit o) (λ i. h (fits fit o.life o i))
 
 -- The struct state that a call means is of the method's struct.
 module _ (R : (method : ℕ) → Remaining → Type 0) (shape : Shape) (b : Body) (vars : Vars) (lawful : IsLawfulBody R shape b vars) where

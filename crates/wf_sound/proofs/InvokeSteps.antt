@@ -46,7 +46,7 @@ use Rattle.wf_sound.proofs.BranchEnds.{kept-well}
 use Rattle.wf_sound.proofs.PerformSteps.{none-is-nothing}
 use Rattle.wf_sound.proofs.CallRuns.{through-runs, ReceiverOf, receiver-is}
 
-mark-same : (m k : Mark) → same_mark m k ≡ true → m ≡ k
+pub mark-same : (m k : Mark) → same_mark m k ≡ true → m ≡ k
 mark-same Pure Pure h = refl
 mark-same Impure Impure h = refl
 mark-same Coroutine Coroutine h = refl
@@ -196,7 +196,7 @@ module _ (R : (method : ℕ) → Remaining → Type 0) (shape : Shape) (b : Body
       less-well things.SliceLocals (without things.Element (without things.Args (without things.This fs)))
       (less-well things.Element (without things.Args (without things.This fs)) (less-well things.Args (without things.This fs) (less-well things.This fs well)))
 
-  known-well : well_claims c (known_to_call keep mark fs) ≡ true
+  pub known-well : well_claims c (known_to_call keep mark fs) ≡ true
   known-well = by (hands_on keep mark)
     where
       by : (t : Bool) → well_claims c (if t then interrupted fs else fs) ≡ true
@@ -233,7 +233,7 @@ module _ (R : (method : ℕ) → Remaining → Type 0) (shape : Shape) (b : Body
       by (afresh e k) = k
       by (resumed e k) = absurd (started done e)
 
-  call-known : AllTrue s (known_to_call keep mark fs)
+  pub call-known : AllTrue s (known_to_call keep mark fs)
   call-known = by (hands_on keep mark) refl
     where
       by : (t : Bool) → hands_on keep mark ≡ t → AllTrue s (if t then interrupted fs else fs)

@@ -26,7 +26,7 @@ use Rattle.wf_sound.proofs.PerformSteps.{perform-step}
 use Rattle.wf_sound.proofs.AwaitSteps.{await-step}
 use Rattle.wf_sound.proofs.InvokeSteps.{invoke-step}
 
-item-holds : {X : Type 0} (test : X → Bool) (xs : List X) (k : ℕ) (x : X) → list_all test xs ≡ true → slice_get xs k ≡ Some x → test x ≡ true
+pub item-holds : {X : Type 0} (test : X → Bool) (xs : List X) (k : ℕ) (x : X) → list_all test xs ≡ true → slice_get xs k ≡ Some x → test x ≡ true
 item-holds test [] k x h e = absurd (cc (e))
 item-holds test (y ∷ ys) zero x h e = let same : y ≡ x = cc (e) in ap test (sym same) ∙ (and_parts (test y) _ h).0
 item-holds test (y ∷ ys) (suc k) x h e = item-holds test ys k x (and_parts (test y) _ h).1 e
@@ -36,7 +36,7 @@ pub record Declared (m : MethodTree) : Type 0 where
   pub locals : list_all (λ x. may_be_local x.ty) m.locals ≡ true
   pub result : may_be_result m.mark m.gives ≡ true
 
-declared : (p : PackageTree) (m : MethodTree) → well_method p m ≡ true → Declared m
+pub declared : (p : PackageTree) (m : MethodTree) → well_method p m ≡ true → Declared m
 declared p m h =
     let a = and_parts _ _ h in
     let d = and_parts (list_all (λ x. may_be_arg x.ty) m.args) _ a.1 in
@@ -44,13 +44,13 @@ declared p m h =
     let f = and_parts (may_be_result m.mark m.gives) _ e.1 in
     record { locals = e.0; result = f.0 }
 
-methods-well : (p : PackageTree) → well_typed p ≡ true → list_all (well_method p) p.methods ≡ true
+pub methods-well : (p : PackageTree) → well_typed p ≡ true → list_all (well_method p) p.methods ≡ true
 unfolding well_typed
 methods-well p h =
     let a = and_parts (all_structs_whole p 0 p.structs) _ h in
     (and_parts (list_all (well_method p) p.methods) _ a.1).0
 
-results-fit : (p : PackageTree) → well_typed p ≡ true → (k : ℕ) (m : MethodTree) → slice_get p.methods k ≡ Some m → may_be_result m.mark m.gives ≡ true
+pub results-fit : (p : PackageTree) → well_typed p ≡ true → (k : ℕ) (m : MethodTree) → slice_get p.methods k ≡ Some m → may_be_result m.mark m.gives ≡ true
 results-fit p h k m e = (declared p m (item-holds (well_method p) p.methods k m (methods-well p h) e)).result
 
 only-afresh : (b : Body) (vars : Vars) (fs : List Claim) (s : Simple) (done : Done) → (IsStarted s done → ⊥) → IsReached b vars fs s done → AllTrue (state_of b vars) fs
