@@ -1,2 +1,3 @@
 pub mod HostCalls
+pub mod InitCalls
 pub mod SeenRuns

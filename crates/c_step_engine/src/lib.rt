@@ -4,4 +4,5 @@
 
 pub mod answers;
 pub mod hosts;
+pub mod inits;
 pub mod laws;
