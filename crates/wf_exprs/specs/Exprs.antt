@@ -1,0 +1,309 @@
+-- What an expression of the source is in C. Its value is the same wherever the source's isn't stuck. A cast stands where C
+-- would calculate in another type than the source, and nowhere else: a byte beside a word is converted by C itself.
+use Rattle.std.specs.Prelude.{ℕ, ◌*◌, Bool, true, false, ◌||◌, if◌then◌else◌, nat_eq, nat_le, nat_lt, List, [], ◌∷◌, ◌++◌, Option, None, Some, bytes_eq, codes, decimal}
+use Rattle.wf_text.specs.declared.categories.Category.{Category}
+use Rattle.wf_text.specs.declared.categories.Category.TheVariants.{Fine, Note, Suspension, Fault}
+use Rattle.wf_num.specs.declared.c_arithmetic.CTy.{CTy}
+use Rattle.wf_num.specs.declared.c_arithmetic.CTy.TheVariants.{Int, U32, U64}
+use Rattle.wf_base.specs.declared.base_methods.PeekForm.{PeekForm}
+use Rattle.wf_base.specs.declared.base_methods.PeekForm.TheVariants.{PeekU8, PeekU16Le, PeekU32Le}
+use Rattle.wf_ast.specs.TypedTree.{Path, local, field, arg, Arith, plus, minus, times, divided, remainder, shift_left, shift_right, bits_and, bits_or, bits_xor, mod_plus, mod_minus, mod_times, mod_shift_left, sat_plus, sat_minus, Order, less, at_most, equal, differs, at_least, greater, Question, reader_length, reader_position, peek, writer_length, writer_position, NumTree, number, read, element, link, convert, length_of, asked, SliceTree, slice, array, cut, EndTree, absent, present, StatusTree, status, held, no_status, CondTree, truth, flag, compare, same_status, junction, negation, closed, has_category}
+use Rattle.c_text.specs.declared.kinds.CNumber.{CNumber}
+use Rattle.c_text.specs.declared.kinds.CNumber.TheVariants as literals
+use Rattle.c_text.specs.declared.kinds.COp.{COp}
+use Rattle.c_text.specs.declared.kinds.COp.TheVariants.{Add, Sub, Mul, Div, Rem, Shl, Shr, BitAnd, BitOr, BitXor, Lt, Le, Gt, Ge, Eq, Ne, Both, Either}
+use Rattle.c_text.specs.declared.kinds.CUnary.TheVariants.{Not}
+use Rattle.c_text.specs.CSpelling.{op_bytes}
+use Rattle.c_text.specs.CTree.{ExprTree, variable, member, operation, unary, cast, choice, called, Operands, no_operand, operand}
+use Rattle.c_text.specs.CTree as c
+use Rattle.wf_exprs.specs.Names.{Names, local_name, local_pointer, local_length, arg_name, arg_pointer, arg_length, io_place, io_end, field_name, status_name}
+use Rattle.wf_exprs.specs.Words.{literal, num, uint_of, two, of_self, byte_at, args}
+
+-- The type in which C calculates with numbers of so many bits: small ones are promoted to `int`.
+abbrev pub calculated : (bits : ℕ) → CTy
+calculated bits = if nat_le bits 16 then Int else if nat_eq bits 32 then U32 else U64
+
+-- How wide a type is, and the wider one of two.
+abbrev pub rank : CTy → ℕ
+rank Int = 0
+rank U32 = 1
+rank U64 = 2
+
+abbrev pub wider : CTy → CTy → CTy
+wider a b = if nat_lt (rank a) (rank b) then b else a
+
+-- An expression of C that is a number, with its type. The type is never wider than that in which C calculates with
+-- numbers of the source's width; where it is narrower, the value is the same.
+pub record Rated : Type 0 where
+  pub code : ExprTree
+  pub ty : CTy
+
+abbrev pub rated : ExprTree → CTy → Rated
+rated code ty = record { code = code; ty = ty }
+
+abbrev pub literal_type : CNumber → CTy
+literal_type (literals.Int n) = Int
+literal_type (literals.Unsigned n) = U32
+literal_type (literals.Long n) = U64
+
+-- A literal with the suffix of a type; every other expression is cast to it.
+abbrev pub suffixed : CTy → ℕ → CNumber
+suffixed Int n = literals.Int n
+suffixed U32 n = literals.Unsigned n
+suffixed U64 n = literals.Long n
+
+abbrev pub recast : (bits : ℕ) → ExprTree → ExprTree
+recast bits (c.number (literals.Int n)) = c.number (suffixed (calculated bits) n)
+recast bits (c.number (literals.Unsigned n)) = c.number (suffixed (calculated bits) n)
+recast bits e = cast (uint_of bits) e
+
+-- The same expression in the type in which C calculates with so many bits.
+abbrev pub firm : (bits : ℕ) → Rated → ExprTree
+firm bits a = if nat_eq (rank a.ty) (rank (calculated bits)) then a.code else recast bits a.code
+
+-- The left operand of two, of which one at least has to have that type: C converts the other.
+abbrev pub balanced : (bits : ℕ) → (left right : Rated) → ExprTree
+balanced bits a b = if nat_eq (rank b.ty) (rank (calculated bits)) then a.code else firm bits a
+
+-- An operator of the source as one of C.
+abbrev pub op_of : Arith → COp
+op_of plus = Add
+op_of minus = Sub
+op_of times = Mul
+op_of divided = Div
+op_of remainder = Rem
+op_of shift_left = Shl
+op_of shift_right = Shr
+op_of bits_and = BitAnd
+op_of bits_or = BitOr
+op_of bits_xor = BitXor
+op_of mod_plus = Add
+op_of mod_minus = Sub
+op_of mod_times = Mul
+op_of mod_shift_left = Shl
+op_of sat_plus = Add
+op_of sat_minus = Sub
+
+-- A chain goes on with one more operand; so a chain of the source opens no more parentheses than it has itself.
+abbrev pub with_operand : Operands → ExprTree → Operands
+with_operand no_operand e = operand e no_operand
+with_operand (operand first others) e = operand first (with_operand others e)
+
+abbrev pub same_op : COp → COp → Bool
+same_op a b = bytes_eq (op_bytes a) (op_bytes b)
+
+abbrev pub chained : (joined : Bool) → COp → (left right : ExprTree) → ExprTree
+chained true op (operation other first second others) e =
+    if same_op op other then operation other first second (with_operand others e) else two op (operation other first second others) e
+chained joined op a e = two op a e
+
+-- The function of a saturating operator.
+abbrev pub saturating_name : (sum : Bool) → (bits : ℕ) → List ℕ
+saturating_name sum bits = (if sum then codes "sat_plus_u" else codes "sat_minus_u") ++ decimal bits
+
+abbrev pub saturated : (sum : Bool) → (bits : ℕ) → ExprTree → ExprTree → ExprTree
+saturated sum bits a b = called (saturating_name sum bits) (args (a ∷ b ∷ []))
+
+-- A result modulo 2^bits: C's own where it calculates in that width, else by a cast.
+abbrev pub cut_off : (bits : ℕ) → ExprTree → ExprTree
+cut_off bits e = if nat_le bits 16 then cast (uint_of bits) e else e
+
+-- The left factor of a product modulo 2^bits: two numbers of 16 bits would leave `int`.
+abbrev pub factor : (bits : ℕ) → (left right : Rated) → ExprTree
+factor bits a b = if nat_eq bits 16 then recast 32 a.code else balanced bits a b
+
+abbrev pub linked : Arith → (bits : ℕ) → (joined : Bool) → Rated → Rated → ExprTree
+linked shift_left bits joined a b = two Shl (firm bits a) b.code
+linked shift_right bits joined a b = two Shr (firm bits a) b.code
+linked mod_plus bits joined a b = cut_off bits (two Add (balanced bits a b) b.code)
+linked mod_minus bits joined a b = cut_off bits (two Sub (balanced bits a b) b.code)
+linked mod_times bits joined a b = cut_off bits (two Mul (factor bits a b) b.code)
+linked mod_shift_left bits joined a b = cut_off bits (two Shl (firm bits a) b.code)
+linked sat_plus bits joined a b = saturated true bits a.code b.code
+linked sat_minus bits joined a b = saturated false bits a.code b.code
+linked op bits joined a b = chained joined (op_of op) (balanced bits a b) b.code
+
+-- What C keeps apart anyway: a variable, a field or an element.
+abbrev pub is_held : ExprTree → Bool
+is_held (variable name) = true
+is_held (member of name) = true
+is_held (c.element of index) = true
+is_held (c.number n) = true
+is_held e = false
+
+-- `as`: a cast to a narrower type of calculation, and one to a wider type of what was calculated in `int`.
+abbrev pub converted : (bits : ℕ) → Rated → Rated
+converted bits a =
+    if nat_lt (rank (calculated bits)) (rank a.ty) then rated (cast (uint_of bits) a.code) (calculated bits)
+    else if nat_eq (rank (calculated bits)) (rank a.ty) || (is_held a.code || nat_lt 0 (rank a.ty)) then a
+    else rated (cast (uint_of bits) a.code) (calculated bits)
+
+-- What a path that is no slice stands for.
+abbrev pub path_code : Names → Path → ExprTree
+path_code names (local n) = variable (local_name names n)
+path_code names (arg n) = variable (arg_name names n)
+path_code names (field n) = of_self (field_name names n)
+
+-- A slice as its pointer and its length.
+pub record Pair : Type 0 where
+  pub pointer : ExprTree
+  pub length : Rated
+
+abbrev pub path_pair : Names → Path → Pair
+path_pair names (local n) = record { pointer = variable (local_pointer names n); length = rated (variable (local_length names n)) U64 }
+path_pair names (arg n) = record { pointer = variable (arg_pointer names n); length = rated (variable (arg_length names n)) U64 }
+path_pair names (field n) = record { pointer = of_self (field_name names n); length = rated (num 0) Int }
+
+-- A whole array is never null; a slice may be, and then nothing may be added to its pointer.
+abbrev pub is_array : SliceTree → Bool
+is_array (array at of count path) = true
+is_array (slice at bits path) = false
+is_array (cut at cells from to) = is_array cells
+
+abbrev pub moved : (never_null : Bool) → (pointer from : ExprTree) → ExprTree
+moved true pointer from = two Add pointer from
+moved false pointer from = choice pointer (two Add pointer from) (num 0)
+
+-- From one number up to another.
+abbrev pub from_to : Rated → Rated → Rated
+from_to from to = rated (two Sub to.code from.code) (wider from.ty to.ty)
+
+-- A part of a slice: its pointer is moved by its first end, where it has one.
+abbrev pub part_pointer : (never_null : Bool) → ExprTree → Option Rated → ExprTree
+part_pointer never_null pointer None = pointer
+part_pointer never_null pointer (Some from) = moved never_null pointer from.code
+
+abbrev pub part_length : (whole : Rated) → (from to : Option Rated) → Rated
+part_length whole None None = whole
+part_length whole None (Some to) = to
+part_length whole (Some from) None = from_to from whole
+part_length whole (Some from) (Some to) = from_to from to
+
+abbrev pub part_pair : (never_null : Bool) → Pair → (from to : Option Rated) → Pair
+part_pair never_null cells from to = record { pointer = part_pointer never_null cells.pointer from; length = part_length cells.length from to }
+
+-- What a reader or a writer is asked for.
+abbrev pub io_code : Names → ℕ → ExprTree
+io_code names a = variable (arg_name names a)
+
+abbrev pub place_code : Names → ℕ → ExprTree
+place_code names a = variable (io_place names a)
+
+abbrev pub end_code : Names → ℕ → ExprTree
+end_code names a = variable (io_end names a)
+
+abbrev pub there : Names → ℕ → ExprTree
+there names a = two Sub (end_code names a) (place_code names a)
+
+-- The next byte but k, moved up by so many bits.
+abbrev pub peeked : Names → ℕ → (k : ℕ) → ExprTree
+peeked names a k = byte_at (io_code names a) (if nat_eq k 0 then place_code names a else two Add (place_code names a) (num k))
+
+abbrev pub raised : (bits k : ℕ) → ExprTree → ExprTree
+raised bits k e = two Shl (if nat_eq bits 32 then cast (uint_of 32) e else e) (num (8 * k))
+
+abbrev pub peek_code : Names → ℕ → PeekForm → Rated
+peek_code names a PeekU8 = rated (peeked names a 0) Int
+peek_code names a PeekU16Le = rated (two Add (peeked names a 0) (raised 16 1 (peeked names a 1))) Int
+peek_code names a PeekU32Le =
+    rated (operation Add (peeked names a 0) (raised 32 1 (peeked names a 1)) (operand (raised 32 2 (peeked names a 2)) (operand (raised 32 3 (peeked names a 3)) no_operand))) U32
+
+abbrev pub position_code : Names → ℕ → ExprTree
+position_code names a = saturated true 64 (member (io_code names a) (codes "pos")) (place_code names a)
+
+abbrev pub asked_code : Names → ℕ → Question → Rated
+asked_code names a reader_length = rated (there names a) U64
+asked_code names a reader_position = rated (position_code names a) U64
+asked_code names a (peek form) = peek_code names a form
+asked_code names a writer_length = rated (there names a) U64
+asked_code names a writer_position = rated (position_code names a) U64
+
+abbrev mutual
+  -- A number.
+  pub lowered : Names → NumTree → Rated
+  lowered names (number at n) = rated (num n) (literal_type (literal n))
+  lowered names (read at of path) = rated (path_code names path) (calculated of.bits)
+  lowered names (element at of cells index) = rated (c.element (lowered_slice names cells).pointer (lowered names index).code) (calculated of.bits)
+  lowered names (link at sign op bits joined a b) = rated (linked op bits joined (lowered names a) (lowered names b)) (calculated bits)
+  lowered names (convert at sign bits a) = converted bits (lowered names a)
+  lowered names (length_of at cells) = (lowered_slice names cells).length
+  lowered names (asked at question a) = asked_code names a question
+
+  -- A slice or a whole array.
+  pub lowered_slice : Names → SliceTree → Pair
+  lowered_slice names (slice at bits path) = path_pair names path
+  lowered_slice names (array at of count path) = record { pointer = path_code names path; length = rated (num count) Int }
+  lowered_slice names (cut at cells from to) = part_pair (is_array cells) (lowered_slice names cells) (lowered_end names from) (lowered_end names to)
+
+  pub lowered_end : Names → EndTree → Option Rated
+  lowered_end names absent = None
+  lowered_end names (present e) = Some (lowered names e)
+
+abbrev pub lowered_expr : Names → NumTree → ExprTree
+lowered_expr names t = (lowered names t).code
+
+-- The same where it is assigned, passed or returned: C converts it to the type of what takes it.
+abbrev pub given : Names → NumTree → ExprTree
+given names (convert at sign bits a) = given names a
+given names t = lowered_expr names t
+
+-- Statuses.
+abbrev pub status_constant : ℕ → ExprTree
+status_constant n = if nat_eq n 0 then num 0 else variable (status_name n)
+
+abbrev pub lowered_status : Names → StatusTree → ExprTree
+lowered_status names (status at n) = status_constant n
+lowered_status names (held at path) = path_code names path
+lowered_status names no_status = num 0
+
+-- Conditions.
+abbrev pub order_op : Order → COp
+order_op less = Lt
+order_op at_most = Le
+order_op equal = Eq
+order_op differs = Ne
+order_op at_least = Ge
+order_op greater = Gt
+
+-- `==`. With a variable at its left it reads like a slip for `=`, and compilers say so: a constant stands at the left,
+-- and two variables are compared by what differs.
+abbrev pub same_code : (left right : ExprTree) → (fixed : Bool) → ExprTree
+same_code a b fixed = if fixed then two Eq b a else if is_held a then unary Not (two Ne a b) else two Eq a b
+
+abbrev pub is_literal : ExprTree → Bool
+is_literal (c.number n) = true
+is_literal e = false
+
+abbrev pub compared : Order → ExprTree → ExprTree → ExprTree
+compared equal a b = if is_literal a then two Eq a b else same_code a b (is_literal b)
+compared op a b = two (order_op op) a b
+
+abbrev pub is_constant : StatusTree → Bool
+is_constant (status at n) = true
+is_constant t = false
+
+abbrev pub statuses_compared : (one : Bool) → Names → StatusTree → StatusTree → ExprTree
+statuses_compared true names a b =
+    if is_constant a then two Eq (lowered_status names a) (lowered_status names b) else same_code (lowered_status names a) (lowered_status names b) (is_constant b)
+statuses_compared false names a b = two Ne (lowered_status names a) (lowered_status names b)
+
+-- A status is ok, or its text begins with a byte. The constant ok has no text.
+abbrev pub begins_with : ℕ → ExprTree → ExprTree
+begins_with byte (c.number n) = num 0
+begins_with byte e = two Both e (two Eq (num byte) (c.element e (num 0)))
+
+abbrev pub category_code : Category → ExprTree → ExprTree
+category_code Fine e = two Eq (num 0) e
+category_code Note e = begins_with 64 e
+category_code Suspension e = begins_with 36 e
+category_code Fault e = begins_with 35 e
+
+abbrev pub lowered_cond : Names → CondTree → ExprTree
+lowered_cond names (truth at b) = num (if b then 1 else 0)
+lowered_cond names (flag at path) = path_code names path
+lowered_cond names (compare at sign a op b) = compared op (lowered_expr names a) (lowered_expr names b)
+lowered_cond names (same_status at sign a one b) = statuses_compared one names a b
+lowered_cond names (junction at both joined a b) = chained joined (if both then Both else Either) (lowered_cond names a) (lowered_cond names b)
+lowered_cond names (negation at a) = unary Not (lowered_cond names a)
+lowered_cond names (closed at a) = member (io_code names a) (codes "closed")
+lowered_cond names (has_category at t category) = category_code category (lowered_status names t)

@@ -1,0 +1,24 @@
+// Worked examples. Each is the contract of a function that does nothing.
+
+ghost use Rattle.std.specs.Prelude.{◌≡◌, true, false, [], ◌∷◌, codes};
+ghost use Rattle.wf_text.specs.declared.place.Place.{Place};
+ghost use Rattle.wf_ast.specs.TypedTree.{local, field, arg, plus, times, mod_times, number, read, link, convert};
+ghost use Rattle.c_text.specs.declared.kinds.CNumber.TheVariants.{Int};
+ghost use Rattle.c_text.specs.declared.kinds.COp.TheVariants.{Add, Mul};
+ghost use Rattle.c_text.specs.CTree.{uint, variable, member, cast};
+ghost use Rattle.c_text.specs.CTree as c;
+ghost use Rattle.wf_exprs.specs.Words.{num, uint_of, two};
+ghost use Rattle.wf_exprs.specs.Exprs.{lowered_expr};
+ghost use Rattle.wf_exprs.specs.Samples.{some_names, here, digit, val, half};
+
+/// `(10 * this.val) + (c as base.u32)` with a byte `c` is `((10 * self->f_val) + v_c)`: C converts the byte itself.
+pub fn a_byte_beside_a_word_has_no_cast()
+    ensures { lowered_expr some_names (link here here plus 32 false (link here here times 32 false (number here 10) val) (convert here here 32 digit))
+        ≡ two Add (two Mul (num 10) (member (variable (codes "self")) (codes "f_val"))) (variable (codes "v_c")) }
+{}
+
+/// A product modulo 2^16 is `((uint16_t)(((uint32_t)a_n) * a_n))`.
+pub fn a_product_of_two_halves_has_its_cast()
+    ensures { lowered_expr some_names (link here here mod_times 16 false half half)
+        ≡ cast (uint_of 16) (two Mul (cast (uint_of 32) (variable (codes "a_n"))) (variable (codes "a_n"))) }
+{}
