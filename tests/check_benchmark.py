@@ -78,7 +78,7 @@ def conditions(n):
 
 
 SHAPES = {
-    "tokens": (tokens, (3584, 7168, 14336, 28672)),
+    "tokens": (tokens, (3276, 6552, 13104, 26208)),
     "methods": (methods, (128, 256, 512, 1024)),
     "statements": (statements, (512, 1024, 2048, 4096)),
     "facts": (facts, (64, 128, 256, 511)),
