@@ -36,6 +36,6 @@ AreInts n = (site : Site) → n site < 2 ^ 31
 -- All of it.
 pub record IsLabelLaw : Type 0 where
   pub points : (n : Site → ℕ) (k : ℕ) (b : Block) (t : Trail) → PointsAgree n k b t
-  pub cases : (f : Form) (n : Site → ℕ) (k : ℕ) (b : Block) (t : Trail) → AreInts n → k < 2 ^ 31 → ResumesAtPoint f n k b t
+  pub cases : (f : Form) (n : Site → ℕ) (k : ℕ) (b : Block) (t : Trail) → AreInts n → ResumesAtPoint f n k b t
   pub to_end : (f : Form) (n : Site → ℕ) (w : ℕ) (b : Block) (t : Trail) → ContinuesAtLoop f n w b t
   pub to_behind : (f : Form) (n : Site → ℕ) (w : ℕ) (b : Block) (t : Trail) → BreaksBehindLoop f n w b t
