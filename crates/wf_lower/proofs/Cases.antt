@@ -1,20 +1,20 @@
 -- The `case` of a point stands where the point does.
-use Rattle.std.proofs.Common.{◌≡◌, ℕ, ◌<◌, ◌^◌, ◌%◌, Bool, true, false, ◌&&◌, Option, Some, None, refl, sym, ap, ◌∙◌, nat_eq, nat_lt, arith}
+use Rattle.std.proofs.Common.{◌≡◌, ℕ, ◌<◌, ◌^◌, ◌%◌, Bool, true, false, ◌&&◌, Option, Some, None, refl, ap, ◌∙◌, nat_eq, nat_lt, arith}
 use Rattle.std.specs.Prelude.{option_map, if◌then◌else◌}
 use Rattle.std.proofs.lemmas.Bool.Decides.{nat_tests}
 use Rattle.wf_num.specs.declared.c_arithmetic.CTy.TheVariants as ty
-use Rattle.wf_ast.specs.TypedTree.{Simple, Site, Head, Block, end, plain, choose, loop}
+use Rattle.wf_ast.specs.TypedTree.{Simple, Site, Block, end, plain, choose, loop}
 use Rattle.wf_ast.specs.WellTyped.{is_coroutine, breaks}
 use Rattle.wf_meaning.specs.Remaining.{is_point}
 use Rattle.c_text.specs.declared.kinds.CNumber.TheVariants.{Int}
-use Rattle.c_text.specs.CTree.{Code, finish, empty, case_label, name_label}
+use Rattle.c_text.specs.CTree.{finish, empty, case_label, name_label}
 use Rattle.c_meaning.specs.CValues.{number, literal_number, converted}
 use Rattle.c_meaning.specs.CStep.{Continuation, behind, Place, at, by_case, find, first_of, here}
 use Rattle.wf_exprs.specs.Names.{again_label, behind_label}
 use Rattle.wf_exprs.specs.Words.{num}
-use Rattle.wf_lower.specs.Forms.{Form, put_all, give, resume_here}
-use Rattle.wf_lower.specs.Statements.{begun, awoken, lower_point, lower_plain}
-use Rattle.wf_lower.specs.Lower.{lower, continues, behind_here, ending, ending_of, has_result, Trail, top, within_if, in_loop, tail_of, lower_trail, Point, first_point, point_in, point_place}
+use Rattle.wf_lower.specs.Forms.{Form, give, resume_here}
+use Rattle.wf_lower.specs.Statements.{awoken, lower_point, lower_plain}
+use Rattle.wf_lower.specs.Lower.{lower, continues, ending, ending_of, has_result, Trail, top, within_if, in_loop, tail_of, lower_trail, Point, first_point, point_in, point_place}
 use Rattle.wf_lower.specs.Laws.{AreInts, ResumesAtPoint}
 use Rattle.wf_lower.proofs.Passes.{ifs, puts, gives, plain_passes, begun_passes, awoken_passes}
 
@@ -61,21 +61,21 @@ module _ (f : Form) (n : Site → ℕ) (k : ℕ) (ints : AreInts n) where
 
   at_point : (site : Site) (s : Simple) (rest : Block) (t : Trail) → ResumesAtPoint f n k rest t
       → find (by_case (number ty.Int k)) (lower_point f (n site) s (lower f n rest (tail_of f t))) (lower_trail f n t)
-        ≡ option_map (point_place f n k) (if nat_eq (n site) k then Some (record { site = site; statement = s; rest = rest; trail = t }) else point_in n k rest t)
+      ≡ option_map (point_place f n k) (if nat_eq (n site) k then Some (record { site = site; statement = s; rest = rest; trail = t }) else point_in n k rest t)
   at_point site s rest t h =
       begun_passes (number ty.Int k) f (n site) s (resume_here (n site) (awoken f (n site) s (lower f n rest (tail_of f t)))) (lower_trail f n t)
       ∙ (ap (λ (b : Bool). first_of (here b (at (case_label (Int (n site)) (empty finish)) (behind finish (awoken f (n site) s (lower f n rest (tail_of f t))) (lower_trail f n t))) None)
-          (find (by_case (number ty.Int k)) (awoken f (n site) s (lower f n rest (tail_of f t))) (lower_trail f n t))) (same_case k (n site) (ints site))
+      (find (by_case (number ty.Int k)) (awoken f (n site) s (lower f n rest (tail_of f t))) (lower_trail f n t))) (same_case k (n site) (ints site))
       ∙ chosen (nat_eq (n site) k) (point_place f n k) (record { site = site; statement = s; rest = rest; trail = t })
-        (at (case_label (Int (n site)) (empty finish)) (behind finish (awoken f (n site) s (lower f n rest (tail_of f t))) (lower_trail f n t)))
-        (find (by_case (number ty.Int k)) (awoken f (n site) s (lower f n rest (tail_of f t))) (lower_trail f n t)) (point_in n k rest t)
-        (λ e. let j : n site ≡ k = grind (arith, nat_tests, e) in
-          ap (λ (i : ℕ). at (case_label (Int i) (empty finish)) (behind finish (awoken f i s (lower f n rest (tail_of f t))) (lower_trail f n t))) j)
-        (awoken_passes (number ty.Int k) f (n site) s (lower f n rest (tail_of f t)) (lower_trail f n t) ∙ h))
+      (at (case_label (Int (n site)) (empty finish)) (behind finish (awoken f (n site) s (lower f n rest (tail_of f t))) (lower_trail f n t)))
+      (find (by_case (number ty.Int k)) (awoken f (n site) s (lower f n rest (tail_of f t))) (lower_trail f n t)) (point_in n k rest t)
+      (λ e. let j : n site ≡ k = grind (arith, nat_tests, e) in
+      ap (λ (i : ℕ). at (case_label (Int i) (empty finish)) (behind finish (awoken f i s (lower f n rest (tail_of f t))) (lower_trail f n t))) j)
+      (awoken_passes (number ty.Int k) f (n site) s (lower f n rest (tail_of f t)) (lower_trail f n t) ∙ h))
 
   at_plain : (b : Bool) (site : Site) (s : Simple) (rest : Block) (t : Trail) → ResumesAtPoint f n k rest t
       → find (by_case (number ty.Int k)) (if b then lower_point f (n site) s (lower f n rest (tail_of f t)) else lower_plain f s (lower f n rest (tail_of f t))) (lower_trail f n t)
-        ≡ option_map (point_place f n k) (if b && nat_eq (n site) k then Some (record { site = site; statement = s; rest = rest; trail = t }) else point_in n k rest t)
+      ≡ option_map (point_place f n k) (if b && nat_eq (n site) k then Some (record { site = site; statement = s; rest = rest; trail = t }) else point_in n k rest t)
   at_plain true site s rest t h = at_point site s rest t h
   at_plain false site s rest t h = plain_passes (number ty.Int k) f s (lower f n rest (tail_of f t)) (lower_trail f n t) ∙ h
 

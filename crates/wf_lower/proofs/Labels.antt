@@ -1,9 +1,9 @@
 -- The points of a block with their trails are those of the source's meaning.
 use Rattle.std.proofs.Common.{◌≡◌, ℕ, Bool, true, false, ◌&&◌, Option, Some, None, refl, nat_eq}
 use Rattle.std.specs.Prelude.{option_map, if◌then◌else◌}
-use Rattle.wf_ast.specs.TypedTree.{Simple, Site, Head, Block, end, plain, choose, loop}
-use Rattle.wf_meaning.specs.Remaining.{Items, is_point, first, rest_in}
-use Rattle.wf_lower.specs.Lower.{Trail, top, within_if, in_loop, behind_of, Point, first_point, point_in, items_of}
+use Rattle.wf_ast.specs.TypedTree.{Site, Block, end, plain, choose, loop}
+use Rattle.wf_meaning.specs.Remaining.{Items, is_point, first}
+use Rattle.wf_lower.specs.Lower.{Trail, within_if, in_loop, Point, first_point, items_of}
 use Rattle.wf_lower.specs.Laws.{PointsAgree}
 
 firsts : (a b : Option Point) → option_map items_of (first_point a b) ≡ first (option_map items_of a) (option_map items_of b)

@@ -5,7 +5,7 @@ use Rattle.wf_base.specs.declared.base_methods.ReadForm.{ReadForm}
 use Rattle.wf_base.specs.declared.base_methods.ReadForm.TheVariants.{ReadU8, ReadU16Be, ReadU16Le, ReadU32Be, ReadU32Le, ReadU64Be, ReadU64Le}
 use Rattle.wf_base.specs.BaseTable.{bytes_of, read_width}
 use Rattle.wf_ast.specs.TypedPackage.{Variable, MethodTree}
-use Rattle.wf_ast.specs.TypedTree.{Path, local, field, arg, ValueTree, numeric, logical, state, elements, io, lost, StatusTree, status, held, no_status, Target, to_number, to_element, to_flag, to_status, to_slice, to_nothing, Awaited, take_number, skip, write, Written, skip_fast, write_fast, copy_to_writer, copy_to_slice, Called, Simple, assign, await, perform, invoke, break_from, continue_in, give_back, yield, claim}
+use Rattle.wf_ast.specs.TypedTree.{local, field, arg, ValueTree, numeric, logical, state, elements, io, lost, StatusTree, status, held, no_status, Target, to_number, to_element, to_flag, to_status, to_slice, to_nothing, Awaited, take_number, skip, write, Written, skip_fast, write_fast, copy_to_writer, copy_to_slice, Called, Simple, assign, await, perform, invoke, break_from, continue_in, give_back, yield, claim}
 use Rattle.wf_ast.specs.WellTyped.{is_coroutine, number_of}
 use Rattle.c_text.specs.CTree.{ExprTree, Code, finish, leave}
 use Rattle.c_text.specs.CTree as c
@@ -17,7 +17,7 @@ use Rattle.wf_exprs.specs.Names.{Names, point_field}
 use Rattle.wf_exprs.specs.Words.{num, two, of_self, args}
 use Rattle.wf_exprs.specs.Exprs.{Pair, given, lowered_slice, lowered_status, lowered_cond, status_constant, begins_with}
 use Rattle.wf_lower.specs.Forms.{Form, status_local, size_local, held_local, count_local, is_io, is_kept, keeps_started, when, put, get, save_locals, save_started, give, suspend}
-use Rattle.wf_lower.specs.Statements.{next_byte, step_on, callee_name, receiver_code, values_codes, answer_local, is_wanted, is_suspension, put_into, set_slice, set_value, take_byte, take_bytes, begun_call, awoken_call, least_size, move, lower_written, is_passed, call_into, hand_on, put_result, lower_call, handed_call, plain_call, give_status, give_value, begun, awoken, lower_plain}
+use Rattle.wf_lower.specs.Statements.{next_byte, step_on, callee_name, receiver_code, values_codes, answer_local, is_wanted, is_suspension, put_into, set_slice, set_value, take_bytes, begun_call, awoken_call, lower_written, is_passed, call_into, hand_on, put_result, handed_call, plain_call, give_status, give_value, begun, awoken, lower_plain}
 
 over : (p q : Option Place) → p ≡ None → first_of p q ≡ q
 over None q e = refl
@@ -164,8 +164,8 @@ module _ (m : Number) where
 
   asks : (f : Form) (e : ExprTree) (rest : Code)
       → Passes (if is_coroutine f.method.mark
-          then c.assign status_local e (when (begins_with 36 status_local) (c.assign status_local (status_constant cannot_suspend) finish) (give f (Some status_local) rest))
-          else give f (Some e) rest) rest
+      then c.assign status_local e (when (begins_with 36 status_local) (c.assign status_local (status_constant cannot_suspend) finish) (give f (Some status_local) rest))
+      else give f (Some e) rest) rest
   asks f e rest k = ifs (is_coroutine f.method.mark) _ _ rest (gives f (Some status_local) rest) (gives f (Some e) rest) k
 
   statuses : (f : Form) (s : StatusTree) (rest : Code) → Passes (give_status f s rest) rest
