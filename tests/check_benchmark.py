@@ -5,9 +5,10 @@ usage: check_benchmark.py PROGRAM [SHAPE..]    all shapes are the default
 Each shape is a package that is accepted and grows in one way, by steps of two, up to what its limit allows. Where valgrind is
 there, what is counted is instructions, which are the same on every run; else it is seconds, of the least of three runs. The cost
 of a package without declarations is taken off. For each step comes the exponent of its growth: 1.00 is in proportion, and what
-passes 1.10 at the last step, where the package is largest, is told as too much. The memory is the most that the process held,
-beyond that of the package without declarations, a byte of source; above 64 is told as too much.
-At last, where tcc is there, `check` of a package of 1 MiB is timed beside `tcc -c` of a C text of that size.
+passes 1.10 at the last step, where the package is largest, is told as too much. The memory is by how much more the process held at
+most than for the first size, for each byte of source more; above 64 is told as too much.
+At last, where tcc is there, `check` of a package of nearly as many tokens as one may have, of coroutines that copy and count bytes, is timed beside
+`tcc -c` of a C text of that size.
 """
 import math
 import os
@@ -77,6 +78,14 @@ def conditions(n):
     return package(method("f", "a: base.u32, p: base.bool", "", ["if " + " or ".join(["args.p", "(args.a < 7)"] * (n // 2)) + " {", "}"]))
 
 
+def copying(n):
+    """Coroutines that are a page long each."""
+    step = ["c = args.src.read_u8?()", "if c < 0x80 {", "    args.dst.write_u8?(a: c)", "} else if (c & 0x40) == 0 {", "    this.count = ((c as base.u32) & 0x3F) + 1", "} else {",
+            "    this.seen[c & 0x0F] = c", "}"]
+    body = ["var c : base.u8", "var n : base.u32", "while n < 1000,", "    inv n <= 1000,", "{", *(f"    {line}" for line in step * 3), "    n += 1", "} endwhile"]
+    return package(*(method(f"m{i}", "src: base.io_reader, dst: base.io_writer", "", body, mark="?") for i in range(n)), fields="count : base.u32, seen : array[16] base.u8")
+
+
 SHAPES = {
     "tokens": (tokens, (3276, 6552, 13104, 26208)),
     "methods": (methods, (128, 256, 512, 1024)),
@@ -139,11 +148,12 @@ class Meter:
 
 def grows(meter, name, make, sizes):
     """Prints the growth of one shape; whether it is within bounds."""
-    before, good = None, True
+    before, good, first = None, True, None
     for n in sizes:
         text = make(n)
         counted, held = meter.cost(text)
-        cost, memory = counted - meter.start[0], (held - meter.start[1]) / len(text)
+        first = first or (len(text) - 1, held)
+        cost, memory = counted - meter.start[0], (held - first[1]) / (len(text) - first[0])
         exponent = math.log2(cost / before) if before and before > 0 < cost else None
         shown = f"{cost / 1e6:12.2f} M" if meter.counts else f"{cost:12.3f} s"
         print(f"{name:14} {n:6} {len(text):8} bytes {shown} {'' if exponent is None else f'{exponent:6.2f}':6} {memory:7.1f} bytes a byte", flush=True)
@@ -162,8 +172,7 @@ def beside_tcc(meter):
     if not shutil.which("tcc"):
         print("there is no tcc, so check wasn't timed beside it")
         return True
-    large = pathlib.Path(__file__).with_name("large_package.py")
-    text = subprocess.run([sys.executable, large, str(1 << 20)], capture_output=True, text=True, check=True).stdout
+    text = copying(840)
     line = "unsigned f%d(unsigned a, unsigned b) { unsigned x = 0; while (a < b) { x = x + a * %d; a = a + 1; } return x; }\n"
     body, n = [], 0
     while sum(map(len, body)) < len(text):
@@ -174,7 +183,7 @@ def beside_tcc(meter):
     begun = time.perf_counter()
     subprocess.run(["tcc", "-c", "n.c", "-o", "n.o"], cwd=meter.folder, check=True)
     theirs = time.perf_counter() - begun
-    print(f"1 MiB: check {ours:.3f} s, tcc -c {theirs:.3f} s")
+    print(f"{len(text)} bytes: check {ours:.3f} s, tcc -c {theirs:.3f} s")
     return True
 
 
