@@ -2,7 +2,8 @@
 """rule_examples.py PROGRAM: the examples of docs/RULES.md and docs/LANGUAGE.md that are whole files, through the built program.
 
 A block that begins with ```wuffs refused RULE LINE:COL has to be refused so; under a rule's heading it is refused by that rule.
-One that begins with ```wuffs passes has to be accepted.
+One that begins with ```wuffs passes has to be accepted. A line that ends with // N times stands for N such lines, with % in it as
+0, 1 and so on.
 """
 import pathlib
 import re
@@ -11,6 +12,12 @@ import sys
 import tempfile
 
 DOCS = pathlib.Path(__file__).resolve().parent.parent / "docs"
+
+
+def repeated(line):
+    """The lines that a line of an example stands for."""
+    times = re.fullmatch(r"(.*\S) +// (\d+) times", line)
+    return [times[1].replace("%", str(number)) for number in range(int(times[2]))] if times else [line]
 
 
 def examples(page):
@@ -23,7 +30,7 @@ def examples(page):
         elif block is None and line.startswith("```wuffs "):
             block = (number, section, line.split()[1:], [])
         elif block is not None and line == "```":
-            yield block[0], block[1], block[2], "".join(one + "\n" for one in block[3])
+            yield block[0], block[1], block[2], "".join(one + "\n" for line in block[3] for one in repeated(line))
             block = None
         elif block is not None:
             block[3].append(line)
