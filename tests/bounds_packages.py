@@ -357,6 +357,15 @@ SUMS = [
 ]
 
 
+# Two statements or parts that fail: the one that is looked at first decides, which may stand later in the text.
+ORDER = [
+    ("two statements that fail: the first", "B1", "c = args.k @+ 1", "x = args.j + 1"),
+    ("a value and its target's index: the value, which stands later", "B1", "this.a[args.k] = args.k @+ 1"),
+    ("a block and the condition after it: the condition, which stands later", "B1", "if args.z {", "c = args.k + 1", "} else if (args.k @+ 1) == 3 {", "}"),
+    ("the exit of a loop and its body: the exit, at the loop's word", "B12", "@while x < 9,", "post x < 9,", "{", "c = args.k + 1", "} endwhile"),
+]
+
+
 def methods_with_results():
     """Rows of a pure method with a result, in place of f."""
     head = "pub func s.r(k: base.u8) base.u8[..= 9] {"
@@ -389,7 +398,7 @@ def placed(lines):
 
 
 def packages():
-    rows = [*NUMBERS, *ASSIGNMENTS, *PARTS, *CONDITIONS, *CALLS, *LOOPS, *axiom_rows(), *SUMS]
+    rows = [*NUMBERS, *ASSIGNMENTS, *PARTS, *CONDITIONS, *CALLS, *LOOPS, *axiom_rows(), *SUMS, *ORDER]
     wholes = [(name, rule, [HEAD, *LOCALS, *body, "}"]) for name, rule, *body in rows]
     for name, rule, method in [*wholes, *methods_with_results(), *limits()]:
         lines, place = placed(FRONT + method)
