@@ -1,16 +1,17 @@
 -- What the state of the source's machine is in the words of the source's meaning.
-use Rattle.std.specs.Prelude.{ℕ, ◌+◌, ◌-◌, false, List, [], ◌∷◌, map, take, Option, None, option_map, option_and_then, slice_get, unwrap_or}
+use Rattle.std.specs.Prelude.{ℕ, ◌+◌, ◌-◌, Bool, false, ◌&&◌, List, [], ◌∷◌, map, take, Option, None, option_map, option_and_then, slice_get, unwrap_or, nat_eq, if◌then◌else◌}
+use Rattle.wf_text.specs.declared.place.Place.{Place}
 use Rattle.wf_base.specs.declared.marks.Mark.TheVariants.{Pure}
 use Rattle.wf_ast.specs.declared.typed_nodes.TypedNodes.{TypedNodes}
-use Rattle.wf_ast.specs.TypedTree.{end}
+use Rattle.wf_ast.specs.TypedTree.{Site, Block, end}
 use Rattle.wf_ast.specs.TypedPackage.{MethodTree, PackageTree, package_of}
 use Rattle.wf_ast.specs.Value as values
 use Rattle.wf_ast.specs.Value.{Store, Span, Value, State}
 use Rattle.wf_bufs.specs.declared.bufs.Bufs.{Bufs}
 use Rattle.wf_bufs.specs.HostSeen.{host_of}
 use Rattle.wf_meaning.specs.SourceState as state
-use Rattle.wf_meaning.specs.SourceState.{Done, Held, Life, Object, Remaining}
-use Rattle.wf_meaning.specs.Remaining.{rest}
+use Rattle.wf_meaning.specs.SourceState.{Behind, Done, Held, Life, Object, Remaining}
+use Rattle.wf_meaning.specs.Remaining.{Items, rest_in}
 use Rattle.wf_meaning.specs.World.{Body, World, view}
 use Rattle.wf_mean_exprs.specs.declared.values.SliceStore.{SliceStore}
 use Rattle.wf_mean_exprs.specs.declared.values.SliceStore.TheVariants as stores
@@ -66,12 +67,27 @@ done_seen (progress.ToSkip n) = state.to_skip n
 done_seen (progress.ToWrite byte) = state.to_write byte
 done_seen progress.Yielded = state.has_yielded
 
--- What remains of the method with the number `m`: what stands at the point whose number is kept.
-abbrev pub remaining_seen : PackageTree → (m : ℕ) → KeptBody → Option Remaining
-remaining_seen p m kept =
-    option_and_then (λ point. option_and_then (λ method. option_map
+abbrev pub same_place : (a b : Place) → Bool
+same_place a b = nat_eq a.file b.file && (nat_eq a.line b.line && nat_eq a.col b.col)
+
+-- The points at a place are told from all others: 1 stands for those, and 0 for these.
+abbrev pub told_by_place : (at : Place) → Site → ℕ
+told_by_place at site = if same_place site.at at then 1 else 0
+
+-- What stands in a block when the point at a place is reached, `behind` following the block.
+abbrev pub standing_at : (at : Place) → Block → Behind → Option Items
+standing_at at block behind = rest_in (told_by_place at) 1 block behind
+
+-- What remains of a body: what stands at the point whose place is kept.
+abbrev pub remaining_in : (body : Block) → KeptBody → Option Remaining
+remaining_in body kept =
+    option_and_then (λ at. option_map
     (λ items. record { done = done_seen kept.done; block = items.block; behind = items.behind; locals = map slot_seen kept.locals.items })
-    (rest method.body point)) (slice_get p.methods m)) kept.point
+    (standing_at at body state.stop)) kept.point
+
+-- What remains of the method with the number `m`.
+abbrev pub remaining_seen : PackageTree → (m : ℕ) → KeptBody → Option Remaining
+remaining_seen p m kept = option_and_then (λ method. remaining_in method.body kept) (slice_get p.methods m)
 
 -- What remains of each method, `m` being the number of the first in the list.
 abbrev pub all_remaining : PackageTree → (m : ℕ) → List KeptBody → List (Option Remaining)

@@ -35,8 +35,8 @@ pub(crate) fn ask(scene: &Scene, e: ExprId, on: ExprId, what: Asked) -> Option<u
     told_by(scene.buffer(io_arg(scene.package, on)), what)
 }
 
-// The argument that a reader or a writer is.
-pub(crate) fn io_arg(t: &Typed, on: ExprId) -> ArgId
+/// The argument that a reader or a writer is.
+pub fn io_arg(t: &Typed, on: ExprId) -> ArgId
     requires on { IsTrue (is_expr t.now on) }
     requires kind { IsTrue (is_io (type_of_node t.now on.0)) }
     ensures { result.0 ≡ io_in (tree_of t.now on) }

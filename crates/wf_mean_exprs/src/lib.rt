@@ -3,7 +3,7 @@
 #![tactic(auto)]
 
 mod arithmetic;
-mod asking;
+pub mod asking;
 pub mod conditions;
 pub mod evaluating;
 pub mod locals;

@@ -1,7 +1,7 @@
 // The struct states of the source's machine, and the frames of the bodies that run.
 
 use crate::values::Slot;
-use wf_text::MethodId;
+use wf_text::{MethodId, Place};
 
 /// What a field holds. A field of struct type tells the number of the struct state that stands in it.
 #[derive(Drop)]
@@ -32,11 +32,11 @@ pub enum Progress {
     Yielded,
 }
 
-/// What is kept of a method between calls: the number of the point at which it has suspended, if it has, what the statement
+/// What is kept of a method between calls: the place of the point at which it has suspended, if it has, what the statement
 /// there has done, and its locals.
 #[derive(Drop)]
 pub struct KeptBody {
-    pub point: Option<u32>,
+    pub point: Option<Place>,
     pub done: Progress,
     pub locals: Vec<Slot>,
 }

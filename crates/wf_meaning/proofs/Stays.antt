@@ -23,7 +23,7 @@ use Rattle.wf_meaning.specs.SourceState.{Life, raw, ready, disabled, Behind, sto
 use Rattle.wf_meaning.specs.Entry.{Admission, refused, admitted, admission, admission_by, admission_of_args, is_other, Answered, returned, suspended, refusal_of, zero_of, ended, coroutine_ended, has_kind}
 use Rattle.wf_meaning.specs.Remaining.{is_point, hands_on, Marker, marker_of}
 use Rattle.wf_meaning.specs.World.{World, Body, Vars, updated, put_value, kept_local}
-use Rattle.wf_meaning.specs.SourceStep.{At, Ending, gives, suspends, Steps, Call, Callees, state_of, with_some, where_true, either, tested, taking_turn, given_back, suspending, change_buffer, read_on, skip_on, awaited, io_of, io_number, buffer_of, copied_to_writer, copied_to_slice, with_target, skipped_fast, written_fast, performed, fits_argument, cons_some, values_of, settled, on_admission, entered, through, put_answer, kept_status, plain_answer, handed_on, after_call, invoked, yielded, continued, broken, simple_step, end_step, chosen, block_step, step, weight}
+use Rattle.wf_meaning.specs.SourceStep.{At, Ending, gives, suspends, Steps, Call, Callees, state_of, with_some, where_true, either, tested, taking_turn, given_back, suspending, change_buffer, read_on, skip_on, awaited, io_of, io_number, buffer_of, are_bytes, takes_all, elements_of, copied_to_writer, copied_to_slice, with_target, skipped_fast, written_fast, performed, fits_argument, cons_some, values_of, settled, on_admission, entered, through, put_answer, kept_status, plain_answer, handed_on, after_call, invoked, yielded, continued, broken, simple_step, end_step, chosen, block_step, step, weight}
 use Rattle.wf_meaning.specs.SourceCall.{fresh_local, set_remaining, taken_up, begins, remaining_of, left_over, body_of, body_run, run_if, bodies}
 use Rattle.wf_meaning.specs.Laws.{IsKept, Keeps}
 use Rattle.wf_meaning.proofs.Lists2.{all_at, all_weaker, all_map, and_then_made, map_made, only_if_made, some_same, two_made}
@@ -239,11 +239,11 @@ module _ (B A : ℕ → Type 0) (h0 : Host) (R : ℕ → Remaining → Type 0) w
           let m = two_made (λ io n. written_fast io.0 io.1 n vars) (λ io. value (state_of b vars) byte) (io_of b a vars) after e in
           subst (VarsOk B A h0 R) (some_same _ after (only_if_made _ _ after m.gives)) (buffers_ok m.x.0 _ vars (io_may a vars m.x h m.from) h)
       performed_fine target (copy_to_writer a source) vars after h e =
-          let m = two_made (λ io s. with_target b target (copied_to_writer io.0 io.1 s vars)) (λ io. span_of (state_of b vars) source) (io_of b a vars) after e in
-          done_fine target (copied_to_writer m.x.0 m.x.1 m.y vars) after (buffers_ok m.x.0 _ vars (io_may a vars m.x h m.from) h) tt m.gives
+          let m = two_made (λ io s. only_if (are_bytes (elements_of vars s)) (with_target b target (copied_to_writer io.0 io.1 s vars))) (λ io. span_of (state_of b vars) source) (io_of b a vars) after e in
+          done_fine target (copied_to_writer m.x.0 m.x.1 m.y vars) after (buffers_ok m.x.0 _ vars (io_may a vars m.x h m.from) h) tt (only_if_made _ _ after m.gives)
       performed_fine target (copy_to_slice to source) vars after h e =
-          let m = two_made (λ t s. with_target b target (copied_to_slice t s vars)) (λ t. span_of (state_of b vars) source) (span_of (state_of b vars) to) after e in
-          done_fine target (copied_to_slice m.x m.y vars) after (record { locals = h.locals; world = cells_ok B A h0 R m.x.store _ vars.world (span_ok B A h0 R b args vars h to m.x m.from) h.world }) tt m.gives
+          let m = two_made (λ t s. only_if (takes_all vars t (elements_of vars s)) (with_target b target (copied_to_slice t s vars))) (λ t. span_of (state_of b vars) source) (span_of (state_of b vars) to) after e in
+          done_fine target (copied_to_slice m.x m.y vars) after (record { locals = h.locals; world = cells_ok B A h0 R m.x.store _ vars.world (span_ok B A h0 R b args vars h to m.x m.from) h.world }) tt (only_if_made _ _ after m.gives)
 
       cons_made : (v : Option Value) (vs : Option (List Value)) (xs : List Value) → cons_some v vs ≡ Some xs → ((x : Value) → v ≡ Some x → ValueOk B A h0 R x) → ((ys : List Value) → vs ≡ Some ys → AllByRecursion (ValueOk B A h0 R) ys) → AllByRecursion (ValueOk B A h0 R) xs
       cons_made None vs xs e f g = absurd (cc (e))

@@ -3,7 +3,7 @@
 -- clause is false at a place that requires it.
 -- In brackets stands the section of docs/SEMANTICS.md that a definition states, and with `note` the Wuffs document
 -- wuffs/doc/note/NAME.md that it follows.
-use Rattle.std.specs.Prelude.{ℕ, zero, suc, ◌+◌, ◌^◌, min, Bool, true, false, not, ◌&&◌, ◌||◌, List, [], ◌∷◌, Option, None, Some, slice_get, option_map, option_and_then, nat_lt, nat_le, if◌then◌else◌}
+use Rattle.std.specs.Prelude.{ℕ, zero, suc, ◌+◌, ◌^◌, min, Bool, true, false, not, ◌&&◌, ◌||◌, List, [], ◌∷◌, length, Option, None, Some, slice_get, option_map, option_and_then, nat_lt, nat_le, if◌then◌else◌}
 use Rattle.std.specs.List.{list_all}
 use Rattle.turns.specs.Run.{Next, Go, Turn, End, Out, Fail, Outcome, Got, More, Lost, onward, holding}
 use Rattle.wf_text.specs.declared.categories.Category.TheVariants.{Suspension}
@@ -19,11 +19,11 @@ use Rattle.wf_ast.specs.declared.types.Ty.TheVariants as types
 use Rattle.wf_ast.specs.TypedTree.{CondTree, ValueTree, Target, to_nothing, Awaited, take_number, skip, write, Written, skip_fast, write_fast, copy_to_writer, copy_to_slice, Called, own, sub, Simple, assign, await, perform, invoke, break_from, continue_in, give_back, yield, claim, Site, Head, Block, end, plain, choose, loop}
 use Rattle.wf_ast.specs.TypedPackage.{Variable, MethodTree, PackageTree}
 use Rattle.wf_ast.specs.WellTyped.{is_coroutine, is_word_true, number_of}
-use Rattle.wf_ast.specs.Value.{Span, Value, num, truth_value, status_number, State, value, span_of, truth_of, value_of, only_if}
+use Rattle.wf_ast.specs.Value.{Store, Span, Value, num, truth_value, status_number, State, value, span_of, truth_of, value_of, only_if}
 use Rattle.wf_meaning.specs.SourceState.{Object, Behind, stop, behind_if, again, Done, untouched, has_bytes, to_skip, to_write, has_yielded, Remaining, held_part, Held}
 use Rattle.wf_meaning.specs.Entry.{ok, short_read, short_write, cannot_suspend, has_kind, Admission, refused, admitted, admission, Answered, returned, suspended, refusal_of, ended}
 use Rattle.wf_meaning.specs.Remaining.{hands_on, Marker, marker_of}
-use Rattle.wf_meaning.specs.World.{World, Body, Vars, view, put_value, with_cells, with_buffer, with_object, held_at, cells_at, kept_locals}
+use Rattle.wf_meaning.specs.World.{World, Body, Vars, view, put_value, with_cells, with_buffer, with_object, held_at, cells_at, fits_store, kept_locals}
 
 -- A body as it runs: what the first remaining statement has done, that statement and those that follow it in its block,
 -- what follows the block, and the variables. [What remains]
@@ -217,6 +217,14 @@ buffer_of vars k = slice_get vars.world.host.buffers k
 abbrev pub elements_of : Vars → Span → List ℕ
 elements_of vars s = ops.elements s.from s.count (cells_at vars.world s.store)
 
+-- The elements are bytes. [Values]
+abbrev pub are_bytes : List ℕ → Bool
+are_bytes xs = list_all (λ x. nat_lt x (2 ^ 8)) xs
+
+-- The slice lies in its store, and the elements may go there. [Values; note slices-arrays-and-tables]
+abbrev pub takes_all : Vars → Span → List ℕ → Bool
+takes_all vars s xs = nat_le (s.from + s.count) (length (cells_at vars.world s.store)) && list_all (fits_store s.store) xs
+
 -- The first elements go to a writer, as many as there is room for. [Steps; note io-input-output]
 abbrev pub copied_to_writer : ℕ → Buffer → Span → Vars → Value × Vars
 copied_to_writer k buffer source vars =
@@ -251,9 +259,9 @@ performed b target (skip_fast io_arg actual worst_case) vars =
 performed b target (write_fast io_arg byte) vars =
     option_and_then (λ io. option_and_then (λ n. written_fast io.0 io.1 n vars) (value (state_of b vars) byte)) (io_of b io_arg vars)
 performed b target (copy_to_writer io_arg source) vars =
-    option_and_then (λ io. option_and_then (λ s. with_target b target (copied_to_writer io.0 io.1 s vars)) (span_of (state_of b vars) source)) (io_of b io_arg vars)
+    option_and_then (λ io. option_and_then (λ s. only_if (are_bytes (elements_of vars s)) (with_target b target (copied_to_writer io.0 io.1 s vars))) (span_of (state_of b vars) source)) (io_of b io_arg vars)
 performed b target (copy_to_slice to source) vars =
-    option_and_then (λ t. option_and_then (λ s. with_target b target (copied_to_slice t s vars)) (span_of (state_of b vars) source)) (span_of (state_of b vars) to)
+    option_and_then (λ t. option_and_then (λ s. only_if (takes_all vars t (elements_of vars s)) (with_target b target (copied_to_slice t s vars))) (span_of (state_of b vars) source)) (span_of (state_of b vars) to)
 
 -- Calls of methods.
 

@@ -2,7 +2,7 @@
 -- and byte arrays.
 -- In brackets stands the section of docs/SEMANTICS.md that a definition states, and with `note` the Wuffs document
 -- wuffs/doc/note/NAME.md that it follows.
-use Rattle.std.specs.Prelude.{ℕ, zero, suc, ◌+◌, Bool, List, [], ◌∷◌, length, map, Option, None, Some, slice_get, slice_set, unwrap_or, option_map, option_and_then, nat_le, ◌&&◌}
+use Rattle.std.specs.Prelude.{ℕ, zero, suc, ◌+◌, ◌^◌, Bool, true, List, [], ◌∷◌, length, map, Option, None, Some, slice_get, slice_set, unwrap_or, option_map, option_and_then, nat_le, nat_lt, ◌&&◌}
 use Rattle.wf_base.specs.HostRun.{Host}
 use Rattle.wf_base.specs.BaseOps.{Buffer}
 use Rattle.wf_ast.specs.TypedTree.{Path, local, field, arg, NumType, Target, to_number, to_element, to_flag, to_status, to_slice, to_nothing}
@@ -136,10 +136,16 @@ set_path b (arg n) v vars = vars
 abbrev pub in_range : NumType → ℕ → Bool
 in_range of n = nat_le of.low n && nat_le n of.high
 
--- A number goes to an element of a slice. [Steps]
+-- A byte array takes bytes, and an array in a field any number. [State]
+abbrev pub fits_store : Store → ℕ → Bool
+fits_store (host_array a) n = nat_lt n (2 ^ 8)
+fits_store store n = true
+
+-- A number goes to an element of a slice; None where there is no such element, and where a byte array would take what is no
+-- byte. [Steps]
 abbrev pub set_element : Span → ℕ → ℕ → Vars → Option Vars
 set_element cells k n vars =
-    only_if (nat_le (suc k) cells.count) (Some (record vars { world = with_cells cells.store (λ xs. slice_set xs (cells.from + k) n) vars.world }))
+    only_if (nat_le (suc k) cells.count && fits_store cells.store n) (Some (record vars { world = with_cells cells.store (λ xs. slice_set xs (cells.from + k) n) vars.world }))
 
 -- A value goes to a target; None where it leaves the target's type, or the target's index or slice is stuck. [Steps]
 abbrev pub put_value : Body → Target → Value → Vars → Option Vars

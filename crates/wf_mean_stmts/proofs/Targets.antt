@@ -1,0 +1,45 @@
+-- What a target does with a value, by the type of what it names.
+use Rattle.std.proofs.Common.{◌≡◌, ℕ, Bool, true, false, ◌&&◌, Option, None, Some, refl, nat_le}
+use Rattle.std.specs.Prelude.{if◌then◌else◌}
+use Rattle.wf_text.specs.declared.place.Place.{Place}
+use Rattle.wf_ast.specs.declared.types.Ty.{Ty}
+use Rattle.wf_ast.specs.declared.types.Ty.TheVariants as types
+use Rattle.wf_ast.specs.TypedTree.{Path, local, field, arg}
+use Rattle.wf_ast.specs.TypedTrees.{named, target_of}
+use Rattle.wf_ast.specs.Value.{Value, num, truth_value, status_number, span, buffer, only_if}
+use Rattle.wf_meaning.specs.World.{Body, Vars, put_value, set_path}
+use Rattle.wf_mean_stmts.specs.Targets.{stored_if, taken_by, put_by}
+
+of_number : (test : Bool) (stored vars : Vars) → only_if test (Some stored) ≡ put_by (stored_if test) stored vars
+of_number true stored vars = refl
+of_number false stored vars = refl
+
+pub named_takes : (b : Body) (at : Place) (ty : Ty) (path : Path) (v : Value) (vars : Vars) → put_value b (target_of (named at ty path)) v vars ≡ put_by (taken_by ty v) (set_path b path v vars) vars
+named_takes b at (types.Num width lo hi) path (num n) vars = of_number (nat_le lo n && nat_le n hi) (set_path b path (num n) vars) vars
+named_takes b at (types.Num width lo hi) path (truth_value t) vars = refl
+named_takes b at (types.Num width lo hi) path (status_number n) vars = refl
+named_takes b at (types.Num width lo hi) path (span s) vars = refl
+named_takes b at (types.Num width lo hi) path (buffer k) vars = refl
+named_takes b at types.Flag path (num n) vars = refl
+named_takes b at types.Flag path (truth_value t) vars = refl
+named_takes b at types.Flag path (status_number n) vars = refl
+named_takes b at types.Flag path (span s) vars = refl
+named_takes b at types.Flag path (buffer k) vars = refl
+named_takes b at types.Status path (num n) vars = refl
+named_takes b at types.Status path (truth_value t) vars = refl
+named_takes b at types.Status path (status_number n) vars = refl
+named_takes b at types.Status path (span s) vars = refl
+named_takes b at types.Status path (buffer k) vars = refl
+named_takes b at (types.Slice width) path (num n) vars = refl
+named_takes b at (types.Slice width) path (truth_value t) vars = refl
+named_takes b at (types.Slice width) path (status_number n) vars = refl
+named_takes b at (types.Slice width) path (span s) vars = refl
+named_takes b at (types.Slice width) path (buffer k) vars = refl
+named_takes b at (types.Array width lo hi count) path v vars = refl
+named_takes b at types.Reader (local n) v vars = refl
+named_takes b at types.Reader (field n) v vars = refl
+named_takes b at types.Reader (arg n) v vars = refl
+named_takes b at types.Writer (local n) v vars = refl
+named_takes b at types.Writer (field n) v vars = refl
+named_takes b at types.Writer (arg n) v vars = refl
+named_takes b at (types.Part s) path v vars = refl

@@ -1,0 +1,143 @@
+// The values of parts of statements. A part that isn't of the kind that is wanted, which no typed package has, stands for
+// the first local.
+
+ghost use Rattle.std.specs.Prelude.{◌≡◌, IsTrue, option_map};
+ghost use Rattle.wf_ast.specs.TypedTree.{local};
+ghost use Rattle.wf_ast.specs.TypedTrees.{io_in, tree_of};
+ghost use Rattle.wf_ast.specs.TypedInvariant.{IsTyped, is_expr, is_numeric, is_logical, is_list, is_io as is_stream};
+ghost use Rattle.wf_ast.specs.Value.{span_of, truth_of, value, value_of};
+ghost use Rattle.wf_mean_exprs.specs.Conditions.{node_cond};
+ghost use Rattle.wf_mean_exprs.specs.MachineState.{seen_from, slot_seen, span_seen};
+ghost use Rattle.wf_mean_exprs.specs.Operands.{node_number, node_slice};
+ghost use Rattle.wf_mean_stmts.specs.Entries.{itself};
+
+use wf_ast::{ArgId, ExprId, Ty, Typed};
+use wf_mean_exprs::asking::io_arg;
+use wf_mean_exprs::conditions::truth;
+use wf_mean_exprs::evaluating::evaluate;
+use wf_mean_exprs::numbers::{number, slice};
+use wf_mean_exprs::reading::Scene;
+use wf_mean_exprs::values::{SliceSpan, Slot};
+
+/// The value of an expression; None where it is stuck.
+#[tactic(auto, using(wf_ast::proofs::Accessors::tree_kind))]
+pub fn any_value(scene: &Scene, e: ExprId) -> Option<Slot>
+    requires typed { IsTyped scene.now.package.now }
+    requires node { IsTrue (is_expr scene.now.package.now e) }
+    ensures { option_map slot_seen result ≡ value_of (seen_from scene.now) (tree_of scene.now.package.now e) }
+{
+    evaluate(scene, e)
+}
+
+/// The value of a number.
+#[tactic(auto, using(crate::proofs::Any::no_number_there))]
+pub fn any_number(scene: &Scene, e: ExprId) -> Option<u64>
+    requires typed { IsTyped scene.now.package.now }
+    requires node { IsTrue (is_expr scene.now.package.now e) }
+    ensures { result ≡ value (seen_from scene.now) (node_number scene.now.package.now e) }
+{
+    if is_number(scene.package.type_of(e)) {
+        number(scene, e)
+    } else {
+        first_number(scene)
+    }
+}
+
+/// The truth value of a condition.
+#[tactic(auto, using(crate::proofs::Any::no_condition_there))]
+pub fn any_condition(scene: &Scene, e: ExprId) -> Option<bool>
+    requires typed { IsTyped scene.now.package.now }
+    requires node { IsTrue (is_expr scene.now.package.now e) }
+    ensures { result ≡ truth_of (seen_from scene.now) (node_cond scene.now.package.now e) }
+{
+    if is_flag(scene.package.type_of(e)) {
+        truth(scene, e)
+    } else {
+        is_itself(scene)
+    }
+}
+
+/// A slice.
+#[tactic(auto, using(crate::proofs::Any::no_slice_there))]
+pub fn any_slice(scene: &Scene, e: ExprId) -> Option<SliceSpan>
+    requires typed { IsTyped scene.now.package.now }
+    requires node { IsTrue (is_expr scene.now.package.now e) }
+    ensures { option_map span_seen result ≡ span_of (seen_from scene.now) (node_slice scene.now.package.now e) }
+{
+    if is_slice(scene.package.type_of(e)) {
+        slice(scene, e)
+    } else {
+        first_slice(scene)
+    }
+}
+
+/// The argument that a reader or a writer is.
+#[tactic(auto, using(crate::proofs::Any::no_io_there))]
+pub fn any_io(t: &Typed, e: ExprId) -> ArgId
+    requires typed { IsTyped t.now }
+    requires node { IsTrue (is_expr t.now e) }
+    ensures { result.0 ≡ io_in (tree_of t.now e) }
+{
+    if is_io(t.type_of(e)) {
+        io_arg(t, e)
+    } else {
+        ArgId(0)
+    }
+}
+
+// What stands in the first local.
+
+#[tactic(auto, using(wf_mean_exprs::proofs::Variables::local_number))]
+fn first_number(scene: &Scene) -> Option<u64>
+    ensures { result ≡ (seen_from scene.now).number_at (local 0) }
+{
+    match scene.frame.locals.as_slice() {
+        [Slot::Num(n), ..] => Some(*n),
+        _ => None,
+    }
+}
+
+#[tactic(auto, using(wf_mean_exprs::proofs::Variables::local_span))]
+fn first_slice(scene: &Scene) -> Option<SliceSpan>
+    ensures { option_map span_seen result ≡ (seen_from scene.now).span_at (local 0) }
+{
+    match scene.frame.locals.as_slice() {
+        [Slot::Elements(span), ..] => Some(*span),
+        _ => None,
+    }
+}
+
+fn is_itself(scene: &Scene) -> Option<bool>
+    ensures { result ≡ itself ((seen_from scene.now).number_at (local 0)) }
+{
+    match first_number(scene) {
+        Some(_) => Some(true),
+        None => None,
+    }
+}
+
+// Kinds of types.
+
+fn is_number(ty: Ty) -> bool
+    ensures { result ≡ is_numeric ty }
+{
+    matches!(ty, Ty::Num { .. })
+}
+
+fn is_flag(ty: Ty) -> bool
+    ensures { result ≡ is_logical ty }
+{
+    matches!(ty, Ty::Flag)
+}
+
+fn is_slice(ty: Ty) -> bool
+    ensures { result ≡ is_list ty }
+{
+    matches!(ty, Ty::Slice(_) | Ty::Array { .. })
+}
+
+fn is_io(ty: Ty) -> bool
+    ensures { result ≡ is_stream ty }
+{
+    matches!(ty, Ty::Reader | Ty::Writer)
+}
