@@ -116,7 +116,7 @@ pub(crate) fn span_in(slot: Option<Slot>) -> Option<SliceSpan>
 impl Scene<'_> {
     /// The number in a local.
     #[tactic(auto, using(crate::proofs::Variables::local_number))]
-    pub(crate) fn local_number(&self, x: LocalId) -> Option<u64>
+    pub fn local_number(&self, x: LocalId) -> Option<u64>
         ensures { result ≡ (seen_from self.now).number_at (local x.0) }
     {
         number_in(slot_at(self.frame.locals.as_slice(), x.0))
@@ -192,7 +192,7 @@ impl Scene<'_> {
 
     /// The slice in a local.
     #[tactic(auto, using(crate::proofs::Variables::local_span))]
-    pub(crate) fn local_span(&self, x: LocalId) -> Option<SliceSpan>
+    pub fn local_span(&self, x: LocalId) -> Option<SliceSpan>
         ensures { option_map span_seen result ≡ (seen_from self.now).span_at (local x.0) }
     {
         span_in(slot_at(self.frame.locals.as_slice(), x.0))

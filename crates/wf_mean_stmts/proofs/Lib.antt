@@ -1,3 +1,3 @@
-pub mod Storing
-pub mod Targets
-pub mod Any
+pub mod StoringLemmas
+pub mod TargetLemmas
+pub mod AnyLemmas

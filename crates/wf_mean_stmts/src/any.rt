@@ -10,8 +10,10 @@ ghost use Rattle.wf_mean_exprs.specs.Conditions.{node_cond};
 ghost use Rattle.wf_mean_exprs.specs.MachineState.{seen_from, slot_seen, span_seen};
 ghost use Rattle.wf_mean_exprs.specs.Operands.{node_number, node_slice};
 ghost use Rattle.wf_mean_stmts.specs.Entries.{itself};
+ghost use Rattle.wf_mean_stmts.specs.Stages.{sight_on};
 
-use wf_ast::{ArgId, ExprId, Ty, Typed};
+use crate::stage::Stage;
+use wf_ast::{ArgId, ExprId, LocalId, Ty, Typed};
 use wf_mean_exprs::asking::io_arg;
 use wf_mean_exprs::conditions::truth;
 use wf_mean_exprs::evaluating::evaluate;
@@ -30,7 +32,7 @@ pub fn any_value(scene: &Scene, e: ExprId) -> Option<Slot>
 }
 
 /// The value of a number.
-#[tactic(auto, using(crate::proofs::Any::no_number_there))]
+#[tactic(auto, using(crate::proofs::AnyLemmas::no_number_there))]
 pub fn any_number(scene: &Scene, e: ExprId) -> Option<u64>
     requires typed { IsTyped scene.now.package.now }
     requires node { IsTrue (is_expr scene.now.package.now e) }
@@ -39,12 +41,12 @@ pub fn any_number(scene: &Scene, e: ExprId) -> Option<u64>
     if is_number(scene.package.type_of(e)) {
         number(scene, e)
     } else {
-        first_number(scene)
+        scene.local_number(LocalId(0))
     }
 }
 
 /// The truth value of a condition.
-#[tactic(auto, using(crate::proofs::Any::no_condition_there))]
+#[tactic(auto, using(crate::proofs::AnyLemmas::no_condition_there))]
 pub fn any_condition(scene: &Scene, e: ExprId) -> Option<bool>
     requires typed { IsTyped scene.now.package.now }
     requires node { IsTrue (is_expr scene.now.package.now e) }
@@ -58,7 +60,7 @@ pub fn any_condition(scene: &Scene, e: ExprId) -> Option<bool>
 }
 
 /// A slice.
-#[tactic(auto, using(crate::proofs::Any::no_slice_there))]
+#[tactic(auto, using(crate::proofs::AnyLemmas::no_slice_there))]
 pub fn any_slice(scene: &Scene, e: ExprId) -> Option<SliceSpan>
     requires typed { IsTyped scene.now.package.now }
     requires node { IsTrue (is_expr scene.now.package.now e) }
@@ -67,12 +69,12 @@ pub fn any_slice(scene: &Scene, e: ExprId) -> Option<SliceSpan>
     if is_slice(scene.package.type_of(e)) {
         slice(scene, e)
     } else {
-        first_slice(scene)
+        scene.local_span(LocalId(0))
     }
 }
 
 /// The argument that a reader or a writer is.
-#[tactic(auto, using(crate::proofs::Any::no_io_there))]
+#[tactic(auto, using(crate::proofs::AnyLemmas::no_io_there))]
 pub fn any_io(t: &Typed, e: ExprId) -> ArgId
     requires typed { IsTyped t.now }
     requires node { IsTrue (is_expr t.now e) }
@@ -85,32 +87,10 @@ pub fn any_io(t: &Typed, e: ExprId) -> ArgId
     }
 }
 
-// What stands in the first local.
-
-#[tactic(auto, using(wf_mean_exprs::proofs::Variables::local_number))]
-fn first_number(scene: &Scene) -> Option<u64>
-    ensures { result ≡ (seen_from scene.now).number_at (local 0) }
-{
-    match scene.frame.locals.as_slice() {
-        [Slot::Num(n), ..] => Some(*n),
-        _ => None,
-    }
-}
-
-#[tactic(auto, using(wf_mean_exprs::proofs::Variables::local_span))]
-fn first_slice(scene: &Scene) -> Option<SliceSpan>
-    ensures { option_map span_seen result ≡ (seen_from scene.now).span_at (local 0) }
-{
-    match scene.frame.locals.as_slice() {
-        [Slot::Elements(span), ..] => Some(*span),
-        _ => None,
-    }
-}
-
 fn is_itself(scene: &Scene) -> Option<bool>
     ensures { result ≡ itself ((seen_from scene.now).number_at (local 0)) }
 {
-    match first_number(scene) {
+    match scene.local_number(LocalId(0)) {
         Some(_) => Some(true),
         None => None,
     }
@@ -140,4 +120,42 @@ fn is_io(ty: Ty) -> bool
     ensures { result ≡ is_stream ty }
 {
     matches!(ty, Ty::Reader | Ty::Writer)
+}
+
+// The same on a stage.
+
+/// The value of an expression where a body stands; None where it is stuck.
+pub fn value_on(t: &Typed, stage: &Stage, e: ExprId) -> Option<Slot>
+    requires typed { IsTyped t.now }
+    requires node { IsTrue (is_expr t.now e) }
+    ensures { option_map slot_seen result ≡ value_of (sight_on t.now stage.now) (tree_of t.now e) }
+{
+    any_value(&stage.scene(t), e)
+}
+
+/// The value of a number.
+pub fn number_on(t: &Typed, stage: &Stage, e: ExprId) -> Option<u64>
+    requires typed { IsTyped t.now }
+    requires node { IsTrue (is_expr t.now e) }
+    ensures { result ≡ value (sight_on t.now stage.now) (node_number t.now e) }
+{
+    any_number(&stage.scene(t), e)
+}
+
+/// The truth value of a condition.
+pub fn condition_on(t: &Typed, stage: &Stage, e: ExprId) -> Option<bool>
+    requires typed { IsTyped t.now }
+    requires node { IsTrue (is_expr t.now e) }
+    ensures { result ≡ truth_of (sight_on t.now stage.now) (node_cond t.now e) }
+{
+    any_condition(&stage.scene(t), e)
+}
+
+/// A slice.
+pub fn slice_on(t: &Typed, stage: &Stage, e: ExprId) -> Option<SliceSpan>
+    requires typed { IsTyped t.now }
+    requires node { IsTrue (is_expr t.now e) }
+    ensures { option_map span_seen result ≡ span_of (sight_on t.now stage.now) (node_slice t.now e) }
+{
+    any_slice(&stage.scene(t), e)
 }

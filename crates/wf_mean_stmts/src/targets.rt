@@ -5,18 +5,18 @@ ghost use Rattle.wf_ast.specs.declared.typed_nodes.TypedNodes.{TypedNodes};
 ghost use Rattle.wf_ast.specs.TypedTree.{local, field as field_path, arg, to_element};
 ghost use Rattle.wf_text.specs.declared.place.Place.{Place};
 ghost use Rattle.wf_ast.specs.TypedTrees.{named, num_type, target_of, optional_target, tree_of, place_of_node, type_of_node};
-ghost use Rattle.wf_ast.specs.TypedInvariant.{is_expr, is_numeric, is_optional_expr};
+ghost use Rattle.wf_ast.specs.TypedInvariant.{IsTyped, is_expr, is_numeric, is_optional_expr};
 ghost use Rattle.wf_ast.specs.Value.{num};
 ghost use Rattle.wf_meaning.specs.World.{Body, Vars, in_range, put_value, set_element as set_in_meaning};
 ghost use Rattle.wf_mean_exprs.specs.MachineState.{slot_seen, span_seen};
-ghost use Rattle.wf_mean_exprs.specs.Operands.{is_number_at, is_slice_at, node_number, node_slice};
+ghost use Rattle.wf_mean_exprs.specs.Operands.{is_number_at, node_number, node_slice};
 ghost use Rattle.wf_mean_stmts.specs.Stages.{body_on, vars_on, shape, Comes};
 ghost use Rattle.wf_mean_stmts.specs.Targets.{stored_if, taken_by};
 
+use crate::any::{number_on, slice_on};
 use crate::stage::Stage;
 use crate::storing::{put_field, put_local, set_element};
 use wf_ast::{Expr, ExprId, FieldId, LocalId, Ty, Typed};
-use wf_mean_exprs::numbers::{number, slice};
 use wf_mean_exprs::values::{SliceSpan, Slot};
 
 /// What becomes of a value that goes to a variable.
@@ -33,7 +33,8 @@ pub(crate) enum Taken {
 /// A value goes to a target. False where it leaves the target's type, or the target's index or slice is stuck; the
 /// variables are then left as they happen to be.
 pub fn put(t: &Typed, stage: &mut Stage, target: ExprId, v: Slot) -> bool
-    requires { IsTrue (is_expr t.now target) }
+    requires typed { IsTyped t.now }
+    requires node { IsTrue (is_expr t.now target) }
     ensures vars { Comes result (put_value (body_on t.now stage.old) (target_of (tree_of t.now target)) (slot_seen v) (vars_on t.now stage.old)) (vars_on t.now stage.new) }
     ensures shape { shape stage.new ≡ shape stage.old }
     ensures turns { stage.new.turns ≡ stage.old.turns }
@@ -55,7 +56,8 @@ pub fn put(t: &Typed, stage: &mut Stage, target: ExprId, v: Slot) -> bool
 
 /// The same, where a target is given.
 pub fn put_if_any(t: &Typed, stage: &mut Stage, target: Option<ExprId>, v: Slot) -> bool
-    requires { IsTrue (is_optional_expr t.now target) }
+    requires typed { IsTyped t.now }
+    requires node { IsTrue (is_optional_expr t.now target) }
     ensures vars { Comes result (put_value (body_on t.now stage.old) (optional_target (tree_of t.now) target) (slot_seen v) (vars_on t.now stage.old)) (vars_on t.now stage.new) }
     ensures shape { shape stage.new ≡ shape stage.old }
     ensures turns { stage.new.turns ≡ stage.old.turns }
@@ -67,34 +69,34 @@ pub fn put_if_any(t: &Typed, stage: &mut Stage, target: Option<ExprId>, v: Slot)
 }
 
 // What a variable of a type does with a value.
-fn taken(ty: Ty, v: Slot) -> Taken
+fn fate(ty: Ty, v: Slot) -> Taken
     ensures { result ≡ taken_by ty (slot_seen v) }
 {
     match ty {
         Ty::Num { lo, hi, .. } => match v {
-            Slot::Num(n) => taken_if(lo <= n && n <= hi),
+            Slot::Num(n) => if_fits(lo <= n && n <= hi),
             Slot::Truth(_) | Slot::Status(_) | Slot::Elements(_) | Slot::Buffer(_) => Taken::Stuck,
         },
-        Ty::Flag => taken_if(matches!(v, Slot::Truth(_))),
-        Ty::Status => taken_if(matches!(v, Slot::Status(_))),
-        Ty::Slice(_) => taken_if(matches!(v, Slot::Elements(_))),
+        Ty::Flag => if_fits(matches!(v, Slot::Truth(_))),
+        Ty::Status => if_fits(matches!(v, Slot::Status(_))),
+        Ty::Slice(_) => if_fits(matches!(v, Slot::Elements(_))),
         Ty::Reader | Ty::Writer | Ty::Array { .. } | Ty::Part(_) => Taken::Passed,
     }
 }
 
-fn taken_if(fits: bool) -> Taken
+fn if_fits(fits: bool) -> Taken
     ensures { result ≡ stored_if fits }
 {
     if fits { Taken::Stored } else { Taken::Stuck }
 }
 
-#[tactic(auto, using(crate::proofs::Targets::named_takes))]
+#[tactic(auto, using(crate::proofs::TargetLemmas::named_takes))]
 fn local_takes(stage: &mut Stage, x: LocalId, ty: Ty, v: Slot) -> bool
     ensures vars { (nodes : TypedNodes) (at : Place) → Comes result (put_value (body_on nodes stage.old) (target_of (named at ty (local x.0))) (slot_seen v) (vars_on nodes stage.old)) (vars_on nodes stage.new) }
     ensures shape { shape stage.new ≡ shape stage.old }
     ensures turns { stage.new.turns ≡ stage.old.turns }
 {
-    match taken(ty, v) {
+    match fate(ty, v) {
         Taken::Stored => {
             put_local(stage, x, v);
             true
@@ -104,13 +106,13 @@ fn local_takes(stage: &mut Stage, x: LocalId, ty: Ty, v: Slot) -> bool
     }
 }
 
-#[tactic(auto, using(crate::proofs::Targets::named_takes))]
+#[tactic(auto, using(crate::proofs::TargetLemmas::named_takes))]
 fn field_takes(stage: &mut Stage, x: FieldId, ty: Ty, v: Slot) -> bool
     ensures vars { (nodes : TypedNodes) (at : Place) → Comes result (put_value (body_on nodes stage.old) (target_of (named at ty (field_path x.0))) (slot_seen v) (vars_on nodes stage.old)) (vars_on nodes stage.new) }
     ensures shape { shape stage.new ≡ shape stage.old }
     ensures turns { stage.new.turns ≡ stage.old.turns }
 {
-    match taken(ty, v) {
+    match fate(ty, v) {
         Taken::Stored => {
             put_field(stage, x, v);
             true
@@ -121,11 +123,11 @@ fn field_takes(stage: &mut Stage, x: FieldId, ty: Ty, v: Slot) -> bool
 }
 
 // An argument stays as it is.
-#[tactic(auto, using(crate::proofs::Targets::named_takes))]
+#[tactic(auto, using(crate::proofs::TargetLemmas::named_takes))]
 fn arg_takes(ty: Ty, v: Slot) -> bool
     ensures { (b : Body) (at : Place) (n : ℕ) (vars : Vars) → Comes result (put_value b (target_of (named at ty (arg n))) (slot_seen v) vars) vars }
 {
-    match taken(ty, v) {
+    match fate(ty, v) {
         Taken::Stored => true,
         Taken::Passed => true,
         Taken::Stuck => false,
@@ -141,8 +143,9 @@ fn element_takes(
     v: Slot,
 ) -> bool
     requires node { IsTrue (is_number_at t.now e) }
-    requires base { IsTrue (is_slice_at t.now base) }
-    requires at { IsTrue (is_number_at t.now at) }
+    requires typed { IsTyped t.now }
+    requires base { IsTrue (is_expr t.now base) }
+    requires at { IsTrue (is_expr t.now at) }
     ensures vars { Comes result (put_value (body_on t.now stage.old) (to_element (place_of_node t.now e.0) (num_type (type_of_node t.now e.0)) (node_slice t.now base) (node_number t.now at)) (slot_seen v) (vars_on t.now stage.old)) (vars_on t.now stage.new) }
     ensures shape { shape stage.new ≡ shape stage.old }
     ensures turns { stage.new.turns ≡ stage.old.turns }
@@ -162,8 +165,9 @@ fn number_to_element(
     n: u64,
 ) -> bool
     requires node { IsTrue (is_number_at t.now e) }
-    requires base { IsTrue (is_slice_at t.now base) }
-    requires at { IsTrue (is_number_at t.now at) }
+    requires typed { IsTyped t.now }
+    requires base { IsTrue (is_expr t.now base) }
+    requires at { IsTrue (is_expr t.now at) }
     ensures vars { Comes result (put_value (body_on t.now stage.old) (to_element (place_of_node t.now e.0) (num_type (type_of_node t.now e.0)) (node_slice t.now base) (node_number t.now at)) (num n) (vars_on t.now stage.old)) (vars_on t.now stage.new) }
     ensures shape { shape stage.new ≡ shape stage.old }
     ensures turns { stage.new.turns ≡ stage.old.turns }
@@ -171,8 +175,8 @@ fn number_to_element(
     if !lies_in(t.type_of(e), n) {
         return false;
     }
-    let span = slice(&stage.scene(t), base);
-    let k = number(&stage.scene(t), at);
+    let span = slice_on(t, stage, base);
+    let k = number_on(t, stage, at);
     put_at(stage, span, k, n)
 }
 

@@ -1,13 +1,17 @@
 -- What a target does with a value, by the type of what it names.
-use Rattle.std.proofs.Common.{◌≡◌, ℕ, Bool, true, false, ◌&&◌, Option, None, Some, refl, nat_le}
-use Rattle.std.specs.Prelude.{if◌then◌else◌}
+use Rattle.std.proofs.Common.{◌≡◌, ℕ, Bool, true, false, ◌&&◌, Option, None, Some, refl, sym, ◌∙◌, nat_le}
+use Rattle.std.specs.Prelude.{if◌then◌else◌, option_and_then}
 use Rattle.wf_text.specs.declared.place.Place.{Place}
 use Rattle.wf_ast.specs.declared.types.Ty.{Ty}
 use Rattle.wf_ast.specs.declared.types.Ty.TheVariants as types
-use Rattle.wf_ast.specs.TypedTree.{Path, local, field, arg}
+use Rattle.wf_ast.specs.declared.typed_nodes.TypedNodes.{TypedNodes}
+use Rattle.wf_ast.specs.TypedTree.{Path, local, field, arg, NumType, SliceTree, NumTree, to_element}
 use Rattle.wf_ast.specs.TypedTrees.{named, target_of}
-use Rattle.wf_ast.specs.Value.{Value, num, truth_value, status_number, span, buffer, only_if}
-use Rattle.wf_meaning.specs.World.{Body, Vars, put_value, set_path}
+use Rattle.wf_ast.specs.Value.{Value, num, truth_value, status_number, span, buffer, only_if, Span, span_of, value}
+use Rattle.wf_meaning.specs.World.{Body, Vars, in_range, put_value, set_element, set_path}
+use Rattle.wf_mean_exprs.specs.MachineState.{sight}
+use Rattle.wf_mean_stmts.specs.declared.stage.Stage.{Stage}
+use Rattle.wf_mean_stmts.specs.Stages.{body_on, vars_on, sight_on}
 use Rattle.wf_mean_stmts.specs.Targets.{stored_if, taken_by, put_by}
 
 of_number : (test : Bool) (stored vars : Vars) → only_if test (Some stored) ≡ put_by (stored_if test) stored vars
@@ -43,3 +47,10 @@ named_takes b at types.Writer (local n) v vars = refl
 named_takes b at types.Writer (field n) v vars = refl
 named_takes b at types.Writer (arg n) v vars = refl
 named_takes b at (types.Part s) path v vars = refl
+
+-- A number goes to an element.
+pub element_put : (nodes : TypedNodes) (stage : Stage) (at : Place) (of : NumType) (cells : SliceTree) (index : NumTree) (n : ℕ) (fits : Bool) (span : Option Span) (k : Option ℕ)
+    → fits ≡ in_range of n → fits ≡ true → span ≡ span_of (sight_on nodes stage) cells → k ≡ value (sight_on nodes stage) index
+    → put_value (body_on nodes stage) (to_element at of cells index) (num n) (vars_on nodes stage) ≡ option_and_then (λ xs. option_and_then (λ k. set_element xs k n (vars_on nodes stage)) k) span
+unfolding sight
+element_put nodes stage at of cells index n fits span k f t s i = rw (sym f ∙ t, sym s, sym i) refl
