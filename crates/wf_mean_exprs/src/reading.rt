@@ -216,7 +216,7 @@ impl Scene<'_> {
 
     /// The number of the buffer of a reader or a writer.
     #[tactic(auto, using(crate::proofs::Variables::arg_number_of_buffer))]
-    pub(crate) fn buffer_number(&self, x: ArgId) -> Option<u16>
+    pub fn buffer_number(&self, x: ArgId) -> Option<u16>
         ensures { result ≡ (seen_from self.now).buffer_number x.0 }
     {
         buffer_in(slot_at(self.frame.args.as_slice(), x.0))

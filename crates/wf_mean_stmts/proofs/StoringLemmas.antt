@@ -1,11 +1,11 @@
 -- A value goes to a place in a list.
-use Rattle.std.proofs.Common.{◌≡◌, ℕ, zero, suc, ◌<◌, ◌≤◌, List, [], ◌∷◌, length, map, set, get_or, Some, refl, sym, ap, ◌∙◌, arith}
+use Rattle.std.proofs.Common.{◌≡◌, ℕ, zero, suc, ◌<◌, ◌≤◌, Bool, true, false, nat_lt, MatchBool, List, [], ◌∷◌, length, map, set, get_or, Some, refl, sym, ap, ◌∙◌, arith}
 use Rattle.std.specs.Prelude.{slice_get}
-use Rattle.std_alloc.specs.declared.vec.Vec.{Vec}
+use Rattle.std.proofs.lemmas.List.{set_past}
+use Rattle.std.proofs.lemmas.Bool.Decides.{nat_tests}
 use Rattle.wf_ast.specs.TypedPackage.{PackageTree}
 use Rattle.wf_meaning.specs.SourceState.{Held}
 use Rattle.wf_meaning.specs.World.{updated}
-use Rattle.wf_mean_exprs.specs.declared.objects.KeptBody.{KeptBody}
 use Rattle.wf_mean_exprs.specs.declared.objects.ObjectState.{ObjectState}
 use Rattle.wf_mean_exprs.specs.MachineState.{object_seen}
 use Rattle.wf_mean_stmts.specs.Stages.{ChangesField, with_field_changed, kept_lengths}
@@ -54,4 +54,28 @@ module _ (n : ℕ) (change : Held → Held) (xs : List ObjectState) (i : ℕ) (d
   objects_changed p = set_updated (object_seen p) (with_field_changed n change) xs i new d within (object_changed p)
 
   pub kept_stays : map kept_lengths (set xs i new) ≡ map kept_lengths xs
-  kept_stays = set_same kept_lengths xs i new d within (ap (λ (k : Vec KeptBody). map (λ (b : KeptBody). length b.locals.items) k.items) changes.kept)
+  kept_stays = set_same kept_lengths xs i new d within (rw changes.kept refl)
+
+-- A byte is set, where there is one with the number.
+pub byte_set : (r : Bool) (old new : List ℕ) (k b : ℕ) → r ≡ nat_lt k (length old) → MatchBool r (new ≡ set old k b) (new ≡ old) → new ≡ set old k b
+byte_set true old new k b w m = m
+byte_set false old new k b w m = m ∙ sym (set_past old k b (past k (length old) w))
+  where
+    past : (k n : ℕ) → false ≡ nat_lt k n → n ≤ k
+    past k n h = grind (arith, nat_tests, h)
+
+-- The item that stands there is set.
+pub set_itself : {X : Type 0} (xs : List X) (i : ℕ) (x : X) → slice_get xs i ≡ Some x → set xs i x ≡ xs
+set_itself [] i x h = refl
+set_itself (y ∷ ys) zero x h = let q : y ≡ x = cc in ap (λ z. z ∷ ys) (sym q)
+set_itself (y ∷ ys) (suc i) x h = ap (λ zs. y ∷ zs) (set_itself ys i x h)
+
+pub set_if : {X : Type 0} (change : X → X) (r : Bool) (xs : List X) (i : ℕ) (new old : X) → slice_get xs i ≡ Some old → MatchBool r (new ≡ change old) (new ≡ old)
+    → MatchBool r (set xs i new ≡ updated change i xs) (set xs i new ≡ xs)
+set_if change true xs i new old h m = set_change change xs i new old h m
+set_if change false xs i new old h m = ap (λ x. set xs i x) m ∙ set_itself xs i old h
+
+pub item_there : {X : Type 0} (xs : List X) (i : ℕ) → i < length xs → (x : X) × (slice_get xs i ≡ Some x)
+item_there [] i h = absurd (omega (arith, h))
+item_there (x ∷ xs) zero h = (x, refl)
+item_there (x ∷ xs) (suc i) h = item_there xs i (omega (arith, h))

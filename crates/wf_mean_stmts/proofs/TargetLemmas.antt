@@ -49,8 +49,8 @@ named_takes b at types.Writer (arg n) v vars = refl
 named_takes b at (types.Part s) path v vars = refl
 
 -- A number goes to an element.
-pub element_put : (nodes : TypedNodes) (stage : Stage) (at : Place) (of : NumType) (cells : SliceTree) (index : NumTree) (n : ℕ) (fits : Bool) (span : Option Span) (k : Option ℕ)
-    → fits ≡ in_range of n → fits ≡ true → span ≡ span_of (sight_on nodes stage) cells → k ≡ value (sight_on nodes stage) index
-    → put_value (body_on nodes stage) (to_element at of cells index) (num n) (vars_on nodes stage) ≡ option_and_then (λ xs. option_and_then (λ k. set_element xs k n (vars_on nodes stage)) k) span
+pub element_put : (nodes : TypedNodes) (stage : Stage) (at : Place) (of : NumType) (cells : SliceTree) (index : NumTree) (n : ℕ) (fits : Bool) (xs : Option Span) (k : Option ℕ)
+    → fits ≡ in_range of n → fits ≡ true → xs ≡ span_of (sight_on nodes stage) cells → k ≡ value (sight_on nodes stage) index
+    → put_value (body_on nodes stage) (to_element at of cells index) (num n) (vars_on nodes stage) ≡ option_and_then (λ xs. option_and_then (λ k. set_element xs k n (vars_on nodes stage)) k) xs
 unfolding sight
-element_put nodes stage at of cells index n fits span k f t s i = rw (sym f ∙ t, sym s, sym i) refl
+element_put nodes stage at of cells index n fits xs k f t s i = rw (sym f ∙ t, sym s, sym i) refl

@@ -1,3 +1,5 @@
 pub mod Stages
 pub mod Targets
 pub mod Entries
+pub mod Doings
+pub mod Arguments

@@ -8,3 +8,6 @@ pub mod storing;
 pub mod targets;
 pub mod any;
 pub mod entry;
+pub mod awaiting;
+mod bytes;
+pub mod arguments;

@@ -33,7 +33,7 @@ pub(crate) fn put_field(stage: &mut Stage, x: FieldId, v: Slot)
     set_field(stage.objects.as_mut_slice(), object, x.0, held(v));
 }
 
-#[tactic(auto, using(wf_mean_exprs::proofs::Storing::set_seen, crate::proofs::StoringLemmas::past_updated))]
+#[tactic(auto, using(crate::proofs::StoringLemmas::set_to, crate::proofs::StoringLemmas::past_updated))]
 fn put_slot(slots: &mut [Slot], x: u32, v: Slot)
     ensures items { map slot_seen slots.new ≡ updated (λ _. slot_seen v) x (map slot_seen slots.old) }
     ensures count { length slots.new ≡ length slots.old }

@@ -48,8 +48,9 @@ pub fn put(t: &Typed, stage: &mut Stage, target: ExprId, v: Slot) -> bool
             Expr::Arg(_) => arg_takes(t.type_of(target), v),
             Expr::Index { base, at } => element_takes(t, stage, target, *base, *at, v),
             Expr::Number(_) | Expr::Const(_) | Expr::Status(_) | Expr::Truth(_) => true,
-            Expr::Cut { .. } | Expr::Chain { .. } | Expr::Convert { .. } => true,
-            Expr::Not(_) | Expr::Base { .. } => true,
+            Expr::Cut { .. } | Expr::Convert { .. } | Expr::Not(_) => true,
+            Expr::Chain { op, parts } => true,
+            Expr::Base { on, sig } => true,
         },
     }
 }

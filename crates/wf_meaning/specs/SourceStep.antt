@@ -186,12 +186,15 @@ write_on n k byte buffer here rest behind vars =
     (Go (at_block rest behind (change_buffer k (ops.appended (byte ∷ [])) vars)))
     (suspending n short_write (to_write byte) here behind vars)
 
--- The number that a skip has still to take, or a write's byte: evaluated once, and kept.
+-- The number that a skip has still to take, and a write's byte: evaluated once, and kept.
 -- [What remains; note coroutines]
-abbrev pub kept_or : Done → (fresh : Option ℕ) → Option ℕ
-kept_or (to_skip count) fresh = Some count
-kept_or (to_write byte) fresh = Some byte
-kept_or done fresh = fresh
+abbrev pub kept_count : Done → (fresh : Option ℕ) → Option ℕ
+kept_count (to_skip count) fresh = Some count
+kept_count done fresh = fresh
+
+abbrev pub kept_byte : Done → (fresh : Option ℕ) → Option ℕ
+kept_byte (to_write byte) fresh = Some byte
+kept_byte done fresh = fresh
 
 -- A number that fits so many bits. [Steps]
 abbrev pub below : (bits : ℕ) → ℕ → Option ℕ
@@ -202,10 +205,10 @@ abbrev pub awaited : Body → ℕ → Target → (k : ℕ) → Buffer → Awaite
 awaited b n target k buffer (take_number form) done here rest behind vars =
     read_on b n target form (gathered form (bytes_so_far done) buffer) here rest behind (change_buffer k (ops.skipped (lacking form (bytes_so_far done))) vars)
 awaited b n target k buffer (skip count) done here rest behind vars =
-    with_some (kept_or done (option_and_then (below 32) (value (state_of b vars) count)))
+    with_some (kept_count done (option_and_then (below 32) (value (state_of b vars) count)))
     (λ left. skip_on n (ops.left_to_skip left buffer) here rest behind (change_buffer k (ops.skipped left) vars))
 awaited b n target k buffer (write byte) done here rest behind vars =
-    with_some (kept_or done (option_and_then (below 8) (value (state_of b vars) byte))) (λ it. write_on n k it buffer here rest behind vars)
+    with_some (kept_byte done (option_and_then (below 8) (value (state_of b vars) byte))) (λ it. write_on n k it buffer here rest behind vars)
 
 -- Base calls that don't suspend. Each gives what goes to its target, if anything does.
 
