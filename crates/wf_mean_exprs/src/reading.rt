@@ -244,9 +244,9 @@ impl Scene<'_> {
         }
     }
 
-    // The element of a store with this number.
+    /// The element of a store with this number.
     #[tactic(auto, using(crate::proofs::Variables::no_cell, crate::proofs::Variables::host_cells, crate::proofs::Variables::field_cells))]
-    fn cell(&self, store: SliceStore, k: u64) -> Option<u64>
+    pub fn cell(&self, store: SliceStore, k: u64) -> Option<u64>
         ensures { result ≡ slice_get ((seen_from self.now).cells_at (store_seen store)) k }
     {
         match store {

@@ -5,3 +5,8 @@ pub mod AwaitLemmas
 pub mod ChainTargets
 pub mod ArgumentLemmas
 pub mod ByteLemmas
+pub mod CopyLemmas
+pub mod CopyOutLemmas
+pub mod PerformLemmas
+pub mod BodyLemmas
+pub mod CallLemmas

@@ -1,5 +1,5 @@
 -- What statements come to that stand by themselves, in the words of the source's meaning.
-use Rattle.std.specs.Prelude.{◌≡◌, ℕ, List, Option, None, Some, slice_get}
+use Rattle.std.specs.Prelude.{◌≡◌, ℕ, Bool, List, Option, None, Some, slice_get, if◌then◌else◌}
 use Rattle.turns.specs.Run.{Go, Fail}
 use Rattle.wf_base.specs.BaseOps.{Buffer}
 use Rattle.wf_ast.specs.TypedTree.{Block}
@@ -20,3 +20,6 @@ did_steps n Stuck here rest behind vars = Fail
 abbrev pub FindsIo : List Buffer → Option ℕ → Option (ℕ × Buffer) → Type 0
 FindsIo bufs None io = io ≡ None
 FindsIo bufs (Some k) io = (buffer : Buffer) × (slice_get bufs k ≡ Some buffer) × (io ≡ Some (k, buffer))
+
+abbrev pub did_if : (went : Bool) → Did
+did_if went = if went then Goes else Stuck

@@ -3,3 +3,4 @@ pub mod Targets
 pub mod Entries
 pub mod Doings
 pub mod Arguments
+pub mod Copies

@@ -47,13 +47,7 @@ fn fitting(ty: Ty, v: Option<Slot>) -> Option<Slot>
     ensures { option_map slot_seen result ≡ fitting_value ty (option_map slot_seen v) }
 {
     match v {
-        Some(v) => {
-            if fits_argument(ty, v) {
-                Some(v)
-            } else {
-                None
-            }
-        }
+        Some(v) => { if fits_argument(ty, v) { Some(v) } else { None } }
         None => None,
     }
 }

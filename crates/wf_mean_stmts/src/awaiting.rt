@@ -31,14 +31,12 @@ pub enum Did {
     /// The next statement follows.
     Goes,
     /// The method suspends with a status, and the statement has done so much.
-    Suspends {
-        status: u32,
-        done: Progress,
-    },
+    Suspends { status: u32, done: Progress },
     Stuck,
 }
 
 const SHORT_READ: u32 = 1;
+
 const SHORT_WRITE: u32 = 2;
 
 /// A read takes the bytes that are there, as many as it lacks. With all of its bytes its number goes to the target.

@@ -2,12 +2,14 @@
 // arguments of calls, and the entry table, exactly as the source's meaning has them. Nothing here takes memory.
 #![tactic(auto)]
 
+pub mod any;
+pub mod arguments;
+pub mod awaiting;
+pub mod base_calls;
+mod bytes;
+mod copying;
+pub mod entry;
+mod performing;
 pub mod stage;
 pub mod storing;
-
 pub mod targets;
-pub mod any;
-pub mod entry;
-pub mod awaiting;
-mod bytes;
-pub mod arguments;

@@ -135,14 +135,7 @@ fn arg_takes(ty: Ty, v: Slot) -> bool
     }
 }
 
-fn element_takes(
-    t: &Typed,
-    stage: &mut Stage,
-    e: ExprId,
-    base: ExprId,
-    at: ExprId,
-    v: Slot,
-) -> bool
+fn element_takes(t: &Typed, stage: &mut Stage, e: ExprId, base: ExprId, at: ExprId, v: Slot) -> bool
     requires node { IsTrue (is_number_at t.now e) }
     requires typed { IsTyped t.now }
     requires base { IsTrue (is_expr t.now base) }
