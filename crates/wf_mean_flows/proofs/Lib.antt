@@ -1,0 +1,3 @@
+pub mod RunLaws
+pub mod LoopLaws
+pub mod SimpleLaws
