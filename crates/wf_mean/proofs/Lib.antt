@@ -1,0 +1,4 @@
+pub mod AwaitLaws
+pub mod BlockLaws
+pub mod ChoiceLaws
+pub mod FrameLaws
