@@ -1,2 +1,3 @@
 pub mod Frames
 pub mod Picking
+pub mod Seeking

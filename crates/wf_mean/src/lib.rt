@@ -5,3 +5,4 @@ mod awaits;
 mod calling;
 mod picking;
 mod running;
+mod seeking;

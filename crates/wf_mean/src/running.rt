@@ -20,7 +20,7 @@ use wf_mean_flows::simple::{assign, claim, give_back, pause};
 use wf_mean_stmts::stage::Stage;
 
 // A statement's node, with what it makes of the rest.
-fn node(t: &Typed, s: StmtId) -> &Stmt
+pub(crate) fn node(t: &Typed, s: StmtId) -> &Stmt
     requires typed { IsTyped t.now }
     requires known { s.0 < length t.now.stmts }
     ensures made { (rest : TreeBlock) → made_of t.now s rest ≡ stmt_made t.now (tree_of t.now) (onto (stmt_makers t.now)) s.0 (record { stmt = result.now; at = place_of t.now s.0; inner = inner_of t.now s.0 }) rest }
@@ -95,7 +95,7 @@ pub(crate) fn run_block(
     Flow::Falls
 }
 
-fn falls(flow: Flow) -> bool
+pub(crate) fn falls(flow: Flow) -> bool
     ensures { result ≡ is_falls flow }
 {
     matches!(flow, Flow::Falls)
@@ -168,7 +168,7 @@ fn run_while(
 
 /// Runs the body of a loop, the statement `s`, pass after pass.
 #[cycle(running)]
-fn run_rounds(
+pub(crate) fn run_rounds(
     t: &Typed,
     stage: &mut Stage,
     below: &mut [Frame],

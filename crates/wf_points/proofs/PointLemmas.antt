@@ -68,7 +68,7 @@ base_points at target on sigs.IsNote ts = refl
 base_points at target on sigs.IsSuspension ts = refl
 base_points at target on sigs.IsError ts = refl
 
-call_points : (nodes : TypedNodes) (at : Place) (target : Target) (keep : Bool) (callee : Callee) (args : List ExprId)
+pub call_points : (nodes : TypedNodes) (at : Place) (target : Target) (keep : Bool) (callee : Callee) (args : List ExprId)
     → is_point (call_made nodes (tree_of nodes) at target keep callee (map (tree_of nodes) args)) ≡ call_suspends nodes keep callee (length args)
 call_points nodes at target keep (callees.Own m) args = refl
 call_points nodes at target keep (callees.Sub x m) args = refl

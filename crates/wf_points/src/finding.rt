@@ -153,7 +153,7 @@ fn add_point(t: &Typed, s: StmtId, found: &mut Sequence<FoundPoint>) -> Result<(
 }
 
 // Whether a method suspends with a call in it that has so many arguments.
-fn call_suspends(t: &Typed, keep: bool, callee: Callee, args: usize) -> bool
+pub fn call_suspends(t: &Typed, keep: bool, callee: Callee, args: usize) -> bool
     requires { IsTrue (callee_exists t.now callee) }
     ensures { result ≡ suspends_at_call t.now keep callee args }
 {

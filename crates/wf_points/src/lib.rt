@@ -3,7 +3,7 @@
 #![tactic(auto)]
 
 pub mod deciding;
-mod finding;
+pub mod finding;
 pub mod laws;
 mod numbering;
 mod saving;

@@ -18,7 +18,7 @@ run_block-returns-then-not-falls-clause-runs t c =
     let nodes = c.args.t.now in
     let ss = c.args.block.now.items in
     let all = block_made_of nodes (drop c.args.from ss) in
-    leaves nodes (length c.args.below.now) (length l.below) l.invariant.stays.count all ss l.i _ (first_in nodes ss c.as_slice.result.now c.as_slice.ensures l.i _ c.loop-i-test.true) c.args.stage.now l.stage c.run_stmt-flow.new.stage c.run_stmt-flow.result
+    leaves nodes (length c.args.below.now) (length l.below) l.invariant.stays.count all ss l.i _ (first_in nodes ss c.as_slice-items.result.now c.as_slice-items.ensures l.i _ c.loop-i-test.true) c.args.stage.now l.stage c.run_stmt-flow.new.stage c.run_stmt-flow.result
     l.invariant.runs c.run_stmt-flow.ensures.runs (sym c.if-not-falls.ensures) l.invariant.stands
 
 pub run_block-loop-i-preserved : goal.run_block-loop-i-preserved
@@ -27,13 +27,13 @@ run_block-loop-i-preserved t c =
     let nodes = c.args.t.now in
     let ss = c.args.block.now.items in
     let all = block_made_of nodes (drop c.args.from ss) in
-    let first = first_in nodes ss c.as_slice.result.now c.as_slice.ensures l.i _ c.loop-i-test.true in
+    let first = first_in nodes ss c.as_slice-items.result.now c.as_slice-items.ensures l.i _ c.loop-i-test.true in
     record {
       runs = goes_on nodes (length c.args.below.now) (length l.below) l.invariant.stays.count all ss l.i _ first c.args.stage.now l.stage c.run_stmt-flow.new.stage c.run_stmt-flow.result
         l.invariant.runs c.run_stmt-flow.ensures.runs (sym c.if-not-falls.ensures);
       stands = λ at items behind h.
         let Q : Block → Type 0 = λ b. StandsIn at items b behind in
-        l.invariant.stands at items behind (subst Q (sym first) (behind_one nodes c.requires.typed _ at items (block_made_of nodes (drop (l.i + 1) ss)) behind (known_in ss c.as_slice.result.now c.as_slice.ensures c.args.top (length nodes.stmts) l.i _ c.requires.known c.requires.inside c.loop-i-test.true) h));
+        l.invariant.stands at items behind (subst Q (sym first) (behind_one nodes c.requires.typed _ at items (block_made_of nodes (drop (l.i + 1) ss)) behind (known_in ss c.as_slice-items.result.now c.as_slice-items.ensures c.args.top (length nodes.stmts) l.i _ c.requires.known c.requires.inside c.loop-i-test.true) h));
       stays = stays_on c.args.below.now l.below c.run_stmt-flow.new.below c.args.stage.now l.stage c.run_stmt-flow.new.stage l.invariant.stays c.run_stmt-flow.ensures.stays;
       ready = ready_after nodes l.below c.run_stmt-flow.new.below l.stage c.run_stmt-flow.new.stage l.invariant.ready c.run_stmt-flow.ensures.stays
     }
