@@ -95,8 +95,8 @@ node_made nodes typed s st h rest = stmt_is nodes s (record { stmt = st; at = pl
 
 -- One more statement of a block has run: `s`, with the number `i` in the list.
 module _ (nodes : TypedNodes) (level level' : ℕ) (same : level' ≡ level) (all : Block) (ss : List StmtId) (i : ℕ) (s : StmtId) (first : block_made_of nodes (drop i ss) ≡ made_of nodes s (block_made_of nodes (drop (i + 1) ss))) (old mid new : Stage) (flow : Flow)
-  (runs : (behind : Behind) → run_on nodes level old untouched all behind ≡ run_on nodes level mid untouched (block_made_of nodes (drop i ss)) behind)
-  (one : Runs nodes level' (made_of nodes s) untouched mid new flow) where
+    (runs : (behind : Behind) → run_on nodes level old untouched all behind ≡ run_on nodes level mid untouched (block_made_of nodes (drop i ss)) behind)
+    (one : Runs nodes level' (made_of nodes s) untouched mid new flow) where
   from_first : (behind : Behind) → run_on nodes level old untouched all behind ≡ run_on nodes level mid untouched (made_of nodes s (block_made_of nodes (drop (i + 1) ss))) behind
   from_first behind = runs behind ∙ ap (λ b. run_on nodes level mid untouched b behind) first
 

@@ -160,9 +160,9 @@ module _ (nodes : TypedNodes) (level : ℕ) (site : Site) (head : Head) (body : 
 
 -- Passes of a loop's body.
 module _ (nodes : TypedNodes) (level level' : ℕ) (same : level' ≡ level) (site : Site) (head : Head) (body : Block) (old mid ended new : Stage) (flow : Flow) (round : Round)
-  (runs : (rest : Block) (behind : Behind) → run_on nodes level old untouched body (again site head body rest behind) ≡ run_on nodes level mid untouched body (again site head body rest behind))
-  (one : RunsBlock nodes level' body mid ended flow)
-  (closed : (rest : Block) (behind : Behind) (o : Outcome (Ending × World)) → Flows nodes level body end (again site head body rest behind) flow ended o → Rounds nodes level site head body rest behind ended new round o) where
+    (runs : (rest : Block) (behind : Behind) → run_on nodes level old untouched body (again site head body rest behind) ≡ run_on nodes level mid untouched body (again site head body rest behind))
+    (one : RunsBlock nodes level' body mid ended flow)
+    (closed : (rest : Block) (behind : Behind) (o : Outcome (Ending × World)) → Flows nodes level body end (again site head body rest behind) flow ended o → Rounds nodes level site head body rest behind ended new round o) where
   passed : (rest : Block) (behind : Behind) → Rounds nodes level site head body rest behind ended new round (run_on nodes level mid untouched body (again site head body rest behind))
   passed rest behind =
       let P : ℕ → Type 0 = λ l. RunsBlock nodes l body mid ended flow in

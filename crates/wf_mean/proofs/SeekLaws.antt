@@ -64,14 +64,15 @@ module _ (nodes : TypedNodes) (level : ℕ) (at : Place) (done : Done) (old : St
   pub is_here : (part : Block → Block) (site : Site) (st : Simple) (flow : Flow) (new : Stage) → ((rest : Block) → part rest ≡ plain site st rest) → is_point st ≡ true → same_place site.at at ≡ true
       → Runs nodes level part done old new flow → SoughtIn nodes level at done part old (Some flow) new
   is_here part site st flow new made point same runs = λ rest behind.
-      let P : Block → Type 0 = λ b. Flows nodes level (part rest) rest behind flow new (run_on nodes level old done b behind) in
-      (record { block = plain site st rest; behind = behind },
+      let P : Block → Type 0 = λ b. Flows nodes level (part rest) rest behind flow new (run_on nodes level old done b behind) in (
+        record { block = plain site st rest; behind = behind },
         ap (λ b. standing_at at b behind) (made rest) ∙ met (is_point st) (same_place site.at at) (Some (record { block = plain site st rest; behind = behind })) (standing_at at rest behind) point same,
-        subst P (made rest) (runs rest behind))
+        subst P (made rest) (runs rest behind),
+      )
 
   -- Blocks. The statements in front of `s` hold no such point.
   module _ (ss : List StmtId) (i : ℕ) (s : StmtId) (first_is : block_made_of nodes (drop i ss) ≡ made_of nodes s (block_made_of nodes (drop (i + 1) ss)))
-    (so_far : (behind : Behind) → standing_at at (block_made_of nodes ss) behind ≡ standing_at at (block_made_of nodes (drop i ss)) behind) where
+      (so_far : (behind : Behind) → standing_at at (block_made_of nodes ss) behind ≡ standing_at at (block_made_of nodes (drop i ss)) behind) where
     abbrev pub rest : Block
     rest = block_made_of nodes (drop (i + 1) ss)
 
@@ -82,7 +83,7 @@ module _ (nodes : TypedNodes) (level : ℕ) (at : Place) (done : Done) (old : St
     not_in_one new one behind = here behind ∙ (one rest behind).0
 
     module _ (stands : (at : Place) (items : Items) (behind : Behind) → StandsIn at items (block_made_of nodes (drop i ss)) behind → StandsIn at items (block_made_of nodes ss) behind) (flow : Flow) (mid : Stage)
-      (one : SoughtIn nodes level at done (made_of nodes s) old (Some flow) mid) where
+        (one : SoughtIn nodes level at done (made_of nodes s) old (Some flow) mid) where
       stands_one : (at : Place) (items : Items) (behind : Behind) → StandsIn at items (made_of nodes s rest) behind → StandsIn at items (block_made_of nodes ss) behind
       stands_one at items behind h = let Q : Block → Type 0 = λ b. StandsIn at items b behind in stands at items behind (subst Q (sym first_is) h)
 
@@ -108,16 +109,20 @@ module _ (nodes : TypedNodes) (level : ℕ) (at : Place) (done : Done) (old : St
   module _ (site : Site) (chained : Bool) (cond : CondTree) (a c : Block) where
     pub in_then : (flow : Flow) (new : Stage) → SoughtBlock nodes level at done a old (Some flow) new → SoughtIn nodes level at done (λ rest. choose site chained cond a c rest) old (Some flow) new
     in_then flow new one = λ rest behind.
-        let k = one (behind_if rest behind) in
-        (k.0, first_some (standing_at at a (behind_if rest behind)) _ k.0 k.1,
-          out_of_if nodes level a (choose site chained cond a c rest) rest behind flow new _ (λ at items h. inl h) k.2)
+        let k = one (behind_if rest behind) in (
+          k.0,
+          first_some (standing_at at a (behind_if rest behind)) _ k.0 k.1,
+          out_of_if nodes level a (choose site chained cond a c rest) rest behind flow new _ (λ at items h. inl h) k.2,
+        )
 
     pub in_else : (flow : Flow) (mid new : Stage) → SoughtBlock nodes level at done a old None mid → SoughtBlock nodes level at done c old (Some flow) new
         → SoughtIn nodes level at done (λ rest. choose site chained cond a c rest) old (Some flow) new
     in_else flow mid new none one = λ rest behind.
-        let k = one (behind_if rest behind) in
-        (k.0, first_none (standing_at at a (behind_if rest behind)) _ (none (behind_if rest behind)).0 ∙ first_some (standing_at at c (behind_if rest behind)) _ k.0 k.1,
-          out_of_if nodes level c (choose site chained cond a c rest) rest behind flow new _ (λ at items h. inr (inl h)) k.2)
+        let k = one (behind_if rest behind) in (
+          k.0,
+          first_none (standing_at at a (behind_if rest behind)) _ (none (behind_if rest behind)).0 ∙ first_some (standing_at at c (behind_if rest behind)) _ k.0 k.1,
+          out_of_if nodes level c (choose site chained cond a c rest) rest behind flow new _ (λ at items h. inr (inl h)) k.2,
+        )
 
     pub in_neither : (mid new : Stage) → SoughtBlock nodes level at done a old None mid → SoughtBlock nodes level at done c old None new
         → SoughtIn nodes level at done (λ rest. choose site chained cond a c rest) old None new
@@ -130,7 +135,7 @@ module _ (nodes : TypedNodes) (level : ℕ) (at : Place) (done : Done) (old : St
     not_inside new none = λ rest behind. (first_none (standing_at at body (again site head body rest behind)) _ (none (again site head body rest behind)).0, (none (again site head body rest behind)).1)
 
     module _ (flow : Flow) (mid new : Stage) (round : Round) (one : SoughtBlock nodes level at done body old (Some flow) mid)
-      (closed : (rest : Block) (behind : Behind) (o : Outcome (Ending × World)) → Flows nodes level body end (again site head body rest behind) flow mid o → Rounds nodes level site head body rest behind mid new round o) where
+        (closed : (rest : Block) (behind : Behind) (o : Outcome (Ending × World)) → Flows nodes level body end (again site head body rest behind) flow mid o → Rounds nodes level site head body rest behind mid new round o) where
       pub inside_ends : (f : Flow) → round ≡ Ends f → SoughtIn nodes level at done (λ rest. loop site head body rest) old (Some f) new
       inside_ends f is = λ rest behind.
           let k = one (again site head body rest behind) in

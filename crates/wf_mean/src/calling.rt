@@ -36,6 +36,16 @@ pub(crate) fn run_call(
     ensures runs { Runs t.now (length below.old) (made_of t.now s) (done_seen done) stage.old stage.new result }
     ensures stays { Stays below.old below.new stage.old stage.new }
 {
-    let _not_yet = (below.len(), s, keep, callee, target, args.len(), done, t.methods(), stage.turns);
+    let _not_yet = (
+        below.len(),
+        s,
+        keep,
+        callee,
+        target,
+        args.len(),
+        done,
+        t.methods(),
+        stage.turns,
+    );
     Flow::Stuck
 }

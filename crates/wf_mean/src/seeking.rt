@@ -186,7 +186,18 @@ fn seek_if(
     }
     match seek_block(t, stage, below, s.0 as usize, &arms[0].body, at, done) {
         Some(flow) => Some(flow),
-        None => seek_arms(t, stage, below, s, arms, 1, arms.len() - 1, otherwise, at, done),
+        None => seek_arms(
+            t,
+            stage,
+            below,
+            s,
+            arms,
+            1,
+            arms.len() - 1,
+            otherwise,
+            at,
+            done,
+        ),
     }
 }
 
@@ -221,7 +232,18 @@ fn seek_arms(
     }
     match seek_block(t, stage, below, s.0 as usize, &arms[i].body, at, done) {
         Some(flow) => Some(flow),
-        None => seek_arms(t, stage, below, s, arms, i + 1, left - 1, otherwise, at, done),
+        None => seek_arms(
+            t,
+            stage,
+            below,
+            s,
+            arms,
+            i + 1,
+            left - 1,
+            otherwise,
+            at,
+            done,
+        ),
     }
 }
 

@@ -42,7 +42,7 @@ returns-in-Suspends-clause-runs c = λ level.
     let st = base_call at target (tree_of nodes c.args.on) c.args.sig args in
     let calls = calls_below nodes level in
     let point = calm at target (tree_of nodes c.args.on) c.args.sig args (body_on nodes old) calls old.turns (done_seen c.args.done) (site_of nodes s) end stop (vars_on nodes old) _ _ _ (vars_on nodes c.base_call.new.stage)
-      (c.in-Suspends.ensures.steps calls old.turns (site_of nodes s) at end stop) in
+    (c.in-Suspends.ensures.steps calls old.turns (site_of nodes s) at end stop) in
     simple_runs nodes level s st (done_seen c.args.done) old c.base_call.new.stage (flows.Suspends c.in-Suspends.status c.stmt_place-at.result c.in-Suspends.done) c.requires.made c.base_call.ensures.shape c.base_call.ensures.turns
     (point, place_is (slice_get nodes.stmts s.0) c.stmt_place-at.result c.stmt_place-at.ensures)
     (λ rest behind. c.in-Suspends.ensures.steps calls old.turns (site_of nodes s) at rest behind)

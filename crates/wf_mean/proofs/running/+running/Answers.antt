@@ -30,12 +30,12 @@ run_block-loop-i-preserved t c =
     let first = first_in nodes ss c.as_slice-items.result.now c.as_slice-items.ensures l.i _ c.loop-i-test.true in
     record {
       runs = goes_on nodes (length c.args.below.now) (length l.below) l.invariant.stays.count all ss l.i _ first c.args.stage.now l.stage c.run_stmt-flow.new.stage c.run_stmt-flow.result
-        l.invariant.runs c.run_stmt-flow.ensures.runs (sym c.if-not-falls.ensures);
+          l.invariant.runs c.run_stmt-flow.ensures.runs (sym c.if-not-falls.ensures);
       stands = λ at items behind h.
-        let Q : Block → Type 0 = λ b. StandsIn at items b behind in
-        l.invariant.stands at items behind (subst Q (sym first) (behind_one nodes c.requires.typed _ at items (block_made_of nodes (drop (l.i + 1) ss)) behind (known_in ss c.as_slice-items.result.now c.as_slice-items.ensures c.args.top (length nodes.stmts) l.i _ c.requires.known c.requires.inside c.loop-i-test.true) h));
+          let Q : Block → Type 0 = λ b. StandsIn at items b behind in
+          l.invariant.stands at items behind (subst Q (sym first) (behind_one nodes c.requires.typed _ at items (block_made_of nodes (drop (l.i + 1) ss)) behind (known_in ss c.as_slice-items.result.now c.as_slice-items.ensures c.args.top (length nodes.stmts) l.i _ c.requires.known c.requires.inside c.loop-i-test.true) h));
       stays = stays_on c.args.below.now l.below c.run_stmt-flow.new.below c.args.stage.now l.stage c.run_stmt-flow.new.stage l.invariant.stays c.run_stmt-flow.ensures.stays;
-      ready = ready_after nodes l.below c.run_stmt-flow.new.below l.stage c.run_stmt-flow.new.stage l.invariant.ready c.run_stmt-flow.ensures.stays
+      ready = ready_after nodes l.below c.run_stmt-flow.new.below l.stage c.run_stmt-flow.new.stage l.invariant.ready c.run_stmt-flow.ensures.stays;
     }
 
 pub run_if-returns-then-is_empty-clause-runs : goal.run_if-returns-then-is_empty-clause-runs
@@ -83,7 +83,7 @@ run_rounds-loop-flow-smaller t c =
     let head = head_made (tree_of nodes) (inner_of nodes c.args.s.0) c.args.head.now in
     let body = block_made_of nodes c.args.body.now.items in
     let turn = takes_turn nodes (length c.args.below.now) (length l.below) l.invariant.stays.count (site_of nodes c.args.s) head body c.args.stage.now l.stage c.run_block-flow.new.stage c.close_round.new.stage c.run_block-flow.result c.close_round.result
-      l.invariant.runs c.run_block-flow.ensures.runs (λ rest behind o h. c.close_round.ensures.rounds (length c.args.below.now) (place_of nodes c.args.s.0) (inner_of nodes c.args.s.0) body rest behind o h) c.in-Again.is in
+    l.invariant.runs c.run_block-flow.ensures.runs (λ rest behind o h. c.close_round.ensures.rounds (length c.args.below.now) (place_of nodes c.args.s.0) (inner_of nodes c.args.s.0) body rest behind o h) c.in-Again.is in
     omega (arith, turn, c.run_block-flow.ensures.stays.fewer)
 
 pub run_rounds-loop-flow-preserved : goal.run_rounds-loop-flow-preserved
@@ -98,9 +98,9 @@ run_rounds-loop-flow-preserved t c =
     let one = stays_on l.below frames frames l.stage ended new c.run_block-flow.ensures.stays (stays_shaped frames ended new c.close_round.ensures.shape c.close_round.ensures.fewer) in
     record {
       runs = runs_again nodes (length c.args.below.now) (length l.below) l.invariant.stays.count (site_of nodes c.args.s) head body c.args.stage.now l.stage ended new c.run_block-flow.result c.close_round.result
-        l.invariant.runs c.run_block-flow.ensures.runs (λ rest behind o h. c.close_round.ensures.rounds (length c.args.below.now) (place_of nodes c.args.s.0) (inner_of nodes c.args.s.0) body rest behind o h) c.in-Again.is;
+          l.invariant.runs c.run_block-flow.ensures.runs (λ rest behind o h. c.close_round.ensures.rounds (length c.args.below.now) (place_of nodes c.args.s.0) (inner_of nodes c.args.s.0) body rest behind o h) c.in-Again.is;
       stays = stays_on c.args.below.now l.below frames c.args.stage.now l.stage new l.invariant.stays one;
-      ready = ready_after nodes l.below frames l.stage new l.invariant.ready one
+      ready = ready_after nodes l.below frames l.stage new l.invariant.ready one;
     }
 
 pub run_rounds-returns-in-Ends-clause-runs : goal.run_rounds-returns-in-Ends-clause-runs

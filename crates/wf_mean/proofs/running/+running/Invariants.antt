@@ -29,21 +29,21 @@ abbrev pub invariant-run_block-loop-i : goal.invariant-run_block-loop-i
 invariant-run_block-loop-i l =
     let all = block_made_of l.t (drop l.from l.block.items) in
     let left = block_made_of l.t (drop l.i l.block.items) in record {
-  runs : (behind : Behind) → run_on l.t (length l.fn.below) l.fn.stage untouched all behind ≡ run_on l.t (length l.fn.below) l.stage untouched left behind;
-  stands : (at : Place) (items : Items) (behind : Behind) → StandsIn at items left behind → StandsIn at items all behind;
-  stays : Stays l.fn.below l.below l.fn.stage l.stage;
-  ready : AreReady l.t l.below l.stage;
-}
+      runs : (behind : Behind) → run_on l.t (length l.fn.below) l.fn.stage untouched all behind ≡ run_on l.t (length l.fn.below) l.stage untouched left behind;
+      stands : (at : Place) (items : Items) (behind : Behind) → StandsIn at items left behind → StandsIn at items all behind;
+      stays : Stays l.fn.below l.below l.fn.stage l.stage;
+      ready : AreReady l.t l.below l.stage;
+    }
 
 abbrev pub invariant-run_rounds-loop-flow : goal.invariant-run_rounds-loop-flow
 invariant-run_rounds-loop-flow l =
     let site = site_of l.t l.s in
     let head = head_made (tree_of l.t) (inner_of l.t l.s.0) l.head in
     let body = block_made_of l.t l.body.items in record {
-  runs : (rest : Block) (behind : Behind) → run_on l.t (length l.fn.below) l.fn.stage untouched body (again site head body rest behind) ≡ run_on l.t (length l.fn.below) l.stage untouched body (again site head body rest behind);
-  stays : Stays l.fn.below l.below l.fn.stage l.stage;
-  ready : AreReady l.t l.below l.stage;
-}
+      runs : (rest : Block) (behind : Behind) → run_on l.t (length l.fn.below) l.fn.stage untouched body (again site head body rest behind) ≡ run_on l.t (length l.fn.below) l.stage untouched body (again site head body rest behind);
+      stays : Stays l.fn.below l.below l.fn.stage l.stage;
+      ready : AreReady l.t l.below l.stage;
+    }
 
 abbrev pub decreases-run_rounds-loop-flow : goal.decreases-run_rounds-loop-flow
 decreases-run_rounds-loop-flow l = l.stage.turns

@@ -28,9 +28,9 @@ abbrev pub invariant-seek_block-loop-i : goal.invariant-seek_block-loop-i
 invariant-seek_block-loop-i l =
     let all = block_made_of l.t l.block.items in
     let left = block_made_of l.t (drop l.i l.block.items) in record {
-  so_far : (behind : Behind) → standing_at l.at all behind ≡ standing_at l.at left behind;
-  stands : (at : Place) (items : Items) (behind : Behind) → StandsIn at items left behind → StandsIn at items all behind;
-  same : l.stage ≡ l.fn.stage;
-  stays : Stays l.fn.below l.below l.fn.stage l.stage;
-  ready : AreReady l.t l.below l.stage;
-}
+      so_far : (behind : Behind) → standing_at l.at all behind ≡ standing_at l.at left behind;
+      stands : (at : Place) (items : Items) (behind : Behind) → StandsIn at items left behind → StandsIn at items all behind;
+      same : l.stage ≡ l.fn.stage;
+      stays : Stays l.fn.below l.below l.fn.stage l.stage;
+      ready : AreReady l.t l.below l.stage;
+    }
