@@ -2,6 +2,7 @@
 //! exactly as `CTypes` has them. A look-up takes time in proportion to the name.
 #![tactic(auto)]
 
+mod exprs;
 pub mod front;
 mod operators;
 mod parts;
