@@ -1,13 +1,15 @@
 -- What a table finds is what is to be found.
-use Rattle.std.proofs.Common.{◌≡◌, ◌<◌, ◌≤◌, ℕ, Bool, true, false, List, [], ◌∷◌, ◌++◌, map, take, length, find, Option, Some, None, is_some, refl, sym, ◌∙◌, ap, subst, nat_eq}
+use Rattle.std.proofs.Common.{◌≡◌, ◌<◌, ◌≤◌, ℕ, Bool, true, false, List, [], ◌∷◌, ◌++◌, ◌||◌, map, take, length, find, Option, Some, None, is_some, refl, sym, ◌∙◌, ap, subst, nat_eq}
 use Rattle.std.specs.List.{slice_get}
 use Rattle.std.specs.Option.{option_and_then}
 use Rattle.std.specs.Str.{bytes_eq}
 use Rattle.std.proofs.lemmas.Bool.{eqb-true, eq-eqb}
 use Rattle.std.proofs.lemmas.Option.{slice_get_within}
 use Rattle.c_text.specs.declared.nodes.CField.{CField}
+use Rattle.c_text.specs.CTree.{ItemTree, struct_item, text_item, function_item}
 use Rattle.c_text.specs.CNodes.{Nodes, unit_tree}
 use Rattle.c_meaning.specs.CTypes.{StructDecl, TextDecl, Function, structs_of, texts_of, functions_of, struct_named, function_named, field_named}
+use Rattle.c_meaning.specs.UnitForm.{is_among, item_name}
 use Rattle.c_form_exprs.specs.declared.front.Head.{Head}
 use Rattle.c_form_exprs.specs.Tables.{named}
 use Rattle.c_form_exprs.specs.Front.{Lists, Finds, IsText, IsField, IsStruct, IsHead, TellsFront}
@@ -49,13 +51,16 @@ found_alike tells None x h = rw h refl
 found_alike tells (Some v) x h = rw h.1 refl
 
 pub struct_listed : (nodes : Nodes) (count : ℕ) (structs : List (List ℕ × ℕ)) (fields : List (List (List ℕ × CField))) (texts : List (List ℕ × Unit {0})) (functions : List (List ℕ × Head)) → TellsFront nodes count structs fields texts functions → (q : List ℕ) → is_some (named structs q) ≡ is_some (struct_named (structs_of (take count (unit_tree nodes))) q)
-struct_listed nodes count structs fields texts functions h q = found_alike (IsStruct nodes fields) (named structs q) (struct_named (structs_of (take count (unit_tree nodes))) q) (find_listed (IsStruct nodes fields) (λ s. s.name) structs (structs_of (take count (unit_tree nodes))) h.structs q)
+struct_listed nodes count structs fields texts functions h q = found_alike (IsStruct nodes fields) (named structs q) (struct_named (structs_of (take count (unit_tree nodes))) q) (h.structs q)
 
 pub text_listed : (nodes : Nodes) (count : ℕ) (structs : List (List ℕ × ℕ)) (fields : List (List (List ℕ × CField))) (texts : List (List ℕ × Unit {0})) (functions : List (List ℕ × Head)) → TellsFront nodes count structs fields texts functions → (q : List ℕ) → is_some (named texts q) ≡ is_some (find (λ it. bytes_eq it.name q) (texts_of (take count (unit_tree nodes))))
-text_listed nodes count structs fields texts functions h q = found_alike IsText (named texts q) (find (λ it. bytes_eq it.name q) (texts_of (take count (unit_tree nodes)))) (find_listed IsText (λ t. t.name) texts (texts_of (take count (unit_tree nodes))) h.texts q)
+text_listed nodes count structs fields texts functions h q = found_alike IsText (named texts q) (find (λ it. bytes_eq it.name q) (texts_of (take count (unit_tree nodes)))) (h.texts q)
 
 pub function_listed : (nodes : Nodes) (count : ℕ) (structs : List (List ℕ × ℕ)) (fields : List (List (List ℕ × CField))) (texts : List (List ℕ × Unit {0})) (functions : List (List ℕ × Head)) → TellsFront nodes count structs fields texts functions → (q : List ℕ) → Finds (IsHead nodes) (named functions q) (function_named (functions_of (take count (unit_tree nodes))) q)
-function_listed nodes count structs fields texts functions h q = find_listed (IsHead nodes) (λ f. f.name) functions (functions_of (take count (unit_tree nodes))) h.functions q
+function_listed nodes count structs fields texts functions h q = h.functions q
+
+pub function_known : (nodes : Nodes) (count : ℕ) (structs : List (List ℕ × ℕ)) (fields : List (List (List ℕ × CField))) (texts : List (List ℕ × Unit {0})) (functions : List (List ℕ × Head)) → TellsFront nodes count structs fields texts functions → (q : List ℕ) → is_some (named functions q) ≡ is_some (function_named (functions_of (take count (unit_tree nodes))) q)
+function_known nodes count structs fields texts functions h q = found_alike (IsHead nodes) (named functions q) (function_named (functions_of (take count (unit_tree nodes))) q) (h.functions q)
 
 -- Where a struct isn't found, no field is; where it is, its table tells.
 pub no_struct : (nodes : Nodes) (fields : List (List (List ℕ × CField))) (x : Option StructDecl) (q : List ℕ) → Finds (IsStruct nodes fields) None x → Finds (IsField nodes) None (option_and_then (λ it. field_named it.fields q) x)
@@ -64,10 +69,49 @@ no_struct nodes fields x q h = rw h refl
 pub field_listed : (nodes : Nodes) (fields : List (List (List ℕ × CField))) (k : ℕ) (x : Option StructDecl) (table : List (List ℕ × CField)) (q : List ℕ) → Finds (IsStruct nodes fields) (Some k) x → slice_get fields k ≡ Some table → Finds (IsField nodes) (named table q) (option_and_then (λ it. field_named it.fields q) x)
 field_listed nodes fields k x table q h is =
     let same : table ≡ h.2.fields = (let p = h.2.stands in cc (is, p)) in
-    rw (h.1, same) (find_listed (IsField nodes) (λ f. f.name) h.2.fields h.0.fields h.2.tells q)
+    rw (h.1, same) (h.2.tells q)
 
 pub struct_at : (nodes : Nodes) (count : ℕ) (structs : List (List ℕ × ℕ)) (fields : List (List (List ℕ × CField))) (texts : List (List ℕ × Unit {0})) (functions : List (List ℕ × Head)) → TellsFront nodes count structs fields texts functions → (q : List ℕ) (r o : Option ℕ) → r ≡ named structs q → r ≡ o → Finds (IsStruct nodes fields) o (struct_named (structs_of (take count (unit_tree nodes))) q)
-struct_at nodes count structs fields texts functions h q r o is some = subst (λ (x : Option ℕ). Finds (IsStruct nodes fields) x (struct_named (structs_of (take count (unit_tree nodes))) q)) (sym is ∙ some) (find_listed (IsStruct nodes fields) (λ s. s.name) structs (structs_of (take count (unit_tree nodes))) h.structs q)
+struct_at nodes count structs fields texts functions h q r o is some = subst (λ (x : Option ℕ). Finds (IsStruct nodes fields) x (struct_named (structs_of (take count (unit_tree nodes))) q)) (sym is ∙ some) (h.structs q)
 
 pub index_within : (nodes : Nodes) (fields : List (List (List ℕ × CField))) (k : ℕ) (x : Option StructDecl) → Finds (IsStruct nodes fields) (Some k) x → k < length fields
 index_within nodes fields k x h = slice_get_within fields k h.2.fields h.2.stands
+
+-- Each item is a struct, a string or a function.
+is_some_find : {X : Type 0} (p : X → Bool) (x : X) (xs : List X) → is_some (find p (x ∷ xs)) ≡ (p x || is_some (find p xs))
+is_some_find p x xs = by (p x) refl
+  where
+    by : (b : Bool) → p x ≡ b → is_some (find p (x ∷ xs)) ≡ (p x || is_some (find p xs))
+    by true h = rw h refl
+    by false h = rw h refl
+
+or_middle : (a b c d : Bool) → (a || (b || (c || d))) ≡ (b || ((a || c) || d))
+or_middle true true c d = refl
+or_middle true false c d = refl
+or_middle false true c d = refl
+or_middle false false c d = refl
+
+or_last : (a b c d : Bool) → (a || (b || (c || d))) ≡ (b || (c || (a || d)))
+or_last true true c d = refl
+or_last true false true d = refl
+or_last true false false d = refl
+or_last false b c d = refl
+
+or_first : (a b c : Bool) → (a || (b || c)) ≡ ((a || b) || c)
+or_first true b c = refl
+or_first false b c = refl
+
+abbrev pub is_listed : List ItemTree → List ℕ → Bool
+is_listed items q = is_some (struct_named (structs_of items) q) || (is_some (find (λ it. bytes_eq it.name q) (texts_of items)) || is_some (function_named (functions_of items) q))
+
+pub among_items : (items : List ItemTree) (q : List ℕ) → is_among (map item_name items) q ≡ is_listed items q
+among_items [] q = refl
+among_items (struct_item fields name ∷ items) q =
+    let one = is_some_find (λ it. bytes_eq it.name q) (record { fields = fields; name = name }) (structs_of items) in
+    rw (one, bytes_eq-swap q name, among_items items q) (or_first (bytes_eq name q) (is_some (struct_named (structs_of items) q)) (is_some (find (λ it. bytes_eq it.name q) (texts_of items)) || is_some (function_named (functions_of items) q)))
+among_items (text_item name bytes ∷ items) q =
+    let one = is_some_find (λ it. bytes_eq it.name q) (record { name = name; bytes = bytes }) (texts_of items) in
+    rw (one, bytes_eq-swap q name, among_items items q) (or_middle (bytes_eq name q) (is_some (struct_named (structs_of items) q)) (is_some (find (λ it. bytes_eq it.name q) (texts_of items))) (is_some (function_named (functions_of items) q)))
+among_items (function_item linkage result_type name params locals body ∷ items) q =
+    let one = is_some_find (λ it. bytes_eq it.name q) (record { linkage = linkage; result_type = result_type; name = name; params = params; locals = locals; body = body }) (functions_of items) in
+    rw (one, bytes_eq-swap q name, among_items items q) (or_last (bytes_eq name q) (is_some (struct_named (structs_of items) q)) (is_some (find (λ it. bytes_eq it.name q) (texts_of items))) (is_some (function_named (functions_of items) q)))

@@ -1,6 +1,7 @@
 pub mod ArgLemmas
 pub mod ClimbLemmas
 pub mod FrontLemmas
+pub mod GrowLemmas
 pub mod ScopeLemmas
 pub mod SpineLemmas
 pub mod TableLemmas

@@ -1,12 +1,14 @@
 -- What the items before a function declare, and the names of its parameters and locals, as tables tell them.
-use Rattle.std.specs.Prelude.{◌≡◌, ◌≤◌, ℕ, Bool, List, [], ◌∷◌, map, take, length, slice_get, Option, Some, None, option_map, ⊤, IfSome}
+use Rattle.std.specs.Prelude.{◌≡◌, ◌≤◌, ℕ, Bool, List, [], ◌∷◌, map, take, length, slice_get, find, Option, Some, None, option_map, ⊤, IfSome}
+use Rattle.std.specs.Str.{bytes_eq}
 use Rattle.c_text.specs.declared.nodes.CType.{CType}
 use Rattle.c_text.specs.declared.nodes.CField.{CField}
-use Rattle.c_text.specs.CTree.{FieldTree, ParamTree, ItemTree}
+use Rattle.c_text.specs.CTree.{FieldTree, ParamTree, ItemTree, text_item, function_item}
 use Rattle.c_text.specs.CNodes.{Nodes, unit_tree, type_in, field_tree, param_tree}
 use Rattle.c_text.specs.CFits.{HasType, HasField, HasParams}
 use Rattle.c_meaning.specs.CTypes as by_name
 use Rattle.c_meaning.specs.CTypes.{StructDecl, TextDecl, Function, Scope, structs_of, texts_of, functions_of, scope_of}
+use Rattle.c_form_exprs.specs.Tables.{named}
 use Rattle.c_form_exprs.specs.declared.front.Head.{Head}
 
 -- The unit, and the number of its first items that are known.
@@ -41,6 +43,10 @@ abbrev pub Finds : {V X : Type 0} → (V → X → Type 0) → Option V → Opti
 Finds tells None x = x ≡ None
 Finds {V} {X} tells (Some v) x = (y : X) × (x ≡ Some y) × tells v y
 
+-- A name has in the table what the first of these declarations with this name tells.
+abbrev pub Tells : {V X : Type 0} → (V → X → Type 0) → (X → List ℕ) → List (List ℕ × V) → List X → Type 0
+Tells tells name es xs = (q : List ℕ) → Finds tells (named es q) (find (λ x. bytes_eq (name x) q) xs)
+
 -- A type of the unit as the type of a parameter or local.
 pub record IsTyped (nodes : Nodes) (type : CType) (param : ParamTree) : Type 0 where
   pub same : type_in nodes.names type ≡ param.kind
@@ -59,7 +65,7 @@ pub record IsField (nodes : Nodes) (field : CField) (tree : FieldTree) : Type 0 
 pub record IsStruct (nodes : Nodes) (tables : List (List (List ℕ × CField))) (k : ℕ) (struct : StructDecl) : Type 0 where
   pub fields : List (List ℕ × CField)
   pub stands : slice_get tables k ≡ Some fields
-  pub tells : Lists (IsField nodes) (λ f. f.name) fields struct.fields
+  pub tells : Tells (IsField nodes) (λ f. f.name) fields struct.fields
 
 -- What a call asks of a function.
 pub record IsHead (nodes : Nodes) (head : Head) (f : Function) : Type 0 where
@@ -72,11 +78,21 @@ pub record IsHead (nodes : Nodes) (head : Head) (f : Function) : Type 0 where
 -- The tables tell of the first items of the unit.
 pub record TellsFront (nodes : Nodes) (count : ℕ) (by_struct : List (List ℕ × ℕ)) (by_field : List (List (List ℕ × CField))) (by_text : List (List ℕ × Unit {0})) (by_function : List (List ℕ × Head)) : Type 0 where
   pub within : count ≤ length nodes.items
-  pub structs : Lists (IsStruct nodes by_field) (λ s. s.name) by_struct (structs_of (take count (unit_tree nodes)))
-  pub texts : Lists IsText (λ t. t.name) by_text (texts_of (take count (unit_tree nodes)))
-  pub functions : Lists (IsHead nodes) (λ f. f.name) by_function (functions_of (take count (unit_tree nodes)))
+  pub structs : Tells (IsStruct nodes by_field) (λ s. s.name) by_struct (structs_of (take count (unit_tree nodes)))
+  pub texts : Tells IsText (λ t. t.name) by_text (texts_of (take count (unit_tree nodes)))
+  pub functions : Tells (IsHead nodes) (λ f. f.name) by_function (functions_of (take count (unit_tree nodes)))
 
 -- The table of names tells of the parameters and locals, in the unit of the front.
 pub record TellsNames (front : Front) (nodes : Nodes) (names : List (List ℕ × CType)) : Type 0 where
   pub same : nodes ≡ front.nodes
   pub listed : Lists (IsTyped front.nodes) (λ p. p.name) names (map (entry_param front.nodes.names) names)
+
+-- The next item is a string, or a function, of this name.
+abbrev pub IsNextText : Front → List ℕ → Type 0
+IsNextText front name = (bytes : List ℕ) × (slice_get (unit_tree front.nodes) front.count ≡ Some (text_item name bytes))
+
+pub record IsNextFunction (front : Front) (name : List ℕ) (head : Head) : Type 0 where
+  pub it : Function
+  pub named : it.name ≡ name
+  pub is : slice_get (unit_tree front.nodes) front.count ≡ Some (function_item it.linkage it.result_type it.name it.params it.locals it.body)
+  pub tells : IsHead front.nodes head it

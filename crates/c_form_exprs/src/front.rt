@@ -1,14 +1,20 @@
 // What the first items of a unit declare.
 
-ghost use Rattle.std.specs.Prelude.{◌≡◌, is_some, find, option_and_then};
+ghost use Rattle.std.specs.Prelude.{◌≡◌, ◌<◌, ◌+◌, length, map, slice_get, Some, is_some, find, option_map, option_and_then, IfOk, IfSome, OnOk};
 ghost use Rattle.std.specs.Str.{bytes_eq};
-ghost use Rattle.c_meaning.specs.CTypes.{structs_of, functions_of, texts_of, struct_named, function_named, field_named};
-ghost use Rattle.c_form_exprs.specs.Front.{Finds, IsField, IsHead, front_items};
+ghost use Rattle.c_text.specs.CNodes.{bytes_at, type_in, field_tree, param_tree, local_tree, expr_of, code_of, unit_tree};
+ghost use Rattle.c_text.specs.CFits.{HasName, HasType, HasField, HasFields, HasParams};
+ghost use Rattle.c_text.specs.CTree.{struct_item, text_item, function_item};
+ghost use Rattle.c_meaning.specs.CTypes.{structs_of, functions_of, texts_of, struct_named, function_named, field_named, is_expression};
+ghost use Rattle.c_meaning.specs.UnitForm.{is_among, item_name};
+ghost use Rattle.c_form_exprs.specs.Front.{Finds, Tells, IsField, IsHead, IsNextText, IsNextFunction, front_items};
 
+use crate::expressions::in_expressions;
 use crate::tables::NameTable;
-use c_text::{CField, CParam, CType, Unit};
+use c_text::{CField, CItem, CItemId, CLocal, CNameId, CParam, CStmtId, CType, Linkage, Unit};
 use std::alloc::Global;
 use std::marker::Model;
+use wf_text::NoMemory;
 
 /// What a call asks of a function.
 #[derive(Clone, Copy)]
@@ -29,6 +35,7 @@ pub struct Front<'u> {
     fields: Vec<NameTable<'u, CField>>,
     texts: NameTable<'u, ()>,
     functions: NameTable<'u, Head<'u>>,
+    alloc: Global,
 }
 
 impl<'u> Drop for Front<'u> {
@@ -40,6 +47,7 @@ impl<'u> Drop for Front<'u> {
             fields: _,
             texts: _,
             functions: _,
+            alloc: _,
         } = self;
     }
 }
@@ -66,6 +74,7 @@ impl<'u> Front<'u> {
             fields: Vec::new(alloc),
             texts: NameTable::new(alloc),
             functions: NameTable::new(alloc),
+            alloc,
         }
     }
 
@@ -109,4 +118,146 @@ impl<'u> Front<'u> {
             None => None,
         }
     }
+
+    /// Whether the name is that of a function.
+    #[tactic(auto, using(crate::proofs::FrontLemmas::function_known))]
+    fn is_function(&self, name: &[u8]) -> bool
+        ensures { result ≡ is_some (function_named (functions_of (front_items self.now)) name.now) }
+    {
+        self.functions.get(name).is_some()
+    }
+
+    /// Whether one of the items has this name.
+    #[tactic(auto, using(crate::proofs::FrontLemmas::among_items))]
+    pub fn is_declared(&self, name: &[u8]) -> bool
+        ensures { result ≡ is_among (map item_name (front_items self.now)) name.now }
+    {
+        if self.is_struct(name) {
+            return true;
+        }
+        if self.is_text(name) {
+            return true;
+        }
+        self.is_function(name)
+    }
+
+    /// The number of items with the next one.
+    fn next(&self) -> usize
+        requires { self.now.count < length self.now.nodes.items }
+        ensures { result ≡ self.now.count + 1 }
+    {
+        let _items = self.unit.items();
+        self.count + 1
+    }
+
+    /// Adds what the next item declares. What has the name of an earlier item isn't found. After `NoMemory` the items
+    /// are as before.
+    pub fn declare(&mut self) -> Result<(), NoMemory>
+        requires { self.old.count < length self.old.nodes.items }
+        ensures { OnOk result (self.new ≡ record self.old { count = self.old.count + 1 }) }
+    {
+        let unit = self.unit;
+        match unit.item(CItemId(self.count)) {
+            CItem::Struct { fields, name } => self.declare_struct(*name, fields.as_slice()),
+            CItem::Text { name, .. } => self.declare_text(*name),
+            CItem::Function {
+                linkage,
+                result,
+                name,
+                params,
+                locals,
+                body,
+            } => {
+                let head = Head {
+                    params: params.as_slice(),
+                    result: *result,
+                    in_expressions: in_expressions(
+                        unit,
+                        *linkage,
+                        *result,
+                        params.as_slice(),
+                        locals.as_slice(),
+                        *body,
+                    ),
+                };
+                self.declare_function(*name, head)
+            }
+        }
+    }
+
+    /// Adds the next item, a struct of this name with these fields.
+    fn declare_struct(&mut self, name: CNameId, fields: &'u [CField]) -> Result<(), NoMemory>
+        requires more { self.old.count < length self.old.nodes.items }
+        requires next { slice_get (unit_tree self.old.nodes) self.old.count ≡ Some (struct_item (map (field_tree self.old.nodes.names) fields.now) (bytes_at self.old.nodes.names name.0)) }
+        requires name { HasName self.old.nodes name }
+        requires fields { HasFields self.old.nodes fields.now }
+        ensures { OnOk result (self.new ≡ record self.old { count = self.old.count + 1 }) }
+    {
+        let next = self.next();
+        let k = self.fields.len();
+        match field_table(self.alloc, self.unit, fields) {
+            Ok(table) => match self.fields.push(table) {
+                Ok(()) => {}
+                Err(_) => return Err(NoMemory),
+            },
+            Err(fault) => return Err(fault),
+        }
+        match self.structs.add(self.unit.name(name), k) {
+            Ok(_) => {}
+            Err(fault) => return Err(fault),
+        }
+        self.count = next;
+        Ok(())
+    }
+
+    /// Adds the next item, a string of this name.
+    fn declare_text(&mut self, name: CNameId) -> Result<(), NoMemory>
+        requires more { self.old.count < length self.old.nodes.items }
+        requires next { IsNextText self.old (bytes_at self.old.nodes.names name.0) }
+        requires name { HasName self.old.nodes name }
+        ensures { OnOk result (self.new ≡ record self.old { count = self.old.count + 1 }) }
+    {
+        let next = self.next();
+        match self.texts.add(self.unit.name(name), ()) {
+            Ok(_) => {}
+            Err(fault) => return Err(fault),
+        }
+        self.count = next;
+        Ok(())
+    }
+
+    /// Adds the next item, a function of this name.
+    fn declare_function(&mut self, name: CNameId, head: Head<'u>) -> Result<(), NoMemory>
+        requires more { self.old.count < length self.old.nodes.items }
+        requires next { IsNextFunction self.old (bytes_at self.old.nodes.names name.0) head }
+        requires name { HasName self.old.nodes name }
+        ensures { OnOk result (self.new ≡ record self.old { count = self.old.count + 1 }) }
+    {
+        let next = self.next();
+        match self.functions.add(self.unit.name(name), head) {
+            Ok(_) => {}
+            Err(fault) => return Err(fault),
+        }
+        self.count = next;
+        Ok(())
+    }
+}
+
+/// The fields of a struct by their names; of two with one name, the first.
+fn field_table<'u>(
+    alloc: Global,
+    unit: &'u Unit,
+    fields: &'u [CField],
+) -> Result<NameTable<'u, CField>, NoMemory>
+    requires { HasFields unit.now fields.now }
+    ensures { IfOk result (λ table. Tells (IsField unit.now) (λ f. f.name) table (map (field_tree unit.now.names) fields.now)) }
+{
+    let mut table = NameTable::new(alloc);
+    for field in fields {
+        match table.add(unit.name(field.name), *field) {
+            Ok(_) => {}
+            Err(fault) => return Err(fault),
+        }
+    }
+    Ok(table)
 }

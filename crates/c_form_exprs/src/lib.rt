@@ -2,6 +2,7 @@
 //! exactly as `CTypes` has them. A look-up takes time in proportion to the name.
 #![tactic(auto)]
 
+mod expressions;
 mod exprs;
 pub mod front;
 mod operators;
@@ -9,3 +10,8 @@ mod parts;
 pub mod scope;
 pub mod tables;
 pub mod types;
+
+pub use front::{Front, Head};
+pub use scope::Scope;
+pub use tables::NameTable;
+pub use types::{ExprType, Held, Target};

@@ -1,12 +1,12 @@
 // The names that an expression of a function may use (ISO/IEC 9899:1999, 6.2.1).
 
-ghost use Rattle.std.specs.Prelude.{◌≡◌, ◌++◌, [], ◌∷◌, if◌then◌else◌, ◌<◌, length, is_none, option_map, IfOk, IfSome};
+ghost use Rattle.std.specs.Prelude.{◌≡◌, ◌++◌, [], ◌∷◌, if◌then◌else◌, ◌<◌, length, is_none, find, option_map, IfOk, IfSome};
 ghost use Rattle.std.specs.Str.{bytes_eq};
 ghost use Rattle.c_text.specs.CNodes.{bytes_at, type_in, expr_of, made_expr};
 ghost use Rattle.c_text.specs.CFits.{HasName, HasType, FitsExpr};
 ghost use Rattle.c_meaning.specs.CTypes.{function_named, variable_held, member_held, is_known as is_known_in, cast_from};
 ghost use Rattle.c_form_exprs.specs.Tables.{named};
-ghost use Rattle.c_form_exprs.specs.Front.{Finds, IsHead, scope_in};
+ghost use Rattle.c_form_exprs.specs.Front.{Finds, IsHead, IsTyped, scope_in};
 ghost use Rattle.c_form_exprs.specs.TypeViews.{TellsType, TellsHeld, value_in, HasValue};
 
 use crate::front::{Front, Head};
@@ -59,13 +59,20 @@ impl<'k, 'u> Scope<'k, 'u> {
         }
     }
 
+    /// The unit.
+    pub fn unit(&self) -> &'u Unit
+        ensures { result.now ≡ self.now.front.nodes }
+    {
+        self.unit
+    }
+
     /// Where lists for the work on an expression come from.
-    pub(crate) fn alloc(&self) -> Global {
+    pub fn alloc(&self) -> Global {
         self.alloc
     }
 
     /// Whether two names are spelt alike.
-    pub(crate) fn is_same_name(&self, a: CNameId, b: CNameId) -> bool
+    pub fn is_same_name(&self, a: CNameId, b: CNameId) -> bool
         requires first { HasName self.now.front.nodes a }
         requires second { HasName self.now.front.nodes b }
         ensures { result ≡ bytes_eq (bytes_at self.now.front.nodes.names a.0) (bytes_at self.now.front.nodes.names b.0) }
@@ -82,7 +89,7 @@ impl<'k, 'u> Scope<'k, 'u> {
     }
 
     /// An expression's node.
-    pub(crate) fn expr(&self, e: CExprId) -> &'u CExpr
+    pub fn expr(&self, e: CExprId) -> &'u CExpr
         requires { e.0 < length self.now.front.nodes.exprs }
         ensures tree { expr_of self.now.front.nodes e.0 ≡ made_expr self.now.front.nodes.names (expr_of self.now.front.nodes) result.now }
         ensures fits { FitsExpr self.now.front.nodes e.0 result.now }
@@ -111,6 +118,14 @@ impl<'k, 'u> Scope<'k, 'u> {
             CType::Uint(_) | CType::Size | CType::Bool | CType::UintPointer(_) | CType::Text =>
                 true,
         }
+    }
+
+    /// The type of the parameter or local of this name.
+    pub fn own_type(&self, name: CNameId) -> Option<CType>
+        requires { HasName self.now.front.nodes name }
+        ensures { Finds (IsTyped self.now.front.nodes) result (find (λ it. bytes_eq it.name (bytes_at self.now.front.nodes.names name.0)) (scope_in self.now).names) }
+    {
+        self.names.get(self.spelt(name))
     }
 
     /// What a name stands for: a parameter or local, else a string (6.5.1p2).

@@ -1,0 +1,51 @@
+-- What is left to be listed, when statements come to its end or go from it.
+use Rattle.std.proofs.Common.{◌≡◌, ◌<◌, ◌≤◌, ◌+◌, ◌*◌, ℕ, Bool, true, false, if◌then◌else◌, List, [], ◌∷◌, ◌++◌, map, length, refl, sym, ◌∙◌, ap, subst, arith, append_assoc}
+use Rattle.std.proofs.lemmas.List.{append-nil, map-append}
+use Rattle.c_text.specs.declared.ids.CStmtId.{CStmtId}
+use Rattle.c_text.specs.CTree.{Code}
+use Rattle.c_text.specs.CNodes.{Nodes, code_of}
+use Rattle.c_form_stmts.specs.declared.lines.Line.{Line}
+use Rattle.c_form_stmts.specs.declared.lines.Inner.{Inner}
+use Rattle.c_form_stmts.specs.declared.lines.Inner.TheVariants as inner
+use Rattle.c_form_stmts.specs.Lines.{LineTree, line, lines_of, line_in, HasLine, HasLines, left_of, line_size, size_of, inner_lines, inner_size, HasInner, IsApart}
+
+pub left_push : (nodes : Nodes) (e : Bool) (ls : List Line) (l : Line) → left_of nodes e (ls ++ l ∷ []) ≡ lines_of e l.switched (code_of nodes l.stmt.0) ++ left_of nodes e ls
+left_push nodes e [] l = sym (append-nil (lines_of e l.switched (code_of nodes l.stmt.0)))
+left_push nodes e (x ∷ ls) l =
+    ap (λ xs. xs ++ lines_of e x.switched (code_of nodes x.stmt.0)) (left_push nodes e ls l) ∙ append_assoc (lines_of e l.switched (code_of nodes l.stmt.0)) (left_of nodes e ls) (lines_of e x.switched (code_of nodes x.stmt.0))
+
+pub size_push : (nodes : Nodes) (ls : List Line) (l : Line) → size_of nodes (ls ++ l ∷ []) ≡ size_of nodes ls + line_size nodes l
+size_push nodes [] l = omega arith
+size_push nodes (x ∷ ls) l = let rest = size_push nodes ls l in omega (arith, rest)
+
+pub has_push : (nodes : Nodes) (ls : List Line) (l : Line) → HasLines nodes ls → HasLine nodes l → HasLines nodes (ls ++ l ∷ [])
+has_push nodes [] l h k = (k, tt)
+has_push nodes (x ∷ ls) l h k = (h.0, has_push nodes ls l h.1 k)
+
+pub has_last : (nodes : Nodes) (ls : List Line) (l : Line) → HasLines nodes (ls ++ l ∷ []) → HasLines nodes ls × HasLine nodes l
+has_last nodes [] l h = (tt, h.0)
+has_last nodes (x ∷ ls) l h = let rest = has_last nodes ls l h.1 in ((h.0, rest.0), rest.1)
+
+-- What is left after a line was put at the end.
+pub put_left : (nodes : Nodes) (old new : List Line) (l : Line) → new ≡ old ++ l ∷ [] → (e : Bool) → left_of nodes e new ≡ lines_of e l.switched (code_of nodes l.stmt.0) ++ left_of nodes e old
+put_left nodes old new l is e = ap (left_of nodes e) is ∙ left_push nodes e old l
+
+pub put_size : (nodes : Nodes) (old new : List Line) (l : Line) → new ≡ old ++ l ∷ [] → size_of nodes new ≡ size_of nodes old + line_size nodes l
+put_size nodes old new l is = ap (size_of nodes) is ∙ size_push nodes old l
+
+pub put_has : (nodes : Nodes) (old new : List Line) (l : Line) → new ≡ old ++ l ∷ [] → HasLines nodes old → HasLine nodes l → HasLines nodes new
+put_has nodes old new l is h k = subst (λ (ls : List Line). HasLines nodes ls) (sym is) (has_push nodes old l h k)
+
+-- A statement is listed: it comes to the ones that are, and its parts to those that are left.
+pub listed_on : (nodes : Nodes) (e : Bool) (at : Line) (blocks : Inner) (rest : CStmtId) (listed listed' left middle left' : List Line) → IsApart nodes (code_of nodes at.stmt.0) blocks rest → listed' ≡ listed ++ at ∷ [] → left_of nodes e middle ≡ lines_of e at.switched (code_of nodes rest.0) ++ left_of nodes e left → left_of nodes e left' ≡ inner_lines nodes e at.switched blocks (left_of nodes e middle) → map (line_in nodes) listed' ++ left_of nodes e left' ≡ map (line_in nodes) listed ++ (lines_of e at.switched (code_of nodes at.stmt.0) ++ left_of nodes e left)
+listed_on nodes e at blocks rest listed listed' left middle left' apart is first second =
+    let one : map (line_in nodes) listed' ≡ map (line_in nodes) listed ++ line_in nodes at ∷ [] = ap (map (line_in nodes)) is ∙ map-append (line_in nodes) listed (at ∷ []) in
+    let two : left_of nodes e left' ≡ inner_lines nodes e at.switched blocks (lines_of e at.switched (code_of nodes rest.0) ++ left_of nodes e left) = second ∙ ap (inner_lines nodes e at.switched blocks) first in
+    let three : lines_of e at.switched (code_of nodes at.stmt.0) ++ left_of nodes e left ≡ line_in nodes at ∷ inner_lines nodes e at.switched blocks (lines_of e at.switched (code_of nodes rest.0) ++ left_of nodes e left) = ap (λ xs. xs ++ left_of nodes e left) (apart.lists e at.switched) ∙ ap (λ xs. line_in nodes at ∷ xs) (inner_behind blocks (lines_of e at.switched (code_of nodes rest.0)) (left_of nodes e left)) in
+    ap (λ xs. xs ++ left_of nodes e left') one ∙ (append_assoc (map (line_in nodes) listed) (line_in nodes at ∷ []) (left_of nodes e left') ∙ ap (λ xs. map (line_in nodes) listed ++ xs) (ap (λ xs. line_in nodes at ∷ xs) two ∙ sym three))
+  where
+    inner_behind : (i : Inner) (xs ys : List LineTree) → inner_lines nodes e at.switched i xs ++ ys ≡ inner_lines nodes e at.switched i (xs ++ ys)
+    inner_behind inner.None xs ys = refl
+    inner_behind (inner.Block b) xs ys = append_assoc (lines_of e at.switched (code_of nodes b.0)) xs ys
+    inner_behind (inner.Switch b) xs ys = append_assoc (if e then lines_of e true (code_of nodes b.0) else []) xs ys
+    inner_behind (inner.Branch b o) xs ys = append_assoc (lines_of e at.switched (code_of nodes b.0)) (lines_of e at.switched (code_of nodes o.0) ++ xs) ys ∙ ap (λ zs. lines_of e at.switched (code_of nodes b.0) ++ zs) (append_assoc (lines_of e at.switched (code_of nodes o.0)) xs ys)

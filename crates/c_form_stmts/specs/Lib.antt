@@ -1,0 +1,5 @@
+pub mod Cases
+pub mod Functions
+pub mod Lines
+pub mod Names
+pub mod Statements
