@@ -1,11 +1,11 @@
 -- Operands and arguments, one after the other.
-use Rattle.std.proofs.Common.{◌≡◌, ◌<◌, ◌+◌, ℕ, zero, suc, Bool, true, false, ◌&&◌, List, [], ◌∷◌, length, map, drop, Option, Some, None, get_or, refl, sym, ◌∙◌, ap, subst, arith}
+use Rattle.std.proofs.Common.{◌≡◌, ◌<◌, ◌+◌, ℕ, suc, Bool, true, false, ◌&&◌, List, [], ◌∷◌, length, map, drop, Option, Some, None, get_or, refl, sym, ◌∙◌, ap, arith}
 use Rattle.c_text.specs.declared.ids.CExprId.{CExprId}
 use Rattle.c_text.specs.declared.kinds.COp.{COp}
 use Rattle.c_text.specs.declared.nodes.CArg.{CArg}
 use Rattle.c_text.specs.declared.nodes.CArg.TheVariants as arg
 use Rattle.c_text.specs.declared.nodes.CParam.{CParam}
-use Rattle.c_text.specs.CTree.{ExprTree, ParamTree}
+use Rattle.c_text.specs.CTree.{ParamTree}
 use Rattle.c_text.specs.CNodes.{Nodes, expr_of, operands_in, args_in, param_tree}
 use Rattle.c_text.proofs.Progress.{unroll}
 use Rattle.c_text.proofs.Parts.{no_expr, no_arg_given, no_param}

@@ -1,5 +1,5 @@
 -- What a table finds is what is to be found.
-use Rattle.std.proofs.Common.{◌≡◌, ◌<◌, ◌≤◌, ℕ, Bool, true, false, List, [], ◌∷◌, ◌++◌, ◌||◌, map, take, length, find, Option, Some, None, is_some, refl, sym, ◌∙◌, ap, subst, nat_eq}
+use Rattle.std.proofs.Common.{◌≡◌, ◌<◌, ℕ, Bool, true, false, List, [], ◌∷◌, ◌||◌, map, take, length, find, Option, Some, None, is_some, refl, sym, ◌∙◌, ap, subst, nat_eq}
 use Rattle.std.specs.List.{slice_get}
 use Rattle.std.specs.Option.{option_and_then}
 use Rattle.std.specs.Str.{bytes_eq}
@@ -8,7 +8,7 @@ use Rattle.std.proofs.lemmas.Option.{slice_get_within}
 use Rattle.c_text.specs.declared.nodes.CField.{CField}
 use Rattle.c_text.specs.CTree.{ItemTree, struct_item, text_item, function_item}
 use Rattle.c_text.specs.CNodes.{Nodes, unit_tree}
-use Rattle.c_meaning.specs.CTypes.{StructDecl, TextDecl, Function, structs_of, texts_of, functions_of, struct_named, function_named, field_named}
+use Rattle.c_meaning.specs.CTypes.{StructDecl, structs_of, texts_of, functions_of, struct_named, function_named, field_named}
 use Rattle.c_meaning.specs.UnitForm.{is_among, item_name}
 use Rattle.c_form_exprs.specs.declared.front.Head.{Head}
 use Rattle.c_form_exprs.specs.Tables.{named}

@@ -1,26 +1,32 @@
 -- Tables grow with the items that are known.
-use Rattle.std.proofs.Common.{◌≡◌, ◌<◌, ◌≤◌, ◌+◌, ℕ, zero, suc, Bool, true, false, not, ◌||◌, if◌then◌else◌, List, [], ◌∷◌, ◌++◌, map, take, drop, get_or, length, find, Option, Some, None, is_some, is_none, refl, sym, ◌∙◌, ap, subst, arith, add-one}
-use Rattle.std.specs.List.{slice_get, list_any}
-use Rattle.std.specs.Option.{option_or}
+use Rattle.std.proofs.Common.{◌≡◌, ◌<◌, ◌≤◌, ◌+◌, ℕ, zero, suc, Bool, true, false, if◌then◌else◌, List, [], ◌∷◌, ◌++◌, map, take, drop, get_or, length, find, Option, Some, None, is_none, refl, sym, ◌∙◌, ap, subst, arith, add-one}
+use Rattle.std.specs.List.{slice_get}
+use Rattle.std.specs.Option.{option_or, option_map, IfSome}
 use Rattle.std.specs.Str.{bytes_eq}
 use Rattle.std.proofs.lemmas.List.{append-nil, length-map, map-append}
 use Rattle.std.proofs.lemmas.Option.{slice_get_within, slice_get-get_or}
 use Rattle.std.proofs.lemmas.List.Folds.{find-append}
-use Rattle.c_text.proofs.Names.{bytes_eq-refl, bytes_eq-true}
+use Rattle.c_text.proofs.Names.{bytes_eq-true}
 use Rattle.c_text.proofs.Arena.{slice_get-front, slice_get-seam}
+use Rattle.c_text.specs.declared.ids.CNameId.{CNameId}
+use Rattle.c_text.specs.declared.ids.CStmtId.{CStmtId}
+use Rattle.c_text.specs.declared.kinds.Linkage.{Linkage}
+use Rattle.c_text.specs.declared.nodes.CType.{CType}
+use Rattle.c_text.specs.declared.nodes.CParam.{CParam}
+use Rattle.c_text.specs.declared.nodes.CLocal.{CLocal}
+use Rattle.c_text.specs.declared.nodes.CItem.TheVariants as item
 use Rattle.c_text.specs.declared.nodes.CField.{CField}
 use Rattle.c_text.specs.CTree.{ItemTree, struct_item, text_item, function_item, FieldTree}
-use Rattle.c_text.specs.CNodes.{Nodes, bytes_at, field_tree, made_item, unit_tree}
-use Rattle.c_text.specs.CFits.{HasFields}
+use Rattle.c_text.specs.CNodes.{Nodes, bytes_at, type_in, field_tree, param_tree, local_tree, expr_of, code_of, made_item, unit_tree}
+use Rattle.c_text.specs.CFits.{HasType, HasFields, HasParams, FitsItem}
 use Rattle.c_text.proofs.Parts.{no_field, fields_here}
-use Rattle.c_meaning.specs.CTypes.{StructDecl, TextDecl, Function, structs_of, texts_of, functions_of, struct_named, function_named}
-use Rattle.c_meaning.specs.UnitForm.{is_among, item_name}
+use Rattle.c_meaning.specs.CTypes.{StructDecl, Function, structs_of, texts_of, functions_of, is_expression}
 use Rattle.c_form_exprs.specs.declared.front.Head.{Head}
 use Rattle.c_form_exprs.specs.Tables.{named}
-use Rattle.c_form_exprs.specs.Front.{Tells, Finds, IsText, IsField, IsStruct, IsHead, TellsFront}
+use Rattle.c_form_exprs.specs.Front.{Tells, Finds, IsText, IsField, IsStruct, IsHead, IsNextFunction, TellsFront}
 use Rattle.c_form_exprs.proofs.FrontLemmas.{bytes_eq-swap}
 
-named_end : {V : Type 0} (es : List (List ℕ × V)) (n : List ℕ) (v : V) (q : List ℕ) → named (es ++ (n, v) ∷ []) q ≡ option_or (named es q) (if bytes_eq q n then Some v else None)
+pub named_end : {V : Type 0} (es : List (List ℕ × V)) (n : List ℕ) (v : V) (q : List ℕ) → named (es ++ (n, v) ∷ []) q ≡ option_or (named es q) (if bytes_eq q n then Some v else None)
 named_end {V} [] n v q = by (bytes_eq q n) refl
   where
     by : (b : Bool) → bytes_eq q n ≡ b → named ((n, v) ∷ []) q ≡ option_or (named [] q) (if bytes_eq q n then Some v else None)
@@ -164,3 +170,18 @@ after_new_struct nodes count structs fields texts functions h trees name table t
     let known : TellsFront nodes count structs tables texts functions = subst (λ (xs : List (List (List ℕ × CField))). TellsFront nodes count structs xs texts functions) (sym more) (fields_more nodes count structs fields texts functions h table) in
     let stands : slice_get tables k ≡ Some table = ap (λ (xs : List (List (List ℕ × CField))). slice_get xs k) more ∙ (ap (slice_get (fields ++ table ∷ [])) at ∙ slice_get-seam fields table []) in
     after_struct nodes count structs tables texts functions known trees name k fresh new is (record { fields = table; stands = stands; tells = tells }) f g
+
+-- The next item, where it is a function.
+pub next_function : (nodes : Nodes) (count : ℕ) (linkage : Linkage) (t : Option CType) (name : CNameId) (params : List CParam) (locals : List CLocal) (body : CStmtId) (head : Head) → slice_get (unit_tree nodes) count ≡ Some (made_item nodes (item.Function linkage t name params locals body)) → FitsItem nodes (item.Function linkage t name params locals body) → head.params.now ≡ params → head.result ≡ t → head.in_expressions ≡ is_expression (record { linkage = linkage; result_type = option_map (type_in nodes.names) t; name = bytes_at nodes.names name.0; params = map (param_tree nodes.names) params; locals = map (local_tree nodes.names (expr_of nodes)) locals; body = code_of nodes body.0 }) → IsNextFunction (record { nodes = nodes; count = count }) (bytes_at nodes.names name.0) head
+next_function nodes count linkage t name params locals body head is fits p r e = record {
+  it = record { linkage = linkage; result_type = option_map (type_in nodes.names) t; name = bytes_at nodes.names name.0; params = map (param_tree nodes.names) params; locals = map (local_tree nodes.names (expr_of nodes)) locals; body = code_of nodes body.0 };
+  named = refl;
+  is = is;
+  tells = record {
+    params = ap (map (param_tree nodes.names)) p;
+    result_type = ap (option_map (type_in nodes.names)) r;
+    in_expressions = e;
+    has_params = subst (λ (ps : List CParam). HasParams nodes ps) (sym p) fits.2;
+    has_result = subst (λ (o : Option CType). IfSome o (HasType nodes)) (sym r) fits.0;
+  };
+}

@@ -1,4 +1,5 @@
 pub mod ArgLemmas
+pub mod CallableLemmas
 pub mod ClimbLemmas
 pub mod FrontLemmas
 pub mod GrowLemmas

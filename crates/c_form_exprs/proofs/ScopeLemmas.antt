@@ -1,12 +1,12 @@
 -- The names of a scope.
 use Rattle.std.proofs.Common.{◌≡◌, ℕ, Bool, true, false, if◌then◌else◌, List, [], ◌∷◌, ◌++◌, map, find, Option, Some, None, is_some, Result, Ok, Err, IfOk, OnErr, refl, sym, ◌∙◌, ap, subst}
-use Rattle.std.specs.Option.{option_map, option_and_then}
+use Rattle.std.specs.Option.{option_map}
 use Rattle.std.specs.Str.{bytes_eq}
 use Rattle.wf_text.specs.declared.faults.NoMemory.{NoMemory}
 use Rattle.c_text.specs.declared.nodes.CType.{CType}
 use Rattle.c_text.specs.declared.nodes.CField.{CField}
-use Rattle.c_text.specs.CTree.{FieldTree, ParamTree}
-use Rattle.c_text.specs.CNodes.{Nodes, field_tree, type_in}
+use Rattle.c_text.specs.CTree.{FieldTree}
+use Rattle.c_text.specs.CNodes.{Nodes, field_tree}
 use Rattle.c_text.specs.CFits.{HasType}
 use Rattle.c_meaning.specs.CTypes as by_name
 use Rattle.c_meaning.specs.CTypes.{TextDecl, Scope, variable_held}
@@ -14,7 +14,7 @@ use Rattle.c_form_exprs.specs.declared.types.Held.{Held}
 use Rattle.c_form_exprs.specs.declared.types.Held.TheVariants as held
 use Rattle.c_form_exprs.specs.Tables.{named}
 use Rattle.c_form_exprs.proofs.FrontLemmas.{find_listed}
-use Rattle.c_form_exprs.specs.Front.{Front, Within, Lists, Finds, IsTyped, IsField, IsText, TellsNames, entry_param}
+use Rattle.c_form_exprs.specs.Front.{Lists, Finds, IsTyped, IsField, entry_param}
 use Rattle.c_form_exprs.specs.TypeViews.{held_in, TellsHeld}
 
 names_grow : (nodes : Nodes) (es : List (List ℕ × CType)) (name : List ℕ) (ty : CType) → Lists (IsTyped nodes) (λ p. p.name) es (map (entry_param nodes.names) es) → HasType nodes ty → Lists (IsTyped nodes) (λ p. p.name) (es ++ (name, ty) ∷ []) (map (entry_param nodes.names) (es ++ (name, ty) ∷ []))

@@ -1,8 +1,7 @@
 -- Spines grow and shrink at their end.
-use Rattle.std.proofs.Common.{◌≡◌, ◌<◌, ◌≤◌, ℕ, List, [], ◌∷◌, ◌++◌, Option, Some, None, refl, sym, ◌∙◌, ap, subst, arith}
-use Rattle.std.specs.Option.{option_map}
+use Rattle.std.proofs.Common.{◌≡◌, ◌≤◌, List, [], ◌∷◌, ◌++◌, refl, sym, ap, subst, arith}
 use Rattle.c_text.specs.declared.ids.CExprId.{CExprId}
-use Rattle.c_text.specs.CNodes.{Nodes, expr_of}
+use Rattle.c_text.specs.CNodes.{Nodes}
 use Rattle.c_form_exprs.specs.Spines.{IsLink, Spine}
 
 pub spine_push : (nodes : Nodes) (e : CExprId) (links : List CExprId) (at of : CExprId) → Spine nodes e links at → IsLink nodes at of → Spine nodes e (links ++ at ∷ []) of

@@ -1,5 +1,5 @@
 -- What the items before a function declare, and the names of its parameters and locals, as tables tell them.
-use Rattle.std.specs.Prelude.{◌≡◌, ◌≤◌, ℕ, Bool, List, [], ◌∷◌, map, take, length, slice_get, find, Option, Some, None, option_map, ⊤, IfSome}
+use Rattle.std.specs.Prelude.{◌≡◌, ◌≤◌, ℕ, List, [], ◌∷◌, map, take, length, slice_get, find, Option, Some, None, option_map, ⊤, IfSome}
 use Rattle.std.specs.Str.{bytes_eq}
 use Rattle.c_text.specs.declared.nodes.CType.{CType}
 use Rattle.c_text.specs.declared.nodes.CField.{CField}

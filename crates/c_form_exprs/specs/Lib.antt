@@ -1,3 +1,4 @@
+pub mod Callable
 pub mod Front
 pub mod Spines
 pub mod Tables

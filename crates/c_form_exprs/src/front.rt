@@ -9,7 +9,7 @@ ghost use Rattle.c_meaning.specs.CTypes.{structs_of, functions_of, texts_of, str
 ghost use Rattle.c_meaning.specs.UnitForm.{is_among, item_name};
 ghost use Rattle.c_form_exprs.specs.Front.{Finds, Tells, IsField, IsHead, IsNextText, IsNextFunction, front_items};
 
-use crate::expressions::in_expressions;
+use crate::callable::in_expressions;
 use crate::tables::NameTable;
 use c_text::{CField, CItem, CItemId, CLocal, CNameId, CParam, CStmtId, CType, Linkage, Unit};
 use std::alloc::Global;

@@ -2,7 +2,7 @@
 //! exactly as `CTypes` has them. A look-up takes time in proportion to the name.
 #![tactic(auto)]
 
-mod expressions;
+mod callable;
 mod exprs;
 pub mod front;
 mod operators;

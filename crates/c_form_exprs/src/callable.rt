@@ -3,15 +3,16 @@
 
 ghost use Rattle.std.specs.Prelude.{◌≡◌, ◌<◌, ℕ, List, length, map, is_some, option_map};
 ghost use Rattle.c_text.specs.CGrammar.{is_finish};
-ghost use Rattle.c_text.specs.CNodes.{bytes_at, type_in, param_tree, local_tree, expr_of, code_of};
-ghost use Rattle.c_meaning.specs.CTypes.{is_numeric as is_numeric_tree, is_inline as is_inline_linkage, gives_number as gives_a_number, no_locals, returned, is_expression};
+ghost use Rattle.c_text.specs.CNodes.{type_in, param_tree, local_tree, expr_of, code_of};
+ghost use Rattle.c_meaning.specs.CTypes.{is_inline as is_inline_linkage, returned, is_expression};
+ghost use Rattle.c_form_exprs.specs.Callable.{is_numeric_type, gives_numeric};
 ghost use Rattle.std.specs.List.{list_all};
 
 use c_text::{CLocal, CParam, CStmt, CStmtId, CType, Linkage, Unit};
 
 /// Whether a type is one of numbers, flags among them (6.2.5p18).
 pub(crate) fn is_number(ty: CType) -> bool
-    ensures { (names : List (List ℕ)) → result ≡ is_numeric_tree (type_in names ty) }
+    ensures { result ≡ is_numeric_type ty }
 {
     match ty {
         CType::Uint(_) | CType::Size | CType::Bool => true,
@@ -29,7 +30,7 @@ fn is_inline(linkage: Linkage) -> bool
 }
 
 fn gives_number(result_type: Option<CType>) -> bool
-    ensures { (names : List (List ℕ)) → result ≡ gives_a_number (option_map (type_in names) result_type) }
+    ensures { result ≡ gives_numeric result_type }
 {
     match result_type {
         Some(ty) => is_number(ty),
@@ -38,7 +39,7 @@ fn gives_number(result_type: Option<CType>) -> bool
 }
 
 fn takes_numbers(params: &[CParam]) -> bool
-    ensures { (names : List (List ℕ)) → result ≡ list_all (λ p. is_numeric_tree p.kind) (map (param_tree names) params.now) }
+    ensures { result ≡ list_all (λ p. is_numeric_type p.kind) params.now }
 {
     for param in params {
         if !is_number(param.kind) {
@@ -86,6 +87,6 @@ pub(crate) fn in_expressions(
     ensures { (name : List ℕ) → result ≡ is_expression (record { linkage = linkage; result_type = option_map (type_in unit.now.names) result_type; name = name; params = map (param_tree unit.now.names) params.now; locals = map (local_tree unit.now.names (expr_of unit.now)) locals.now; body = code_of unit.now body.0 }) }
 {
     is_inline(linkage)
-        && (gives_number(result_type)
-            && (takes_numbers(params) && (locals.is_empty() && returns_at_once(unit, body))))
+        & (gives_number(result_type)
+            & (takes_numbers(params) & (locals.is_empty() & returns_at_once(unit, body))))
 }
