@@ -1,16 +1,15 @@
 -- The cases of a `switch` by its statements, and whether they fit.
-use Rattle.std.proofs.Common.{◌≡◌, ◌+◌, ◌≤◌, ◌<◌, ℕ, Bool, true, false, not, ◌&&◌, ◌||◌, if◌then◌else◌, List, [], ◌∷◌, ◌++◌, refl, sym, ◌∙◌, ap, arith, append_assoc, nat_eq, nat_le}
+use Rattle.std.proofs.Common.{◌≡◌, ◌+◌, ℕ, Bool, true, false, not, ◌&&◌, ◌||◌, List, [], ◌∷◌, ◌++◌, refl, sym, ◌∙◌, ap, arith, append_assoc, nat_eq, nat_le}
 use Rattle.std.specs.List.{list_any, list_all}
 use Rattle.std.proofs.lemmas.Bool.Decides.{nat_tests}
 use Rattle.std.proofs.lemmas.List.Folds.{list_any-append}
-use Rattle.indexmap.specs.IndexSet.{insert_key}
 use Rattle.c_text.specs.declared.kinds.CNumber.{CNumber}
 use Rattle.c_text.specs.declared.kinds.CNumber.TheVariants as literal
 use Rattle.c_text.specs.CTree.{Code, finish, nested, empty, assign, call, jump, branch, repeat, select, leave, case_label, default_label, name_label}
-use Rattle.c_meaning.specs.UnitForm.{Cases, no_cases, both_cases, cases_of, is_other_case, is_plain, plain_distinct, formed_cases}
+use Rattle.c_meaning.specs.UnitForm.{Cases, no_cases, both_cases, cases_of, is_other_case, plain_distinct, formed_cases}
 use Rattle.c_form_stmts.specs.declared.cases.Mark.{Mark}
 use Rattle.c_form_stmts.specs.declared.cases.Mark.TheVariants as mark
-use Rattle.c_form_stmts.specs.Lines.{LineTree, line, lines_of}
+use Rattle.c_form_stmts.specs.Lines.{LineTree, lines_of}
 use Rattle.c_form_stmts.specs.Cases.{mark_of, cases_fit}
 use Rattle.c_form_stmts.proofs.NameLemmas.{all_and}
 
@@ -115,6 +114,9 @@ plus_zero n = omega arith
 one_more : (d : Bool) (n : ℕ) → defaults_with d (0 + n) ≡ defaults_with d n
 one_more d n = ap (defaults_with d) (plus_zero n)
 
+one_first : (n : ℕ) → n + 1 ≡ 1 + n
+one_first n = omega arith
+
 pub fit_by : (seen : List ℕ) (d : Bool) (ls : List LineTree) → cases_fit seen d ls ≡ fits seen d (cases_in ls)
 fit_by seen true [] = refl
 fit_by seen false [] = refl
@@ -129,9 +131,7 @@ fit_by seen d (l ∷ ls) = by (mark_of l.code) refl (λ s b. fit_by s b ls)
         rw (is, known) (whole ∙ fit_case true (list_all (is_other_case (literal.Int n)) rest.numbers) (plain_distinct rest.numbers) (list_all (unseen seen) rest.numbers) (nat_le (defaults_with d (0 + rest.defaults)) 1) refl)
     default_case : (e : Bool) → d ≡ e → mark_of l.code ≡ mark.Default → ((s : List ℕ) (b : Bool) → cases_fit s b ls ≡ fits s b rest) → cases_fit seen d (l ∷ ls) ≡ fits seen d (cases_in (l ∷ ls))
     default_case true had is more = rw (is, had) (sym (ap (λ b. (plain_distinct rest.numbers && list_all (unseen seen) rest.numbers) && b) (two_defaults rest.defaults) ∙ and_false (plain_distinct rest.numbers && list_all (unseen seen) rest.numbers)))
-    default_case false had is more = rw (is, had) (more seen true ∙ ap (λ m. (plain_distinct rest.numbers && list_all (unseen seen) rest.numbers) && nat_le m 1) (swap rest.defaults))
-    swap : (n : ℕ) → n + 1 ≡ 1 + n
-    swap n = omega arith
+    default_case false had is more = rw (is, had) (more seen true ∙ ap (λ m. (plain_distinct rest.numbers && list_all (unseen seen) rest.numbers) && nat_le m 1) (one_first rest.defaults))
     by : (m : Mark) → mark_of l.code ≡ m → ((s : List ℕ) (b : Bool) → cases_fit s b ls ≡ fits s b rest) → cases_fit seen d (l ∷ ls) ≡ fits seen d (cases_in (l ∷ ls))
     by (mark.Case (literal.Int n)) is more = int_case n (list_any (nat_eq n) seen) refl is more
     by (mark.Case (literal.Unsigned n)) is more = rw is refl

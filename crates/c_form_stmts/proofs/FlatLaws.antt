@@ -1,19 +1,20 @@
 -- The statements of a body in the order of the text, with what follows them: what they ask and which labels they are.
-use Rattle.std.proofs.Common.{◌≡◌, ◌<◌, ◌≤◌, ◌+◌, ℕ, zero, suc, Bool, true, false, not, ◌&&◌, ◌||◌, if◌then◌else◌, List, [], ◌∷◌, ◌++◌, map, find, Option, Some, None, refl, sym, ◌∙◌, ap, subst, arith, nat_lt}
+use Rattle.std.proofs.Common.{◌≡◌, ◌<◌, ◌+◌, ℕ, zero, suc, Bool, true, false, ◌&&◌, ◌||◌, List, [], ◌∷◌, ◌++◌, map, find, Option, Some, None, refl, sym, ◌∙◌, ap, subst, arith, nat_lt}
 use Rattle.std.specs.List.{slice_get, list_all}
-use Rattle.std.specs.Option.{option_or}
+use Rattle.std.specs.Option.{option_or, MatchOption}
 use Rattle.std.specs.Str.{bytes_eq}
 use Rattle.std.proofs.lemmas.Bool.{lt-ltb}
 use Rattle.std.proofs.lemmas.Bool.Decides.{nat_tests}
 use Rattle.std.proofs.lemmas.List.{map-append}
 use Rattle.std.proofs.lemmas.List.Folds.{list_all-append, find-append}
-use Rattle.c_text.specs.declared.kinds.Linkage.{Linkage}
 use Rattle.c_text.specs.CTree.{ExprTree, TypeTree, Args, Code, finish, nested, empty, assign, call, jump, branch, repeat, select, leave, case_label, default_label, name_label}
 use Rattle.c_meaning.specs.CTypes.{Function, type_of, held_of, function_named, arg_types}
 use Rattle.c_meaning.specs.CStep.{Continuation, stop, behind, again, Place, at, place_weight, by_name, find as find_label, first_of, here, Callee, memory_move, memory_set, own, callee_of}
 use Rattle.c_meaning.specs.TextOrder.{statements}
-use Rattle.c_meaning.specs.UnitForm.{Checked, has_type, is_number, may_assign, may_keep, is_called, formed_call, may_loop, formed_jump, formed_return, cases_of, formed_cases, formed_code, labels_of}
+use Rattle.c_meaning.specs.UnitForm.{Checked, has_type, is_number, may_assign, is_called, formed_call, may_loop, formed_jump, formed_return, cases_of, formed_cases, formed_code, labels_of, all_distinct}
 use Rattle.c_meaning.proofs.Text.{text_falls}
+use Rattle.c_form_exprs.specs.Tables.{named}
+use Rattle.c_form_stmts.specs.Functions.{formed_body}
 use Rattle.c_form_stmts.specs.Lines.{LineTree, line, lines_of}
 use Rattle.c_form_stmts.specs.Statements.{label_of, label_names, is_label, label_at, goes_to, formed_line, formed_lines}
 
@@ -226,6 +227,9 @@ text_order code k i j p q e f = by (order i j)
         rw (one, h) (self_false (place_weight q) ∙ sym (self_false j))
     by (above _ _ h) = not_less (place_weight p) (place_weight q) (text_falls code k j i q p f e h) ∙ sym (less_false i j h)
 
+zero_plus : (n : ℕ) → 0 + n ≡ n
+zero_plus n = omega arith
+
 -- A `goto` by numbers.
 pub jump_at : (c : Checked) (i : ℕ) (p : Place) (name : List ℕ) → slice_get (statements c.body stop) i ≡ Some p → formed_jump c p (find_label (by_name name) c.body stop) ≡ goes_to c.linkage i (label_at 0 (lines_of true false c.body) name)
 jump_at c i p name from =
@@ -240,8 +244,6 @@ jump_at c i p name from =
     by (Some q) (Some j) h =
         let stands : slice_get (statements c.body stop) j ≡ Some q = ap (slice_get (statements c.body stop)) (h.is ∙ zero_plus h.number) ∙ (ap (λ ps. slice_get ps h.number) (sym (statements_placed false c.body stop)) ∙ h.stands) in
         ap (λ b. may_loop c.linkage || b) (text_order c.body stop i j p q from stands)
-    zero_plus : (n : ℕ) → 0 + n ≡ n
-    zero_plus n = omega arith
 
 -- Without its body a statement asks the same.
 abbrev pub bodiless : Checked → Checked
@@ -303,3 +305,27 @@ pub body_lines : (c : Checked) (look : List ℕ → Option ℕ) → ((q : List �
 body_lines c look looks =
     let stands : StandsFrom c 0 (placed false c.body stop) = λ j p is. (let e : 0 + j ≡ j = omega arith in ap (slice_get (statements c.body stop)) e ∙ (ap (λ ps. slice_get ps j) (sym (statements_placed false c.body stop)) ∙ get_place (placed false c.body stop) j p is)) in
     formed_placed c false c.body stop ∙ (all_at c look looks 0 (placed false c.body stop) stands ∙ ap (formed_lines (bodiless c) look 0) (lines_placed false c.body stop))
+
+-- A body is formed where its labels differ and its statements are formed by their numbers.
+pub body_formed : (c : Checked) (labels : List (List ℕ × ℕ)) (ls : List LineTree) → ls ≡ lines_of true false c.body → all_distinct (label_names ls) ≡ true → ((q : List ℕ) → named labels q ≡ label_at 0 ls q) → formed_body c ≡ formed_lines (bodiless c) (named labels) 0 ls
+body_formed c labels ls is distinct found =
+    let differ : all_distinct (labels_of c.body) ≡ true = ap all_distinct (labels_listed false c.body) ∙ (ap (λ xs. all_distinct (label_names xs)) (sym is) ∙ distinct) in
+    ap (λ b. b && formed_code c false c.body stop) differ ∙ (body_lines c (named labels) (λ q. found q ∙ ap (λ xs. label_at 0 xs q) is) ∙ ap (formed_lines (bodiless c) (named labels) 0) (sym is))
+
+pub body_unformed : (c : Checked) (ls : List LineTree) → ls ≡ lines_of true false c.body → all_distinct (label_names ls) ≡ false → false ≡ formed_body c
+body_unformed c ls is twice =
+    let differ : all_distinct (labels_of c.body) ≡ false = ap all_distinct (labels_listed false c.body) ∙ (ap (λ xs. all_distinct (label_names xs)) (sym is) ∙ twice) in
+    sym (ap (λ b. b && formed_code c false c.body stop) differ)
+
+-- The same by the labels of one list of the statements and the tests of another.
+pub body_by_labels : (c : Checked) (labels : List (List ℕ × ℕ)) (ls tested : List LineTree) → ls ≡ lines_of true false c.body → tested ≡ lines_of true false c.body → (all_distinct (label_names ls) ≡ true) × ((q : List ℕ) → named labels q ≡ label_at 0 ls q) → formed_body c ≡ formed_lines (bodiless c) (named labels) 0 tested
+body_by_labels c labels ls tested is too told = body_formed c labels ls is told.0 told.1 ∙ ap (formed_lines (bodiless c) (named labels) 0) (is ∙ sym too)
+
+-- What a look for labels tells.
+pub some_told : {T : Type 0} (A : Type 0) (B : T → Type 0) (o : Option T) (t : T) → o ≡ Some t → MatchOption o A B → B t
+some_told A B None t is h = absurd (cc (is))
+some_told A B (Some u) t is h = let e : u ≡ t = cc (is) in subst B e h
+
+pub none_told : {T : Type 0} (A : Type 0) (B : T → Type 0) (o : Option T) → o ≡ None → MatchOption o A B → A
+none_told A B None is h = h
+none_told A B (Some u) is h = absurd (cc (is))

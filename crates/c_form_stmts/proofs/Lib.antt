@@ -1,3 +1,4 @@
+pub mod CallLemmas
 pub mod CaseLemmas
 pub mod FlatLaws
 pub mod FunctionLaws

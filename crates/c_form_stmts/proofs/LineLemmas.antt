@@ -1,13 +1,13 @@
 -- What is left to be listed, when statements come to its end or go from it.
-use Rattle.std.proofs.Common.{◌≡◌, ◌<◌, ◌≤◌, ◌+◌, ◌*◌, ℕ, Bool, true, false, if◌then◌else◌, List, [], ◌∷◌, ◌++◌, map, length, refl, sym, ◌∙◌, ap, subst, arith, append_assoc}
+use Rattle.std.proofs.Common.{Result, Ok, Err, OnOk, ◌≡◌, ◌<◌, ◌+◌, ℕ, Bool, true, false, if◌then◌else◌, List, [], ◌∷◌, ◌++◌, map, drop, length, refl, sym, ◌∙◌, ap, subst, arith, append_assoc}
 use Rattle.std.proofs.lemmas.List.{append-nil, map-append}
+use Rattle.c_text.proofs.Progress.{unroll}
 use Rattle.c_text.specs.declared.ids.CStmtId.{CStmtId}
-use Rattle.c_text.specs.CTree.{Code}
 use Rattle.c_text.specs.CNodes.{Nodes, code_of}
 use Rattle.c_form_stmts.specs.declared.lines.Line.{Line}
 use Rattle.c_form_stmts.specs.declared.lines.Inner.{Inner}
 use Rattle.c_form_stmts.specs.declared.lines.Inner.TheVariants as inner
-use Rattle.c_form_stmts.specs.Lines.{LineTree, line, lines_of, line_in, HasLine, HasLines, left_of, line_size, size_of, inner_lines, inner_size, HasInner, IsApart}
+use Rattle.c_form_stmts.specs.Lines.{LineTree, lines_of, line_in, HasLine, HasLines, left_of, line_size, size_of, inner_lines, IsApart}
 
 pub left_push : (nodes : Nodes) (e : Bool) (ls : List Line) (l : Line) → left_of nodes e (ls ++ l ∷ []) ≡ lines_of e l.switched (code_of nodes l.stmt.0) ++ left_of nodes e ls
 left_push nodes e [] l = sym (append-nil (lines_of e l.switched (code_of nodes l.stmt.0)))
@@ -49,3 +49,30 @@ listed_on nodes e at blocks rest listed listed' left middle left' apart is first
     inner_behind (inner.Block b) xs ys = append_assoc (lines_of e at.switched (code_of nodes b.0)) xs ys
     inner_behind (inner.Switch b) xs ys = append_assoc (if e then lines_of e true (code_of nodes b.0) else []) xs ys
     inner_behind (inner.Branch b o) xs ys = append_assoc (lines_of e at.switched (code_of nodes b.0)) (lines_of e at.switched (code_of nodes o.0) ++ xs) ys ∙ ap (λ zs. lines_of e at.switched (code_of nodes b.0) ++ zs) (append_assoc (lines_of e at.switched (code_of nodes o.0)) xs ys)
+
+-- A line that is taken from the end of what is left.
+pub popped_has : (nodes : Nodes) (whole rest : List Line) (l : Line) → whole ≡ rest ++ l ∷ [] → HasLines nodes whole → HasLines nodes rest × HasLine nodes l
+popped_has nodes whole rest l is h = has_last nodes rest l (subst (λ (ls : List Line). HasLines nodes ls) is h)
+
+pub listed_more : (nodes : Nodes) (e : Bool) (whole rest left' listed listed' : List Line) (l : Line) (all : List LineTree) → whole ≡ rest ++ l ∷ [] → map (line_in nodes) listed' ++ left_of nodes e left' ≡ map (line_in nodes) listed ++ (lines_of e l.switched (code_of nodes l.stmt.0) ++ left_of nodes e rest) → map (line_in nodes) listed ++ left_of nodes e whole ≡ all → map (line_in nodes) listed' ++ left_of nodes e left' ≡ all
+listed_more nodes e whole rest left' listed listed' l all is step so_far = step ∙ (ap (λ xs. map (line_in nodes) listed ++ xs) (sym (put_left nodes rest whole l is e)) ∙ so_far)
+
+pub all_listed : (nodes : Nodes) (e : Bool) (listed left : List Line) (all : List LineTree) → left ≡ [] → map (line_in nodes) listed ++ left_of nodes e left ≡ all → map (line_in nodes) listed ≡ all
+all_listed nodes e listed left all none so_far = sym (append-nil (map (line_in nodes) listed)) ∙ (ap (λ ls. map (line_in nodes) listed ++ left_of nodes e ls) (sym none) ∙ so_far)
+
+pub first_left : (nodes : Nodes) (e : Bool) (listed left : List Line) (xs : List LineTree) → listed ≡ [] → left_of nodes e left ≡ xs ++ left_of nodes e [] → map (line_in nodes) listed ++ left_of nodes e left ≡ xs
+first_left nodes e listed left xs none is = ap (λ ls. map (line_in nodes) ls ++ left_of nodes e left) none ∙ (is ∙ append-nil xs)
+
+pub told_ok : {A E P : Type 0} (r : Result A E) → P → OnOk r P
+told_ok (Ok x) p = p
+told_ok (Err fault) p = tt
+
+pub none_left : {A : Type 0} (xs : List A) → length xs ≡ 0 → xs ≡ []
+none_left [] is = refl
+none_left (x ∷ xs) is = absurd (omega (arith, is))
+
+abbrev pub no_line : Line
+no_line = record { stmt = record { 0 = 0 }; switched = false }
+
+pub lines_rest : (nodes : Nodes) (ls : List Line) (i : ℕ) → i < length ls → HasLines nodes (drop i ls) → HasLines nodes (drop (i + 1) ls)
+lines_rest nodes ls i within h = (subst (λ (xs : List Line). HasLines nodes xs) (unroll ls i no_line within) h).1

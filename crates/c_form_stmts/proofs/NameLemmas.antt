@@ -1,9 +1,10 @@
 -- Names, one after the other.
-use Rattle.std.proofs.Common.{◌≡◌, ℕ, Bool, true, false, not, ◌&&◌, ◌||◌, List, [], ◌∷◌, ◌++◌, map, Option, Some, None, is_some, is_none, refl, sym, ◌∙◌, ap, append_assoc}
-use Rattle.std.specs.List.{list_any, list_all}
+use Rattle.std.proofs.Common.{◌≡◌, ℕ, Bool, true, false, not, ◌&&◌, ◌||◌, List, [], ◌∷◌, ◌++◌, map, is_none, Result, Ok, Err, IfOk, refl, sym, ◌∙◌, ap, append_assoc}
+use Rattle.std.specs.List.{list_all}
 use Rattle.std.specs.Str.{bytes_eq}
 use Rattle.std.proofs.lemmas.List.{append-nil}
-use Rattle.std.proofs.lemmas.List.Folds.{list_any-append, list_all-append}
+use Rattle.std.proofs.lemmas.List.Folds.{list_any-append}
+use Rattle.wf_text.specs.declared.faults.NoMemory.{NoMemory}
 use Rattle.c_text.specs.declared.nodes.CType.{CType}
 use Rattle.c_text.specs.CTree.{ParamTree, LocalTree}
 use Rattle.c_meaning.specs.CTypes.{Scope, local_name, is_known}
@@ -11,7 +12,7 @@ use Rattle.c_meaning.specs.UnitForm.{is_among, all_distinct, is_library, formed_
 use Rattle.c_form_exprs.specs.Front.{entry_param}
 use Rattle.c_form_exprs.specs.Tables.{named}
 use Rattle.c_form_exprs.proofs.FrontLemmas.{bytes_eq-swap}
-use Rattle.c_form_stmts.specs.Names.{are_new, is_own, is_addable, with_name, with_names, params_fit, is_local, locals_fit}
+use Rattle.c_form_stmts.specs.Names.{are_new, is_own, is_addable, with_name, params_fit, is_local, locals_fit}
 
 -- A table has the names of its entries.
 pub named_among : {V : Type 0} (es : List (List ℕ × V)) (q : List ℕ) → is_none (named es q) ≡ not (is_among (map (λ e. e.0) es) q)
@@ -53,7 +54,8 @@ none_among n [] = refl
 none_among n (m ∷ ns) = ap (λ b. not (bytes_eq n m) && b) (none_among n ns) ∙ sym (not_or (bytes_eq n m) (is_among ns n))
 
 new_step : (a n d s : Bool) → (a && (d && (s && n))) ≡ ((n && d) && (a && s))
-new_step true true true s = refl
+new_step true true true true = refl
+new_step true true true false = refl
 new_step true true false s = refl
 new_step true false true true = refl
 new_step true false true false = refl
@@ -126,3 +128,10 @@ locals_by taken scope [] = refl
 locals_by taken scope (l ∷ ls) =
     ap (λ b. is_local taken scope l && b) (locals_by taken (with_name scope (local_name l)) ls ∙ ap (λ xs. formed_locals (with_name scope (local_name l)) ls && (list_all (λ q. is_own taken q.name) (map local_name ls) && are_new xs (map (λ it. it.name) (map local_name ls)))) (names_end scope.names (local_name l)))
     ∙ locals_step (formed_initial scope l.kind l.initial) (is_known scope.structs l.kind) (is_own taken l.name) (not (is_among (names_in scope) l.name)) (formed_locals (with_name scope (local_name l)) ls) (list_all (λ q. is_own taken q.name) (map local_name ls)) (are_new (names_in scope ++ l.name ∷ []) (map (λ it. it.name) (map local_name ls)))
+
+-- A name is added where its type is known and it is neither taken nor there.
+pub declared_fits : (r : Result Bool NoMemory) (taken : List ℕ → Bool) (scope : Scope) (names : List (List ℕ)) (es : List (List ℕ × CType)) (p : ParamTree) → scope.names ≡ map (entry_param names) es → IfOk r (λ fresh. fresh ≡ is_none (named es p.name)) → is_known scope.structs p.kind ≡ true → taken p.name ≡ false → is_library p.name ≡ false → IfOk r (λ fits. fits ≡ is_addable taken scope p)
+declared_fits (Err fault) taken scope names es p is fresh known own library = tt
+declared_fits (Ok fits) taken scope names es p is fresh known own library =
+    let among : not (is_among (map (λ it. it.name) scope.names) p.name) ≡ is_none (named es p.name) = ap (λ (ps : List ParamTree). not (is_among (map (λ it. it.name) ps) p.name)) is ∙ (ap (λ ns. not (is_among ns p.name)) (entry_names names es) ∙ sym (named_among es p.name)) in
+    rw (known, own, library, among) fresh

@@ -1,8 +1,7 @@
 -- The cases of a `switch` by its statements (6.8.4.2p3).
-use Rattle.std.specs.Prelude.{ℕ, Bool, true, false, not, ◌&&◌, List, [], ◌∷◌, Option, Some, None, nat_eq}
+use Rattle.std.specs.Prelude.{ℕ, Bool, true, false, not, ◌&&◌, List, [], ◌∷◌, nat_eq}
 use Rattle.std.specs.List.{list_any}
 use Rattle.indexmap.specs.IndexSet.{insert_key}
-use Rattle.c_text.specs.declared.kinds.CNumber.{CNumber}
 use Rattle.c_text.specs.declared.kinds.CNumber.TheVariants as literal
 use Rattle.c_text.specs.CTree.{Code, finish, nested, empty, assign, call, jump, branch, repeat, select, leave, case_label, default_label, name_label}
 use Rattle.c_form_stmts.specs.declared.cases.Mark.{Mark}
@@ -25,14 +24,16 @@ mark_of (select on body rest) = mark.None
 mark_of (leave value rest) = mark.None
 mark_of (name_label name rest) = mark.None
 
+-- A statement with this mark after the cases that were seen; `rest` tells whether what follows it fits.
+abbrev pub case_fits : Mark → (seen : List ℕ) → (has_default : Bool) → (rest : List ℕ → Bool → Bool) → Bool
+case_fits (mark.Case (literal.Int n)) seen has_default rest = not (list_any (nat_eq n) seen) && rest (insert_key nat_eq seen n) has_default
+case_fits (mark.Case (literal.Unsigned n)) seen has_default rest = false
+case_fits (mark.Case (literal.Long n)) seen has_default rest = false
+case_fits mark.Default seen has_default rest = not has_default && rest seen true
+case_fits mark.None seen has_default rest = rest seen has_default
+
 -- The statements from here on have cases that are plain and differ from the ones seen and from each other, and no second
 -- `default`.
 abbrev pub cases_fit : (seen : List ℕ) → (has_default : Bool) → List LineTree → Bool
 cases_fit seen has_default [] = true
-cases_fit seen has_default (l ∷ ls) = by_mark (mark_of l.code)
-  where
-    by_mark : Mark → Bool
-    by_mark (mark.Case (literal.Int n)) = not (list_any (nat_eq n) seen) && cases_fit (insert_key nat_eq seen n) has_default ls
-    by_mark (mark.Case n) = false
-    by_mark mark.Default = not has_default && cases_fit seen true ls
-    by_mark mark.None = cases_fit seen has_default ls
+cases_fit seen has_default (l ∷ ls) = case_fits (mark_of l.code) seen has_default (λ s d. cases_fit s d ls)

@@ -1,11 +1,9 @@
 -- The parts of a function (6.9.1).
-use Rattle.std.specs.Prelude.{◌<◌, ℕ, Bool, ◌&&◌, List, ◌++◌, length, map, option_map, IfSome, false}
-use Rattle.c_text.specs.CTree.{LocalTree, ParamTree}
+use Rattle.std.specs.Prelude.{◌<◌, ℕ, Bool, ◌&&◌, List, length, map, option_map, IfSome, false}
 use Rattle.c_text.specs.CNodes.{Nodes, type_in, param_tree, local_tree, expr_of, code_of}
 use Rattle.c_text.specs.CFits.{HasType, HasParams, HasLocals}
-use Rattle.c_meaning.specs.CTypes.{Scope, local_name}
 use Rattle.c_meaning.specs.CStep.{stop}
-use Rattle.c_meaning.specs.UnitForm.{Checked, all_distinct, labels_of, formed_code, formed_initial, formed_function}
+use Rattle.c_meaning.specs.UnitForm.{Checked, all_distinct, labels_of, formed_code, formed_function}
 use Rattle.c_form_exprs.specs.Front.{Front, front_items}
 use Rattle.c_form_stmts.specs.declared.functions.Parts.{Parts}
 

@@ -1,5 +1,5 @@
 -- The statements of a block and of the blocks in it, in the order of the text (ISO/IEC 9899:1999, 6.8).
-use Rattle.std.specs.Prelude.{◌≡◌, ◌+◌, ◌*◌, ◌<◌, ◌≤◌, ℕ, Bool, true, false, if◌then◌else◌, List, [], ◌∷◌, ◌++◌, length, Option, Some, None, ⊤}
+use Rattle.std.specs.Prelude.{◌≡◌, ◌+◌, ◌*◌, ◌<◌, ℕ, Bool, true, if◌then◌else◌, List, [], ◌∷◌, ◌++◌, length, ⊤}
 use Rattle.c_text.specs.declared.ids.CStmtId.{CStmtId}
 use Rattle.c_text.specs.CTree.{Code, finish, nested, empty, assign, call, jump, branch, repeat, select, leave, case_label, default_label, name_label}
 use Rattle.c_text.specs.CNodes.{Nodes, code_of}

@@ -1,5 +1,5 @@
 -- Names, one after the other: whether each is new, and what the parameters and locals of a function ask.
-use Rattle.std.specs.Prelude.{ℕ, Bool, true, false, not, ◌&&◌, List, [], ◌∷◌, ◌++◌, map, is_some}
+use Rattle.std.specs.Prelude.{ℕ, Bool, true, not, ◌&&◌, List, [], ◌∷◌, ◌++◌, map, is_some}
 use Rattle.c_text.specs.CTree.{ParamTree, LocalTree}
 use Rattle.c_meaning.specs.CTypes.{Scope, local_name, is_known}
 use Rattle.c_form_exprs.specs.Tables.{named}

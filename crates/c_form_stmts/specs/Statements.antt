@@ -1,5 +1,5 @@
 -- One statement of a function (6.8).
-use Rattle.std.specs.Prelude.{◌≡◌, ◌+◌, nat_eq, IfSome, ℕ, Bool, true, false, ◌&&◌, ◌||◌, if◌then◌else◌, nat_lt, List, [], ◌∷◌, ◌++◌, Option, Some, None, bytes_eq, option_map}
+use Rattle.std.specs.Prelude.{◌≡◌, ◌+◌, nat_eq, IfSome, ℕ, Bool, true, false, ◌&&◌, ◌||◌, if◌then◌else◌, nat_lt, List, [], ◌∷◌, Option, Some, None, bytes_eq, option_map}
 use Rattle.c_text.specs.declared.kinds.Linkage.{Linkage}
 use Rattle.c_text.specs.declared.nodes.CType.{CType}
 use Rattle.c_text.specs.declared.kinds.CNumber.TheVariants as literal
@@ -10,7 +10,6 @@ use Rattle.c_meaning.specs.CTypes.{Held, one, type_of, held_of}
 use Rattle.c_meaning.specs.CStep.{callee_of}
 use Rattle.c_meaning.specs.UnitForm.{Checked, has_type, is_number, may_assign, formed_call, may_loop, formed_return, cases_of, formed_cases}
 use Rattle.c_form_exprs.specs.Front.{Within, scope_in}
-use Rattle.c_form_exprs.specs.Tables.{named}
 use Rattle.c_form_stmts.specs.Lines.{LineTree}
 
 -- What the statements of a function are checked against: names, linkage and result, and the numbers of the statements
@@ -42,13 +41,13 @@ label_of (case_label n rest) = None
 label_of (default_label rest) = None
 
 -- The labels of statements.
+abbrev pub name_before : Option (List ℕ) → List (List ℕ) → List (List ℕ)
+name_before None names = names
+name_before (Some name) names = name ∷ names
+
 abbrev pub label_names : List LineTree → List (List ℕ)
 label_names [] = []
-label_names (l ∷ ls) = before (label_of l.code)
-  where
-    before : Option (List ℕ) → List (List ℕ)
-    before None = label_names ls
-    before (Some name) = name ∷ label_names ls
+label_names (l ∷ ls) = name_before (label_of l.code) (label_names ls)
 
 -- The number of the first statement that is this label, where these are the statements from number `i` on.
 abbrev pub is_label : List ℕ → Option (List ℕ) → Bool

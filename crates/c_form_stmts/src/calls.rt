@@ -115,19 +115,34 @@ impl<'c, 'k, 'u> Frame<'c, 'k, 'u> {
         }
     }
 
-    /// Whether `memset` takes these arguments: a pointer to a struct, `0` and its `sizeof`.
+    /// Whether `memset` takes these three arguments: a pointer to a struct, `0` and its `sizeof`.
+    fn sets(&self, of: CArg, zero: CArg, same: CArg) -> bool
+        requires of { HasArg self.now.within.front.nodes (length self.now.within.front.nodes.exprs) of }
+        requires zero { HasArg self.now.within.front.nodes (length self.now.within.front.nodes.exprs) zero }
+        requires same { HasArg self.now.within.front.nodes (length self.now.within.front.nodes.exprs) same }
+        ensures { result ≡ is_set_given (scope_in self.now.within) (args_in self.now.within.front.nodes.names (expr_of self.now.within.front.nodes) (of ∷ zero ∷ same ∷ [])) }
+    {
+        match (of, zero, same) {
+            (CArg::Expr(pointer), CArg::Expr(value), CArg::SizeOf(sized)) => {
+                match self.name_of(pointer) {
+                    Some(name) => {
+                        self.is_zero(value)
+                            && (self.scope.is_same_name(name, sized) && self.points_to_struct(name))
+                    }
+                    None => false,
+                }
+            }
+            (_, _, _) => false,
+        }
+    }
+
+    /// Whether `memset` takes these arguments.
     fn is_set(&self, given: &[CArg]) -> bool
         requires { HasArgs self.now.within.front.nodes (length self.now.within.front.nodes.exprs) given.now }
         ensures { result ≡ is_set_given (scope_in self.now.within) (args_in self.now.within.front.nodes.names (expr_of self.now.within.front.nodes) given.now) }
     {
         match given {
-            [CArg::Expr(of), CArg::Expr(zero), CArg::SizeOf(same)] => match self.name_of(*of) {
-                Some(name) => {
-                    self.is_zero(*zero)
-                        && (self.scope.is_same_name(name, *same) && self.points_to_struct(name))
-                }
-                None => false,
-            },
+            [of, zero, same] => self.sets(*of, *zero, *same),
             _ => false,
         }
     }

@@ -23,7 +23,7 @@ pub(crate) enum Mark {
     Default,
 }
 
-fn mark(unit: &Unit, s: CStmtId) -> Mark
+fn mark_at(unit: &Unit, s: CStmtId) -> Mark
     requires { s.0 < length unit.now.stmts }
     ensures { result ≡ mark_of (code_of unit.now s.0) }
 {
@@ -42,7 +42,7 @@ fn are_formed_cases(alloc: Global, unit: &Unit, lines: &[Line]) -> Result<bool, 
     let mut seen: IndexSet<u32> = IndexSet::new(alloc);
     let mut has_default = false;
     for line in lines {
-        match mark(unit, line.stmt) {
+        match mark_at(unit, line.stmt) {
             Mark::Case(CNumber::Int(n)) => match seen.insert(n) {
                 Ok(true) => {}
                 Ok(false) => return Ok(false),

@@ -66,7 +66,10 @@ fn add<'k, 'u>(
         return Ok(false);
     }
     let spelt = scope.unit().name(name);
-    if items.get(spelt).is_some() || is_library(spelt) {
+    if items.get(spelt).is_some() {
+        return Ok(false);
+    }
+    if is_library(spelt) {
         return Ok(false);
     }
     scope.declare(name, kind)
@@ -189,7 +192,7 @@ pub fn is_formed_function<'u>(
     parts: Parts<'u>,
 ) -> Result<bool, NoMemory>
     requires { HasParts front.now.nodes parts }
-    ensures { (all : List (List ℕ)) → ((q : List ℕ) → is_in items.now q ≡ is_among all q) → IfOk result (λ formed. formed ≡ formed_parts front.now all parts) }
+    ensures { (all : List (List ℕ)) → ((q : List ℕ) → is_in items.now q ≡ is_among all q) → IfOk result (λ formed. formed ≡ formed_parts front.now all parts.entry) }
 {
     if !is_result(parts.result_type) {
         return Ok(false);

@@ -1,11 +1,12 @@
 // The labels of a function's body (ISO/IEC 9899:1999, 6.8.1).
 
-ghost use Rattle.std.specs.Prelude.{◌≡◌, ◌<◌, ℕ, List, [], length, map, option_map, IfOk, IfSome, MatchOption, false, true};
+ghost use Rattle.std.specs.Prelude.{◌≡◌, ◌<◌, ◌∷◌, ℕ, Bool, List, [], length, map, option_map, IfOk, IfSome, MatchOption, false, true};
 ghost use Rattle.c_text.specs.CNodes.{bytes_at, code_of};
 ghost use Rattle.c_text.specs.CFits.{HasName};
 ghost use Rattle.c_meaning.specs.UnitForm.{all_distinct};
 ghost use Rattle.c_form_exprs.specs.Tables.{named};
-ghost use Rattle.c_form_stmts.specs.Lines.{line_in, HasLines};
+ghost use Rattle.c_form_stmts.specs.Lines.{LineTree, line_in, HasLine, HasLines};
+ghost use Rattle.c_form_stmts.specs.Labels.{Labelled, LabelledNext};
 ghost use Rattle.c_form_stmts.specs.Statements.{label_of, label_names, label_at};
 
 use crate::lines::Line;
@@ -26,6 +27,22 @@ fn label(unit: &Unit, s: CStmtId) -> Option<CNameId>
     }
 }
 
+/// Adds the label that a statement is, with the statement's number; whether it is new.
+fn add_label<'u>(
+    table: &mut NameTable<'u, usize>,
+    unit: &'u Unit,
+    at: Line,
+    i: usize,
+) -> Result<bool, NoMemory>
+    requires { HasLine unit.now at }
+    ensures { (whole left : List LineTree) (distinct : Bool) → Labelled whole (line_in unit.now at ∷ left) table.old i distinct → IfOk result (LabelledNext whole left table.new i distinct) }
+{
+    match label(unit, at.stmt) {
+        Some(name) => table.add(unit.name(name), i),
+        None => Ok(true),
+    }
+}
+
 /// The labels of a body with the numbers of their statements; None where two have one name.
 pub(crate) fn labels<'u>(
     alloc: Global,
@@ -38,12 +55,10 @@ pub(crate) fn labels<'u>(
     let mut table = NameTable::new(alloc);
     let mut i = 0;
     while i < lines.len() {
-        if let Some(name) = label(unit, lines[i].stmt) {
-            match table.add(unit.name(name), i) {
-                Ok(true) => {}
-                Ok(false) => return Ok(None),
-                Err(fault) => return Err(fault),
-            }
+        match add_label(&mut table, unit, lines[i], i) {
+            Ok(true) => {}
+            Ok(false) => return Ok(None),
+            Err(fault) => return Err(fault),
         }
         i += 1;
     }

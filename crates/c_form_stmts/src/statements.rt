@@ -142,8 +142,8 @@ impl<'c, 'k, 'u> Frame<'c, 'k, 'u> {
 
     /// Whether a `return` is formed (6.8.6.4p1).
     fn is_return(&self, value: Option<CExprId>) -> Result<bool, NoMemory>
-        requires { IfSome value (λ e. e.0 < length self.now.within.front.nodes.exprs) }
-        requires { IfSome self.now.result_type (HasType self.now.within.front.nodes) }
+        requires value { IfSome value (λ e. e.0 < length self.now.within.front.nodes.exprs) }
+        requires result_type { IfSome self.now.result_type (HasType self.now.within.front.nodes) }
         ensures { IfOk result (λ formed. formed ≡ formed_return (checked_in self.now) (value_in (expr_of self.now.within.front.nodes) value) (checked_in self.now).result_type) }
     {
         match (value, self.result_type) {
@@ -156,8 +156,8 @@ impl<'c, 'k, 'u> Frame<'c, 'k, 'u> {
 
     /// Whether a statement is formed; `i` is its number.
     fn is_formed_line(&self, i: usize, at: Line) -> Result<bool, NoMemory>
-        requires { HasLine self.now.within.front.nodes at }
-        requires { IfSome self.now.result_type (HasType self.now.within.front.nodes) }
+        requires at { HasLine self.now.within.front.nodes at }
+        requires result_type { IfSome self.now.result_type (HasType self.now.within.front.nodes) }
         ensures { IfOk result (λ formed. formed ≡ formed_line (checked_in self.now) (named self.now.labels) i (line_in self.now.within.front.nodes at)) }
     {
         let unit = self.scope.unit();
@@ -190,8 +190,8 @@ impl<'c, 'k, 'u> Frame<'c, 'k, 'u> {
 
     /// Whether all statements of a body are formed.
     pub fn are_formed(&self, lines: &[Line]) -> Result<bool, NoMemory>
-        requires { HasLines self.now.within.front.nodes lines.now }
-        requires { IfSome self.now.result_type (HasType self.now.within.front.nodes) }
+        requires lines { HasLines self.now.within.front.nodes lines.now }
+        requires result_type { IfSome self.now.result_type (HasType self.now.within.front.nodes) }
         ensures { IfOk result (λ formed. formed ≡ formed_lines (checked_in self.now) (named self.now.labels) 0 (map (line_in self.now.within.front.nodes) lines.now)) }
     {
         let mut i = 0;
