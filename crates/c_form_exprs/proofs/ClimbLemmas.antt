@@ -28,7 +28,7 @@ climbs_on nodes scope e links x found next held h linked is =
     let popped = spine_pop nodes e links x h.at h.spine in
     let told = linked (expr_of nodes h.at.0) popped.link.is h.told.0 in
     let whole : type_of scope (expr_of nodes x.0) ≡ option_and_then held_type (option_map (held_in nodes.names) held) = link_type scope (expr_of nodes x.0) (expr_of nodes h.at.0) popped.link.is ∙ ap (option_and_then held_type) (sym told.0) in
-    record { at = x; spine = popped.spine; told = rw whole is; }
+    record { at = x; spine = popped.spine; told = rw whole is }
 
 pub climbs_end : (nodes : Nodes) (scope : Scope) (e : CExprId) (found : Option ExprType) → Climbs nodes scope e [] found → TellsType nodes found (type_of scope (expr_of nodes e.0))
 climbs_end nodes scope e found h = subst (λ (at : CExprId). TellsType nodes found (type_of scope (expr_of nodes at.0))) h.spine h.told

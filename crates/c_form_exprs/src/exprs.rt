@@ -35,7 +35,12 @@ impl<'k, 'u> Scope<'k, 'u> {
 
     /// The type of an expression whose links are left, by the type of what they lead to.
     #[cycle(expr_types)]
-    fn climb(&self, e: CExprId, links: Vec<CExprId>, base: Option<ExprType>) -> Result<Option<ExprType>, NoMemory>
+    fn climb(
+        &self,
+        e: CExprId,
+        links: Vec<CExprId>,
+        base: Option<ExprType>,
+    ) -> Result<Option<ExprType>, NoMemory>
         requires within { e.0 < length self.now.front.nodes.exprs }
         requires climbs { Climbs self.now.front.nodes (scope_in self.now) e links.items base }
         ensures { IfOk result (λ ty. TellsType self.now.front.nodes ty (expr_type (scope_in self.now) (expr_of self.now.front.nodes e.0))) }
@@ -155,7 +160,11 @@ impl<'k, 'u> Scope<'k, 'u> {
 
     /// The type of `test ? met : unmet`, whose parts have numbers below `below`.
     #[cycle(expr_types)]
-    fn choice(&self, below: usize, parts: (CExprId, CExprId, CExprId)) -> Result<Option<ExprType>, NoMemory>
+    fn choice(
+        &self,
+        below: usize,
+        parts: (CExprId, CExprId, CExprId),
+    ) -> Result<Option<ExprType>, NoMemory>
         requires below { below ≤ length self.now.front.nodes.exprs }
         requires test { parts.0.0 < below }
         requires met { parts.1.0 < below }
@@ -179,7 +188,13 @@ impl<'k, 'u> Scope<'k, 'u> {
 
     /// The type of `first op second op others`, whose operands have numbers below `below` (6.5.5 to 6.5.14).
     #[cycle(expr_types)]
-    fn operation(&self, below: usize, op: COp, two: (CExprId, CExprId), others: &[CExprId]) -> Result<Option<ExprType>, NoMemory>
+    fn operation(
+        &self,
+        below: usize,
+        op: COp,
+        two: (CExprId, CExprId),
+        others: &[CExprId],
+    ) -> Result<Option<ExprType>, NoMemory>
         requires below { below ≤ length self.now.front.nodes.exprs }
         requires first { two.0.0 < below }
         requires second { two.1.0 < below }
@@ -199,7 +214,13 @@ impl<'k, 'u> Scope<'k, 'u> {
 
     /// The type of an operation with further operands, by the type of what stands in front of them.
     #[cycle(expr_types)]
-    fn operands(&self, below: usize, op: COp, front: Option<ExprType>, others: &[CExprId]) -> Result<Option<ExprType>, NoMemory>
+    fn operands(
+        &self,
+        below: usize,
+        op: COp,
+        front: Option<ExprType>,
+        others: &[CExprId],
+    ) -> Result<Option<ExprType>, NoMemory>
         requires below { below ≤ length self.now.front.nodes.exprs }
         requires others { HasExprs below others.now }
         requires has { IfSome front (HasValue self.now.front.nodes) }

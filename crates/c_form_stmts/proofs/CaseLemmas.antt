@@ -124,14 +124,17 @@ fit_by seen d (l ∷ ls) = by (mark_of l.code) refl (λ s b. fit_by s b ls)
   where
     rest : Cases
     rest = cases_in ls
+
     int_case : (n : ℕ) (b : Bool) → list_any (nat_eq n) seen ≡ b → mark_of l.code ≡ mark.Case (literal.Int n) → ((s : List ℕ) (e : Bool) → cases_fit s e ls ≡ fits s e rest) → cases_fit seen d (l ∷ ls) ≡ fits seen d (cases_in (l ∷ ls))
     int_case n true known is more = rw (is, known) (fit_seen (list_all (is_other_case (literal.Int n)) rest.numbers) (plain_distinct rest.numbers) (list_all (unseen seen) rest.numbers) (nat_le (defaults_with d (0 + rest.defaults)) 1))
     int_case n false known is more =
         let whole : cases_fit (seen ++ n ∷ []) d ls ≡ ((plain_distinct rest.numbers && (list_all (is_other_case (literal.Int n)) rest.numbers && list_all (unseen seen) rest.numbers)) && nat_le (defaults_with d (0 + rest.defaults)) 1) = more (seen ++ n ∷ []) d ∙ (ap (λ b. (plain_distinct rest.numbers && b) && nat_le (defaults_with d rest.defaults) 1) (all_and (is_other_case (literal.Int n)) (unseen seen) (unseen (seen ++ n ∷ [])) (unseen_end seen n) rest.numbers) ∙ ap (λ m. (plain_distinct rest.numbers && (list_all (is_other_case (literal.Int n)) rest.numbers && list_all (unseen seen) rest.numbers)) && nat_le m 1) (sym (one_more d rest.defaults))) in
         rw (is, known) (whole ∙ fit_case true (list_all (is_other_case (literal.Int n)) rest.numbers) (plain_distinct rest.numbers) (list_all (unseen seen) rest.numbers) (nat_le (defaults_with d (0 + rest.defaults)) 1) refl)
+
     default_case : (e : Bool) → d ≡ e → mark_of l.code ≡ mark.Default → ((s : List ℕ) (b : Bool) → cases_fit s b ls ≡ fits s b rest) → cases_fit seen d (l ∷ ls) ≡ fits seen d (cases_in (l ∷ ls))
     default_case true had is more = rw (is, had) (sym (ap (λ b. (plain_distinct rest.numbers && list_all (unseen seen) rest.numbers) && b) (two_defaults rest.defaults) ∙ and_false (plain_distinct rest.numbers && list_all (unseen seen) rest.numbers)))
     default_case false had is more = rw (is, had) (more seen true ∙ ap (λ m. (plain_distinct rest.numbers && list_all (unseen seen) rest.numbers) && nat_le m 1) (one_first rest.defaults))
+
     by : (m : Mark) → mark_of l.code ≡ m → ((s : List ℕ) (b : Bool) → cases_fit s b ls ≡ fits s b rest) → cases_fit seen d (l ∷ ls) ≡ fits seen d (cases_in (l ∷ ls))
     by (mark.Case (literal.Int n)) is more = int_case n (list_any (nat_eq n) seen) refl is more
     by (mark.Case (literal.Unsigned n)) is more = rw is refl

@@ -40,22 +40,31 @@ function_by before all taken is linkage t params locals body =
   where
     K : Bool
     K = list_all (λ p. is_known (structs_of before) p.kind) params
+
     N : Bool
     N = are_new [] (map (λ it. it.name) params)
+
     M : Bool
     M = are_new (map (λ it. it.name) params) (map (λ it. it.name) (map local_name locals))
+
     O : Bool
     O = list_all (λ p. is_own taken p.name) params
+
     P : Bool
     P = list_all (λ p. is_own taken p.name) (map local_name locals)
+
     F : Bool
     F = formed_locals (scope_of before params) locals
+
     B : Bool
     B = formed_body (checked before linkage t (params ++ map local_name locals) body)
+
     owned : list_all (λ (it : ParamTree). not (is_among all it.name) && not (is_library it.name)) (params ++ map local_name locals) ≡ (O && P)
     owned = all_same (λ it. not (is_among all it.name) && not (is_library it.name)) (λ it. is_own taken it.name) (λ it. ap (λ b. not b && not (is_library it.name)) (sym (is it.name))) (params ++ map local_name locals) ∙ list_all-append (λ it. is_own taken it.name) params (map local_name locals)
+
     distinct : all_distinct (map (λ (it : ParamTree). it.name) (params ++ map local_name locals)) ≡ (N && M)
     distinct = ap all_distinct (map-append (λ (it : ParamTree). it.name) params (map local_name locals)) ∙ (sym (new_from_none (map (λ it. it.name) params ++ map (λ it. it.name) (map local_name locals))) ∙ new_append [] (map (λ it. it.name) params) (map (λ it. it.name) (map local_name locals)))
+
     own : own_names (params ++ map local_name locals) all ≡ ((N && M) && (O && P))
     own = ap (λ b. b && list_all (λ (it : ParamTree). not (is_among all it.name) && not (is_library it.name)) (params ++ map local_name locals)) distinct ∙ ap (λ b. (N && M) && b) owned
 

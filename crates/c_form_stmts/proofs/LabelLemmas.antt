@@ -41,6 +41,7 @@ one_label whole l left table i distinct name is fresh h = record {
   where
     free : not (is_among (map (λ (e : List ℕ × ℕ). e.0) table) name) ≡ true
     free = sym (named_among table name) ∙ sym fresh
+
     before : are_new (map (λ e. e.0) table ++ name ∷ []) (label_names left) ≡ are_new (map (λ e. e.0) table) (label_names (l ∷ left))
     before = rw (is, free) refl
 
@@ -49,6 +50,7 @@ twice whole l left table i distinct name is taken h = sym h.new ∙ at_once
   where
     known : not (is_among (map (λ (e : List ℕ × ℕ). e.0) table) name) ≡ false
     known = sym (named_among table name) ∙ sym taken
+
     at_once : are_new (map (λ e. e.0) table) (label_names (l ∷ left)) ≡ false
     at_once = rw (is, known) refl
 

@@ -178,14 +178,22 @@ impl<'c, 'k, 'u> Frame<'c, 'k, 'u> {
     }
 
     /// Whether a function of the text takes these arguments, and its result may go to the target (6.5.2.2p2).
-    fn is_own_call(&self, target: Option<CExprId>, name: CNameId, given: &[CArg]) -> Result<bool, NoMemory>
+    fn is_own_call(
+        &self,
+        target: Option<CExprId>,
+        name: CNameId,
+        given: &[CArg],
+    ) -> Result<bool, NoMemory>
         requires target { IfSome target (λ e. e.0 < length self.now.within.front.nodes.exprs) }
         requires name { HasName self.now.within.front.nodes name }
         requires given { HasArgs self.now.within.front.nodes (length self.now.within.front.nodes.exprs) given.now }
         ensures { IfOk result (λ formed. formed ≡ is_called (checked_in self.now) (value_in (expr_of self.now.within.front.nodes) target) (arg_types (scope_in self.now.within) (args_in self.now.within.front.nodes.names (expr_of self.now.within.front.nodes) given.now)) (function_named (scope_in self.now.within).functions (bytes_at self.now.within.front.nodes.names name.0))) }
     {
         match self.scope.function(name) {
-            Some(head) => match self.scope.takes(self.scope.unit().exprs(), head.params, given) {
+            Some(head) => match self
+                .scope
+                .takes(self.scope.unit().exprs(), head.params, given)
+            {
                 Ok(true) => self.is_kept(target, head.result),
                 Ok(false) => Ok(false),
                 Err(fault) => Err(fault),

@@ -63,11 +63,7 @@ fn are_formed_cases(alloc: Global, unit: &Unit, lines: &[Line]) -> Result<bool, 
 }
 
 /// Whether the cases of a `switch` with this block are formed.
-pub(crate) fn has_formed_cases(
-    alloc: Global,
-    unit: &Unit,
-    body: CStmtId,
-) -> Result<bool, NoMemory>
+pub(crate) fn has_formed_cases(alloc: Global, unit: &Unit, body: CStmtId) -> Result<bool, NoMemory>
     requires { body.0 < length unit.now.stmts }
     ensures { IfOk result (λ formed. formed ≡ formed_cases (cases_of (code_of unit.now body.0))) }
 {

@@ -97,7 +97,11 @@ fn add_params<'k, 'u>(
 }
 
 /// Whether the initial value of a local is formed (6.7.8p11).
-fn is_initial(scope: &Scope<'_, '_>, kind: CType, initial: Option<CExprId>) -> Result<bool, NoMemory>
+fn is_initial(
+    scope: &Scope<'_, '_>,
+    kind: CType,
+    initial: Option<CExprId>,
+) -> Result<bool, NoMemory>
     requires kind { HasType scope.now.front.nodes kind }
     requires initial { IfSome initial (λ e. e.0 < length scope.now.front.nodes.exprs) }
     ensures { IfOk result (λ formed. formed ≡ formed_initial (scope_in scope.now) (type_in scope.now.front.nodes.names kind) (value_in (expr_of scope.now.front.nodes) initial)) }

@@ -46,7 +46,10 @@ fn apart(unit: &Unit, s: CStmtId) -> Option<(Inner, CStmtId)>
         CStmt::Call { rest, .. } => Some((Inner::None, *rest)),
         CStmt::Goto { rest, .. } => Some((Inner::None, *rest)),
         CStmt::If {
-            body, other, rest, ..
+            body,
+            other,
+            rest,
+            ..
         } => Some((Inner::Branch(*body, *other), *rest)),
         CStmt::While { body, rest, .. } => Some((Inner::Block(*body), *rest)),
         CStmt::Switch { body, rest, .. } => Some((Inner::Switch(*body), *rest)),

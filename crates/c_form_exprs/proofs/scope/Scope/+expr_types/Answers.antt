@@ -7,8 +7,7 @@ use Rattle.c_form_exprs.proofs.scope.Scope.+expr_types.Goals as goal
 pub climb-linked-requires : goal.climb-linked-requires
 climb-linked-requires t c =
     let low : c.in-Some.link.0 ≤ c.args.e.0 = climbs_below c.args.self.now.front.nodes (scope_in c.args.self.now) c.args.e c.loop-link.links.items c.pop.new.self.items c.in-Some.link c.loop-link.found c.in-Some.ensures.items c.loop-link.invariant in
-    let within : c.args.e.0 < length c.args.self.now.front.nodes.exprs = c.requires.within in
-    (
+    let within : c.args.e.0 < length c.args.self.now.front.nodes.exprs = c.requires.within in (
       omega (arith, low, c.decreases),
       (omega (arith, low, within), climbs_told c.args.self.now.front.nodes (scope_in c.args.self.now) c.args.e c.loop-link.links.items c.loop-link.found c.loop-link.invariant),
     )

@@ -1,4 +1,0 @@
-pub mod Demands
-pub mod Formed
-pub mod Items
-pub mod Signatures
