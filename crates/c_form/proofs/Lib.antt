@@ -1,0 +1,4 @@
+pub mod DemandLemmas
+pub mod FormLaws
+pub mod ItemLemmas
+pub mod SignatureLemmas

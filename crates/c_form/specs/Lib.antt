@@ -1,0 +1,4 @@
+pub mod Demands
+pub mod Formed
+pub mod Items
+pub mod Signatures
