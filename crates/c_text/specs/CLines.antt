@@ -1,5 +1,5 @@
 -- The texts of one argument and of one statement.
-use Rattle.std.specs.Prelude.{◌≡◌, ℕ, ◌<◌, Bool, true, false, List, ◌++◌, length, codes}
+use Rattle.std.specs.Prelude.{◌≡◌, ℕ, zero, suc, ◌<◌, Bool, true, false, List, [], ◌++◌, Option, Some, None, is_some, unwrap_or, length, codes}
 use Rattle.c_text.specs.declared.nodes.CArg.{CArg}
 use Rattle.c_text.specs.declared.nodes.CArg.TheVariants as arg
 use Rattle.c_text.specs.declared.ids.CExprId.{CExprId}
@@ -7,7 +7,7 @@ use Rattle.c_text.specs.declared.ids.CStmtId.{CStmtId}
 use Rattle.c_text.specs.declared.kinds.Otherwise.{Otherwise}
 use Rattle.c_text.specs.CGrammar.{FitsElse}
 use Rattle.c_text.specs.CNodes.{Nodes, bytes_at, expr_of, code_of}
-use Rattle.c_text.specs.CTree.{ExprTree, Code, branch}
+use Rattle.c_text.specs.CTree.{ExprTree, number, variable, member, element, pointed, operation, unary, cast, choice, called, Code, branch}
 use Rattle.c_text.specs.CLayout.{expr_text, code_text, indented}
 
 abbrev pub is_branch : Code → Bool
@@ -30,3 +30,30 @@ pub record IsIfAt (nodes : Nodes) (s : ℕ) (parts : CExprId × CStmtId × Other
   pub body : parts.1.0 < s
   pub other : parts.3.0 < s
   pub fits : FitsElse parts.2 (code_of nodes parts.3.0)
+
+-- The part of an expression that stands before `->` or `[`.
+abbrev pub front_of : ExprTree → Option ExprTree
+front_of (member pointer field) = Some pointer
+front_of (element pointer index) = Some pointer
+front_of (number n) = None
+front_of (variable name) = None
+front_of (pointed pointer) = None
+front_of (operation op first second others) = None
+front_of (unary op of) = None
+front_of (cast to of) = None
+front_of (choice test met unmet) = None
+front_of (called function given) = None
+
+abbrev pub is_link : ExprTree → Bool
+is_link e = is_some (front_of e)
+
+-- The part that so many links down stands before the others; where there are fewer, the first one.
+abbrev pub descend : ExprTree → ℕ → ExprTree
+descend e zero = e
+descend e (suc n) = unwrap_or (front_of (descend e n)) (descend e n)
+
+-- What stands behind that part.
+abbrev pub link_text : ExprTree → List ℕ
+link_text (member pointer field) = codes "->" ++ field
+link_text (element pointer index) = codes "[" ++ expr_text index ++ codes "]"
+link_text e = []

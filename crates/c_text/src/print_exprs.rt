@@ -1,11 +1,11 @@
 // Prints types and expressions.
 
-ghost use Rattle.std.specs.Prelude.{◌≡◌, ◌<◌, ◌≤◌, ◌++◌, length, codes, decimal};
+ghost use Rattle.std.specs.Prelude.{◌≡◌, ◌<◌, ◌≤◌, ◌++◌, ℕ, Some, None, IfSome, IfNone, IsTrue, unwrap_or, length, codes, decimal};
 ghost use Rattle.c_text.specs.CNodes.{bytes_at, type_in, args_in, operands_in, expr_of};
 ghost use Rattle.c_text.specs.CFits.{HasType, HasExprs, HasArg, HasArgs, HasCall};
 ghost use Rattle.c_text.specs.CSpelling.{op_bytes, literal_bytes};
 ghost use Rattle.c_text.specs.CLayout.{uint_bytes, unary_bytes, type_text, expr_text, operands_text, args_text, more_args_text, call_text};
-ghost use Rattle.c_text.specs.CLines.{arg_text};
+ghost use Rattle.c_text.specs.CLines.{arg_text, front_of, is_link, descend, link_text};
 ghost use Rattle.c_text.specs.CTree.{choice as choice_tree, operation as operation_tree};
 
 use crate::ids::CExprId;
@@ -130,7 +130,63 @@ fn spaced_op<P: Pen>(op: COp, pen: &mut P)
     pen.write(b" ");
 }
 
-/// Prints an expression.
+/// The part of an expression that stands before `->` or `[`; None where it has no such part.
+fn front_part(u: &Unit, e: CExprId) -> Option<CExprId>
+    requires { e.0 < length u.now.exprs }
+    ensures some { IfSome result (λ of. (of.0 < e.0) × (front_of (expr_of u.now e.0) ≡ Some (expr_of u.now of.0))) }
+    ensures none { IfNone result (front_of (expr_of u.now e.0) ≡ None) }
+{
+    match u.expr(e) {
+        CExpr::Member { of, .. } => Some(*of),
+        CExpr::Index { of, .. } => Some(*of),
+        _ => None,
+    }
+}
+
+/// The part before an expression's `->` or `[`, or the expression itself where it has none.
+fn one_down(u: &Unit, e: CExprId) -> CExprId
+    requires { e.0 < length u.now.exprs }
+    ensures below { result.0 ≤ e.0 }
+    ensures is { expr_of u.now result.0 ≡ unwrap_or (front_of (expr_of u.now e.0)) (expr_of u.now e.0) }
+{
+    match front_part(u, e) {
+        Some(of) => of,
+        None => e,
+    }
+}
+
+/// The number of links of `a->b[i]->c`: how many parts stand before one another.
+fn links(u: &Unit, e: CExprId) -> usize
+    requires { e.0 < length u.now.exprs }
+    ensures each { (k : ℕ) → k < result → IsTrue (is_link (descend (expr_of u.now e.0) k)) }
+    ensures last { front_of (descend (expr_of u.now e.0) result) ≡ None }
+{
+    let mut at = e;
+    let mut count = 0;
+    while let Some(of) = front_part(u, at) {
+        at = of;
+        count += 1;
+    }
+    count
+}
+
+/// The part that stands `count` links down.
+fn link_down(u: &Unit, e: CExprId, count: usize) -> CExprId
+    requires { e.0 < length u.now.exprs }
+    ensures below { result.0 ≤ e.0 }
+    ensures is { expr_of u.now result.0 ≡ descend (expr_of u.now e.0) count }
+{
+    let mut at = e;
+    let mut i = 0;
+    while i < count {
+        at = one_down(u, at);
+        i += 1;
+    }
+    at
+}
+
+/// Prints an expression: the part before which no other stands, and then each link. No link is a call in a call, since
+/// nothing bounds their number; to find one takes as many steps as links are left.
 #[cycle(print_exprs)]
 pub fn expr<P: Pen>(u: &Unit, e: CExprId, pen: &mut P)
     requires has { e.0 < length u.now.exprs }
@@ -138,20 +194,50 @@ pub fn expr<P: Pen>(u: &Unit, e: CExprId, pen: &mut P)
     ensures ready { P.ready pen.new }
     ensures writes { P.writes pen.old pen.new (expr_text (expr_of u.now e.0)) }
 {
+    let mut left = links(u, e);
+    base(u, link_down(u, e, left), pen);
+    while left > 0 {
+        left -= 1;
+        link(u, link_down(u, e, left), pen);
+    }
+}
+
+/// Prints `->field` or `[at]` of an expression.
+#[cycle(print_exprs)]
+fn link<P: Pen>(u: &Unit, e: CExprId, pen: &mut P)
+    requires has { e.0 < length u.now.exprs }
+    requires linked { IsTrue (is_link (expr_of u.now e.0)) }
+    requires ready { P.ready pen.old }
+    ensures ready { P.ready pen.new }
+    ensures writes { P.writes pen.old pen.new (link_text (expr_of u.now e.0)) }
+{
     match u.expr(e) {
-        CExpr::Number(n) => literal(*n, pen),
-        CExpr::Name(n) => pen.write(u.name(*n)),
-        CExpr::Member { of, field } => {
-            expr(u, *of, pen);
+        CExpr::Member { field, .. } => {
             pen.write(b"->");
             pen.write(u.name(*field));
         }
-        CExpr::Index { of, at } => {
-            expr(u, *of, pen);
+        CExpr::Index { at, .. } => {
             pen.write(b"[");
             expr(u, *at, pen);
             pen.write(b"]");
         }
+        _ => unreachable!(),
+    }
+}
+
+/// Prints an expression before whose parts no other stands.
+#[cycle(print_exprs)]
+fn base<P: Pen>(u: &Unit, e: CExprId, pen: &mut P)
+    requires has { e.0 < length u.now.exprs }
+    requires bare { front_of (expr_of u.now e.0) ≡ None }
+    requires ready { P.ready pen.old }
+    ensures ready { P.ready pen.new }
+    ensures writes { P.writes pen.old pen.new (expr_text (expr_of u.now e.0)) }
+{
+    match u.expr(e) {
+        CExpr::Number(n) => literal(*n, pen),
+        CExpr::Name(n) => pen.write(u.name(*n)),
+        CExpr::Member { .. } | CExpr::Index { .. } => unreachable!(),
         CExpr::Deref(of) => {
             pen.write(b"(*");
             expr(u, *of, pen);

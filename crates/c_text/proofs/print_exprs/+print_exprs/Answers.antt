@@ -5,30 +5,28 @@ use Rattle.c_text.proofs.Trees.{expr_of-node}
 use Rattle.c_text.proofs.Parts.{args_written, args_rest, args_step, args_first, no_arg_given, operands_written, exprs_rest, no_expr}
 use Rattle.c_text.proofs.print_exprs.+print_exprs.Goals as goal
 
-pub expr-returns-in-Member-clause-writes : goal.expr-returns-in-Member-clause-writes
-expr-returns-in-Member-clause-writes g t c =
+pub link-returns-in-Member-clause-writes : goal.link-returns-in-Member-clause-writes
+link-returns-in-Member-clause-writes g t c =
     let j = g.met.P.Pen.joined in
-    let r1 = j _ _ _ _ _ c.expr-in-Member.ensures.writes c.write-in-Member.ensures.writes in
-    let r2 = j _ _ _ _ _ r1 (rw c.name-in-Member.ensures at c.write-in-Member-2.ensures.writes) in
-    rw (expr_of-node _ _ _ _ c.expr.ensures.tree c.in-Member.is) r2
+    let r1 = j _ _ _ _ _ c.write-in-Member.ensures.writes (rw c.name-in-Member.ensures at c.write-in-Member-2.ensures.writes) in
+    rw (expr_of-node _ _ _ _ c.expr.ensures.tree c.in-Member.is) r1
 
-pub expr-returns-in-Index-clause-writes : goal.expr-returns-in-Index-clause-writes
-expr-returns-in-Index-clause-writes g t c =
+pub link-returns-in-Index-clause-writes : goal.link-returns-in-Index-clause-writes
+link-returns-in-Index-clause-writes g t c =
     let j = g.met.P.Pen.joined in
-    let r1 = j _ _ _ _ _ c.expr-in-Index.ensures.writes c.write-in-Index.ensures.writes in
-    let r2 = j _ _ _ _ _ r1 c.expr-in-Index-2.ensures.writes in
-    let r3 = j _ _ _ _ _ r2 c.write-in-Index-2.ensures.writes in
-    rw (expr_of-node _ _ _ _ c.expr.ensures.tree c.in-Index.is) r3
+    let r1 = j _ _ _ _ _ c.write-in-Index.ensures.writes c.expr-in-Index.ensures.writes in
+    let r2 = j _ _ _ _ _ r1 c.write-in-Index-2.ensures.writes in
+    rw (expr_of-node _ _ _ _ c.expr.ensures.tree c.in-Index.is) r2
 
-pub expr-returns-in-Deref-clause-writes : goal.expr-returns-in-Deref-clause-writes
-expr-returns-in-Deref-clause-writes g t c =
+pub base-returns-in-Deref-clause-writes : goal.base-returns-in-Deref-clause-writes
+base-returns-in-Deref-clause-writes g t c =
     let j = g.met.P.Pen.joined in
     let r1 = j _ _ _ _ _ c.write-in-Deref.ensures.writes c.expr-in-Deref.ensures.writes in
     let r2 = j _ _ _ _ _ r1 c.write-in-Deref-2.ensures.writes in
     rw (expr_of-node _ _ _ _ c.expr.ensures.tree c.in-Deref.is) r2
 
-pub expr-returns-in-Cast-clause-writes : goal.expr-returns-in-Cast-clause-writes
-expr-returns-in-Cast-clause-writes g t c =
+pub base-returns-in-Cast-clause-writes : goal.base-returns-in-Cast-clause-writes
+base-returns-in-Cast-clause-writes g t c =
     let j = g.met.P.Pen.joined in
     let r1 = j _ _ _ _ _ c.write-in-Cast.ensures.writes c.value_type.ensures.writes in
     let r2 = j _ _ _ _ _ r1 c.write-in-Cast-2.ensures.writes in
@@ -36,8 +34,8 @@ expr-returns-in-Cast-clause-writes g t c =
     let r4 = j _ _ _ _ _ r3 c.write-in-Cast-3.ensures.writes in
     rw (expr_of-node _ _ _ _ c.expr.ensures.tree c.in-Cast.is) r4
 
-pub expr-returns-in-Call-clause-writes : goal.expr-returns-in-Call-clause-writes
-expr-returns-in-Call-clause-writes g t c =
+pub base-returns-in-Call-clause-writes : goal.base-returns-in-Call-clause-writes
+base-returns-in-Call-clause-writes g t c =
     let j = g.met.P.Pen.joined in
     let r1 = j _ _ _ _ _ c.write-in-Call.ensures.writes c.call.ensures.writes in
     let r2 = j _ _ _ _ _ r1 c.write-in-Call-2.ensures.writes in
