@@ -384,6 +384,11 @@ def limits():
     differ = lambda most: " and ".join(f"(args.a <> {n})" for n in range(1, most + 1))
     for most, rule in ((512, "ok"), (513, "L8")):
         yield f"{most} facts", rule, [head, ("@" if rule != "ok" else "") + f"if {differ(most)} {{", "}", "}"]
+    yield "512 facts, and an assertion that tells one more", "L8", [head, f"if {differ(512)} {{", "@assert args.a >= 0", "}", "}"]
+    yield "512 facts, and an assertion of one of them", "ok", [head, f"if {differ(512)} {{", "assert args.a <> 7", "}", "}"]
+    zeros = [f"var x{n} : base.u8" for n in range(256)]
+    yield "256 facts of locals and 256 of a condition", "ok", [head, *zeros, f"if {differ(256)} {{", "}", "}"]
+    yield "256 facts of locals and 257 of a condition", "L8", [head, *zeros, f"@if {differ(257)} {{", "}", "}"]
     for most, rule in ((1024, "ok"), (1025, "L9")):
         yield f"{most} points", rule, [head, *["args.r.skip_u32?(n: 1)"] * 1024, *(["@args.r.skip_u32?(n: 1)"] if rule != "ok" else []), "}"]
     yield "a rule of bounds comes before L9", "B1", [head, *["args.r.skip_u32?(n: 1)"] * 1025, "this.m = @10", "}"]
