@@ -15,7 +15,7 @@ use Rattle.wf_meaning.proofs.Lists.{updated-other}
 use Rattle.wf_base.specs.HostRun.{Host}
 use Rattle.wf_meaning.specs.Entry.{text_of_status}
 use Rattle.wf_bounds_stmts.specs.Calls.{handed_thing}
-use Rattle.wf_sound.specs.Positions.{io_handed}
+use Rattle.wf_ast.specs.WellTyped.{io_handed}
 use Rattle.wf_sound.specs.Worlds.{AreApart}
 use Rattle.wf_sound.specs.Callees.{LooksTheSame}
 use Rattle.wf_sound.proofs.Drops.{any_path, any_slice, AgreeBeside, at_leaving}

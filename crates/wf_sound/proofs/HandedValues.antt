@@ -27,7 +27,8 @@ use Rattle.wf_bounds_stmts.specs.Requirements.{lies_in, number_type, lies_refusa
 use Rattle.wf_ast.specs.StatementOrder.{stands_before}
 use Rattle.wf_bounds_stmts.specs.Calls.{handed_to}
 use Rattle.wf_sound.specs.Worlds.{Shape, IsSliceOf, numbers_of, IsOfType, HaveTypes, context_of, IsLawfulBody, AreApart}
-use Rattle.wf_sound.specs.Positions.{io_handed, is_that, never_again, hands_on_once, is_slice_value}
+use Rattle.wf_sound.specs.Positions.{is_slice_value}
+use Rattle.wf_ast.specs.WellTyped.{io_handed, is_that, never_again, hands_on_once}
 use Rattle.wf_sound.proofs.Views.{lawful-view}
 use Rattle.wf_sound.proofs.TypedValues.{lies-of, IsSpanOf, span-slice, span-typed}
 

@@ -33,7 +33,7 @@ use Rattle.wf_bounds_stmts.specs.Requirements.{number_type, all_handed}
 use Rattle.wf_bounds_stmts.specs.Targets.{taken_by, target_refusal, written_by, without_some, unwritten, holds_all, answer_refusal}
 use Rattle.wf_bounds_stmts.specs.Calls.{interrupted, handed_thing, handed_to_method, answered_by, known_to_call, without_handed, left_by_call, invoke_refusal, invoked}
 use Rattle.wf_sound.specs.Worlds.{Shape, context_of, IsLawfulBody, AreApart}
-use Rattle.wf_sound.specs.Positions.{is_slice_value, hands_on_once}
+use Rattle.wf_sound.specs.Positions.{is_slice_value}
 use Rattle.wf_sound.specs.Callees.{IsAnswer, LooksTheSame, LeavesOthers, KeepsTo, EndsWell, RunsWell, MethodRuns}
 use Rattle.wf_sound.specs.OneStep.{IsStarted, IsReached, afresh, resumed, ComesTo, StandsBefore, IsLeftAt, Ends}
 use Rattle.wf_sound.proofs.Drops.{any_path, without_all, drops-true, still-true}
@@ -393,10 +393,10 @@ module _ (R : (method : ℕ) → Remaining → Type 0) (shape : Shape) (b : Body
         by (Some ty) t = t
 
   -- The whole step.
-  pub invoke-step : well_invoked c target keep mark called vs (slice_get b.within.methods (number_of called)) ≡ true → (list_all is_slice_value vs && hands_on_once vs) ≡ true → invoke_refusal c fs at target keep mark called vs ≡ None
+  pub invoke-step : well_invoked c target keep mark called vs (slice_get b.within.methods (number_of called)) ≡ true → list_all is_slice_value vs ≡ true → invoke_refusal c fs at target keep mark called vs ≡ None
       → MethodRuns calls b.within R shape (number_of called) n vars.world
       → Comes (steps.invoked b calls n keep mark target called vs (plain site (invoke at target keep mark called vs) rest) rest behind vars)
-  invoke-step w once e runs = found (slice_get b.within.methods (number_of called)) refl w
+  invoke-step w whole e runs = found (slice_get b.within.methods (number_of called)) refl w
     where
       with_callee : (m : MethodTree) → slice_get b.within.methods (number_of called) ≡ Some m → well_invoked c target keep mark called vs (Some m) ≡ true
           → Comes (steps.invoked b calls n keep mark target called vs (plain site (invoke at target keep mark called vs) rest) rest behind vars)
@@ -406,14 +406,13 @@ module _ (R : (method : ℕ) → Remaining → Type 0) (shape : Shape) (b : Body
           let w3 = and_parts (calls_method c called m) _ w2.1 in
           let w4 = and_parts (fit_types c m.args vs) _ w3.1 in
           let w5 = and_parts (takes_answer c target keep mark m.gives) _ w4.1 in
-          let u = and_parts (list_all is_slice_value vs) _ once in
           let same = mark-same mark m.mark w1.0 in
           let P : Option MethodTree → Type 0 = λ o. or_else (all_handed B8 (known_to_call keep mark fs) (handed_to_method o vs)) (answer_refusal (left_by_call keep mark vs fs) at target (answered_by o)) ≡ None in
           let r = neither (all_handed B8 (known_to_call keep mark fs) (handed_to_method (Some m) vs)) _ (subst P is e) in
           let accepted = all-accepted R shape b vars lawful (known_to_call keep mark fs) known-well call-known B8 (handed_to_method (Some m) vs) r.0 in
-          let x : ValuesOf R shape b vars lawful (known_to_call keep mark fs) known-well call-known m.args vs = values-typed R shape b vars lawful (known_to_call keep mark fs) known-well call-known B8 m.args vs w4.0 u.0 accepted in
+          let x : ValuesOf R shape b vars lawful (known_to_call keep mark fs) known-well call-known m.args vs = values-typed R shape b vars lawful (known_to_call keep mark fs) known-well call-known B8 m.args vs w4.0 whole accepted in
           let o : ReceiverOf R shape b vars lawful called m = receiver-is R shape b vars lawful called m w3.0 in
-          let sole : AreApart x.values = values-apart R shape b vars lawful (known_to_call keep mark fs) known-well call-known m.args vs x.values apart u.1 x.is in
+          let sole : AreApart x.values = values-apart R shape b vars lawful (known_to_call keep mark fs) known-well call-known m.args vs x.values apart w5.1 x.is in
           let ran = through-runs b.within R shape calls m o.object (number_of called) x.values n vars.world lawful.world (results (number_of called) m is) called (lawful.world.objects o.object m.of o.of) (runs.runs m o.object x.values is o.of x.lie sole) in
           goes-with Comes (slice_get b.within.methods (number_of called)) m _ is
           (goes-with Comes (values_of s m.args vs) x.values _ x.is

@@ -1,7 +1,7 @@
 -- Where a running body stands: the block that comes next, what follows it, and the loops round it.
-use Rattle.std.specs.Prelude.{ℕ, Bool, true, false, not, ◌&&◌, ◌||◌, List, [], ◌∷◌, map, Option, None, Some, nat_eq}
-use Rattle.std.specs.List.{list_all, list_any}
-use Rattle.wf_ast.specs.TypedTree.{ValueTree, elements, io, Written, copy_to_slice, Simple, assign, perform, invoke, Head, Block}
+use Rattle.std.specs.Prelude.{ℕ, Bool, true, not, ◌&&◌, ◌||◌, List, [], ◌∷◌, map}
+use Rattle.std.specs.List.{list_all}
+use Rattle.wf_ast.specs.TypedTree.{ValueTree, elements, Written, copy_to_slice, Simple, assign, perform, invoke, Head, Block}
 use Rattle.wf_ast.specs.WellTyped.{Context, is_unrefined, element_type, breaks, well_block}
 use Rattle.wf_loops.specs.LoopLaws.{well_head}
 use Rattle.wf_meaning.specs.SourceState.{Behind, stop, behind_if, again}
@@ -34,25 +34,9 @@ well_behind c (again site head body rest behind) =
 abbrev pub well_at : Context → Block → Behind → Bool
 well_at c block behind = well_here c block behind && well_behind c behind
 
--- What is more in a package that came through the checks of types: no buffer is handed on twice in one call, and a slice that
--- is handed on, or that is copied to, has elements that may be all numbers of their width, as every slice by its type has; an
--- array with refined elements is never meant as a slice.
-
-abbrev pub io_handed : ValueTree → Option ℕ
-io_handed (io at a) = Some a
-io_handed t = None
-
-abbrev pub is_that : ℕ → Option ℕ → Bool
-is_that a None = false
-is_that a (Some b) = nat_eq a b
-
-abbrev pub never_again : Option ℕ → List ValueTree → Bool
-never_again None ts = true
-never_again (Some a) ts = not (list_any (λ t. is_that a (io_handed t)) ts)
-
-abbrev pub hands_on_once : List ValueTree → Bool
-hands_on_once [] = true
-hands_on_once (t ∷ ts) = never_again (io_handed t) ts && hands_on_once ts
+-- What is more in a package that came through the checks of types: a slice that is handed on, or that is copied to, has
+-- elements that may be all numbers of their width, as every slice by its type has; an array with refined elements is never
+-- meant as a slice.
 
 abbrev pub is_slice_value : ValueTree → Bool
 is_slice_value (elements t) = is_unrefined (element_type t)
@@ -65,5 +49,5 @@ is_slice_target call = true
 abbrev pub hands_on_well : Simple → Bool
 hands_on_well (assign target op v) = is_slice_value v
 hands_on_well (perform at target call) = is_slice_target call
-hands_on_well (invoke at target keep mark called vs) = list_all is_slice_value vs && hands_on_once vs
+hands_on_well (invoke at target keep mark called vs) = list_all is_slice_value vs
 hands_on_well s = true

@@ -28,7 +28,7 @@ use Rattle.wf_bounds_stmts.specs.Requirements.{all_handed}
 use Rattle.wf_bounds_stmts.specs.Targets.{answer_refusal}
 use Rattle.wf_bounds_stmts.specs.Calls.{handed_to_method, known_to_call, left_by_call, answered_by}
 use Rattle.wf_sound.specs.Worlds.{Shape, HaveTypes, context_of, AreApart}
-use Rattle.wf_sound.specs.Positions.{loops_round, hands_on_well, is_slice_value, hands_on_once}
+use Rattle.wf_sound.specs.Positions.{loops_round, hands_on_well, is_slice_value}
 use Rattle.wf_sound.specs.Callees.{KeepsTo, EndsWell, RunsWell, MethodRuns, CalleesRun}
 use Rattle.wf_sound.specs.OneStep.{IsWellTyped}
 use Rattle.wf_sound.proofs.HandedValues.{neither, ValuesOf, values-typed, all-accepted, HandedOn, handed-on, values-apart}
@@ -143,9 +143,9 @@ module _ (R : (method : ℕ) → Remaining → Type 0) (shape : Shape) (b : Body
   -- A call of a method.
   invoke-kept : (site : Site) (at : _) (target : Target) (keep : Bool) (m : Mark) (called : Called) (vs : List ValueTree) (rest : Block) (done : Done) (behind : Behind) (vars : Vars)
       → (x : Stands R shape b typed sole (record { done = done; block = plain site (invoke at target keep m called vs) rest; behind = behind; vars = vars }))
-      → well_invoked (context_of b) target keep m called vs (slice_get b.within.methods (number_of called)) ≡ true → (list_all is_slice_value vs && hands_on_once vs) ≡ true → MethodRuns calls b.within R shape (number_of called) turns vars.world
+      → well_invoked (context_of b) target keep m called vs (slice_get b.within.methods (number_of called)) ≡ true → list_all is_slice_value vs ≡ true → MethodRuns calls b.within R shape (number_of called) turns vars.world
       → Kept b vars.world (invoked b calls turns keep m target called vs (plain site (invoke at target keep m called vs) rest) rest behind vars)
-  invoke-kept site at target keep m called vs rest done behind vars x wi once runs =
+  invoke-kept site at target keep m called vs rest done behind vars x wi whole runs =
       kept-some b vars.world (slice_get b.within.methods (number_of called)) _ (λ callee e1. kept-some b vars.world (values_of (state_of b vars) callee.args vs) _ (λ values e2. kept-some b vars.world (receiver_of b called vars) _ (λ object e3.
       kept-holding b vars.world (through b.within calls callee called (record { object = object; method = number_of called; args = values }) turns vars.world) _ (λ left finished e4. by callee values object left finished e1 e2 e3 e4))))
     where
@@ -159,7 +159,7 @@ module _ (R : (method : ℕ) → Remaining → Type 0) (shape : Shape) (b : Body
           let w2 = and_parts (allows b.method.mark m) _ w1.1 in
           let w3 = and_parts (calls_method (context_of b) called callee) _ w2.1 in
           let w4 = and_parts (fit_types (context_of b) callee.args vs) _ w3.1 in
-          let u = and_parts (list_all is_slice_value vs) _ once in
+          let w5 = and_parts (takes_answer (context_of b) target keep m callee.gives) _ w4.1 in
           let same = mark-same m callee.mark w1.0 in
           let mayl = (declared b.within b.method typed.method).locals in
           let results = results-fit b.within typed.whole in
@@ -168,7 +168,7 @@ module _ (R : (method : ℕ) → Remaining → Type 0) (shape : Shape) (b : Body
           let Q : Option MethodTree → Type 0 = λ o. or_else (all_handed B8 (known_to_call keep m x.list) (handed_to_method o vs)) (answer_refusal (left_by_call keep m vs x.list) at target (answered_by o)) ≡ None in
           let r = neither (all_handed B8 (known_to_call keep m x.list) (handed_to_method (Some callee) vs)) _ (subst Q e1 x.accepts.0) in
           let accepted = all-accepted R shape b vars x.lawful (known_to_call keep m x.list) kw kn B8 (handed_to_method (Some callee) vs) r.0 in
-          let v : ValuesOf R shape b vars x.lawful (known_to_call keep m x.list) kw kn callee.args vs = values-typed R shape b vars x.lawful (known_to_call keep m x.list) kw kn B8 callee.args vs w4.0 u.0 accepted in
+          let v : ValuesOf R shape b vars x.lawful (known_to_call keep m x.list) kw kn callee.args vs = values-typed R shape b vars x.lawful (known_to_call keep m x.list) kw kn B8 callee.args vs w4.0 whole accepted in
           let one : v.values ≡ values = some_same v.values values (sym v.is ∙ e2) in
           let o : ReceiverOf R shape b vars x.lawful called callee = receiver-is R shape b vars x.lawful called callee w3.0 in
           let there : o.object ≡ object = some_same o.object object (sym o.is ∙ e3) in
@@ -176,12 +176,12 @@ module _ (R : (method : ℕ) → Remaining → Type 0) (shape : Shape) (b : Body
           let lie = subst S one v.lie in
           let T : ℕ → Type 0 = λ n. slice_get shape.structs n ≡ Some callee.of in
           let of = subst T there o.of in
-          let apart = values-apart R shape b vars x.lawful (known_to_call keep m x.list) kw kn callee.args vs values sole u.1 e2 in
+          let apart = values-apart R shape b vars x.lawful (known_to_call keep m x.list) kw kn callee.args vs values sole w5.1 e2 in
           let ran = through-runs b.within R shape calls callee object (number_of called) values turns vars.world x.lawful.world (results (number_of called) callee e1) called (x.lawful.world.objects object callee.of of) (runs.runs callee object values e1 of lie apart) in
           let U : Outcome (Answered × World) → Type 0 = λ out. RunsWell b.within R shape callee values vars.world out in
           let ends : EndsWell b.within R shape callee values vars.world finished.1 finished.0 = subst U e4 ran in
           let al : allows b.method.mark callee.mark ≡ true = ap (allows b.method.mark) (sym same) ∙ w2.0 in
-          after-kept b turns keep m target (plain site (invoke at target keep m called vs) rest) rest behind vars.world vars.locals left finished.0 finished.1 (writes-answer b target keep m callee.gives (and_parts (takes_answer (context_of b) target keep m callee.gives) _ w4.1).0)
+          after-kept b turns keep m target (plain site (invoke at target keep m called vs) rest) rest behind vars.world vars.locals left finished.0 finished.1 (writes-answer b target keep m callee.gives w5.0)
           (callee-eff b b.method.mark callee.mark values vars.world finished.1 al (λ i k e. let h : HandedOn R shape b vars x.lawful (known_to_call keep m x.list) kw kn vs i k = handed-on R shape b vars x.lawful (known_to_call keep m x.list) kw kn callee.args vs values i k e2 e in (h.a, h.buffer_is)) ends.keeps)
 
   -- Values that are returned.
