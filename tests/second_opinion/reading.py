@@ -178,7 +178,7 @@ class Reader:
             name = self.of_kind("name")
             self.mark()
             fields = self.fields()
-            return Struct(name.place, name.text, fields + (self.fields() if self.skip("+") else []))
+            return Struct(name.place, public, name.text, fields + (self.fields() if self.skip("+") else []))
         if self.skip("func"):
             return self.method(word, public)
         return self.refuse()

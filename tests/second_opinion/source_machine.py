@@ -77,13 +77,13 @@ class Frame:
 
 
 class Machine:
-    """Runs the methods of one package. `watch(key, frame)` is told of each statement in front of which the machine comes, of each
+    """Runs the methods of one package, which has the name `package`. `watch(key, frame)` is told of each statement in front of which the machine comes, of each
     block whose end it reaches, and of ("resumed", statement) where a suspended statement goes on."""
 
-    def __init__(self, declarations, watch=lambda key, frame: None):
+    def __init__(self, declarations, watch=lambda key, frame: None, package="k"):
         self.structs = {it.name: it for it in declarations if isinstance(it, Struct)}
         self.methods = [it for it in declarations if isinstance(it, Method)]
-        self.watch, self.turns, self.constants, self.bounds = watch, 0, {}, {}
+        self.package, self.watch, self.turns, self.constants, self.bounds = package, watch, 0, {}, {}
 
     def first_value(self, of, life):
         """What stands in a field or local at first."""
@@ -155,7 +155,7 @@ class Machine:
         return ""
 
     def value_of_StatusText(self, it, frame):
-        return f"{it.text[0]}{'base' if it.of_language else 'k'}: {it.text[1:]}"
+        return f"{it.text[0]}{'base' if it.of_language else self.package}: {it.text[1:]}"
 
     def value_of_Path(self, it, frame):
         if isinstance(it.stands_for, Constant):

@@ -35,6 +35,7 @@ class Constant(Node):
 @node
 class Struct(Node):
     place: tuple
+    public: bool
     name: str
     fields: list
 

@@ -1,0 +1,138 @@
+#!/usr/bin/env python3
+"""Random scripts on random packages that are accepted: what a command of the program prints, against a second opinion.
+
+usage: random_reports.py PROGRAM [COUNT [SEED [COMMAND]]]    300 packages with the seed 1, and `mean`, are the default
+Each package runs five scripts, of which two are changed at a few random bytes or cut, so that most of these are refused. The
+second opinion is second_opinion/scripts.py. Ends with how often each rule or ending decided. A script of which the two say
+different things is printed with its package, and fails.
+"""
+import collections
+import os
+import pathlib
+import random
+import subprocess
+import sys
+import tempfile
+
+from second_opinion import judged
+from second_opinion.bounds import judge_bounds
+from second_opinion.random_bounds import random_bounds
+from second_opinion.scripts import report
+from second_opinion.source_machine import WIDTHS
+from second_opinion.trees import Method, SliceType, Struct
+
+EDGES = [0, 1, 2, 3, 4, 5, 7, 8, 9, 100, 254, 255, 256, 65535, 2 ** 32 - 2, 2 ** 32 - 1, 2 ** 64 - 1]
+
+
+def hex_of(source, lengths):
+    return bytes(source.choice(EDGES) % 256 for _ in range(source.choice(lengths))).hex() or "-"
+
+
+class Writer:
+    """Writes a random script over a package's public structs and methods."""
+
+    def __init__(self, declarations, source):
+        self.source, self.lines = source, []
+        structs = [it.name for it in declarations if isinstance(it, Struct) and it.public]
+        public = [it for it in declarations if isinstance(it, Method) and it.public]
+        self.methods = {name: [it for it in public if it.owner == name] for name in structs}
+        self.receivers = {}
+        for number, name in enumerate(structs * 2 + structs[:1]):
+            word = "null" if number == 2 * len(structs) else "new"
+            self.receivers[f"p{number}"] = name
+            self.lines.append(f"{word} p{number} {name}")
+            if source.random() < .9:
+                self.lines.append(f"init p{number}")
+        self.lines += [f"buf b{number} {source.choice([0, 1, 2, 3, 4, 6, 12])}" for number in range(3)]
+        self.lines += [f"bytes a{number} {hex_of(source, [0, 1, 2, 4])}" for number in range(2)]
+
+    def write(self, count):
+        for _ in range(count if self.receivers else 0):
+            self.source.choice([self.call] * 10 + [self.put] * 4 + [self.other])()
+        return "".join(line + "\n" for line in self.lines).encode()
+
+    def put(self):
+        self.lines.append(f"put b{self.source.randrange(3)} {hex_of(self.source, [0, 1, 1, 2, 4])}")
+
+    def other(self):
+        number = self.source.randrange(3)
+        self.lines.append(self.source.choice([f"compact b{number}", f"compact b{number}", f"show b{number}", f"show a{number % 2}", f"close b{number}",
+                                              f"init {self.source.choice(list(self.receivers))}", f"turns {self.source.choice([40, 100, 1000])}"]))
+
+    def call(self):
+        name = self.source.choice(list(self.receivers))
+        if not self.methods[self.receivers[name]]:
+            return
+        method = self.source.choice(self.methods[self.receivers[name]])
+        buffers, arrays = (self.source.sample(names, len(names)) for names in (["b0", "b1", "b2", "null"], ["a0", "a1", "null"]))
+        words = [f"{it.name}={self.value(it.type, buffers, arrays)}" for it in method.arguments]
+        self.lines.append(" ".join([f"call {name}.{method.name}", *self.source.sample(words, len(words))]))
+
+    def value(self, of, buffers, arrays):
+        if isinstance(of, SliceType):
+            return arrays.pop() if arrays else "null"
+        if of.name in WIDTHS:
+            most = 2 ** WIDTHS[of.name] - 1
+            return min(self.source.choice(EDGES if self.source.random() < .2 else EDGES[:8]), most)
+        if of.name == "bool":
+            return self.source.choice(["true", "false"])
+        if self.source.random() < .95 and buffers[-1] == "null" and len(buffers) > 1:
+            buffers.pop()
+        return buffers.pop() if buffers else "null"
+
+
+def changed(script, source):
+    """The script cut at a byte, or with a few bytes changed, added or left out."""
+    if source.random() < .2:
+        return script[:source.randrange(len(script) + 1)]
+    for _ in range(source.choice([1, 1, 2, 3])):
+        at = source.randrange(len(script) + 1)
+        script = script[:at] + source.choice([b"", b" ", b"\n", b"0", b"z", b"=", b".", b"\r\n", b"null", bytes([source.randrange(256)])]) + script[at + source.choice([0, 1]):]
+    return script
+
+
+def ran(program, folder, command, script):
+    pathlib.Path(folder, "s").write_bytes(script)
+    ended = subprocess.run([program, command, "k", "s", "f0"], cwd=folder, stdin=subprocess.DEVNULL, capture_output=True, timeout=60)
+    return ended.stdout.decode(errors="replace"), ended.returncode
+
+
+def accepted(source):
+    """A random package that is accepted, with its declarations."""
+    while True:
+        text, kept = random_bounds(source), []
+
+        def keep(declarations):
+            kept.extend(declarations)
+            return judge_bounds(declarations)
+
+        if judged([text], keep).startswith("ok"):
+            return text, kept
+
+
+def main():
+    program = os.path.abspath(sys.argv[1])
+    count, seed, command = (sys.argv[2:] + ["300", "1", "mean"][len(sys.argv) - 2:])[:3]
+    source, decided, differ = random.Random(int(seed)), collections.Counter(), 0
+    with tempfile.TemporaryDirectory() as folder:
+        for _ in range(int(count)):
+            text, declarations = accepted(source)
+            pathlib.Path(folder, "f0").write_text(text)
+            is_right = True
+            for number in range(5):
+                script = Writer(declarations, source).write(40)
+                script = changed(script, source) if number > 2 else script
+                said, wanted = ran(program, folder, command, script), report("k", [text], script)
+                first = wanted[0].split(" ")
+                decided[first[1] if first[0] == "script" else f"status {wanted[1]}"] += 1
+                if said != wanted:
+                    is_right = False
+                    print(f"the program: {said}\nthe second opinion: {wanted}\nthe script: {script}\nthe package:\n{text}")
+            differ += not is_right
+    print(" ".join(f"{rule}:{times}" for rule, times in sorted(decided.items())))
+    print(f"random_reports.py: {int(count) - differ} passed, {differ} failed")
+    return 1 if differ or not int(count) else 0
+
+
+if __name__ == "__main__":
+    sys.exit(main())
