@@ -32,7 +32,7 @@ class Writer:
     """Writes a random script over a package's public structs and methods."""
 
     def __init__(self, declarations, source):
-        self.source, self.lines = source, []
+        self.source, self.lines = source, [f"turns {source.choice([20, 60])}"]
         structs = [it.name for it in declarations if isinstance(it, Struct) and it.public]
         public = [it for it in declarations if isinstance(it, Method) and it.public]
         self.methods = {name: [it for it in public if it.owner == name] for name in structs}
@@ -82,11 +82,12 @@ class Writer:
 
 
 def changed(script, source):
-    """The script cut at a byte, or with a few bytes changed, added or left out."""
+    """The script cut at a byte, or with a few bytes changed, added or left out after its first line, which limits the turns."""
+    first = script.index(b"\n") + 1
     if source.random() < .2:
-        return script[:source.randrange(len(script) + 1)]
+        return script[:source.randrange(first, len(script) + 1)]
     for _ in range(source.choice([1, 1, 2, 3])):
-        at = source.randrange(len(script) + 1)
+        at = source.randrange(first, len(script) + 1)
         script = script[:at] + source.choice([b"", b" ", b"\n", b"0", b"z", b"=", b".", b"\r\n", b"null", bytes([source.randrange(256)])]) + script[at + source.choice([0, 1]):]
     return script
 

@@ -506,6 +506,10 @@ REPORTS = [
 ]
 
 
+def script_of(package, lines):
+    return "\n".join([f"new p {package}", "init p", "buf b 4", "buf c 4", *lines.split("|")]).encode()
+
+
 def seen(text):
     return "|".join(line[5:] for line in text.split("\n") if re.match("call |show ", line))
 
@@ -518,7 +522,7 @@ def main():
         if only not in name:
             continue
         text = PACKAGES[package]
-        script = "\n".join([f"new p {package}", "init p", "buf b 4", "buf c 4", *lines.split("|")]).encode()
+        script = script_of(package, lines)
         status = 7 if wanted.endswith(" turns") else 0
         came, second = answer(program, package, [("f.wuffs", text)], script), report(package, [text], script)
         is_right = came == second and seen(came[0]) == wanted and came[1] == status

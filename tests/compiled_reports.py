@@ -1,0 +1,216 @@
+#!/usr/bin/env python3
+"""The C texts that `gen` writes, through real compilers: each compiles without a remark, and a host program made from a script
+prints the report that belongs to the package, with no finding of the sanitizers.
+
+usage: compiled_reports.py PROGRAM [COUNT [SEED]]    the packages of examples/ and of report_answers.py, and 20 random ones with
+                                                     the seed 1 are the default
+A script becomes a host program in C, which calls the functions of the text as docs/LOWERING.md tells them. The report is that of
+the second opinion (second_opinion/scripts.py); scripts that need more than their turns are left out, since compiled code counts
+none. Compilers that aren't there are skipped: gcc and clang with -fsanitize=address,undefined, at -O0 and -O3, and tcc without.
+Remarks that are true of the source are allowed (ALLOWED). Prints what differs; the last line counts.
+"""
+import os
+import pathlib
+import random
+import shutil
+import subprocess
+import sys
+import tempfile
+
+import random_reports
+import report_answers
+from second_opinion import judged
+from second_opinion.bounds import judge_bounds
+from second_opinion.scripts import Script, report
+from second_opinion.trees import BaseType, SliceType
+
+ROOT = pathlib.Path(__file__).resolve().parent.parent
+SANITIZERS = ["-fsanitize=address,undefined", "-fno-sanitize-recover=all"]
+# A private method that nothing calls, a comparison that the operands' types decide, a variable compared with itself.
+ALLOWED = ["-Wno-unused-function", "-Wno-type-limits", "-Wno-tautological-compare", "-Wno-tautological-constant-out-of-range-compare"]
+STRICT = ["-std=c99", "-Wall", "-Wextra", "-Wpedantic", "-Werror", *ALLOWED]
+BUILDS = {"gcc": [["gcc", "-O0", *SANITIZERS], ["gcc", "-O3", *SANITIZERS]], "clang": [["clang", "-O0", *SANITIZERS], ["clang", "-O3", *SANITIZERS]],
+          "tcc": [["tcc"]]}
+
+HOST = r"""
+#include <stdio.h>
+#include <stdlib.h>
+static void say_status(const char* s) {
+    if (s) { printf("\"%s\"", s); } else { printf("ok"); }
+}
+static void say_bytes(const uint8_t* p, size_t n) {
+    for (size_t i = 0; i < n; i++) { printf("%02x", p[i]); }
+    if (!n) { printf("-"); }
+}
+static void say_counts(const wuffs_base__io_buffer* b) {
+    printf(" ri=%llu wi=%llu pos=%llu %s", (unsigned long long)b->ri, (unsigned long long)b->wi, (unsigned long long)b->pos, b->closed ? "closed" : "open");
+}
+static void put(wuffs_base__io_buffer* b, const char* name, const uint8_t* p, size_t n) {
+    size_t room = b->closed ? 0 : b->len - b->wi, k = n < room ? n : room;
+    if (k) { memcpy(b->ptr + b->wi, p, k); }
+    b->wi += k;
+    printf("put %s %llu\n", name, (unsigned long long)k);
+}
+static void compact(wuffs_base__io_buffer* b) {
+    if (b->wi != b->ri) { memmove(b->ptr, b->ptr + b->ri, b->wi - b->ri); }
+    b->pos += b->ri;
+    b->wi -= b->ri;
+    b->ri = 0;
+}
+int main(void) {
+"""
+
+
+class Host:
+    """Writes the body of a host program: what second_opinion/scripts.py's `Run` does, as C. A receiver, buffer or array has its
+    name in the script, after a letter."""
+
+    def __init__(self, package):
+        self.machine, self.package, self.lines, self.ends = self, package, [], []
+
+    # What a script's commands call, in place of a machine's run
+
+    def new(self, struct):
+        return struct
+
+    def say(self, line):
+        self.lines.append(f'puts("{line}");')
+
+    def declare(self, thing, state, line):
+        name = f"x_{thing.name}"
+        if thing.kind == "receiver":
+            of = f"wuffs_{self.package}__{thing.of.name}"
+            self.lines.append(f"static {of}* {name} = 0;" if state is None else f"static {of} r_{thing.name}; {of}* {name} = &r_{thing.name};")
+        elif thing.kind == "buffer":
+            size = len(state.bytes)
+            self.lines.append(f"wuffs_base__io_buffer {name} = {{ malloc({size or 1}), {size}, 0, 0, 0, 0 }};")
+            self.ends.append(f"free({name}.ptr);")
+        else:
+            cells = ", ".join(map(str, state)) or "0"
+            self.lines.append(f"uint8_t {name}[] = {{ {cells} }}; size_t n_{thing.name} = {len(state)};")
+        self.say(line)
+
+    def init(self, thing, turns):
+        self.lines.append(f'printf("init {thing.name} "); say_status(wuffs_{self.package}__{thing.of.name}__initialize(x_{thing.name})); puts("");')
+
+    def put(self, thing, some):
+        cells = ", ".join(map(str, some)) or "0"
+        self.lines.append(f'{{ uint8_t some[] = {{ {cells} }}; put(&x_{thing.name}, "{thing.name}", some, {len(some)}); }}')
+
+    def close(self, thing):
+        self.lines.append(f"x_{thing.name}.closed = 1;")
+        self.say(f"close {thing.name}")
+
+    def compact(self, thing):
+        self.lines.append(f"compact(&x_{thing.name});")
+        self.say(f"compact {thing.name}")
+
+    def show(self, thing):
+        shown = f"x_{thing.name}.ptr, x_{thing.name}.wi" if thing.kind == "buffer" else f"x_{thing.name}, n_{thing.name}"
+        counts = f"say_counts(&x_{thing.name}); " if thing.kind == "buffer" else ""
+        self.lines.append(f'printf("show {thing.name} "); say_bytes({shown}); {counts}puts("");')
+
+    def call(self, thing, method, given, turns):
+        values = ", ".join([f"x_{thing.name}", *(self.value(it.type, value) for it, value in given.items())])
+        called = f"wuffs_{self.package}__{thing.of.name}__{method.name}({values})"
+        buffers = "".join(f'printf(" {value.name}"); say_counts(&x_{value.name}); ' for it, value in given.items()
+                          if value is not None and not isinstance(it.type, SliceType) and it.type.name.startswith("io_"))
+        self.lines.append(f'printf("call {thing.name}.{method.name} "); {self.told(method, called)} {buffers}puts("");')
+
+    def value(self, of, value):
+        if isinstance(of, SliceType):
+            return f"x_{value.name}, n_{value.name}" if value else "0, 0"
+        if of.name.startswith("io_"):
+            return f"&x_{value.name}" if value else "0"
+        return f"{int(value)}{'u' if value < 2 ** 32 else 'ull'}"
+
+    def told(self, method, called):
+        of = method.result
+        if method.mark == "?" or isinstance(of, BaseType) and of.name == "status":
+            return f"say_status({called});"
+        if of is None:
+            return f'{called}; printf("done");'
+        if of.name == "bool":
+            return f'printf("%s", {called} ? "true" : "false");'
+        return f'printf("%llu", (unsigned long long){called});'
+
+    def text(self):
+        return HOST + "\n".join(self.lines + self.ends) + "\nreturn 0;\n}\n"
+
+
+def host_of(package, text, script):
+    kept = []
+
+    def keep(declarations):
+        kept.extend(declarations)
+        return judge_bounds(declarations)
+
+    judged([text], keep)
+    read, host = Script(kept), Host(package)
+    assert read.read(script) is None
+    for act in read.commands:
+        act(host)
+    return host.text()
+
+
+def told(words, folder):
+    ended = subprocess.run(words, cwd=folder, stdin=subprocess.DEVNULL, capture_output=True, timeout=120)
+    return ended.returncode, ended.stdout.decode(errors="replace"), ended.stderr.decode(errors="replace")
+
+
+def wrong_with(program, builds, package, text, scripts):
+    """What is wrong with a package's C text, or with what it prints on one of the scripts, or None."""
+    with tempfile.TemporaryDirectory() as folder:
+        pathlib.Path(folder, "f.wuffs").write_text(text)
+        status, written, _ = told([program, "gen", package, "f.wuffs"], folder)
+        if status:
+            return f"gen ends with {status}: {written}"
+        pathlib.Path(folder, "f.c").write_text(written)
+        for compiler in {words[0] for words in builds}:
+            for level in ["-O0", "-O2", "-O3"] if compiler != "tcc" else [""]:
+                words = [compiler, *(STRICT if compiler != "tcc" else ["-Wall", "-Werror"]), *([level] if level else []), "-c", "f.c", "-o", "f.o"]
+                status, _, said = told(words, folder)
+                if status:
+                    return f"{' '.join(words)}: {said[:2000]}"
+        for script in scripts:
+            wanted, ending = report(package, [text], script)
+            if ending:
+                continue
+            pathlib.Path(folder, "host.c").write_text('#include "f.c"\n' + host_of(package, text, script))
+            for words in builds:
+                status, _, said = told([*words, "host.c", "-o", "host"], folder)
+                came = told(["./host"], folder) if not status else (status, "", said)
+                if came[:2] != (0, wanted):
+                    return f"{' '.join(words)}: {came[0]} {came[2][:1500]}\n{came[1]}\nwanted\n{wanted}\nthe script\n{script.decode()}"
+    return None
+
+
+def cases(count, seed):
+    """Packages with scripts: a name, the package's name, its text and its scripts."""
+    for script in sorted((ROOT / "examples").glob("*.script")):
+        yield script.stem, script.stem, script.with_suffix(".wuffs").read_text(), [script.read_bytes()]
+    for name, text in report_answers.PACKAGES.items():
+        yield f"report_answers.py {name}", "k", text, [report_answers.script_of(name, lines) for _, package, lines, _ in report_answers.REPORTS if package == name]
+    source = random.Random(seed)
+    for number in range(count):
+        text, declarations = random_reports.accepted(source)
+        yield f"random {number}", "k", text, [random_reports.Writer(declarations, source).write(60) for _ in range(2)]
+
+
+def main():
+    program = os.path.abspath(sys.argv[1])
+    count, seed = (int(word) for word in (sys.argv[2:] + ["20", "1"][len(sys.argv) - 2:])[:2])
+    builds = [words for name, some in BUILDS.items() if shutil.which(name) for words in some]
+    passed = failed = 0
+    for name, package, text, scripts in cases(count, seed):
+        wrong = wrong_with(program, builds, package, text, scripts)
+        passed += wrong is None
+        failed += wrong is not None
+        if wrong:
+            print(f"{name}: {wrong}\nthe package\n{text}", flush=True)
+    print(f"compiled_reports.py: {passed} passed, {failed} failed, with {' '.join(sorted({words[0] for words in builds})) or 'no compiler'}")
+    return 1 if failed or not passed else 0
+
+
+if __name__ == "__main__":
+    sys.exit(main())
