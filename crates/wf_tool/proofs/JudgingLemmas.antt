@@ -19,6 +19,7 @@ use Rattle.wf_named.specs.NamedTree.{NamedPackageTree}
 use Rattle.wf_names_rules.specs.Declarations.{Declared, declared, methods_of}
 use Rattle.wf_names.specs.Naming.{IsMisnamed, IsResolved}
 use Rattle.wf_names_resolve.specs.Package.{resolved_methods, resolved_package}
+use Rattle.wf_names_laws.specs.Ordered.{HasOrder}
 use Rattle.wf_types_rules.specs.TypeRules.{Breaks}
 use Rattle.wf_typed_tree.specs.ElaboratedPackage.{typed_package}
 use Rattle.wf_typed_tree.specs.Grammar.{package_by_grammar}
@@ -33,7 +34,9 @@ use Rattle.wf_tool.specs.Sizes.{too_large}
 use Rattle.wf_tool.specs.Taken.{Judges, RefusesTyped, JudgesNamed, JudgesRead}
 use Rattle.wf_tool.specs.Verdict as verdicts
 use Rattle.wf_tool.specs.Verdict.{BreaksTypes, resolved, misnamed, mistyped}
+use Rattle.wf_tool.specs.Soundness.{in_order}
 use Rattle.wf_tool.proofs.OrderLemmas.{any-order}
+use Rattle.wf_tool.proofs.SoundVerdicts.{accepted-runs}
 
 -- A resolved package has as many methods as its nodes tell.
 pub methods-told : (p q : NamedParts) (told : List NamedMethod) → told ≡ q.methods → q ≡ p → length told ≡ length (named_package p).methods
@@ -77,46 +80,45 @@ methods-counted d (structure public name mark fields at ∷ decls) = methods-cou
 methods-counted d (method public owner name mark args result body at ∷ decls) = ap suc (methods-counted d decls)
 
 module _ (read : Parsed) where
-  abbrev in_order : List ℕ → NamedPackageTree
-  in_order order = resolved_package read.name read.texts (decls_of read) order
-
   -- What decides of the resolved package decides of the one that is read.
-  types-decide : (order : List ℕ) (found : Option Refusal) → Decides (Breaks (in_order order)) found → Decides (BreaksTypes read) found
+  types-decide : (order : List ℕ) (found : Option Refusal) → Decides (Breaks (in_order read order)) found → Decides (BreaksTypes read) found
   types-decide order found h =
-      Decides-map (Breaks (in_order order)) (BreaksTypes read) found (any-order read.name read.texts (decls_of read) order []) (any-order read.name read.texts (decls_of read) [] order) h
+      Decides-map (Breaks (in_order read order)) (BreaksTypes read) found (any-order read.name read.texts (decls_of read) order []) (any-order read.name read.texts (decls_of read) [] order) h
 
   -- And so it is of bounds and of points.
-  bounds-decide : (order : List ℕ) → bounds_refusal (in_order order) ≡ bounds_refusal (resolved read)
+  bounds-decide : (order : List ℕ) → bounds_refusal (in_order read order) ≡ bounds_refusal (resolved read)
   bounds-decide order = bounds_ignore_order (resolved read) order
 
-  points-decide : (order : List ℕ) (found : Option Refusal) → Decides (BreaksPoints (in_order order)) found → Decides (verdicts.BreaksPoints read) found
+  points-decide : (order : List ℕ) (found : Option Refusal) → Decides (BreaksPoints (in_order read order)) found → Decides (verdicts.BreaksPoints read) found
   points-decide order found h =
-      Decides-map (BreaksPoints (in_order order)) (verdicts.BreaksPoints read) found (points_ignore_order (resolved read) order) (points_ignore_order (in_order order) []) h
+      Decides-map (BreaksPoints (in_order read order)) (verdicts.BreaksPoints read) found (points_ignore_order (resolved read) order) (points_ignore_order (in_order read order) []) h
 
-  refuses-ordered : (order : List ℕ) (refusal : Refusal) → RefusesTyped (in_order order) refusal → RefusesTyped (resolved read) refusal
+  refuses-ordered : (order : List ℕ) (refusal : Refusal) → RefusesTyped (in_order read order) refusal → RefusesTyped (resolved read) refusal
   refuses-ordered order refusal h = elim h [
     | inl found ↦ inl (sym (bounds-decide order) ∙ found)
     | inr points ↦ inr (sym (bounds-decide order) ∙ points.0, points-decide order (Some refusal) points.1)
   ]
 
-  ordered-judged : (order : List ℕ) (result : Result ℕ PhaseFault) → verdicts.KeepsNames read → JudgesNamed (in_order order) result → JudgesRead read result
-  ordered-judged order (Ok methods) names h = (
+  ordered-judged : (order : List ℕ) (result : Result ℕ PhaseFault) → verdicts.KeepsNames read → HasOrder (in_order read order) → JudgesNamed (in_order read order) result → JudgesRead read result
+  ordered-judged order (Ok methods) names ordered h = (
     names,
     types-decide order None h.0,
     sym (bounds-decide order) ∙ h.1,
     points-decide order None h.2,
     h.3 ∙ methods-counted (declared read.texts (decls_of read)) (decls_of read),
+    (order, ordered),
   )
-  ordered-judged order (Err (phase.Refused refusal)) names h = elim h [
+  ordered-judged order (Err (phase.Refused refusal)) names ordered h = elim h [
     | inl first ↦ inr (inl (names, types-decide order (Some refusal) first))
     | inr t ↦ inr (inr (names, types-decide order None t.0, refuses-ordered order refusal t.1))
   ]
-  ordered-judged order (Err phase.Memory) names h = tt
+  ordered-judged order (Err phase.Memory) names ordered h = tt
 
   pub named-judged : (named : NamedParts) (result : Result ℕ PhaseFault) → IsResolved read named → JudgesNamed (named_package named) result → JudgesRead read result
   named-judged named result is h =
       let J : NamedPackageTree → Type 0 = λ p. JudgesNamed p result in
-      ordered-judged is.order result is.kept (subst J is.tree h)
+      let O : NamedPackageTree → Type 0 = HasOrder in
+      ordered-judged is.order result is.kept (subst O is.tree is.ordered) (subst J is.tree h)
 
   -- What holds of the resolved package in whatever order its methods stand, holds of the one that is resolved.
   pub named-by-grammar : (named : NamedParts) → IsResolved read named → ((order : List ℕ) → package_by_grammar (resolved_package read.name read.texts (decls_of read) order) ≡ true)
@@ -133,16 +135,10 @@ module _ (read : Parsed) where
 
 pub read-judged : (name : List ℕ) (files : List (List ℕ)) (read : Parsed) (result : Result ℕ PhaseFault)
     → too_large files ≡ None → IsParsed name files read → JudgesRead read result → Judges name files result
-read-judged name files read (Ok methods) sized parsed h = record {
-  sized = sized;
-  read = read;
-  parsed = parsed;
-  names = h.0;
-  types = h.1;
-  bounds = h.2;
-  points = h.3;
-  counted = h.4;
-}
+read-judged name files read (Ok methods) sized parsed h = (accepted, accepted-runs name files methods accepted h.5)
+  where
+    accepted : verdicts.IsAccepted name files methods
+    accepted = record { sized = sized; read = read; parsed = parsed; names = h.0; types = h.1; bounds = h.2; points = h.3; counted = h.4 }
 read-judged name files read (Err (phase.Refused refusal)) sized parsed h = elim h [
   | inl first ↦ misnamed (record { sized = sized; read = read; parsed = parsed; decides = first })
   | inr other ↦ later-judged other

@@ -6,6 +6,7 @@ use Rattle.wf_tool.specs.declared.ending.Ending.{Ending}
 use Rattle.wf_tool.specs.declared.ending.Ending.TheVariants.{Done, Refused, Usage, InputFault, OutputFault, ScriptRefused, NoMemory, Turns, TextRefused, Undefined}
 use Rattle.wf_tool.specs.Lines.{accepted_line, fault_line, refused_line, usage_line}
 use Rattle.wf_tool.specs.Sizes.{most_bytes, too_many}
+use Rattle.wf_tool.specs.Soundness.{NeverStuck}
 use Rattle.wf_tool.specs.Verdict.{IsAccepted, IsRefused}
 use Rattle.wf_tool.specs.Words.{ToCheck, to_check}
 
@@ -35,7 +36,7 @@ pub record CallsForRefusal (held : List ℕ → Option (List ℕ)) (words : List
   pub there : refusal.at.file < length asked.files
   pub writes : line ≡ refused_line (file_name asked.files refusal.at.file) refusal
 
--- The package is accepted. The line tells how many methods it declares.
+-- The package is accepted, and so it is never stuck. The line tells how many methods it declares.
 pub record CallsForDone (held : List ℕ → Option (List ℕ)) (words : List (List ℕ)) (line : List ℕ) : Type 0 where
   pub asked : ToCheck
   pub files : List (List ℕ)
@@ -43,6 +44,7 @@ pub record CallsForDone (held : List ℕ → Option (List ℕ)) (words : List (L
   pub named : to_check words ≡ Some asked
   pub hold : AreHeld held asked.files files
   pub verdict : IsAccepted asked.package_name files methods
+  pub runs : NeverStuck asked.package_name files
   pub writes : line ≡ accepted_line methods
 
 -- This file failed, and those in front of it were taken, within `most` bytes together.

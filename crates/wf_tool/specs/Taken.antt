@@ -14,6 +14,7 @@ use Rattle.wf_tool.specs.declared.taking.TakingFault.{TakingFault}
 use Rattle.wf_tool.specs.declared.taking.TakingFault.TheVariants.{Refused, Failed, Memory}
 use Rattle.wf_tool.specs.Answer.{AreHeld, FailsAt, file_name}
 use Rattle.wf_tool.specs.Sizes.{most_bytes, too_long, too_many}
+use Rattle.wf_tool.specs.Soundness.{HasSomeOrder, NeverStuck}
 use Rattle.wf_tool.specs.Verdict.{BreaksNames, KeepsNames, resolved, BreaksTypes, KeepsTypes, out_of_bounds_at, KeepsPoints, method_count, IsAccepted, IsRefused}
 
 -- One file, with `most` bytes left for it: these are its bytes.
@@ -66,26 +67,27 @@ JudgesNamed p (Ok methods) = Decides (Breaks p) None × (bounds.bounds_refusal p
 JudgesNamed p (Err (phase.Refused refusal)) = IsFirst (Breaks p) refusal ⊎ (Decides (Breaks p) None × RefusesTyped p refusal)
 JudgesNamed p (Err phase.Memory) = ⊤
 
--- The verdict on a package that is read: its names come before all these.
+-- The verdict on a package that is read: its names come before all these. The methods of an accepted one have an order.
 abbrev pub JudgesRead : Parsed → Result ℕ PhaseFault → Type 0
-JudgesRead read (Ok methods) = KeepsNames read × KeepsTypes read × (out_of_bounds_at read ≡ None) × KeepsPoints read × (methods ≡ method_count read)
+JudgesRead read (Ok methods) = KeepsNames read × KeepsTypes read × (out_of_bounds_at read ≡ None) × KeepsPoints read × (methods ≡ method_count read) × HasSomeOrder read
 JudgesRead read (Err (phase.Refused refusal)) =
     IsFirst (BreaksNames read) refusal
     ⊎ ((KeepsNames read × IsFirst (BreaksTypes read) refusal)
     ⊎ (KeepsNames read × KeepsTypes read × RefusesTyped (resolved read) refusal))
 JudgesRead read (Err phase.Memory) = ⊤
 
--- The verdict on files whose bytes are within the limits.
+-- The verdict on files whose bytes are within the limits. An accepted package is never stuck.
 abbrev pub Judges : (name : List ℕ) → (files : List (List ℕ)) → Result ℕ PhaseFault → Type 0
-Judges name files (Ok methods) = IsAccepted name files methods
+Judges name files (Ok methods) = IsAccepted name files methods × NeverStuck name files
 Judges name files (Err (phase.Refused refusal)) = IsRefused name files refusal
 Judges name files (Err phase.Memory) = ⊤
 
--- The package is accepted with so many methods, for bytes that its files hold.
+-- The package is accepted with so many methods, for bytes that its files hold, and it is never stuck.
 pub record AcceptsHeld (held : List ℕ → Option (List ℕ)) (name : List ℕ) (names : List (List ℕ)) (methods : ℕ) : Type 0 where
   pub files : List (List ℕ)
   pub hold : AreHeld held names files
   pub verdict : IsAccepted name files methods
+  pub runs : NeverStuck name files
 
 -- It is refused, for bytes that they hold.
 pub record RefusesHeld (held : List ℕ → Option (List ℕ)) (name : List ℕ) (names : List (List ℕ)) (refusal : Refusal) : Type 0 where

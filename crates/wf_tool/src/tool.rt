@@ -15,7 +15,7 @@ use wf_text::NoMemory;
 /// Runs the command that `words` name, which come behind the program's name, over `inputs`, and writes its answer
 /// to `out`.
 ///
-/// `check PACKAGE FILE...`: `ok N methods` and Done, or `refused RULE FILE:LINE:COL` and Refused. Other words: a
+/// `check PACKAGE FILE...`: `ok N methods` and Done for a package that keeps every rule and so is never stuck, or `refused RULE FILE:LINE:COL` and Refused. Other words: a
 /// line on usage, and Usage. An input that fails: `input fault FILE`, and InputFault. A sink that fails:
 /// OutputFault, with the first bytes of a line that was called for written. NoMemory with nothing written.
 pub fn wuffs_tool<I: Inputs, O: Sink>(

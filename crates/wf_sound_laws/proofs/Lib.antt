@@ -1,0 +1,4 @@
+pub mod ShortArrays
+pub mod SliceValues
+pub mod SoundPackages
+pub mod WellMade

@@ -1,0 +1,5 @@
+use Rattle.wf_sound_laws.proofs.SoundPackages.{kept-never-stuck}
+use Rattle.wf_sound_laws.proofs.laws.a_package_that_keeps_the_rules_is_never_stuck.Goals as goal
+
+pub returns : goal.returns
+returns c = kept-never-stuck
