@@ -3,6 +3,7 @@ pub mod Growth
 pub mod Items
 pub mod Lawful
 pub mod Lines
+pub mod Links
 pub mod Names
 pub mod Parts
 pub mod Spelled

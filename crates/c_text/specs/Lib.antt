@@ -2,6 +2,7 @@ pub mod CFits
 pub mod CGrammar
 pub mod CLayout
 pub mod CLines
+pub mod CLinks
 pub mod CNodes
 pub mod CSpelling
 pub mod CTree

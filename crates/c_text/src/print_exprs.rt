@@ -1,11 +1,12 @@
-// Prints types and expressions.
+// Prints types and expressions. The links of `a->b[i]->c`, which no bracket bounds, are no calls in calls.
 
-ghost use Rattle.std.specs.Prelude.{◌≡◌, ◌<◌, ◌≤◌, ◌++◌, length, codes, decimal};
+ghost use Rattle.std.specs.Prelude.{◌≡◌, ◌<◌, ◌≤◌, ◌+◌, ◌++◌, Some, None, MatchOption, length, codes, decimal};
 ghost use Rattle.c_text.specs.CNodes.{bytes_at, type_in, args_in, operands_in, expr_of};
 ghost use Rattle.c_text.specs.CFits.{HasType, HasExprs, HasArg, HasArgs, HasCall};
 ghost use Rattle.c_text.specs.CSpelling.{op_bytes, literal_bytes};
 ghost use Rattle.c_text.specs.CLayout.{uint_bytes, unary_bytes, type_text, expr_text, operands_text, args_text, more_args_text, call_text};
 ghost use Rattle.c_text.specs.CLines.{arg_text};
+ghost use Rattle.c_text.specs.CLinks.{front_of, link_count, without_links, link_text, links_text};
 ghost use Rattle.c_text.specs.CTree.{choice as choice_tree, operation as operation_tree};
 
 use crate::ids::CExprId;
@@ -130,6 +131,61 @@ fn spaced_op<P: Pen>(op: COp, pen: &mut P)
     pen.write(b" ");
 }
 
+/// What stands before the last link of an expression; None where the expression is one link.
+fn front(u: &Unit, e: CExprId) -> Option<CExprId>
+    requires { e.0 < length u.now.exprs }
+    ensures { MatchOption result (front_of (expr_of u.now e.0) ≡ None) (λ of. (of.0 < e.0) × (front_of (expr_of u.now e.0) ≡ Some (expr_of u.now of.0))) }
+{
+    match u.expr(e) {
+        CExpr::Number(_) => None,
+        CExpr::Name(_) => None,
+        CExpr::Member { of, .. } => Some(*of),
+        CExpr::Index { of, .. } => Some(*of),
+        CExpr::Deref(_) => None,
+        CExpr::Operation { .. } => None,
+        CExpr::Unary { .. } => None,
+        CExpr::Cast { .. } => None,
+        CExpr::Choice { .. } => None,
+        CExpr::Call(_) => None,
+    }
+}
+
+/// The number of links of an expression.
+fn count_links(u: &Unit, e: CExprId) -> usize
+    requires { e.0 < length u.now.exprs }
+    ensures some { 0 < result }
+    ensures counted { result ≡ link_count (expr_of u.now e.0) }
+{
+    let _most = u.exprs();
+    let mut at = e;
+    let mut count = 1;
+    while let Some(of) = front(u, at) {
+        at = of;
+        count += 1;
+    }
+    count
+}
+
+/// What is left of an expression without its last `count` links.
+fn before_links(u: &Unit, e: CExprId, count: usize) -> CExprId
+    requires has { e.0 < length u.now.exprs }
+    requires more { count < link_count (expr_of u.now e.0) }
+    ensures below { result.0 + count ≤ e.0 }
+    ensures is { expr_of u.now result.0 ≡ without_links (expr_of u.now e.0) count }
+    ensures links { link_count (expr_of u.now result.0) + count ≡ link_count (expr_of u.now e.0) }
+{
+    let mut at = e;
+    let mut left = count;
+    while left > 0 {
+        let Some(of) = front(u, at) else {
+            unreachable!()
+        };
+        at = of;
+        left -= 1;
+    }
+    at
+}
+
 /// Prints an expression.
 #[cycle(print_exprs)]
 pub fn expr<P: Pen>(u: &Unit, e: CExprId, pen: &mut P)
@@ -138,16 +194,47 @@ pub fn expr<P: Pen>(u: &Unit, e: CExprId, pen: &mut P)
     ensures ready { P.ready pen.new }
     ensures writes { P.writes pen.old pen.new (expr_text (expr_of u.now e.0)) }
 {
+    let count = count_links(u, e);
+    links(u, e, count, pen);
+}
+
+/// Prints the last `count` links of an expression, the first half of them before the others. So the links that are
+/// printed first are found without memory; calls in calls are as many as halvings, and n links take n log n steps.
+#[cycle(print_exprs)]
+fn links<P: Pen>(u: &Unit, e: CExprId, count: usize, pen: &mut P)
+    requires has { e.0 < length u.now.exprs }
+    requires some { 0 < count }
+    requires within { count ≤ link_count (expr_of u.now e.0) }
+    requires ready { P.ready pen.old }
+    ensures ready { P.ready pen.new }
+    ensures writes { P.writes pen.old pen.new (links_text (expr_of u.now e.0) count) }
+{
+    let mut left = count;
+    while left > 1 {
+        let half = left / 2;
+        let middle = before_links(u, e, half);
+        links(u, middle, left - half, pen);
+        left = half;
+    }
+    link(u, e, pen);
+}
+
+/// Prints the last link of an expression.
+#[cycle(print_exprs)]
+fn link<P: Pen>(u: &Unit, e: CExprId, pen: &mut P)
+    requires has { e.0 < length u.now.exprs }
+    requires ready { P.ready pen.old }
+    ensures ready { P.ready pen.new }
+    ensures writes { P.writes pen.old pen.new (link_text (expr_of u.now e.0)) }
+{
     match u.expr(e) {
         CExpr::Number(n) => literal(*n, pen),
         CExpr::Name(n) => pen.write(u.name(*n)),
-        CExpr::Member { of, field } => {
-            expr(u, *of, pen);
+        CExpr::Member { field, .. } => {
             pen.write(b"->");
             pen.write(u.name(*field));
         }
-        CExpr::Index { of, at } => {
-            expr(u, *of, pen);
+        CExpr::Index { at, .. } => {
             pen.write(b"[");
             expr(u, *at, pen);
             pen.write(b"]");

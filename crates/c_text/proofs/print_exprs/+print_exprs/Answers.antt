@@ -1,34 +1,51 @@
 use Rattle.std.proofs.Common.{◌<◌, length, ap, ◌∙◌, get_or, arith}
 use Rattle.std.proofs.lemmas.List.{take_rest}
-use Rattle.pens.proofs.Progress.{goes_on, unroll}
+use Rattle.c_text.specs.CNodes.{expr_of}
+use Rattle.pens.proofs.Progress.{goes_on, unroll, shift_on, shift_done}
+use Rattle.c_text.proofs.Links.{all_links, halved, last_link}
 use Rattle.c_text.proofs.Trees.{expr_of-node}
 use Rattle.c_text.proofs.Parts.{args_written, args_rest, args_step, args_first, no_arg_given, operands_written, exprs_rest, no_expr}
 use Rattle.c_text.proofs.print_exprs.+print_exprs.Goals as goal
 
-pub expr-returns-in-Member-clause-writes : goal.expr-returns-in-Member-clause-writes
-expr-returns-in-Member-clause-writes g t c =
-    let j = g.met.P.Pen.joined in
-    let r1 = j _ _ _ _ _ c.expr-in-Member.ensures.writes c.write-in-Member.ensures.writes in
-    let r2 = j _ _ _ _ _ r1 (rw c.name-in-Member.ensures at c.write-in-Member-2.ensures.writes) in
-    rw (expr_of-node _ _ _ _ c.expr.ensures.tree c.in-Member.is) r2
+pub expr-returns-clause-writes : goal.expr-returns-clause-writes
+expr-returns-clause-writes g t c = rw (← all_links (expr_of c.args.u.now c.args.e.0), ← c.count_links-count.ensures.counted) c.links.ensures.writes
 
-pub expr-returns-in-Index-clause-writes : goal.expr-returns-in-Index-clause-writes
-expr-returns-in-Index-clause-writes g t c =
-    let j = g.met.P.Pen.joined in
-    let r1 = j _ _ _ _ _ c.expr-in-Index.ensures.writes c.write-in-Index.ensures.writes in
-    let r2 = j _ _ _ _ _ r1 c.expr-in-Index-2.ensures.writes in
-    let r3 = j _ _ _ _ _ r2 c.write-in-Index-2.ensures.writes in
-    rw (expr_of-node _ _ _ _ c.expr.ensures.tree c.in-Index.is) r3
+pub links-returns-clause-writes : goal.links-returns-clause-writes
+links-returns-clause-writes g t c =
+    let one = last_link (expr_of c.args.u.now c.args.e.0) c.loop-left.left (omega (arith, c.loop-left-test.false, c.loop-left.invariant.some)) in
+    shift_done g.P.Pen.writes _ _ _ _ _ (λ x y a b. g.met.P.Pen.joined _ _ _ x y a b) c.loop-left.invariant.so_far (rw one c.link.ensures.writes)
 
-pub expr-returns-in-Deref-clause-writes : goal.expr-returns-in-Deref-clause-writes
-expr-returns-in-Deref-clause-writes g t c =
+pub links-loop-left-preserved : goal.links-loop-left-preserved
+links-loop-left-preserved g t c =
+    record {
+      ready = c.links.ensures.ready;
+      some = omega (arith, c.loop-left-test.true);
+      within = omega (arith, c.loop-left.invariant.within);
+      so_far = shift_on g.P.Pen.writes _ _ _ _ _ _ _ (λ x y a b. g.met.P.Pen.joined _ _ _ x y a b) c.loop-left.invariant.so_far (halved _ _ c.loop-left.left _ c.before_links-middle.ensures.is (omega (arith, c.loop-left-test.true, c.loop-left.invariant.within)) (omega arith)) c.links.ensures.writes;
+    }
+
+pub link-returns-in-Member-clause-writes : goal.link-returns-in-Member-clause-writes
+link-returns-in-Member-clause-writes g t c =
+    let j = g.met.P.Pen.joined in
+    let r1 = j _ _ _ _ _ c.write-in-Member.ensures.writes (rw c.name-in-Member.ensures at c.write-in-Member-2.ensures.writes) in
+    rw (expr_of-node _ _ _ _ c.expr.ensures.tree c.in-Member.is) r1
+
+pub link-returns-in-Index-clause-writes : goal.link-returns-in-Index-clause-writes
+link-returns-in-Index-clause-writes g t c =
+    let j = g.met.P.Pen.joined in
+    let r1 = j _ _ _ _ _ c.write-in-Index.ensures.writes c.expr-in-Index.ensures.writes in
+    let r2 = j _ _ _ _ _ r1 c.write-in-Index-2.ensures.writes in
+    rw (expr_of-node _ _ _ _ c.expr.ensures.tree c.in-Index.is) r2
+
+pub link-returns-in-Deref-clause-writes : goal.link-returns-in-Deref-clause-writes
+link-returns-in-Deref-clause-writes g t c =
     let j = g.met.P.Pen.joined in
     let r1 = j _ _ _ _ _ c.write-in-Deref.ensures.writes c.expr-in-Deref.ensures.writes in
     let r2 = j _ _ _ _ _ r1 c.write-in-Deref-2.ensures.writes in
     rw (expr_of-node _ _ _ _ c.expr.ensures.tree c.in-Deref.is) r2
 
-pub expr-returns-in-Cast-clause-writes : goal.expr-returns-in-Cast-clause-writes
-expr-returns-in-Cast-clause-writes g t c =
+pub link-returns-in-Cast-clause-writes : goal.link-returns-in-Cast-clause-writes
+link-returns-in-Cast-clause-writes g t c =
     let j = g.met.P.Pen.joined in
     let r1 = j _ _ _ _ _ c.write-in-Cast.ensures.writes c.value_type.ensures.writes in
     let r2 = j _ _ _ _ _ r1 c.write-in-Cast-2.ensures.writes in
@@ -36,8 +53,8 @@ expr-returns-in-Cast-clause-writes g t c =
     let r4 = j _ _ _ _ _ r3 c.write-in-Cast-3.ensures.writes in
     rw (expr_of-node _ _ _ _ c.expr.ensures.tree c.in-Cast.is) r4
 
-pub expr-returns-in-Call-clause-writes : goal.expr-returns-in-Call-clause-writes
-expr-returns-in-Call-clause-writes g t c =
+pub link-returns-in-Call-clause-writes : goal.link-returns-in-Call-clause-writes
+link-returns-in-Call-clause-writes g t c =
     let j = g.met.P.Pen.joined in
     let r1 = j _ _ _ _ _ c.write-in-Call.ensures.writes c.call.ensures.writes in
     let r2 = j _ _ _ _ _ r1 c.write-in-Call-2.ensures.writes in
