@@ -1,0 +1,193 @@
+// The statements of a body with their numbers, in the order of the text: blocks are gone through by a list of what is left,
+// whatever the depth of their nesting and the length of a chain of `else if`.
+
+ghost use Rattle.std.specs.Prelude.{◌≡◌, ◌<◌, ◌≤◌, ◌+◌, ◌++◌, Bool, length, map, IfOk, IfSome, IfNone, OnOk};
+ghost use Rattle.c_text.specs.CNodes.{code_of};
+ghost use Rattle.c_text.specs.CTree.{finish};
+ghost use Rattle.c_step_places.specs.Places.{places_of, place_in, HasPlace, HasPlaces, HasInner, left_of, place_size, size_of, inner_places, rest_number, inner_size, IsApart};
+ghost use Rattle.c_step_places.specs.Weights.{WeighsAll};
+
+use crate::weighing::{Weighed, next_number};
+use c_text::{CStmt, CStmtId, Unit};
+use std::alloc::Global;
+use wf_text::NoMemory;
+
+/// A statement of a body, with what follows it in its block.
+#[derive(Clone, Copy)]
+pub struct Place {
+    /// The statement.
+    pub stmt: CStmtId,
+    /// Its number.
+    pub number: usize,
+}
+
+/// The blocks in a statement.
+#[derive(Clone, Copy)]
+pub enum Inner {
+    /// None.
+    None,
+    /// One, in braces or of a `while`.
+    Block(CStmtId),
+    /// That of a `switch`.
+    Switch(CStmtId),
+    /// That of an `if`, and the statements of its `else`.
+    Branch(CStmtId, CStmtId),
+}
+
+/// The blocks in a statement and the rest of its block; None at the end of a block.
+fn apart(unit: &Unit, s: CStmtId) -> Option<(Inner, CStmtId)>
+    requires { s.0 < length unit.now.stmts }
+    ensures some { IfSome result (λ it. IsApart unit.now (code_of unit.now s.0) it.0 it.1) }
+    ensures none { IfNone result (code_of unit.now s.0 ≡ finish) }
+{
+    match unit.stmt(s) {
+        CStmt::End => None,
+        CStmt::Block { inner, rest } => Some((Inner::Block(*inner), *rest)),
+        CStmt::Empty { rest } => Some((Inner::None, *rest)),
+        CStmt::Assign { rest, .. } => Some((Inner::None, *rest)),
+        CStmt::Call { rest, .. } => Some((Inner::None, *rest)),
+        CStmt::Goto { rest, .. } => Some((Inner::None, *rest)),
+        CStmt::If {
+            body,
+            other,
+            rest,
+            ..
+        } => Some((Inner::Branch(*body, *other), *rest)),
+        CStmt::While { body, rest, .. } => Some((Inner::Block(*body), *rest)),
+        CStmt::Switch { body, rest, .. } => Some((Inner::Switch(*body), *rest)),
+        CStmt::Return { rest, .. } => Some((Inner::None, *rest)),
+        CStmt::Case { rest, .. } => Some((Inner::None, *rest)),
+        CStmt::Default { rest } => Some((Inner::None, *rest)),
+        CStmt::Label { rest, .. } => Some((Inner::None, *rest)),
+    }
+}
+
+/// The number of the rest of a block after a statement with blocks in it.
+fn number_after(it: &Weighed, inner: Inner, i: usize) -> Result<usize, NoMemory>
+    requires weights { WeighsAll it.now.unit.now it.now.weights.now }
+    requires inner { HasInner it.now.unit.now inner }
+    ensures { IfOk result (λ n. n ≡ rest_number it.now.unit.now i inner) }
+{
+    match inner {
+        Inner::None => next_number(i),
+        Inner::Block(body) => it.past(i, body),
+        Inner::Switch(body) => it.past(i, body),
+        Inner::Branch(body, other) => it.past_both(i, body, other),
+    }
+}
+
+/// Adds statements to those that are left: they come next.
+fn put(unit: &Unit, left: &mut Vec<Place>, stmt: CStmtId, number: usize) -> Result<(), NoMemory>
+    requires stmt { stmt.0 < length unit.now.stmts }
+    requires has { HasPlaces unit.now left.old.items }
+    ensures has { OnOk result (HasPlaces unit.now left.new.items) }
+    ensures places { OnOk result ((e : Bool) → left_of unit.now e left.new.items ≡ places_of e number (code_of unit.now stmt.0) ++ left_of unit.now e left.old.items) }
+    ensures size { OnOk result (size_of unit.now left.new.items ≡ size_of unit.now left.old.items + place_size unit.now (record { stmt = stmt; number = number })) }
+{
+    match left.push(Place { stmt, number }) {
+        Ok(()) => Ok(()),
+        Err(_) => Err(NoMemory),
+    }
+}
+
+/// Adds the blocks in a statement to those that are left.
+fn put_inner(
+    it: &Weighed,
+    left: &mut Vec<Place>,
+    inner: Inner,
+    i: usize,
+    enters: bool,
+) -> Result<(), NoMemory>
+    requires weights { WeighsAll it.now.unit.now it.now.weights.now }
+    requires inner { HasInner it.now.unit.now inner }
+    requires has { HasPlaces it.now.unit.now left.old.items }
+    ensures has { OnOk result (HasPlaces it.now.unit.now left.new.items) }
+    ensures places { OnOk result (left_of it.now.unit.now enters left.new.items ≡ inner_places it.now.unit.now enters i inner (left_of it.now.unit.now enters left.old.items)) }
+    ensures size { OnOk result (size_of it.now.unit.now left.new.items ≤ size_of it.now.unit.now left.old.items + inner_size it.now.unit.now inner) }
+{
+    let inside = match next_number(i) {
+        Ok(n) => n,
+        Err(fault) => return Err(fault),
+    };
+    match inner {
+        Inner::None => Ok(()),
+        Inner::Block(body) => put(it.unit, left, body, inside),
+        Inner::Switch(body) => {
+            if enters {
+                put(it.unit, left, body, inside)
+            } else {
+                Ok(())
+            }
+        }
+        Inner::Branch(body, other) => match it.second(i, body) {
+            Ok(second) => match put(it.unit, left, other, second) {
+                Ok(()) => put(it.unit, left, body, inside),
+                Err(fault) => Err(fault),
+            },
+            Err(fault) => Err(fault),
+        },
+    }
+}
+
+/// Lists a statement and leaves what is in it and after it; at the end of a block nothing.
+fn list(
+    it: &Weighed,
+    at: Place,
+    enters: bool,
+    left: &mut Vec<Place>,
+    listed: &mut Vec<Place>,
+) -> Result<(), NoMemory>
+    requires weights { WeighsAll it.now.unit.now it.now.weights.now }
+    requires at { HasPlace it.now.unit.now at }
+    requires left { HasPlaces it.now.unit.now left.old.items }
+    requires listed { HasPlaces it.now.unit.now listed.old.items }
+    ensures left { OnOk result (HasPlaces it.now.unit.now left.new.items) }
+    ensures listed { OnOk result (HasPlaces it.now.unit.now listed.new.items) }
+    ensures places { OnOk result (map (place_in it.now.unit.now) listed.new.items ++ left_of it.now.unit.now enters left.new.items ≡ map (place_in it.now.unit.now) listed.old.items ++ (places_of enters at.number (code_of it.now.unit.now at.stmt.0) ++ left_of it.now.unit.now enters left.old.items)) }
+    ensures falls { OnOk result (size_of it.now.unit.now left.new.items < size_of it.now.unit.now left.old.items + place_size it.now.unit.now at) }
+{
+    let Some((inner, rest)) = apart(it.unit, at.stmt) else {
+        return Ok(());
+    };
+    match listed.push(at) {
+        Ok(()) => {}
+        Err(_) => return Err(NoMemory),
+    }
+    let after = match number_after(it, inner, at.number) {
+        Ok(n) => n,
+        Err(fault) => return Err(fault),
+    };
+    match put(it.unit, left, rest, after) {
+        Ok(()) => put_inner(it, left, inner, at.number, enters),
+        Err(fault) => Err(fault),
+    }
+}
+
+/// The statements from `body` on, which has a number, and those in their blocks, in the order of the text; `enters` tells
+/// whether those in the blocks of a `switch` are among them.
+pub fn list_places(
+    alloc: Global,
+    it: &Weighed,
+    body: CStmtId,
+    number: usize,
+    enters: bool,
+) -> Result<Vec<Place>, NoMemory>
+    requires weights { WeighsAll it.now.unit.now it.now.weights.now }
+    requires body { body.0 < length it.now.unit.now.stmts }
+    ensures places { IfOk result (λ listed. map (place_in it.now.unit.now) listed.items ≡ places_of enters number (code_of it.now.unit.now body.0)) }
+    ensures has { IfOk result (λ listed. HasPlaces it.now.unit.now listed.items) }
+{
+    let mut listed = Vec::new(alloc);
+    let mut left = Vec::new(alloc);
+    match put(it.unit, &mut left, body, number) {
+        Ok(()) => {}
+        Err(fault) => return Err(fault),
+    }
+    while let Some(at) = left.pop() {
+        match list(it, at, enters, &mut left, &mut listed) {
+            Ok(()) => {}
+            Err(fault) => return Err(fault),
+        }
+    }
+    Ok(listed)
+}
