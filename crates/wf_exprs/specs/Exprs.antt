@@ -46,9 +46,9 @@ literal_type (literals.Int n) = Int
 literal_type (literals.Unsigned n) = U32
 literal_type (literals.Long n) = U64
 
--- A literal with the suffix of a type; every other expression is cast to it.
+-- A literal with the suffix of a type; every other expression is cast to it. No literal is spelt as an `int` that isn't one.
 abbrev pub suffixed : CTy → ℕ → CNumber
-suffixed Int n = literals.Int n
+suffixed Int n = literal n
 suffixed U32 n = literals.Unsigned n
 suffixed U64 n = literals.Long n
 
@@ -112,6 +112,7 @@ cut_off bits e = if nat_le bits 16 then cast (uint_of bits) e else e
 abbrev pub factor : (bits : ℕ) → (left right : Rated) → ExprTree
 factor bits a b = if nat_eq bits 16 then recast 32 a.code else balanced bits a b
 
+-- Only the operators that repeat in C make one operation of a chain.
 abbrev pub linked : Arith → (bits : ℕ) → (joined : Bool) → Rated → Rated → ExprTree
 linked shift_left bits joined a b = two Shl (firm bits a) b.code
 linked shift_right bits joined a b = two Shr (firm bits a) b.code
@@ -119,6 +120,9 @@ linked mod_plus bits joined a b = cut_off bits (two Add (balanced bits a b) b.co
 linked mod_minus bits joined a b = cut_off bits (two Sub (balanced bits a b) b.code)
 linked mod_times bits joined a b = cut_off bits (two Mul (factor bits a b) b.code)
 linked mod_shift_left bits joined a b = cut_off bits (two Shl (firm bits a) b.code)
+linked minus bits joined a b = two Sub (balanced bits a b) b.code
+linked divided bits joined a b = two Div (balanced bits a b) b.code
+linked remainder bits joined a b = two Rem (balanced bits a b) b.code
 linked sat_plus bits joined a b = saturated true bits a.code b.code
 linked sat_minus bits joined a b = saturated false bits a.code b.code
 linked op bits joined a b = chained joined (op_of op) (balanced bits a b) b.code

@@ -1,4 +1,3 @@
-pub mod ExprLaw
 pub mod Exprs
 pub mod Helpers
 pub mod Names

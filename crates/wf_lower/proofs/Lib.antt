@@ -1,3 +1,4 @@
 pub mod Cases
 pub mod Labels
+pub mod LoopLabels
 pub mod Passes

@@ -1,4 +1,4 @@
--- What a statement is lowered to has no `case` but a point's own, so a `case` is looked for behind it.
+-- What a statement is lowered to has no label but the `case` of a point's own, so a label is looked for behind it.
 use Rattle.std.proofs.Common.{◌≡◌, ℕ, zero, suc, Bool, true, false, List, [], ◌∷◌, ◌&&◌, Option, Some, None, refl, ◌∙◌}
 use Rattle.std.specs.Prelude.{if◌then◌else◌, slice_get}
 use Rattle.wf_base.specs.declared.base_methods.ReadForm.{ReadForm}
@@ -11,22 +11,22 @@ use Rattle.c_text.specs.CTree.{ExprTree, Code, finish, leave}
 use Rattle.c_text.specs.CTree as c
 use Rattle.c_text.specs.declared.kinds.COp.TheVariants.{Lt}
 use Rattle.wf_meaning.specs.Entry.{short_read, short_write, cannot_suspend}
-use Rattle.c_meaning.specs.CStep.{Continuation, behind, Place, by_case, find, first_of}
-use Rattle.c_meaning.specs.declared.values.Number.{Number}
+use Rattle.c_meaning.specs.CStep.{Continuation, behind, Place, Label, find, first_of}
 use Rattle.wf_exprs.specs.Names.{Names, point_field}
 use Rattle.wf_exprs.specs.Words.{num, two, of_self, args}
 use Rattle.wf_exprs.specs.Exprs.{Pair, given, lowered_slice, lowered_status, lowered_cond, status_constant, begins_with}
 use Rattle.wf_lower.specs.Forms.{Form, status_local, size_local, held_local, count_local, is_io, is_kept, keeps_started, when, put, get, save_locals, save_started, give, suspend}
+use Rattle.wf_lower.specs.Lower.{ending, ending_of, has_result, tail_of, top}
 use Rattle.wf_lower.specs.Statements.{next_byte, step_on, callee_name, receiver_code, values_codes, answer_local, is_wanted, is_suspension, put_into, set_slice, set_value, take_bytes, begun_call, awoken_call, lower_written, is_passed, call_into, hand_on, put_result, handed_call, plain_call, give_status, give_value, begun, awoken, lower_plain}
 
 over : (p q : Option Place) → p ≡ None → first_of p q ≡ q
 over None q e = refl
 over (Some p) q e = absurd (cc (e))
 
-module _ (m : Number) where
-  -- A `case` is looked for in the rest.
+module _ (l : Label) where
+  -- A label is looked for in the rest.
   abbrev pub Passes : (code rest : Code) → Type 0
-  Passes code rest = (k : Continuation) → find (by_case m) code k ≡ find (by_case m) rest k
+  Passes code rest = (k : Continuation) → find l code k ≡ find l rest k
 
   pub ifs : (b : Bool) (c d rest : Code) → Passes c rest → Passes d rest → Passes (if b then c else d) rest
   ifs true c d rest h j = h
@@ -99,8 +99,8 @@ module _ (m : Number) where
   begun_calls names (write e) rest k = refl
 
   waits : (f : Form) (j n : ℕ) (rest : Code) (k k1 : Continuation)
-      → first_of (find (by_case m) (suspend f j (status_constant n) finish) k1) (find (by_case m) rest k) ≡ find (by_case m) rest k
-  waits f j n rest k k1 = over (find (by_case m) (suspend f j (status_constant n) finish) k1) (find (by_case m) rest k) (suspends f j (status_constant n) finish k1)
+      → first_of (find l (suspend f j (status_constant n) finish) k1) (find l rest k) ≡ find l rest k
+  waits f j n rest k k1 = over (find l (suspend f j (status_constant n) finish) k1) (find l rest k) (suspends f j (status_constant n) finish k1)
 
   taken : (f : Form) (j : ℕ) (t : Target) (a : ℕ) (form : ReadForm) (rest : Code)
       → Passes (take_bytes f.names a form (bytes_of (read_width form)) (when (two Lt count_local (num (bytes_of (read_width form)))) (suspend f j (status_constant short_read) finish) (put_into f.names t held_local rest))) rest
@@ -135,8 +135,8 @@ module _ (m : Number) where
 
   hands : (f : Form) (j : ℕ) (rest : Code) → Passes (hand_on f j rest) rest
   hands f j rest k =
-      both_over (find (by_case m) (suspend f j status_local finish) (behind finish (give f (Some status_local) finish) (behind finish rest k)))
-      (find (by_case m) (give f (Some status_local) finish) (behind finish rest k)) (find (by_case m) rest k)
+      both_over (find l (suspend f j status_local finish) (behind finish (give f (Some status_local) finish) (behind finish rest k)))
+      (find l (give f (Some status_local) finish) (behind finish rest k)) (find l rest k)
       (suspends f j status_local finish (behind finish (give f (Some status_local) finish) (behind finish rest k))) (gives f (Some status_local) finish (behind finish rest k))
 
   calls : (f : Form) (into : Option ExprTree) (called : Called) (callee : MethodTree) (given_args : List ValueTree) (rest : Code)
@@ -214,3 +214,13 @@ module _ (m : Number) where
   awoken_passes f j (give_back v) rest k = refl
   awoken_passes f j (yield n) rest k = refl
   awoken_passes f j (claim goal ax) rest k = refl
+
+  -- The end of a body has no label.
+  endings : (f : Form) (b : Bool) (k : Continuation) → find l (ending_of f b) k ≡ None
+  endings f true k = refl
+  endings f false k = puts f.names (λ n. true) 0 f.method.args finish k
+
+  pub top_has_none : (f : Form) (k : Continuation) → find l (tail_of f top) k ≡ None
+  top_has_none f k =
+      ifs (is_coroutine f.method.mark) finish (ending f) finish (λ k. refl)
+      (ifs (is_coroutine f.method.mark) (give f (Some (num 0)) finish) (ending_of f (has_result f.method.gives)) finish (gives f (Some (num 0)) finish) (endings f (has_result f.method.gives))) k

@@ -1,0 +1,9 @@
+pub mod CNumbers
+pub mod Operands
+pub mod Links
+pub mod Pointers
+pub mod Buffers
+pub mod Trees
+pub mod Conditions
+pub mod Law
+pub mod Saturating

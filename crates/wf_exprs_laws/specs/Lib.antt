@@ -1,0 +1,2 @@
+pub mod ExprLaw
+pub mod HelperLaw
