@@ -14,7 +14,6 @@ use Rattle.wf_ast.specs.TypedTree.{Path, arg, Order, equal, differs, less, at_mo
 use Rattle.wf_ast.specs.TypedTrees.{Sort, arithmetic, ordering, joining, slice_in, named, comparison, chain_of, answer_of}
 use Rattle.wf_ast.specs.WellTyped.{Context, type_at, is_unrefined, is_slice, element_type, well_slice, fits_type, may_write, well_assigned}
 use Rattle.wf_named.specs.declared.nodes.NamedCallee.TheVariants as callees
-use Rattle.wf_named.specs.declared.nodes.NamedPath.{NamedPath}
 use Rattle.wf_named.specs.declared.nodes.Variable.{Variable}
 use Rattle.wf_named.specs.NamedTree.{NamedExprTree, number, status, truth, path, index, answer, chain, convert, negation, NamedCallTree, call}
 use Rattle.wf_named.specs.NamedTree as resolved

@@ -1,12 +1,11 @@
 -- A package that keeps the rules of names, of types and of facts is accepted, and so it is never stuck.
-use Rattle.std.proofs.Common.{◌≡◌, true, List, Option, Some, None, refl, sym, subst}
+use Rattle.std.proofs.Common.{◌≡◌, true, Option, Some, None, refl, sym, subst}
 use Rattle.wf_text.specs.declared.rules.Refusal.{Refusal}
 use Rattle.wf_text.specs.Precedence.{Decides}
 use Rattle.std.specs.List.{list_all}
 use Rattle.wf_ast.specs.TypedPackage.{PackageTree}
 use Rattle.wf_named.specs.NamedParts.{named_package}
 use Rattle.wf_named.specs.NamedTree.{NamedPackageTree}
-use Rattle.wf_named.specs.WellNamed.{well_named}
 use Rattle.wf_names_laws.proofs.PackageLaws.{package-named}
 use Rattle.wf_parse.specs.Parsing.{decls_of}
 use Rattle.wf_names_resolve.specs.Package.{resolved_package}

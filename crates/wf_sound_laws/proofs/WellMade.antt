@@ -8,8 +8,6 @@ use Rattle.wf_base.specs.declared.marks.Mark.{Mark}
 use Rattle.wf_base.specs.declared.widths.Width.{Width}
 use Rattle.wf_base.specs.declared.base_methods.BaseSig.{BaseSig}
 use Rattle.wf_base.specs.declared.base_methods.BaseSig.TheVariants as sigs
-use Rattle.wf_base.specs.declared.base_methods.Kind.TheVariants as kinds
-use Rattle.wf_base.specs.declared.base_methods.Kind.{Kind}
 use Rattle.wf_base.specs.BaseTable.{row_of}
 use Rattle.wf_ast.specs.declared.operators.Op.{Op}
 use Rattle.wf_ast.specs.TypedTree.{ValueTree, Target, to_nothing, Called, own, sub, assign, Simple, Site, Head, Block, end, plain, choose}
@@ -17,7 +15,7 @@ use Rattle.wf_ast.specs.TypedTree as typed
 use Rattle.wf_ast.specs.TypedTrees.{sort_of, slice_in, cond_in, answer_of, base_call}
 use Rattle.wf_ast.specs.TypedPackage.{Variable, MethodTree, PackageTree}
 use Rattle.wf_ast.specs.Value.{same_truth}
-use Rattle.wf_ast.specs.WellTyped.{Context, is_unrefined, is_pure, element_type, same_mark, number_of, calls_method, fits_type, fit_types, well_cond, well_invoked, well_simple, breaks, well_block, may_be_arg, may_be_local, may_be_result, answers_always, well_method, all_structs_whole, well_typed}
+use Rattle.wf_ast.specs.WellTyped.{is_unrefined, is_pure, element_type, same_mark, calls_method, fits_type, fit_types, well_cond, well_invoked, well_simple, breaks, well_block, may_be_arg, may_be_local, may_be_result, answers_always, well_method, all_structs_whole, well_typed}
 use Rattle.wf_base.specs.Effects.{allows}
 use Rattle.wf_named.specs.declared.nodes.NamedCallee.{NamedCallee}
 use Rattle.wf_named.specs.declared.nodes.NamedCallee.TheVariants as callees
@@ -26,14 +24,13 @@ use Rattle.wf_named.specs.NamedTree.{NamedExprTree, path, answer, NamedArgTrees,
 use Rattle.wf_named.specs.NamedTree as resolved
 use Rattle.wf_named.specs.WellNamed.{count_args, is_wanted, args_wanted, has_kind, named_args, named_expr, named_call, named_target, named_clauses, named_stmt, named_block, named_arms, well_named}
 use Rattle.wf_types_rules.specs.declared.meanings.Meaning.{Meaning}
-use Rattle.wf_types_rules.specs.declared.settings.Setting.{Setting}
-use Rattle.wf_types_rules.specs.Meanings.{variable, is_value, place_of}
-use Rattle.wf_types_rules.specs.Parts.{argument, expression, expr_parts, args_parts, whole_call_parts, value_parts, target_parts, condition_parts, clauses_parts, stmt_parts, block_parts, arms_parts}
-use Rattle.wf_types_rules.specs.Judgements.{fails, both_fail, takes, wanted, meaning_of_argument, may_be_handed, wrong_operand, wrong_argument, block_leaves}
+use Rattle.wf_types_rules.specs.Meanings.{variable, is_value}
+use Rattle.wf_types_rules.specs.Parts.{argument, expr_parts, args_parts, whole_call_parts, value_parts, target_parts, condition_parts, clauses_parts, stmt_parts, block_parts, arms_parts}
+use Rattle.wf_types_rules.specs.Judgements.{fails, both_fail, takes, wanted, may_be_handed, wrong_operand, wrong_argument, block_leaves}
 use Rattle.wf_types_rules.specs.TypeRules as rules
 use Rattle.wf_types_rules.specs.FirstBreak.{deciding}
 use Rattle.wf_typed_tree.specs.ElaboratedExprs.{variable_tree, path_tree, expr_tree, arg_trees}
-use Rattle.wf_typed_tree.specs.ElaboratedStmts.{target_tree, update_tree, call_tree, assigned_call, assign_tree, simple_tree, stmt_place, count_stmt, count_block, count_arms, site, clause_trees, head_tree, stmt_tree, block_tree, arms_tree}
+use Rattle.wf_typed_tree.specs.ElaboratedStmts.{target_tree, update_tree, call_tree, assigned_call, assign_tree, simple_tree, count_stmt, count_block, count_arms, site, clause_trees, stmt_tree, block_tree, arms_tree}
 use Rattle.wf_typed_tree.specs.ElaboratedPackage.{typed_method, typed_methods, typed_package}
 use Rattle.wf_typed_tree.specs.Grammar.{by_grammar, clauses_by_grammar, has_condition, stmt_by_grammar, block_by_grammar, arms_by_grammar, package_by_grammar}
 use Rattle.wf_typed_tree.specs.MeaningTrees.{kind_meant}

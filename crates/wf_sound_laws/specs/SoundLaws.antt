@@ -2,7 +2,6 @@
 use Rattle.std.specs.Prelude.{◌≡◌, ℕ, true, List, None}
 use Rattle.std.specs.List.{list_all}
 use Rattle.wf_text.specs.HostActions.{Receiver, HostAction}
-use Rattle.wf_text.specs.declared.rules.Refusal.{Refusal}
 use Rattle.wf_text.specs.Precedence.{Decides}
 use Rattle.wf_base.specs.BaseOps.{Buffer}
 use Rattle.wf_base.specs.LawfulActions.{AreDeclared, AreLawful}
