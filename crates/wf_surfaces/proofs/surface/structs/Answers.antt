@@ -1,0 +1,19 @@
+use Rattle.std.proofs.Common.{arith}
+use Rattle.wf_surfaces.proofs.SurfaceLemmas.{struct-passed, struct-taken, structs-ended}
+use Rattle.wf_surfaces.proofs.surface.structs.Goals as goal
+use Rattle.wf_surfaces.proofs.surface.structs.Goals.{then-declared+in-Ok+in-Ok-push, else-declared}
+
+pub loop-s-preserved : goal.loop-s-preserved
+loop-s-preserved c =
+    let nodes = c.args.t.now in
+    elim c.if-declared.branch [
+      | then-declared+in-Ok+in-Ok-push w ↦
+          rw (w.all-is, w.in-Ok-push.ensures.items)
+          (struct-taken nodes c.loop-s.s c.loop-s.all.items c.structure-declared.result.now _ c.structure-declared.ensures w.if-declared.true w.in-Ok.ensures c.loop-s.invariant)
+      | else-declared w ↦
+          rw w.all-is
+          (struct-passed nodes c.loop-s.s c.loop-s.all.items c.structure-declared.result.now c.structure-declared.ensures w.if-declared.false c.loop-s.invariant)
+    ]
+
+pub returns : goal.returns
+returns c = structs-ended c.args.t.now c.loop-s.s c.loop-s.all.items (omega (arith, c.loop-s-test.false, c.structs-s-end.ensures)) c.loop-s.invariant
