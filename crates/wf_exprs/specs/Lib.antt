@@ -1,6 +1,9 @@
 pub mod Exprs
+pub mod Grown
 pub mod Helpers
+pub mod Making
 pub mod Names
 pub mod Reads
 pub mod Samples
+pub mod Scopes
 pub mod Words

@@ -1,4 +1,12 @@
-// Expressions of the source as expressions of C. So far their definition stands here, with worked examples.
+// Expressions of the source as expressions of C: the definition, with worked examples, and what makes them in a unit: names, nodes,
+// operators, and what a method's expressions name.
 #![tactic(auto)]
 
 pub mod examples;
+pub mod names;
+pub mod nodes;
+pub mod rated;
+pub mod scope;
+
+pub use rated::{Pair, Rated};
+pub use scope::{Path, Scope};

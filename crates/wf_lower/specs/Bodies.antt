@@ -21,8 +21,8 @@ use Rattle.wf_exprs.specs.Names.{io_place, io_end, point_field, struct_type, ent
 use Rattle.wf_exprs.specs.Words.{width_of, num, two, self, of_self, args}
 use Rattle.wf_exprs.specs.Exprs.{chained, status_constant, io_code}
 use Rattle.wf_exprs.specs.Reads.{code_reads}
-use Rattle.wf_lower.specs.Forms.{Form, form_of, status_local, got_local, resume_local, when, when_some, is_io, place_in, end_of, restore_locals, restore_started}
-use Rattle.wf_lower.specs.Lower.{lower, ending, tail_of, top}
+use Rattle.wf_lower_stmts.specs.Forms.{Form, form_of, status_local, got_local, resume_local, when, when_some, is_io, place_in, end_of, restore_locals, restore_started}
+use Rattle.wf_lower_stmts.specs.Lower.{lower, ending, tail_of, top}
 
 abbrev declared : TypeTree → List ℕ → ExprTree → LocalTree
 declared type name initial = record { kind = type; name = name; initial = Some initial }

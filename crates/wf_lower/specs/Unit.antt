@@ -18,7 +18,7 @@ use Rattle.wf_exprs.specs.Words.{literal, width_of, num, self, of_self, args}
 use Rattle.wf_exprs.specs.Exprs.{status_constant}
 use Rattle.wf_exprs.specs.Reads.{code_reads}
 use Rattle.wf_exprs.specs.Helpers.{all_saturating}
-use Rattle.wf_lower.specs.Forms.{is_kept, keeps_started, when}
+use Rattle.wf_lower_stmts.specs.Forms.{is_kept, keeps_started, when}
 use Rattle.wf_lower.specs.Bodies.{functions_of}
 
 abbrev field : TypeTree → List ℕ → FieldTree

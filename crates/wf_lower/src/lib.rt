@@ -3,4 +3,3 @@
 
 pub mod agreement;
 pub mod examples;
-pub mod laws;

@@ -1,0 +1,323 @@
+// Numbers of C with the type in which C calculates them, and the operators between them. A cast stands where C would calculate
+// in another type than the source, and nowhere else.
+
+ghost use Rattle.std.specs.Prelude.{◌≡◌, ◌<◌, true, false, length, option_map, IfOk, IfSome, Some, None};
+ghost use Rattle.wf_base.specs.BaseTable.{bits_of};
+ghost use Rattle.wf_ast.specs.TypedTrees.{sort_of};
+ghost use Rattle.c_text.specs.CNodes.{expr_of};
+ghost use Rattle.c_text.specs.CSpelling.{IsLiteral};
+ghost use Rattle.wf_exprs.specs.Exprs.{balanced as balanced_code, calculated as calculated_of, converted as converted_code, cut_off as cut_off_code, factor as factor_code, firm as firm_code, literal_type as type_of_literal, rank as rank_of, recast as recast_code, saturated as saturated_code, saturating_name as name_of_saturating, suffixed as suffixed_literal, wider as wider_of};
+ghost use Rattle.wf_exprs.specs.Grown.{Grows, HasExpr, HasNamed};
+ghost use Rattle.wf_exprs.specs.Making.{HasRated, c_op, linked_by, rated_in, small_number};
+ghost use Rattle.wf_exprs.specs.Words.{two as two_trees};
+
+use crate::names::put_numbered;
+use crate::nodes::{called, cast, is_held, literal, put, two};
+use c_text::{CExpr, CExprId, CNameId, CNumber, COp, Unit};
+use std::alloc::Global;
+use wf_ast::Op;
+use wf_base::Width;
+use wf_num::CTy;
+use wf_text::NoMemory;
+
+/// A number of C, and the type that it has there. The type is never wider than that in which C calculates with numbers of the
+/// source's width; where it is narrower, the value is the same.
+#[derive(Clone, Copy)]
+pub struct Rated {
+    pub code: CExprId,
+    pub ty: CTy,
+}
+
+/// A slice as its pointer and its length.
+#[derive(Clone, Copy)]
+pub struct Pair {
+    pub pointer: CExprId,
+    pub length: Rated,
+}
+
+/// The type in which C calculates with numbers of this width: small ones are promoted to `int`.
+pub fn calculated(width: Width) -> CTy
+    ensures { result ≡ calculated_of (bits_of width) }
+{
+    match width {
+        Width::W8 | Width::W16 => CTy::Int,
+        Width::W32 => CTy::U32,
+        Width::W64 => CTy::U64,
+    }
+}
+
+/// How wide a type is.
+pub fn rank(ty: CTy) -> u32
+    ensures { result ≡ rank_of ty }
+{
+    match ty {
+        CTy::Int => 0,
+        CTy::U32 => 1,
+        CTy::U64 => 2,
+    }
+}
+
+/// The wider one of two types.
+pub fn wider(a: CTy, b: CTy) -> CTy
+    ensures { result ≡ wider_of a b }
+{
+    if rank(a) < rank(b) { b } else { a }
+}
+
+/// The type that a literal has.
+pub fn literal_type(number: CNumber) -> CTy
+    ensures { result ≡ type_of_literal number }
+{
+    match number {
+        CNumber::Int(_) => CTy::Int,
+        CNumber::Unsigned(_) => CTy::U32,
+        CNumber::Long(_) => CTy::U64,
+    }
+}
+
+/// A literal with the suffix of a type.
+fn suffixed(ty: CTy, n: u32) -> CNumber
+    ensures is { result ≡ suffixed_literal ty n }
+    ensures lawful { IsLiteral result }
+{
+    match ty {
+        CTy::Int => literal(n as u64),
+        CTy::U32 => CNumber::Unsigned(n),
+        CTy::U64 => CNumber::Long(n as u64),
+    }
+}
+
+/// The small number that an expression is, where it is one.
+fn small_literal(u: &Unit, e: CExprId) -> Option<u32>
+    requires { e.0 < length u.now.exprs }
+    ensures { result ≡ small_number (expr_of u.now e.0) }
+{
+    match u.expr(e) {
+        CExpr::Number(CNumber::Int(n)) => Some(*n),
+        CExpr::Number(CNumber::Unsigned(n)) => Some(*n),
+        _ => None,
+    }
+}
+
+/// The same number in the type of this width: a literal gets its suffix, every other expression is cast.
+fn recast(u: &mut Unit, width: Width, e: CExprId) -> Result<CExprId, NoMemory>
+    requires { e.0 < length u.old.exprs }
+    ensures grows { Grows u.old u.new }
+    ensures made { IfOk result (λ it. HasExpr u.new it.0 (recast_code (bits_of width) (expr_of u.old e.0))) }
+{
+    match small_literal(u, e) {
+        Some(n) => put(u, CExpr::Number(suffixed(calculated(width), n))),
+        None => cast(u, width, e),
+    }
+}
+
+/// The same number in the type in which C calculates with this width.
+pub fn firm(u: &mut Unit, width: Width, a: Rated) -> Result<CExprId, NoMemory>
+    requires { a.code.0 < length u.old.exprs }
+    ensures grows { Grows u.old u.new }
+    ensures made { IfOk result (λ it. HasExpr u.new it.0 (firm_code (bits_of width) (rated_in u.old a))) }
+{
+    if rank(a.ty) == rank(calculated(width)) {
+        Ok(a.code)
+    } else {
+        recast(u, width, a.code)
+    }
+}
+
+/// The left operand of two, of which one at least has to have that type: C converts the other.
+pub fn balanced(u: &mut Unit, width: Width, a: Rated, b: Rated) -> Result<CExprId, NoMemory>
+    requires { a.code.0 < length u.old.exprs }
+    ensures grows { Grows u.old u.new }
+    ensures made { IfOk result (λ it. HasExpr u.new it.0 (balanced_code (bits_of width) (rated_in u.old a) (rated_in u.old b))) }
+{
+    if rank(b.ty) == rank(calculated(width)) {
+        Ok(a.code)
+    } else {
+        firm(u, width, a)
+    }
+}
+
+/// A result modulo 2^N: C's own where it calculates in that width, else by a cast.
+fn cut_off(u: &mut Unit, width: Width, e: CExprId) -> Result<CExprId, NoMemory>
+    requires { e.0 < length u.old.exprs }
+    ensures grows { Grows u.old u.new }
+    ensures made { IfOk result (λ it. HasExpr u.new it.0 (cut_off_code (bits_of width) (expr_of u.old e.0))) }
+{
+    match width {
+        Width::W8 | Width::W16 => cast(u, width, e),
+        Width::W32 | Width::W64 => Ok(e),
+    }
+}
+
+/// The left factor of a product modulo 2^N: two numbers of 16 bits would leave `int`.
+fn factor(u: &mut Unit, width: Width, a: Rated, b: Rated) -> Result<CExprId, NoMemory>
+    requires { a.code.0 < length u.old.exprs }
+    ensures grows { Grows u.old u.new }
+    ensures made { IfOk result (λ it. HasExpr u.new it.0 (factor_code (bits_of width) (rated_in u.old a) (rated_in u.old b))) }
+{
+    match width {
+        Width::W16 => recast(u, Width::W32, a.code),
+        Width::W8 | Width::W32 | Width::W64 => balanced(u, width, a, b),
+    }
+}
+
+/// How many bits a width has.
+fn bits_in(width: Width) -> u64
+    ensures { result ≡ bits_of width }
+{
+    match width {
+        Width::W8 => 8,
+        Width::W16 => 16,
+        Width::W32 => 32,
+        Width::W64 => 64,
+    }
+}
+
+/// The name of the function of a saturating operator.
+pub fn saturating_name(
+    alloc: Global,
+    u: &mut Unit,
+    is_sum: bool,
+    width: Width,
+) -> Result<CNameId, NoMemory>
+    ensures grows { Grows u.old u.new }
+    ensures made { IfOk result (λ it. HasNamed u.new it.0 (name_of_saturating is_sum (bits_of width))) }
+{
+    if is_sum {
+        put_numbered(alloc, u, b"sat_plus_u", bits_in(width))
+    } else {
+        put_numbered(alloc, u, b"sat_minus_u", bits_in(width))
+    }
+}
+
+/// A call of the function of a saturating operator.
+pub fn saturated(
+    alloc: Global,
+    u: &mut Unit,
+    is_sum: bool,
+    width: Width,
+    a: CExprId,
+    b: CExprId,
+) -> Result<CExprId, NoMemory>
+    requires first { a.0 < length u.old.exprs }
+    requires second { b.0 < length u.old.exprs }
+    ensures grows { Grows u.old u.new }
+    ensures made { IfOk result (λ it. HasExpr u.new it.0 (saturated_code is_sum (bits_of width) (expr_of u.old a.0) (expr_of u.old b.0))) }
+{
+    let function = saturating_name(alloc, u, is_sum, width)?;
+    called(alloc, u, function, a, b)
+}
+
+/// A result modulo 2^N of two numbers, of which the left one is this.
+fn cut_off_two(
+    alloc: Global,
+    u: &mut Unit,
+    width: Width,
+    op: COp,
+    left: CExprId,
+    right: CExprId,
+) -> Result<CExprId, NoMemory>
+    requires first { left.0 < length u.old.exprs }
+    requires second { right.0 < length u.old.exprs }
+    ensures grows { Grows u.old u.new }
+    ensures made { IfOk result (λ it. HasExpr u.new it.0 (cut_off_code (bits_of width) (two_trees op (expr_of u.old left.0) (expr_of u.old right.0)))) }
+{
+    let whole = two(alloc, u, op, left, right)?;
+    cut_off(u, width, whole)
+}
+
+/// An operator of the source as one of C.
+pub fn op_of(op: Op) -> COp
+    ensures { result ≡ c_op (sort_of op) }
+{
+    match op {
+        Op::Add | Op::ModAdd | Op::SatAdd => COp::Add,
+        Op::Sub | Op::ModSub | Op::SatSub => COp::Sub,
+        Op::Mul | Op::ModMul => COp::Mul,
+        Op::Div => COp::Div,
+        Op::Rem => COp::Rem,
+        Op::Shl | Op::ModShl => COp::Shl,
+        Op::Shr => COp::Shr,
+        Op::BitAnd => COp::BitAnd,
+        Op::BitOr => COp::BitOr,
+        Op::BitXor => COp::BitXor,
+        Op::And => COp::Both,
+        Op::Or => COp::Either,
+        Op::Same => COp::Eq,
+        Op::Differs => COp::Ne,
+        Op::Less => COp::Lt,
+        Op::LessOrSame => COp::Le,
+        Op::Greater => COp::Gt,
+        Op::GreaterOrSame => COp::Ge,
+    }
+}
+
+/// Two numbers with an operator between them.
+pub fn linked(
+    alloc: Global,
+    u: &mut Unit,
+    op: Op,
+    width: Width,
+    a: Rated,
+    b: Rated,
+) -> Result<CExprId, NoMemory>
+    requires first { a.code.0 < length u.old.exprs }
+    requires second { b.code.0 < length u.old.exprs }
+    ensures grows { Grows u.old u.new }
+    ensures made { IfOk result (λ it. HasExpr u.new it.0 (linked_by (sort_of op) (bits_of width) (rated_in u.old a) (rated_in u.old b))) }
+{
+    match op {
+        Op::Shl | Op::Shr => {
+            let left = firm(u, width, a)?;
+            two(alloc, u, op_of(op), left, b.code)
+        }
+        Op::ModShl => {
+            let left = firm(u, width, a)?;
+            cut_off_two(alloc, u, width, COp::Shl, left, b.code)
+        }
+        Op::ModMul => {
+            let left = factor(u, width, a, b)?;
+            cut_off_two(alloc, u, width, COp::Mul, left, b.code)
+        }
+        Op::ModAdd | Op::ModSub => {
+            let left = balanced(u, width, a, b)?;
+            cut_off_two(alloc, u, width, op_of(op), left, b.code)
+        }
+        Op::SatAdd => saturated(alloc, u, true, width, a.code, b.code),
+        Op::SatSub => saturated(alloc, u, false, width, a.code, b.code),
+        Op::Add
+        | Op::Sub
+        | Op::Mul
+        | Op::Div
+        | Op::Rem
+        | Op::BitAnd
+        | Op::BitOr
+        | Op::BitXor
+        | Op::And
+        | Op::Or
+        | Op::Same
+        | Op::Differs
+        | Op::Less
+        | Op::LessOrSame
+        | Op::Greater
+        | Op::GreaterOrSame => {
+            let left = balanced(u, width, a, b)?;
+            two(alloc, u, op_of(op), left, b.code)
+        }
+    }
+}
+
+/// `as`: a cast to a narrower type of calculation, and one to a wider type of what was calculated in `int`.
+pub fn converted(u: &mut Unit, width: Width, a: Rated) -> Result<Rated, NoMemory>
+    requires { a.code.0 < length u.old.exprs }
+    ensures grows { Grows u.old u.new }
+    ensures made { IfOk result (λ r. HasRated u.new r (converted_code (bits_of width) (rated_in u.old a))) }
+{
+    let ty = calculated(width);
+    if rank(ty) < rank(a.ty) || (rank(a.ty) < rank(ty) && !is_held(u, a.code) && rank(a.ty) == 0) {
+        let code = cast(u, width, a.code)?;
+        Ok(Rated { code, ty })
+    } else {
+        Ok(a)
+    }
+}

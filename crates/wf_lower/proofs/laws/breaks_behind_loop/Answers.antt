@@ -1,5 +1,0 @@
-use Rattle.wf_lower.proofs.LoopLabels.{breaks_at}
-use Rattle.wf_lower.proofs.laws.breaks_behind_loop.Goals as goal
-
-pub returns : goal.returns
-returns c = λ f n w b t few spelt. breaks_at f n w few b t spelt

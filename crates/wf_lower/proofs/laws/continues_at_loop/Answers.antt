@@ -1,5 +1,0 @@
-use Rattle.wf_lower.proofs.LoopLabels.{continues_at}
-use Rattle.wf_lower.proofs.laws.continues_at_loop.Goals as goal
-
-pub returns : goal.returns
-returns c = λ f n w b t few spelt around. continues_at f n w few b t spelt around

@@ -1,5 +1,0 @@
-use Rattle.wf_lower.proofs.Labels.{points_agree}
-use Rattle.wf_lower.proofs.laws.points_agree.Goals as goal
-
-pub returns : goal.returns
-returns c = points_agree

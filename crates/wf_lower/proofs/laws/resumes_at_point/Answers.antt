@@ -1,5 +1,0 @@
-use Rattle.wf_lower.proofs.Cases.{resumes_at_point}
-use Rattle.wf_lower.proofs.laws.resumes_at_point.Goals as goal
-
-pub returns : goal.returns
-returns c = λ f n k b t ints. resumes_at_point f n k ints b t
