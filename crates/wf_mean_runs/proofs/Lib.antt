@@ -1,0 +1,14 @@
+pub mod AnswerLaws
+pub mod ArgumentLaws
+pub mod AwaitLaws
+pub mod BlockLaws
+pub mod BodyLaws
+pub mod CallLaws
+pub mod CallPoints
+pub mod ChoiceLaws
+pub mod FrameLaws
+pub mod KeepLaws
+pub mod MethodLaws
+pub mod OrderLaws
+pub mod PointLaws
+pub mod SeekLaws
