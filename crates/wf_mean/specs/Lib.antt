@@ -1,0 +1,3 @@
+pub mod SourceEngines
+pub mod Machines
+pub mod Told
