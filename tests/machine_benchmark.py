@@ -1,0 +1,107 @@
+#!/usr/bin/env python3
+"""How fast the C machine is, through `exec`: turns and statements a second, and how loading grows with a text. It isn't part of
+.ci/run, and wants a program that was built for speed.
+
+usage: machine_benchmark.py PROGRAM
+
+1. A loop over the bytes of an array, five statements a turn, for a million turns: two seconds are the aim.
+2. Texts that grow in one way, by steps of two, up to a mebibyte: functions, labels, cases, names of one function, operands, links of
+   `->`, and `else if`s. For each step comes the exponent of its growth, 1.00 being in proportion; what passes 1.10 at the last step is
+   told as too much. What is counted is instructions where valgrind is there, else the least seconds of three runs. The cost of the
+   shortest text is taken off.
+"""
+import math
+import pathlib
+import re
+import shutil
+import subprocess
+import sys
+import tempfile
+import time
+
+MOST_EXPONENT = 1.10
+PACKAGE = """pub struct m!()
+pub func m.f!(n: base.u32) base.u32 {
+    return 0
+}
+"""
+FRONT = """#include <stddef.h>
+#include <stdint.h>
+#include <string.h>
+typedef struct { uint8_t* ptr; size_t len; size_t wi; size_t ri; uint64_t pos; _Bool closed; } wuffs_base__io_buffer;
+typedef struct { uint32_t n; uint8_t cells[256]; } wuffs_m__m;
+const char* wuffs_m__m__initialize(wuffs_m__m* self) { self->n = 0; return 0; }
+"""
+LOOP = """static uint32_t turns(wuffs_m__m* self, uint32_t n) {
+  uint32_t i = 0; uint8_t c = 0; uint32_t sum = 0;
+  while ((i < n)) {
+    c = self->cells[(i & 255)];
+    c = (c + 1);
+    self->cells[(i & 255)] = c;
+    sum = (sum + c);
+    i = (i + 1);
+  }
+  return sum;
+}
+uint32_t wuffs_m__m__f(wuffs_m__m* self, uint32_t a_n) { uint32_t got = 0; got = turns(self, a_n); return got; }
+"""
+STATEMENTS_A_TURN = 5
+
+
+def entry(body, locals_=""):
+    return f"uint32_t wuffs_m__m__f(wuffs_m__m* self, uint32_t a_n) {{ uint32_t x = 0; {locals_} {body} return x; }}\n"
+
+
+SHAPES = {
+    "functions": lambda n: "".join(f"static uint32_t f{i}(uint32_t a) {{ return (a + {i}); }}\n" for i in range(n)) + entry(""),
+    "labels": lambda n: entry(" ".join(f"if ((a_n == {i})) {{ goto l{i}; }}" for i in range(n)) + " ".join(f"l{i}: ;" for i in range(n))),
+    "cases": lambda n: entry("switch (a_n) { " + " ".join(f"case {i}: ;" for i in range(n)) + " }"),
+    "names": lambda n: entry(" ".join(f"v{i} = x;" for i in range(n)), " ".join(f"uint32_t v{i} = 0;" for i in range(n))),
+    "operands": lambda n: entry("x = (" + " + ".join(["a_n"] * n) + ");"),
+    "calls": lambda n: "static uint32_t g(uint32_t a) { return a; }\n" + entry(" ".join(["x = g(x);"] * n)),
+    "else ifs": lambda n: entry("if (a_n) { }" + "".join([f" else if ((a_n == {i})) {{ x = {i}; }}" for i in range(n)])),
+    "statements": lambda n: entry(" ".join(["x = (x + a_n);"] * n)),
+}
+
+
+def run(program, folder, text, n, counts):
+    (folder / "m.wuffs").write_text(PACKAGE)
+    (folder / "m.c").write_text(FRONT + text)
+    (folder / "script").write_text(f"new r m\ninit r\nturns 10000000\ncall r.f n={n}\n")
+    words = [program, "exec", "m", "script", "m.c", "m.wuffs"]
+    if counts:
+        words = ["valgrind", "--tool=callgrind", f"--callgrind-out-file={folder}/out", *words]
+    began = time.monotonic()
+    ran = subprocess.run(words, cwd=folder, capture_output=True, text=True)
+    took = time.monotonic() - began
+    if ran.returncode or " f " in ran.stdout:
+        sys.exit(f"exec ended with {ran.returncode}: {ran.stdout[-300:]}")
+    return int(re.search(r"Collected : (\d+)", ran.stderr)[1]) if counts else took
+
+
+def main():
+    program, too_much = str(pathlib.Path(sys.argv[1]).resolve()), 0
+    with tempfile.TemporaryDirectory() as at:
+        folder = pathlib.Path(at)
+        empty = min(run(program, folder, LOOP, 0, False) for _ in range(3))
+        took = min(run(program, folder, LOOP, 1_000_000, False) for _ in range(3)) - empty
+        print(f"a loop of {STATEMENTS_A_TURN} statements: 1,000,000 turns in {took:.2f} s, {1_000_000 / took:,.0f} turns and {STATEMENTS_A_TURN * 1_000_000 / took:,.0f} statements a second")
+        too_much |= took > 2
+        counts = shutil.which("valgrind") is not None
+        for name, shape in SHAPES.items():
+            least = run(program, folder, shape(1), 0, counts)
+            size, steps, before = 256, [], None
+            while len(FRONT + shape(size)) < 2 ** 20:
+                cost = run(program, folder, shape(size), 0, counts) - least
+                if before and before > 0 and cost > 0:
+                    steps.append(math.log2(cost / before))
+                before, size = cost, size * 2
+            said = " ".join(f"{it:.2f}" for it in steps)
+            is_too_much = bool(steps) and steps[-1] > MOST_EXPONENT
+            print(f"{name}: up to {size // 2}, {said}{'  TOO MUCH' if is_too_much else ''}")
+            too_much |= is_too_much
+    return int(too_much)
+
+
+if __name__ == "__main__":
+    sys.exit(main())
