@@ -38,7 +38,7 @@ nothing-decides p kept = by_refusal (deciding p) refl
 pub typed-made : TypedPackagesAreWellMade
 typed-made p named grammar kept = package-made p (nothing-decides p kept) named grammar
 
-package-accepted : (p : NamedPackageTree) → package_by_grammar p ≡ true → KeepsRules p → IsAccepted (name_of_local p) (typed_package p)
+pub package-accepted : (p : NamedPackageTree) → package_by_grammar p ≡ true → KeepsRules p → IsAccepted (name_of_local p) (typed_package p)
 unfolding bounds_refusal
 package-accepted p grammar keeps = record {
   typed = package-keeps p (nothing-decides p keeps.types) keeps.named grammar;

@@ -49,21 +49,21 @@ set-other (z ∷ xs) (suc i) zero x h = refl
 set-other (z ∷ xs) (suc i) (suc j) x h = set-other xs i j x (λ e. h (ap suc e))
 
 module _ (local_at : ℕ → ℕ → Place) (p : PackageTree) (accepted : IsAccepted local_at p) (receivers : List Receiver) where
-  abbrev ReceiverLawful : Option (List Object) → ℕ → Type 0
+  abbrev pub ReceiverLawful : Option (List Object) → ℕ → Type 0
   ReceiverLawful None s = Unit {0}
   ReceiverLawful (Some objects) s = (structs : List ℕ) × (slice_get structs 0 ≡ Some s) × ObjectsLawful p structs objects
 
-  record Stood (state : SourceState) (r : ℕ) (receiver : Receiver) : Type 0 where
-    of : Option (List Object)
-    is : slice_get state r ≡ Some of
-    lawful : ReceiverLawful of receiver.struct_number
+  pub record Stood (state : SourceState) (r : ℕ) (receiver : Receiver) : Type 0 where
+    pub of : Option (List Object)
+    pub is : slice_get state r ≡ Some of
+    pub lawful : ReceiverLawful of receiver.struct_number
 
-  record IsStanding (lens : List ℕ) (buffers : ℕ) (state : SourceState) (h : Host) : Type 0 where
-    each : (r : ℕ) (receiver : Receiver) → slice_get receivers r ≡ Some receiver → Stood state r receiver
-    host : HostLawful p lens buffers h
-    short : (a len : ℕ) → slice_get lens a ≡ Some len → len < 2 ^ 64
+  pub record IsStanding (lens : List ℕ) (buffers : ℕ) (state : SourceState) (h : Host) : Type 0 where
+    pub each : (r : ℕ) (receiver : Receiver) → slice_get receivers r ≡ Some receiver → Stood state r receiver
+    pub host : HostLawful p lens buffers h
+    pub short : (a len : ℕ) → slice_get lens a ≡ Some len → len < 2 ^ 64
 
-  abbrev Answers : (lens : List ℕ) → (buffers : ℕ) → Response (SourceState × Host) → Type 0
+  abbrev pub Answers : (lens : List ℕ) → (buffers : ℕ) → Response (SourceState × Host) → Type 0
   Answers lens buffers (answers a after) = IsStanding lens buffers after.0 after.1
   Answers lens buffers needs_more = Unit {0}
   Answers lens buffers not_defined = ⊥
@@ -101,13 +101,13 @@ module _ (local_at : ℕ → ℕ → Place) (p : PackageTree) (accepted : IsAcce
       }
 
   -- What a call means.
-  record CallFound (buffers arrays : ℕ) (it : HostCall) : Type 0 where
-    receiver : Receiver
-    at : slice_get receivers it.receiver ≡ Some receiver
-    m : MethodTree
-    numbered : slice_get p.methods it.method ≡ Some m
-    of : m.of ≡ receiver.struct_number
-    fits : FitKinds buffers arrays (kinds_of m.args) it.args
+  pub record CallFound (buffers arrays : ℕ) (it : HostCall) : Type 0 where
+    pub receiver : Receiver
+    pub at : slice_get receivers it.receiver ≡ Some receiver
+    pub m : MethodTree
+    pub numbered : slice_get p.methods it.method ≡ Some m
+    pub of : m.of ≡ receiver.struct_number
+    pub fits : FitKinds buffers arrays (kinds_of m.args) it.args
 
   module _ (buffers arrays : ℕ) (it : HostCall) where
     abbrev Fit : PublicMethod → Type 0
@@ -127,7 +127,7 @@ module _ (local_at : ℕ → ℕ → Place) (p : PackageTree) (accepted : IsAcce
     found-struct receiver at None e f = absurd f
     found-struct receiver at (Some s) e f = found-method receiver at s (struct-found p.methods 0 p.structs receiver.struct_number s e) (method_numbered it.method s) refl f
 
-    call-found : IsSomeAnd (called_method (surface_of p) receivers it) Fit → CallFound buffers arrays it
+    pub call-found : IsSomeAnd (called_method (surface_of p) receivers it) Fit → CallFound buffers arrays it
     unfolding surface_of
     call-found f = by (slice_get receivers it.receiver) refl f
       where
@@ -200,12 +200,12 @@ module _ (local_at : ℕ → ℕ → Place) (p : PackageTree) (accepted : IsAcce
       arrays a len e = let it = array a len e in (it.0, it.1, it.2, (all-at IsByteArray strings a it.0 bytes it.1).0)
 
   -- One action.
-  record Acted (lens : List ℕ) (buffers : ℕ) (state : SourceState) (h : Host) (action : HostAction Buffer) : Type 0 where
-    now : List ℕ
-    long : length now ≡ arrays_behind action (length lens)
-    stands : Answers now (buffers_behind action buffers) (act (source_steps p) state h action)
+  pub record Acted (lens : List ℕ) (buffers : ℕ) (state : SourceState) (h : Host) (action : HostAction Buffer) : Type 0 where
+    pub now : List ℕ
+    pub long : length now ≡ arrays_behind action (length lens)
+    pub stands : Answers now (buffers_behind action buffers) (act (source_steps p) state h action)
 
-  acted : (lens : List ℕ) (buffers : ℕ) (state : SourceState) (h : Host) (action : HostAction Buffer) → MayAct (surface_of p) receivers buffers (length lens) action → IsStanding lens buffers state h → Acted lens buffers state h action
+  pub acted : (lens : List ℕ) (buffers : ℕ) (state : SourceState) (h : Host) (action : HostAction Buffer) → MayAct (surface_of p) receivers buffers (length lens) action → IsStanding lens buffers state h → Acted lens buffers state h action
   acted lens buffers state h (init r within) may stands = record { now = lens; long = refl; stands = init-stands lens buffers state h r within may stands }
   acted lens buffers state h (call r method args within) may stands = record { now = lens; long = refl; stands = call-stands lens buffers state h (record { receiver = r; method = method; args = args }) within may stands }
   acted lens buffers state h (put k more) may stands = record { now = lens; long = refl; stands = buffer-stands lens buffers state h k (ops.put more) may.0 (λ b fine. put-lawful more b may.1 fine) stands }
@@ -237,7 +237,7 @@ module _ (local_at : ℕ → ℕ → Place) (p : PackageTree) (accepted : IsAcce
       by now not_defined k further = absurd k
 
   -- Where it begins.
-  fresh-stands : AreDeclared (surface_of p) receivers → IsStanding [] 0 (fresh_state p receivers) empty_host
+  pub fresh-stands : AreDeclared (surface_of p) receivers → IsStanding [] 0 (fresh_state p receivers) empty_host
   unfolding surface_of
   fresh-stands declared = record {
     each = each;

@@ -1,0 +1,5 @@
+use Rattle.wf_mean_laws.proofs.SeenPackages.{read-seen}
+use Rattle.wf_mean_laws.proofs.laws.a_read_package_that_keeps_the_rules_shows_its_source.Goals as goal
+
+pub returns : goal.returns
+returns c = read-seen
