@@ -1,3 +1,4 @@
+pub mod ByVerdict
 pub mod JudgingLemmas
 pub mod OrderLemmas
 pub mod RefusalFiles

@@ -127,3 +127,21 @@ IsAnswered asked old new InputFault = ⊥
 IsAnswered asked old new OutputFault = ⊥
 IsAnswered asked old new NoMemory = Keeps old new
 IsAnswered asked old new ending = WritesLine asked old new ending
+
+-- The inputs tell what each of the names holds.
+abbrev pub AreTold : (held : List ℕ → Option (List ℕ)) → (names files : List (List ℕ)) → Type 0
+AreTold held [] [] = ⊤
+AreTold held (name ∷ names) (bytes ∷ files) = (held name ≡ Some bytes) × AreTold held names files
+AreTold held _ _ = ⊥
+
+-- The ending is that of the package's verdict, and the verdict's line is written.
+pub record IsByVerdict (asked : ToCheck) (files : List (List ℕ)) (old new : Option (List ℕ)) (ending : Ending) : Type 0 where
+  pub accepted : (methods : ℕ) → IsAccepted asked.package_name files methods → (ending ≡ Done) × Appends old new (accepted_line methods)
+  pub refused : (refusal : Refusal) → IsRefused asked.package_name files refusal → (ending ≡ Refused) × Appends old new (refused_line (file_name asked.files refusal.at.file) refusal)
+
+-- Where the words are a command form, the inputs tell what its files hold, no fault is counted and memory isn't refused, the
+-- program answers the package's verdict.
+abbrev pub AnswersAreVerdicts : Type 0
+AnswersAreVerdicts =
+    (asked : Asked) (check : ToCheck) (files : List (List ℕ)) (old new : Option (List ℕ)) (ending : Ending) → to_check asked.words ≡ Some check → AreTold asked.held check.files files
+    → IsAnswered asked old new ending → (ending ≡ NoMemory → ⊥) → IsByVerdict check files old new ending

@@ -118,11 +118,9 @@ pub record VerdictsExclude : Type 0 where
   pub one_count : (name : List ℕ) (files : List (List ℕ)) (methods other : ℕ) → IsAccepted name files methods → IsAccepted name files other → methods ≡ other
   pub one_refusal : (name : List ℕ) (files : List (List ℕ)) (refusal other : Refusal) → IsRefused name files refusal → IsRefused name files other → refusal ≡ other
 
--- A package that is read from files within the limits, and keeps the rules of names, is accepted or refused.
-abbrev pub NamedHaveVerdicts : Type 0
-NamedHaveVerdicts =
-    (name : List ℕ) (files : List (List ℕ)) (read : Parsed) → too_large files ≡ None → IsParsed name files read → KeepsNames read
-    → IsAccepted name files (method_count read) ⊎ ((refusal : Refusal) × IsRefused name files refusal)
+-- Every package is accepted or refused, whatever its name and its files.
+abbrev pub VerdictsExist : Type 0
+VerdictsExist = (name : List ℕ) (files : List (List ℕ)) → ((methods : ℕ) × IsAccepted name files methods) ⊎ ((refusal : Refusal) × IsRefused name files refusal)
 
 -- A refusal stands in one of the package's files.
 abbrev pub RefusalsHaveFiles : Type 0

@@ -1,16 +1,17 @@
 // The laws of the verdict. Each is the contract of a function that does nothing.
 
+ghost use Rattle.wf_tool.specs.Answer.{AnswersAreVerdicts};
 ghost use Rattle.wf_tool.specs.Soundness.{AcceptedAreNeverStuck};
-ghost use Rattle.wf_tool.specs.Verdict.{NamedHaveVerdicts, RefusalsHaveFiles, VerdictsExclude};
+ghost use Rattle.wf_tool.specs.Verdict.{RefusalsHaveFiles, VerdictsExclude, VerdictsExist};
 
 /// A package isn't both accepted and refused, and is refused by one rule at one place.
 pub fn one_verdict()
     ensures { VerdictsExclude }
 {}
 
-/// A package that is read from files within the limits, and keeps the rules of names, is accepted or refused.
-pub fn named_packages_have_verdicts()
-    ensures { NamedHaveVerdicts }
+/// Every package is accepted or refused: for each name and each list of files there is a verdict.
+pub fn a_verdict_exists()
+    ensures { VerdictsExist }
 {}
 
 /// An accepted package is never stuck: with receivers of its public structs, no action of a host leads to a step that leaves
@@ -23,4 +24,10 @@ pub fn an_accepted_package_is_never_stuck()
 /// A refusal stands in one of the package's files.
 pub fn a_refusal_has_its_file()
     ensures { RefusalsHaveFiles }
+{}
+
+/// What the clause `answered` of `wuffs_tool` says is the package's verdict: where the words are a command form, the inputs tell
+/// what its files hold, no fault is counted and memory isn't refused, the ending is the verdict's and its line is written.
+pub fn an_answer_is_the_verdict()
+    ensures { AnswersAreVerdicts }
 {}

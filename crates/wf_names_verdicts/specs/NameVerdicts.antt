@@ -1,0 +1,20 @@
+-- That the rules of names have an answer, for every package.
+use Rattle.std.specs.Prelude.{◌⊎◌, ℕ, ◌<◌, ◌≡◌, true, Bool, List, Option}
+use Rattle.wf_text.specs.declared.rules.Refusal.{Refusal}
+use Rattle.wf_text.specs.Precedence.{Decides}
+use Rattle.graphs.specs.Graphs.{Path}
+use Rattle.wf_names_rules.specs.Declarations.{Declared, Variable}
+use Rattle.wf_names_rules.specs.NameRules.{Breaks}
+use Rattle.wf_names_rules.specs.Sizes.{Take}
+
+-- Of all that a package breaks of the rules of names one refusal decides, or it breaks none of them.
+abbrev pub NamesAreDecided : Type 0
+NamesAreDecided = (d : Declared) → (found : Option Refusal) × Decides (Breaks d) found
+
+-- In a graph whose steps start at numbers below some number there is a way from one number to another, or there is none.
+abbrev pub WaysAreDecided : Type 0
+WaysAreDecided = (step : ℕ → ℕ → Bool) (n : ℕ) → ((a b : ℕ) → step a b ≡ true → a < n) → (a b : ℕ) → Path step a b ⊎ (Path step a b → ⊥)
+
+-- Fields take some number of bytes.
+abbrev pub FieldsTakeBytes : Type 0
+FieldsTakeBytes = (d : Declared) (fields : List Variable) → (n : ℕ) × Take d fields n

@@ -1,0 +1,4 @@
+pub mod Files
+pub mod Nodes
+pub mod Pieces
+pub mod Tokens
