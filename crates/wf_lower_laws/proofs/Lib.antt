@@ -1,0 +1,16 @@
+pub mod Apart
+pub mod Bodies
+pub mod Cases
+pub mod Everywhere
+pub mod Free
+pub mod Functions
+pub mod Items
+pub mod JumpLaw
+pub mod Jumps
+pub mod LabelLaw
+pub mod Labels
+pub mod Loops
+pub mod Numbers
+pub mod Straight
+pub mod Weights
+pub mod Whiles

@@ -1,0 +1,3 @@
+pub mod JumpLaw
+pub mod TurnLaw
+pub mod LabelLaw

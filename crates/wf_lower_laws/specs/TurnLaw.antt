@@ -1,0 +1,44 @@
+-- How many loops a text has, and its package.
+use Rattle.std.specs.Prelude.{◌≡◌, ℕ, ◌+◌, Bool}
+use Rattle.wf_ast.specs.TypedTree.{Block, end, plain, choose, loop}
+use Rattle.wf_ast.specs.TypedPackage.{MethodTree, PackageTree}
+use Rattle.c_text.specs.CTree.{Code, finish, nested, empty, assign, call, jump, branch, repeat, select, leave, case_label, default_label, name_label, ItemTree, function_item}
+use Rattle.wf_exprs.specs.Helpers.{saturating}
+use Rattle.wf_lower_stmts.specs.Forms.{form_of}
+use Rattle.wf_lower.specs.Bodies.{body_function, entry_function}
+use Rattle.wf_lower.specs.Unit.{initialize_function}
+
+-- The `while` statements of a block, those of the blocks in it included.
+abbrev pub whiles : Code → ℕ
+whiles finish = 0
+whiles (nested inner rest) = whiles inner + whiles rest
+whiles (empty rest) = whiles rest
+whiles (assign target value rest) = whiles rest
+whiles (call target function given rest) = whiles rest
+whiles (jump label rest) = whiles rest
+whiles (branch test body otherwise other rest) = whiles body + whiles other + whiles rest
+whiles (repeat test body rest) = 1 + whiles body + whiles rest
+whiles (select on body rest) = whiles body + whiles rest
+whiles (leave value rest) = whiles rest
+whiles (case_label n rest) = whiles rest
+whiles (default_label rest) = whiles rest
+whiles (name_label name rest) = whiles rest
+
+-- The loops of a block of the source.
+abbrev pub loops : Block → ℕ
+loops end = 0
+loops (plain site s rest) = loops rest
+loops (choose site chained c a b rest) = loops a + loops b + loops rest
+loops (loop site head body rest) = 1 + loops body + loops rest
+
+-- The function has so many.
+abbrev pub HasWhiles : ItemTree → ℕ → Type 0
+HasWhiles (function_item linkage result_type name params locals body) n = whiles body ≡ n
+HasWhiles item n = Unit {0}
+
+-- The body of a method has as many as the method; no other function has one.
+pub record LoopAlike (p : PackageTree) : Type 0 where
+  pub bodies : (m : MethodTree) → HasWhiles (body_function (form_of p m)) (loops m.body)
+  pub entries : (n : ℕ) (m : MethodTree) → HasWhiles (entry_function p n m) 0
+  pub inits : (s : ℕ) → HasWhiles (initialize_function p s) 0
+  pub helpers : (sum : Bool) (bits : ℕ) → HasWhiles (saturating sum bits) 0

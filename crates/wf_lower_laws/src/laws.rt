@@ -1,0 +1,23 @@
+// The laws of the C text of a package. Each is the contract of a function that does nothing.
+
+ghost use Rattle.wf_ast.specs.TypedPackage.{PackageTree};
+ghost use Rattle.wf_lower_laws.specs.JumpLaw.{TextsJumpForward};
+ghost use Rattle.wf_lower_laws.specs.LabelLaw.{TextsAreLabelled};
+ghost use Rattle.wf_lower_laws.specs.TurnLaw.{LoopAlike};
+
+/// Each `goto` of the text of a typed package leads to a label of its function that stands behind it. So it takes no turn, and no
+/// function goes back but by a `while`.
+pub fn jumps_lead_forward()
+    ensures { TextsJumpForward }
+{}
+
+/// The body of a method has as many `while` statements as the method has loops, and no other function of a text has any.
+pub fn methods_and_bodies_loop_alike()
+    ensures { (p : PackageTree) → LoopAlike p }
+{}
+
+/// The labels of each function of the text of a typed package differ, and each `goto` names one of them. The cases of each `switch`
+/// differ, and are numbers below 1,025, where no method has more points than it may have.
+pub fn labels_and_cases_differ()
+    ensures { TextsAreLabelled }
+{}
