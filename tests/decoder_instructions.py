@@ -4,8 +4,8 @@
 
 usage: decoder_instructions.py PROGRAM [CC]
 
-The packages are examples/packbits.wuffs (a reader and a writer), tests/decoders/rows.wuffs (slices) and tests/decoders/lzw.wuffs
-(tables in its struct), those by hand tests/decoders/*_by_hand.c. Both get the same bytes in the same pieces and have to give the
+The packages are packbits.wuffs (a reader and a writer), rows.wuffs (slices) and lzw.wuffs (tables in its struct) of tests/decoders,
+those by hand *_by_hand.c beside them. Both get the same bytes in the same pieces and have to give the
 same output. Prints a line for each, with the factor, and ends with 1 where an output differs or a factor is above 1.25. It isn't
 part of .ci/run, and ends with 0 where gcc or valgrind is missing.
 """
@@ -151,7 +151,7 @@ def coded(random_):
 def cases():
     random_ = random.Random(7)
     return [
-        ("packbits", ROOT / "examples" / "packbits.wuffs", STREAM, STREAM_MAIN, "wuffs_packbits__unpacker", "unpack", packed(random_)),
+        ("packbits", ROOT / "tests" / "decoders" / "packbits.wuffs", STREAM, STREAM_MAIN, "wuffs_packbits__unpacker", "unpack", packed(random_)),
         ("rows", ROOT / "tests" / "decoders" / "rows.wuffs", ROWS, ROWS_MAIN, "wuffs_rows__rows", "", random_.randbytes(200_000)),
         ("lzw", ROOT / "tests" / "decoders" / "lzw.wuffs", STREAM, STREAM_MAIN, "wuffs_lzw__lzw", "decode", coded(random_)),
     ]

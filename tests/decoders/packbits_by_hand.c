@@ -1,5 +1,5 @@
 /* PackBits as somebody would write it by hand in C, resumable at each byte of input and output. It has the names and the behaviour of
-   the C text of examples/packbits.wuffs, but that the receiver isn't looked at. */
+   the C text of packbits.wuffs, but that the receiver isn't looked at. */
 #include <stddef.h>
 #include <stdint.h>
 #include <string.h>
@@ -32,7 +32,7 @@ const char* wuffs_packbits__unpacker__unpack(wuffs_packbits__unpacker* self, wuf
     switch (state) {
       case START:
         if (from == from_end) {
-          status = src->closed ? 0 : "$base: short read";
+          status = "$base: short read";
           goto out;
         }
         byte = *from++;
@@ -47,7 +47,7 @@ const char* wuffs_packbits__unpacker__unpack(wuffs_packbits__unpacker* self, wuf
       case LITERALS:
         while (left) {
           if (from == from_end) {
-            status = src->closed ? "#packbits: cut in the middle" : "$base: short read";
+            status = "$base: short read";
             goto out;
           }
           if (to == to_end) {
@@ -62,7 +62,7 @@ const char* wuffs_packbits__unpacker__unpack(wuffs_packbits__unpacker* self, wuf
         break;
       case REPEATED:
         if (from == from_end) {
-          status = src->closed ? "#packbits: cut in the middle" : "$base: short read";
+          status = "$base: short read";
           goto out;
         }
         byte = *from++;
