@@ -1,5 +1,5 @@
 -- A package that keeps the rules of names, of types and of facts shows its source.
-use Rattle.std.proofs.Common.{◌≡◌, ℕ, List, [], Some, None, refl, sym, ap, ◌∙◌, subst}
+use Rattle.std.proofs.Common.{◌≡◌, ℕ, List, [], Some, sym, ap, subst}
 use Rattle.std.specs.Prelude.{slice_get}
 use Rattle.wf_ast.specs.TypedPackage.{PackageTree, package_of}
 use Rattle.wf_named.specs.NamedParts.{named_package}
@@ -8,7 +8,6 @@ use Rattle.wf_names_laws.proofs.PackageLaws.{package-named}
 use Rattle.wf_parse.specs.Parsing.{decls_of}
 use Rattle.wf_names_resolve.specs.Package.{resolved_package}
 use Rattle.wf_typed_tree.specs.ElaboratedPackage.{typed_package}
-use Rattle.wf_typed_tree.specs.Grammar.{package_by_grammar}
 use Rattle.wf_typed_tree.proofs.Agreement.{typed-statuses}
 use Rattle.wf_read_laws.proofs.ReadPackages.{packages_resolve_by_grammar}
 use Rattle.wf_bounds_stmts.specs.MethodRules.{local_at}
