@@ -1,7 +1,11 @@
 pub mod Apart
 pub mod Bodies
+pub mod OpenBrackets
+pub mod BracketLaw
 pub mod Cases
+pub mod CodeBrackets
 pub mod Everywhere
+pub mod ExprBrackets
 pub mod Free
 pub mod Functions
 pub mod Items

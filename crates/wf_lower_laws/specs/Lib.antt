@@ -1,3 +1,4 @@
 pub mod JumpLaw
 pub mod TurnLaw
 pub mod LabelLaw
+pub mod BracketLaw

@@ -1,6 +1,7 @@
 // The laws of the C text of a package. Each is the contract of a function that does nothing.
 
 ghost use Rattle.wf_ast.specs.TypedPackage.{PackageTree};
+ghost use Rattle.wf_lower_laws.specs.BracketLaw.{TextsAreShallow};
 ghost use Rattle.wf_lower_laws.specs.JumpLaw.{TextsJumpForward};
 ghost use Rattle.wf_lower_laws.specs.LabelLaw.{TextsAreLabelled};
 ghost use Rattle.wf_lower_laws.specs.TurnLaw.{LoopAlike};
@@ -20,4 +21,10 @@ pub fn methods_and_bodies_loop_alike()
 /// differ, and are numbers below 1,025, where no method has more points than it may have.
 pub fn labels_and_cases_differ()
     ensures { TextsAreLabelled }
+{}
+
+/// No text opens a bracket where 512 are open, as the reader of C texts counts them: where in no method more than 49 parts stand
+/// inside one another, each but the outermost in brackets of its own, as 48 open brackets allow.
+pub fn texts_open_few_brackets()
+    ensures { TextsAreShallow }
 {}
