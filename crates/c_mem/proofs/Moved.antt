@@ -1,5 +1,5 @@
 -- Cells that are moved.
-use Rattle.std.proofs.Common.{◌≡◌, ℕ, zero, suc, ◌+◌, ◌-◌, ◌≤◌, Bool, true, false, List, [], ◌∷◌, ◌++◌, length, take, drop, Option, Some, None, refl, sym, subst, ap, ◌∙◌, arith}
+use Rattle.std.proofs.Common.{inl, inr, ◌≡◌, ℕ, zero, suc, ◌+◌, ◌-◌, ◌≤◌, Bool, true, false, List, [], ◌∷◌, ◌++◌, length, take, drop, Option, Some, None, refl, sym, subst, ap, ◌∙◌, arith}
 use Rattle.std.specs.Prelude.{if◌then◌else◌, ◌&&◌, nat_eq, nat_le, slice_get, slice_set, slice_range, option_map, option_and_then, unwrap_or}
 use Rattle.std.specs.List.{list_all, copy_within}
 use Rattle.std.proofs.lemmas.List.{append_assoc, take-append-drop, set-set}
@@ -10,55 +10,51 @@ use Rattle.c_meaning.specs.CMemory.{Field, cells, part, Object, Memory, field_at
 use Rattle.c_meaning.specs.declared.values.Pointer.{Pointer}
 use Rattle.c_mem.specs.Leaving.{Leaves}
 use Rattle.c_mem.proofs.Passing.{equal_or_not}
-use Rattle.c_mem.specs.Moving.{counted, count_moved, paste_cells, pasted, PastesIn, moved_field, moved_at, moved_from, same_field, Swaps}
+use Rattle.c_mem.specs.Moving.{counted, count_moved, paste_cells, pasted, PastesCells, PastesIn, moved_field, moved_at, moved_from, same_field, Swaps}
 use Rattle.c_mem.proofs.Stored.{leaves_at, leaves_same, put_back}
 
 -- std's form of the same.
-pub within_cells : (xs : List Cell) (to from count : ℕ) → copy_within xs from (from + count) to ≡ paste_cells xs to xs from count
+pub within_cells : {A : Type 0} (xs : List A) (to from count : ℕ) → copy_within xs from (from + count) to ≡ paste_cells xs to xs from count
 within_cells xs to from count =
     let n : (from + count) - from ≡ count = omega arith in
     ap (λ (m : ℕ). (take to xs ++ take ((from + count) - from) (drop from xs)) ++ drop (to + m) xs) n
     ∙ append_assoc (take to xs) (take ((from + count) - from) (drop from xs)) (drop (to + count) xs)
 
 -- What is counted is there.
-fits_both : (to from count : ℕ) (target source : List Cell) (b c : Bool) (n : ℕ)
-    → (if b && (nat_le (from + count) (length source) && (nat_le (to + count) (length target) && c)) then Some count else None) ≡ Some n → (to + n ≤ length target) × (from + n ≤ length source)
-fits_both to from count target source false c n e = absurd (cc (e))
-fits_both to from count target source true c n e = by_first (nat_le (from + count) (length source)) (nat_le (to + count) (length target)) refl refl e
-  where
-    by_first : (p q : Bool) → nat_le (from + count) (length source) ≡ p → nat_le (to + count) (length target) ≡ q → (if p && (q && c) then Some count else None) ≡ Some n → (to + n ≤ length target) × (from + n ≤ length source)
-    by_first false q a b h = absurd (cc (h))
-    by_first true false a b h = absurd (cc (h))
-    by_first true true a b h = by_last c h
-      where
-        by_last : (d : Bool) → (if d then Some count else None) ≡ Some n → (to + n ≤ length target) × (from + n ≤ length source)
-        by_last false k = absurd (cc (k))
-        by_last true k =
-            let m : count ≡ n = cc (k) in
-            let x : to + count ≤ length target = grind (arith, nat_tests, b) in
-            let y : from + count ≤ length source = grind (arith, nat_tests, a) in
-            (omega (arith, x, m), omega (arith, y, m))
-
-counted_fits : (type : CellType) (target : List Cell) (to : ℕ) (source_type : CellType) (source : List Cell) (from bytes n : ℕ) → counted type target to source_type source from bytes ≡ Some n → (to + n ≤ length target) × (from + n ≤ length source)
+counted_fits : (type : CellType) (target : List Cell) (to : ℕ) (source_type : CellType) (source : List Cell) (from bytes n : ℕ) → counted type target to source_type source from bytes ≡ Some n → PastesCells type target to source_type source from n
 counted_fits type target to source_type source from bytes n e = by_zero (nat_eq bytes 0) e
   where
-    none_moved : (p q : Bool) → nat_le to (length target) ≡ p → nat_le from (length source) ≡ q → (if p && q then Some 0 else None) ≡ Some n → (to + n ≤ length target) × (from + n ≤ length source)
+    fits_both : (count : ℕ) (a p q d : Bool) → same_type type source_type ≡ a → nat_le (from + count) (length source) ≡ p → nat_le (to + count) (length target) ≡ q → list_all is_set (slice_range source from (from + count)) ≡ d
+        → (if a && (p && (q && d)) then Some count else None) ≡ Some n → PastesCells type target to source_type source from n
+    fits_both count false p q d s x y z h = absurd (cc (h))
+    fits_both count true false q d s x y z h = absurd (cc (h))
+    fits_both count true true false d s x y z h = absurd (cc (h))
+    fits_both count true true true false s x y z h = absurd (cc (h))
+    fits_both count true true true true s x y z h =
+        let m : count ≡ n = cc (h) in
+        subst (λ (k : ℕ). PastesCells type target to source_type source from k) m (record {
+          fits = grind (arith, nat_tests, y);
+          within = grind (arith, nat_tests, x);
+          all_set = inr (s, z);
+        })
+
+    none_moved : (p q : Bool) → nat_le to (length target) ≡ p → nat_le from (length source) ≡ q → (if p && q then Some 0 else None) ≡ Some n → PastesCells type target to source_type source from n
     none_moved false q a b h = absurd (cc (h))
     none_moved true false a b h = absurd (cc (h))
     none_moved true true a b h =
         let m : 0 ≡ n = cc (h) in
         let x : to ≤ length target = grind (arith, nat_tests, a) in
         let y : from ≤ length source = grind (arith, nat_tests, b) in
-        (omega (arith, x, m), omega (arith, y, m))
+        record { fits = omega (arith, x, m); within = omega (arith, y, m); all_set = inl (sym m) }
 
-    some_moved : (count : Option ℕ) → option_and_then (λ count. if same_type type source_type && (nat_le (from + count) (length source) && (nat_le (to + count) (length target) && list_all is_set (slice_range source from (from + count)))) then Some count else None) count ≡ Some n → (to + n ≤ length target) × (from + n ≤ length source)
+    some_moved : (count : Option ℕ) → option_and_then (λ count. if same_type type source_type && (nat_le (from + count) (length source) && (nat_le (to + count) (length target) && list_all is_set (slice_range source from (from + count)))) then Some count else None) count ≡ Some n → PastesCells type target to source_type source from n
     some_moved None h = absurd (cc (h))
-    some_moved (Some count) h = fits_both to from count target source (same_type type source_type) (list_all is_set (slice_range source from (from + count))) n h
+    some_moved (Some count) h = fits_both count (same_type type source_type) (nat_le (from + count) (length source)) (nat_le (to + count) (length target)) (list_all is_set (slice_range source from (from + count))) refl refl refl refl h
 
     by_zero : (b : Bool)
         → (if b then (if nat_le to (length target) && nat_le from (length source) then Some 0 else None)
         else option_and_then (λ count. if same_type type source_type && (nat_le (from + count) (length source) && (nat_le (to + count) (length target) && list_all is_set (slice_range source from (from + count)))) then Some count else None) (whole_cells source_type bytes)) ≡ Some n
-        → (to + n ≤ length target) × (from + n ≤ length source)
+        → PastesCells type target to source_type source from n
     by_zero true h = none_moved (nat_le to (length target)) (nat_le from (length source)) refl refl h
     by_zero false h = some_moved (whole_cells source_type bytes) h
 
@@ -88,7 +84,7 @@ set_elsewhere (z ∷ zs) (suc i) zero x h = refl
 set_elsewhere (z ∷ zs) (suc i) (suc j) x h = set_elsewhere zs i j x (λ e. h (ap suc e))
 
 -- What `memmove` leaves in memory, where the field that cells come to is found.
-none_pasted : (xs : List Cell) (to : ℕ) (ys : List Cell) (from : ℕ) → paste_cells xs to ys from 0 ≡ xs
+pub none_pasted : {A : Type 0} (xs : List A) (to : ℕ) (ys : List A) (from : ℕ) → paste_cells xs to ys from 0 ≡ xs
 none_pasted xs to ys from =
     let n : (from + 0) - from ≡ 0 = omega arith in
     let m : to + 0 ≡ to = omega arith in

@@ -4,3 +4,4 @@ pub mod Leaving
 pub mod MemoryViews
 pub mod Marking
 pub mod Moving
+pub mod Trading

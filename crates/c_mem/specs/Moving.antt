@@ -1,5 +1,5 @@
 -- `memmove` at one field, and at one object: the definitions of `CMemory` for these alone.
-use Rattle.std.specs.Prelude.{◌≡◌, ℕ, ◌+◌, ◌≤◌, Bool, true, false, ◌&&◌, if◌then◌else◌, nat_eq, nat_le, List, ◌++◌, length, take, drop, slice_get, slice_set, slice_range, Option, Some, None, option_map, option_and_then}
+use Rattle.std.specs.Prelude.{◌≡◌, ◌⊎◌, ℕ, ◌+◌, ◌≤◌, Bool, true, false, ◌&&◌, if◌then◌else◌, nat_eq, nat_le, List, ◌++◌, length, take, drop, slice_get, slice_set, slice_range, Option, Some, None, option_map, option_and_then}
 use Rattle.std.specs.List.{list_all}
 use Rattle.c_meaning.specs.declared.cells.CellType.{CellType}
 use Rattle.c_meaning.specs.declared.cells.Cell.{Cell}
@@ -19,7 +19,7 @@ count_moved (cells type target) to (part object) from bytes = None
 count_moved (part object) to source from bytes = None
 
 -- So many cells of one list in another.
-abbrev pub paste_cells : (target : List Cell) → (to : ℕ) → (source : List Cell) → (from count : ℕ) → List Cell
+abbrev pub paste_cells : {A : Type 0} → (target : List A) → (to : ℕ) → (source : List A) → (from count : ℕ) → List A
 paste_cells target to source from count = take to target ++ (slice_range source from (from + count) ++ drop (to + count) target)
 
 abbrev pub pasted : (target : Field) → (to : ℕ) → (source : Field) → (from count : ℕ) → Field
@@ -27,9 +27,14 @@ pasted (cells type target) to (cells source_type source) from count = cells type
 pasted (cells type target) to (part object) from count = cells type target
 pasted (part object) to source from count = part object
 
--- They are there, and so is their place.
+-- They are there, and so is their place; and they are set and of its type, or there are none.
+pub record PastesCells (type : CellType) (target : List Cell) (to : ℕ) (source_type : CellType) (source : List Cell) (from count : ℕ) : Type 0 where
+  pub fits : to + count ≤ length target
+  pub within : from + count ≤ length source
+  pub all_set : (count ≡ 0) ⊎ ((same_type type source_type ≡ true) × (list_all is_set (slice_range source from (from + count)) ≡ true))
+
 abbrev pub PastesIn : (target : Field) → (to : ℕ) → (source : Field) → (from count : ℕ) → Type 0
-PastesIn (cells type target) to (cells source_type source) from count = (to + count ≤ length target) × (from + count ≤ length source)
+PastesIn (cells type target) to (cells source_type source) from count = PastesCells type target to source_type source from count
 PastesIn (cells type target) to (part object) from count = Unit {0}
 PastesIn (part object) to source from count = Unit {0}
 

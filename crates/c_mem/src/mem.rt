@@ -24,11 +24,13 @@ pub struct Mem {
 impl Mem {
     ghost use Rattle.std.specs.Prelude.{ℕ, ◌+◌, ◌^◌, ◌<◌, [], ◌∷◌, ◌++◌, length, map, option_to_list, IfOk, IfNone, IsSome, ◌≤ℤ◌, ◌<ℤ◌, pos, negsuc};
     ghost use Rattle.c_meaning.specs.CMemory.{load, store, offset, cell_at, part_at};
-    ghost use Rattle.c_mem.specs.FieldParts.{declared_object};
+    ghost use Rattle.c_mem.specs.FieldParts.{declared_object, FitsPlace};
     ghost use Rattle.c_mem.specs.Leaving.{Leaves};
     ghost use Rattle.c_mem.specs.MemoryViews.{memory, HasRoom};
+    ghost use Rattle.c_mem.specs.Trading.{Trades};
 
-    /// The memory of these objects, each numbered by its place, with all cells unset, and with room for so many more.
+    /// The memory of these objects, each numbered by its place, and with room for so many more. Cells are unset, but two
+    /// bytes or more of a field are 0.
     pub fn reserve(alloc: Global, objects: &[ObjDecl], more: usize) -> Result<Mem, NoMemory>
         requires { length objects.now + more < 2 ^ 64 }
         ensures objects { IfOk result (λ mem. memory mem ≡ map declared_object objects.now) }
@@ -84,6 +86,7 @@ impl Mem {
 
     /// Writes the cell that a pointer names; None, and the memory is as before, outside every field (6.5.3.2p4).
     pub fn store(&mut self, p: Pointer, cell: Cell) -> Option<()>
+        requires { FitsPlace (memory self.old) p cell }
         ensures objects { Leaves (store (memory self.old) p cell) (memory self.old) result (memory self.new) }
         ensures room { (more : ℕ) → HasRoom self.old more → HasRoom self.new more }
     {
@@ -91,6 +94,22 @@ impl Mem {
             return None;
         }
         self.objects[p.object].store(p.field, p.index, cell)
+    }
+
+    /// Trades the bytes of an object that is one field of them, all set, for others, in constant time. False, and all stays,
+    /// where there is no such object.
+    pub fn swap_bytes(&mut self, object: usize, bytes: &mut Vec<u8>) -> bool
+        ensures trades { Trades (memory self.old) object bytes.old.items result (memory self.new) bytes.new.items }
+        ensures room { (more : ℕ) → HasRoom self.old more → HasRoom self.new more }
+    {
+        if object >= self.objects.len() {
+            return false;
+        }
+        if !self.objects[object].has_bytes() {
+            return false;
+        }
+        self.objects[object].swap_bytes(bytes);
+        true
     }
 
     /// The pointer so many cells on; None outside the field and one past it (6.5.6p8).

@@ -1,8 +1,10 @@
 // `memmove` (ISO/IEC 9899:1999, 7.21.2.2).
 
-ghost use Rattle.std.specs.Prelude.{◌≡◌, ℕ, ◌+◌, ◌<◌, ◌≤◌, drop, length, nat_le, IfSome, slice_get, slice_range, false};
+ghost use Rattle.std.specs.Prelude.{◌≡◌, ℕ, ◌+◌, ◌<◌, ◌≤◌, ◌&&◌, ◌||◌, if◌then◌else◌, Bool, Some, None, List, drop, length, nat_eq, nat_lt, nat_le, IfSome, slice_get, slice_range, false};
 ghost use Rattle.std.specs.List.{list_all};
-ghost use Rattle.c_meaning.specs.CMemory.{bytes_of, whole_cells, same_type, is_set, move_bytes};
+ghost use Rattle.c_meaning.specs.declared.cells.CellType.TheVariants.{U8 as u8};
+ghost use Rattle.c_meaning.specs.CMemory.{cells, bytes_of, whole_cells, same_type, is_set, move_bytes};
+ghost use Rattle.c_mem.specs.FieldViews.{byte_cells};
 ghost use Rattle.c_mem.specs.Leaving.{Leaves};
 ghost use Rattle.c_mem.specs.MemoryViews.{memory, HasRoom};
 ghost use Rattle.c_mem.specs.Moving.{counted, count_moved, moved_field, moved_at, PastesIn, pasted, paste_cells, Swaps, moved_from, same_field};
@@ -124,8 +126,58 @@ fn copy_cells(target: &mut [Cell], to: usize, source: &[Cell], from: usize, coun
     target[to..to + count].copy_from_slice(&source[from..from + count]);
 }
 
+/// Whether so many bytes may be moved from a list to another one. `set`: the source's are set.
+fn are_movable(target: u64, to: u64, source: u64, set: bool, from: u64, bytes: u64) -> bool
+    ensures { result ≡ (nat_le (to + bytes) target && (nat_le (from + bytes) source && (nat_eq bytes 0 || set))) }
+{
+    if !are_within(to, bytes, target) {
+        return false;
+    }
+    are_within(from, bytes, source) && (bytes == 0 || set)
+}
+
+/// How many bytes these are; None where `memmove` isn't defined.
+#[tactic(auto, using(crate::proofs::Bytes::counts_bytes))]
+fn count_bytes(target: u64, to: u64, source: u64, set: bool, from: u64, bytes: u64) -> Option<u64>
+    ensures { (it them : List ℕ) (b : Bool) → length it ≡ target → length them ≡ source → result ≡ counted u8 (byte_cells it b) to u8 (byte_cells them set) from bytes }
+{
+    if are_movable(target, to, source, set, from, bytes) {
+        Some(bytes)
+    } else {
+        None
+    }
+}
+
+/// The same between cells of different types: 0 bytes from a place that is there to another one.
+fn count_none(target: u64, to: u64, source: u64, from: u64, bytes: u64) -> Option<u64>
+    ensures { result ≡ (if nat_eq bytes 0 && (nat_le to target && nat_le from source) then Some 0 else None) }
+{
+    if bytes == 0 && (to <= target && from <= source) {
+        Some(0)
+    } else {
+        None
+    }
+}
+
+/// Whether bytes are set once so many that are set have come to stand among them.
+fn is_set_after(set: bool, count: u64) -> bool
+    ensures { result ≡ (set || nat_lt 0 count) }
+{
+    set || count > 0
+}
+
+/// So many bytes of one list come to stand in another.
+fn copy_bytes(target: &mut [u8], to: usize, source: &[u8], from: usize, count: usize)
+    requires target { to + count ≤ length target.old }
+    requires source { from + count ≤ length source.now }
+    ensures { target.new ≡ paste_cells target.old to source.now from count }
+{
+    target[to..to + count].copy_from_slice(&source[from..from + count]);
+}
+
 impl Field {
     /// How many cells `memmove` moves to this field, where it is defined.
+
     fn movable(&self, to: u64, source: &Field, from: u64, bytes: u64) -> Option<u64>
         ensures { result ≡ count_moved self.now to source.now from bytes }
     {
@@ -140,13 +192,33 @@ impl Field {
                     from,
                     bytes,
                 ),
+                Held::Bytes(them, _) => count_none(
+                    target.len() as u64,
+                    to,
+                    them.len() as u64,
+                    from,
+                    bytes,
+                ),
                 Held::Part(_) => None,
             },
+            Held::Bytes(target, _) => source.movable_to_bytes(target.len() as u64, to, from, bytes),
+            Held::Part(_) => None,
+        }
+    }
+
+    /// The same from this field to one of so many bytes.
+    fn movable_to_bytes(&self, target: u64, to: u64, from: u64, bytes: u64) -> Option<u64>
+        ensures { (it : List ℕ) (b : Bool) → length it ≡ target → result ≡ count_moved (cells u8 (byte_cells it b)) to self.now from bytes }
+    {
+        match &self.held {
+            Held::Cells(_, cells) => count_none(target, to, cells.len() as u64, from, bytes),
+            Held::Bytes(them, set) => count_bytes(target, to, them.len() as u64, *set, from, bytes),
             Held::Part(_) => None,
         }
     }
 
     /// Cells of another field come to stand in this one.
+    #[tactic(auto, using(crate::proofs::Bytes::copies_bytes))]
     fn paste(&mut self, to: u64, source: &Field, from: u64, count: u64)
         requires { PastesIn self.old to source.now from count }
         ensures { self.new ≡ pasted self.old to source.now from count }
@@ -160,6 +232,21 @@ impl Field {
                     from as usize,
                     count as usize,
                 ),
+                Held::Bytes(_, _) => {}
+                Held::Part(_) => {}
+            },
+            Held::Bytes(target, set) => match &source.held {
+                Held::Bytes(them, _) => {
+                    copy_bytes(
+                        target.as_mut_slice(),
+                        to as usize,
+                        them.as_slice(),
+                        from as usize,
+                        count as usize,
+                    );
+                    *set = is_set_after(*set, count);
+                }
+                Held::Cells(_, _) => {}
                 Held::Part(_) => {}
             },
             Held::Part(_) => {}
@@ -167,7 +254,7 @@ impl Field {
     }
 
     /// Cells of this field come to stand elsewhere in it.
-    #[tactic(auto, using(crate::proofs::Moved::within_cells))]
+    #[tactic(auto, using(crate::proofs::Moved::within_cells, crate::proofs::Bytes::pastes_within))]
     fn paste_within(&mut self, to: u64, from: u64, count: u64)
         requires { PastesIn self.old to self.old from count }
         ensures { self.new ≡ pasted self.old to self.old from count }
@@ -177,6 +264,11 @@ impl Field {
                 let start = from as usize;
                 let end = start + count as usize;
                 cells.as_mut_slice().copy_within(start..end, to as usize);
+            }
+            Held::Bytes(them, _) => {
+                let start = from as usize;
+                let end = start + count as usize;
+                them.as_mut_slice().copy_within(start..end, to as usize);
             }
             Held::Part(_) => {}
         }

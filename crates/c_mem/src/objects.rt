@@ -1,8 +1,9 @@
 // An object: its fields in order.
 
-ghost use Rattle.std.specs.Prelude.{◌≡◌, ◌^◌, map, IfOk, ◌≤ℤ◌, ◌<ℤ◌, pos, negsuc};
+ghost use Rattle.std.specs.Prelude.{◌≡◌, ◌^◌, true, map, IfOk, ◌≤ℤ◌, ◌<ℤ◌, pos, negsuc};
 ghost use Rattle.c_meaning.specs.CMemory.{zero_field};
-ghost use Rattle.c_mem.specs.FieldParts.{cell_at_field, load_at_field, stored_at_field, part_at_field, moved_at_field, declared_object, unset_field};
+ghost use Rattle.c_meaning.specs.CRun.{bytes_object};
+ghost use Rattle.c_mem.specs.FieldParts.{FitsObject, AreSmall, has_bytes, cell_at_field, load_at_field, stored_at_field, part_at_field, moved_at_field, declared_object, unset_field};
 ghost use Rattle.c_mem.specs.Leaving.{Leaves};
 
 use crate::decls::ObjDecl;
@@ -28,7 +29,7 @@ impl Model for Object {
 }
 
 impl Object {
-    /// An object as it is declared, with all cells unset.
+    /// An object as it is declared: cells are unset, but two bytes or more of a field are 0.
     pub fn new(alloc: Global, decl: &ObjDecl) -> Result<Object, NoMemory>
         ensures { IfOk result (λ object. object ≡ declared_object decl.now) }
     {
@@ -71,6 +72,7 @@ impl Object {
 
     /// Writes a cell of a field; None, and the object is as before, where there is none.
     pub fn store(&mut self, field: usize, index: u64, cell: Cell) -> Option<()>
+        requires { FitsObject self.old field cell }
         ensures { Leaves (stored_at_field self.old field index cell) self.old result self.new }
     {
         if field >= self.fields.len() {
@@ -88,12 +90,29 @@ impl Object {
         }
     }
 
-    /// Makes every cell unset.
+    /// Makes every cell unset. No field has more than one byte.
     pub fn unset(&mut self)
+        requires { AreSmall self.old }
         ensures { self.new ≡ map unset_field self.old }
     {
         for field in self.fields.iter_mut() {
             field.clear();
         }
+    }
+
+    /// Whether the object is one field of bytes, all set.
+    pub fn has_bytes(&self) -> bool
+        ensures { result ≡ has_bytes self.now }
+    {
+        self.fields.len() == 1 && self.fields[0].has_bytes()
+    }
+
+    /// Trades the bytes of an object that is one field of them for others, in constant time.
+    pub fn swap_bytes(&mut self, bytes: &mut Vec<u8>)
+        requires { has_bytes self.old ≡ true }
+        ensures now { self.new ≡ bytes_object bytes.old.items }
+        ensures was { self.old ≡ bytes_object bytes.new.items }
+    {
+        self.fields[0].swap_bytes(bytes);
     }
 }

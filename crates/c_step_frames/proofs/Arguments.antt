@@ -4,10 +4,12 @@ use Rattle.std.specs.Prelude.{map, ◌-◌, option_map, option_and_then, slice_g
 use Rattle.std.proofs.lemmas.List.{append_assoc, append-nil, reverse-append, take-append-drop}
 use Rattle.c_meaning.specs.declared.cells.Cell.{Cell}
 use Rattle.c_meaning.specs.declared.cells.CellType.{CellType}
+use Rattle.c_meaning.specs.declared.cells.CellType.TheVariants.{U8 as u8, U16 as u16, U32 as u32, U64 as u64, Flag as flag, Pointer as pointer}
 use Rattle.c_meaning.specs.declared.values.Value.{Value}
 use Rattle.c_meaning.specs.CMemory.{Field, cells, part, Object, cell_of}
 use Rattle.c_meaning.specs.declared.cells.Cell.TheVariants.{Unset as unset}
-use Rattle.c_mem.specs.FieldParts.{stored_in, stored_at_field, unset_field}
+use Rattle.c_mem.specs.FieldParts.{stored_in, stored_at_field, unset_field, IsSmall, AreSmall, Fits, FitsField, FitsObject}
+use Rattle.c_mem.proofs.Fitting.{converted_fits}
 use Rattle.c_mem.specs.Leaving.{Leaves}
 use Rattle.c_meaning.specs.Typed.{of_cells, field_shape, object_shape}
 use Rattle.c_step_frames.specs.Frames.{one_cell, passed_cells, unset_cells, call_object, IsOneCell, StartsWith, on_top, PassesOne}
@@ -204,6 +206,50 @@ one_unset t (cells type (c ∷ d ∷ others)) e = absurd (too_many (cc (e)))
     too_many : suc (suc (length others)) ≡ 1 → ⊥
     too_many h = absurd (omega (arith, h))
 one_unset t (part object) e = absurd (cc (e))
+
+-- It has no field of more than one byte.
+one_small : (t : CellType) (f : Field) → field_shape f ≡ of_cells t 1 → IsSmall f
+one_small t (cells type []) e = absurd (cc (e))
+one_small t (cells type (c ∷ [])) e = by_type type
+  where
+    by_type : (type : CellType) → IsSmall (cells type (c ∷ []))
+    by_type u8 = omega arith
+    by_type u16 = tt
+    by_type u32 = tt
+    by_type u64 = tt
+    by_type flag = tt
+    by_type pointer = tt
+one_small t (cells type (c ∷ d ∷ others)) e = absurd (too_many (cc (e)))
+  where
+    too_many : suc (suc (length others)) ≡ 1 → ⊥
+    too_many h = absurd (omega (arith, h))
+one_small t (part object) e = tt
+
+pub small_again : (ts : List CellType) (object : Object) → object_shape object ≡ object_shape (unset_cells ts) → AreSmall object
+small_again [] [] e = λ k d h. absurd (omega (arith, h))
+small_again [] (f ∷ fs) e = absurd (cc (e))
+small_again (t ∷ ts) [] e = absurd (cc (e))
+small_again (t ∷ ts) (f ∷ fs) e =
+    let h : field_shape f ≡ of_cells t 1 = cc (e) in
+    let k : object_shape fs ≡ object_shape (unset_cells ts) = cc (e) in
+    at_index (one_small t f h) (small_again ts fs k)
+  where
+    at_index : IsSmall f → AreSmall fs → AreSmall (f ∷ fs)
+    at_index h k zero d l = h
+    at_index h k (suc j) d l = k j d (omega (arith, l))
+
+-- An argument fits its field.
+pub passes_fit : (ts : List CellType) (fs : Object) (i : ℕ) (t : CellType) (v : Value) (cell : Cell) → StartsWith ts fs → slice_get ts i ≡ Some t → Some cell ≡ cell_of t v → FitsObject fs i cell
+passes_fit [] fs i t v cell h e f = absurd (cc (e))
+passes_fit (u ∷ ts) [] i t v cell h e f = absurd h
+passes_fit (u ∷ ts) (g ∷ fs) zero t v cell h e f = let s : u ≡ t = cc (e) in one_fits g h.0 (subst (λ (x : CellType). Fits x cell) (sym s) (converted_fits t v cell (sym f)))
+  where
+    one_fits : (g : Field) → IsOneCell u g → Fits u cell → FitsField g cell
+    one_fits (cells type []) h k = absurd h
+    one_fits (cells type (c ∷ [])) h k = subst (λ (x : CellType). Fits x cell) (sym h) k
+    one_fits (cells type (c ∷ d ∷ others)) h k = absurd h
+    one_fits (part object) h k = absurd h
+passes_fit (u ∷ ts) (g ∷ fs) (suc i) t v cell h e f = passes_fit ts fs i t v cell h.1 e f
 
 pub unset_again : (ts : List CellType) (object : Object) → object_shape object ≡ object_shape (unset_cells ts) → map unset_field object ≡ unset_cells ts
 unset_again [] [] e = refl

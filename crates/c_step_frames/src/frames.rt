@@ -2,7 +2,7 @@
 
 ghost use Rattle.std.specs.Prelude.{◌≡◌, ◌+◌, ◌++◌, ◌∷◌, [], ℕ, true, not, length, map, IfOk, OnOk, MatchBool};
 ghost use Rattle.c_meaning.specs.CMemory.{Memory, Object as ObjectOfMemory};
-ghost use Rattle.c_mem.specs.FieldParts.{declared_field, unset_field};
+ghost use Rattle.c_mem.specs.FieldParts.{declared_field, unset_field, AreSmall};
 ghost use Rattle.c_mem.specs.MemoryViews.{memory, HasRoom};
 ghost use Rattle.c_step_exprs.specs.Stacks.{on_stack, most};
 ghost use Rattle.c_step_frames.specs.Frames.{Enters, EndsWith, types_of, unset_cells};
@@ -44,8 +44,9 @@ fn declare(fields: &mut Vec<FieldDecl>, types: &[CellType]) -> Result<(), NoMemo
     Ok(())
 }
 
-/// An object once it is unset.
+/// An object once it is unset. No field has more than one byte.
 fn rested(object: Object) -> Object
+    requires { AreSmall object }
     ensures { result ≡ map unset_field object }
 {
     let mut it = object;

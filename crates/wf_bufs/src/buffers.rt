@@ -220,6 +220,16 @@ impl Buf {
         true
     }
 
+    /// Trades the cells for others, in constant time. Nothing counts as written then.
+    pub fn swap_cells(&mut self, cells: &mut Vec<u8>)
+        ensures now { self.new ≡ record self.old { cells = cells.old.items; ri = 0; wi = 0 } }
+        ensures was { cells.new.items ≡ self.old.cells }
+    {
+        std::mem::swap(&mut self.cells, cells);
+        self.ri = 0;
+        self.wi = 0;
+    }
+
     /// Sets all but the cells; false, and the buffer stays, exactly where `ri <= wi <= capacity` fails.
     pub fn place(&mut self, ri: u64, wi: u64, pos: u64, closed: bool) -> bool
         ensures lawful { result ≡ (nat_le ri wi && nat_le wi (capacity self.old)) }

@@ -145,6 +145,14 @@ impl ByteArray {
         self.cells[k as usize] = b;
         true
     }
+
+    /// Trades the bytes for others, in constant time.
+    pub fn swap_bytes(&mut self, bytes: &mut Vec<u8>)
+        ensures now { self.new ≡ bytes.old.items }
+        ensures was { bytes.new.items ≡ self.old }
+    {
+        std::mem::swap(&mut self.cells, bytes);
+    }
 }
 
 impl ByteArrays {

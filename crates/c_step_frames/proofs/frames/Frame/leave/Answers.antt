@@ -2,8 +2,13 @@ use Rattle.std.proofs.Common.{ap, refl, sym, ◌++◌, ◌∙◌}
 use Rattle.c_meaning.specs.Typed.{object_shape}
 use Rattle.c_mem.specs.MemoryViews.{memory}
 use Rattle.c_step_frames.specs.Frames.{FrameView, types_of, unset_cells}
-use Rattle.c_step_frames.proofs.Arguments.{last_one, not_empty, unset_again}
+use Rattle.c_step_frames.proofs.Arguments.{last_one, not_empty, small_again, unset_again}
 use Rattle.c_step_frames.proofs.frames.Frame.leave.Goals as goal
+
+pub rested-requires : goal.rested-requires
+rested-requires c =
+    let r = last_one (memory c.leave.new.self) c.requires.front c.in-Some.last c.requires.last (sym c.in-Some.ensures.objects ∙ c.requires.is) in
+    small_again (types_of c.args.self.now) c.in-Some.last (ap object_shape r.1 ∙ c.requires.shape)
 
 pub invariant_of-self : goal.invariant_of-self
 invariant_of-self c =
