@@ -55,7 +55,7 @@ arms_closed first second third fourth fifth front met unmet x from middle end e 
     let l4 : length ((front ++ does.Test tests.Unless (middle + 1 - from) ∷ met) ++ x ∷ []) ≡ length (front ++ does.Test tests.Unless (middle + 1 - from) ∷ met) + 1 = length-append (front ++ does.Test tests.Unless (middle + 1 - from) ∷ met) (x ∷ []) in
     let s5 : fourth ≡ ((front ++ does.Test tests.Unless (middle + 1 - from) ∷ met) ++ x ∷ []) ++ does.Skip (end - middle - 1) ∷ unmet = three ((front ++ does.Test tests.Unless (middle + 1 - from) ∷ met) ++ x ∷ []) unmet does.Stuck s4 (omega (arith, at_middle, l2, l4)) in
     let whole : ((front ++ does.Test tests.Unless (middle + 1 - from) ∷ met) ++ x ∷ []) ++ (does.Skip (end - middle - 1) ∷ (unmet ++ x ∷ [])) ≡ front ++ (does.Test tests.Unless (middle + 1 - from) ∷ ((met ++ x ∷ []) ++ does.Skip (end - middle - 1) ∷ (unmet ++ x ∷ []))) =
-        ap (λ (us : List Instr). us ++ (does.Skip (end - middle - 1) ∷ (unmet ++ x ∷ []))) (append_assoc front (does.Test tests.Unless (middle + 1 - from) ∷ met) (x ∷ [])) ∙ append_assoc front (does.Test tests.Unless (middle + 1 - from) ∷ (met ++ x ∷ [])) (does.Skip (end - middle - 1) ∷ (unmet ++ x ∷ [])) in
+    ap (λ (us : List Instr). us ++ (does.Skip (end - middle - 1) ∷ (unmet ++ x ∷ []))) (append_assoc front (does.Test tests.Unless (middle + 1 - from) ∷ met) (x ∷ [])) ∙ append_assoc front (does.Test tests.Unless (middle + 1 - from) ∷ (met ++ x ∷ [])) (does.Skip (end - middle - 1) ∷ (unmet ++ x ∷ [])) in
     let lm : length (met ++ x ∷ []) ≡ length met + 1 = length-append met (x ∷ []) in
     let lu : length (unmet ++ x ∷ []) ≡ length unmet + 1 = length-append unmet (x ∷ []) in
     let le : length first ≡ length front + suc (length met + suc (suc (length unmet))) = ap length e ∙ (length-append front (open_arms met unmet) ∙ ap (λ (n : ℕ). length front + suc n) (length-append met (does.Stuck ∷ does.Stuck ∷ unmet))) in

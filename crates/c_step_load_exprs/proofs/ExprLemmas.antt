@@ -123,9 +123,9 @@ pub arg_passed : (nodes : Nodes) (scope : Scope) (params : List CParam) (given :
     → (fits && takes_from nodes scope params given i) ≡ whole → (next && takes_from nodes scope params given (i + 1)) ≡ whole
 arg_passed nodes scope params given i fits next whole t ok within e f g h =
     let step : takes_from nodes scope params given i ≡ (fits_first (map (param_tree nodes.names) (drop i params)) (arg_type nodes scope (get_or given i no_arg_given)) && takes_from nodes scope params given (i + 1)) =
-        ap (λ (as_ : List CArg). passable (map (param_tree nodes.names) (drop i params)) (arg_types scope (args_in nodes.names (expr_of nodes) as_))) (unroll given i no_arg_given within)
-        ∙ (ap (passable (map (param_tree nodes.names) (drop i params))) (type_first nodes scope (get_or given i no_arg_given) (drop (i + 1) given))
-        ∙ passes_first nodes params i (arg_type nodes scope (get_or given i no_arg_given)) (arg_types scope (args_in nodes.names (expr_of nodes) (drop (i + 1) given)))) in
+    ap (λ (as_ : List CArg). passable (map (param_tree nodes.names) (drop i params)) (arg_types scope (args_in nodes.names (expr_of nodes) as_))) (unroll given i no_arg_given within)
+    ∙ (ap (passable (map (param_tree nodes.names) (drop i params))) (type_first nodes scope (get_or given i no_arg_given) (drop (i + 1) given))
+    ∙ passes_first nodes params i (arg_type nodes scope (get_or given i no_arg_given)) (arg_types scope (args_in nodes.names (expr_of nodes) (drop (i + 1) given)))) in
     let same : ok ≡ fits_first (map (param_tree nodes.names) (drop i params)) (arg_type nodes scope (get_or given i no_arg_given)) = f ∙ ap (fits_first (map (param_tree nodes.names) (drop i params))) e in
     ap (λ (b : Bool). b && takes_from nodes scope params given (i + 1)) (g ∙ ap (λ (b : Bool). fits && b) same)
     ∙ (sym (and_assoc fits (fits_first (map (param_tree nodes.names) (drop i params)) (arg_type nodes scope (get_or given i no_arg_given))) (takes_from nodes scope params given (i + 1)))

@@ -100,14 +100,21 @@ module _ (f : Form) (n : Site → ℕ) where
       let t = case_numbers tail in
       let ea : case_numbers (lower f n a finish) ≡ map case_of (points_in a) = block_cases a finish ∙ append-nil (map case_of (points_in a)) in
       let eb : case_numbers (lower f n b finish) ≡ map case_of (points_in b) = block_cases b finish ∙ append-nil (map case_of (points_in b)) in
-      cc (ea, eb, block_cases rest tail, map_append case_of (points_in a) (points_in b ++ points_in rest), map_append case_of (points_in b) (points_in rest),
-      append_assoc (map case_of (points_in a)) (map case_of (points_in b) ++ map case_of (points_in rest)) t, append_assoc (map case_of (points_in b)) (map case_of (points_in rest)) t)
+      cc (
+        ea,
+        eb,
+        block_cases rest tail,
+        map_append case_of (points_in a) (points_in b ++ points_in rest),
+        map_append case_of (points_in b) (points_in rest),
+        append_assoc (map case_of (points_in a)) (map case_of (points_in b) ++ map case_of (points_in rest)) t,
+        append_assoc (map case_of (points_in b)) (map case_of (points_in rest)) t,
+      )
   block_cases (loop site head body rest) tail =
       let t = case_numbers tail in
       let ebody : case_numbers (lower f n body (again_here site body)) ≡ map case_of (points_in body) =
-          block_cases body (again_here site body) ∙ (ap (λ ns. map case_of (points_in body) ++ ns) (label_cases (continues site.number body) (again_label site.number) finish).0 ∙ append-nil (map case_of (points_in body))) in
+      block_cases body (again_here site body) ∙ (ap (λ ns. map case_of (points_in body) ++ ns) (label_cases (continues site.number body) (again_label site.number) finish).0 ∙ append-nil (map case_of (points_in body))) in
       let erest : case_numbers (behind_here site body (lower f n rest tail)) ≡ map case_of (points_in rest) ++ t =
-          (label_cases (breaks site.number body) (behind_label site.number) (lower f n rest tail)).0 ∙ block_cases rest tail in
+      (label_cases (breaks site.number body) (behind_label site.number) (lower f n rest tail)).0 ∙ block_cases rest tail in
       cc (ebody, erest, map_append case_of (points_in body) (points_in rest), append_assoc (map case_of (points_in body)) (map case_of (points_in rest)) t)
 
   block_defaults : (b : Block) (tail : Code) → defaults (lower f n b tail) ≡ defaults tail
@@ -176,8 +183,8 @@ switch_cases f nodes typed few i e =
     let points = points_in f.method.body in
     let ascend = points_ascend nodes typed i f.method e in
     let own : case_numbers (statements_of f) ≡ cases_from 1 (length points) =
-        block_cases f n f.method.body (tail_of f top) ∙ (ap (λ ns. map (λ site. Int (n site)) points ++ ns) (straight_cases finish (tail_of f top) (top_straight f)) ∙ (append-nil (map (λ site. Int (n site)) points)
-        ∙ in_order n points 1 (λ j site h. numbered points ascend j site h))) in
+    block_cases f n f.method.body (tail_of f top) ∙ (ap (λ ns. map (λ site. Int (n site)) points ++ ns) (straight_cases finish (tail_of f top) (top_straight f)) ∙ (append-nil (map (λ site. Int (n site)) points)
+    ∙ in_order n points 1 (λ j site h. numbered points ascend j site h))) in
     let all : Int 0 ∷ case_numbers (statements_of f) ≡ cases_from 0 (suc (length points)) = ap (λ ns. Int 0 ∷ ns) own in
     let none : 0 + defaults (statements_of f) ≡ 0 = omega (arith, block_defaults f n f.method.body (tail_of f top), straight_defaults finish (tail_of f top) (top_straight f)) in
     let P : List CNumber → Type 0 = λ ns. (plain_distinct ns && nat_le (0 + defaults (statements_of f)) 1) ≡ true in

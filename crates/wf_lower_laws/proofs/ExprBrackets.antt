@@ -392,9 +392,16 @@ module _ (names : Names) where
   by_peek a PeekU8 = by_more 2 5 _ (omega arith) (by_byte a 0)
   by_peek a PeekU16Le = by_two 4 5 Add _ _ (omega arith) (by_more 2 4 _ (omega arith) (by_byte a 0)) (by_raised 16 1 (peeked names a 1) (by_byte a 1))
   by_peek a PeekU32Le = record {
-    by = λ n m.
-        (omega (arith, m), ((by_byte a 0).by (n + 1) (omega (arith, m)), ((by_raised 32 1 (peeked names a 1) (by_byte a 1)).by (n + 1) (omega (arith, m)),
-        ((by_raised 32 2 (peeked names a 2) (by_byte a 2)).by (n + 1) (omega (arith, m)), ((by_raised 32 3 (peeked names a 3) (by_byte a 3)).by (n + 1) (omega (arith, m)), tt)))));
+    by = λ n m. (
+      omega (arith, m),
+      (
+        (by_byte a 0).by (n + 1) (omega (arith, m)),
+        (
+          (by_raised 32 1 (peeked names a 1) (by_byte a 1)).by (n + 1) (omega (arith, m)),
+          ((by_raised 32 2 (peeked names a 2) (by_byte a 2)).by (n + 1) (omega (arith, m)), ((by_raised 32 3 (peeked names a 3) (by_byte a 3)).by (n + 1) (omega (arith, m)), tt)),
+        ),
+      ),
+    );
   }
 
   by_asked : (a : ℕ) (question : Question) → ExprBy 5 (asked_code names a question).code
@@ -468,9 +475,10 @@ module _ (names : Names) where
         let l = at_least_one d p.0 in
         let it = slice_by (d - 1) cells q.0 in
         let f = end_by (d - 1) from r.0 in
-        let t = end_by (d - 1) to r.1 in
-        (by_part_pointer (5 * (d - 1) + 5) (5 * d + 5) (is_array cells) _ (lowered_end names from) (omega (arith, l)) it.0 f,
-        by_part_length (5 * (d - 1) + 5) (5 * d + 5) _ (lowered_end names from) (lowered_end names to) (omega (arith, l)) it.1 f t)
+        let t = end_by (d - 1) to r.1 in (
+          by_part_pointer (5 * (d - 1) + 5) (5 * d + 5) (is_array cells) _ (lowered_end names from) (omega (arith, l)) it.0 f,
+          by_part_length (5 * (d - 1) + 5) (5 * d + 5) _ (lowered_end names from) (lowered_end names to) (omega (arith, l)) it.1 f t,
+        )
 
     end_by : (d : ℕ) (e : EndTree) → end_within d e ≡ true → EndBy (5 * d + 5) (lowered_end names e)
     end_by d absent h = tt

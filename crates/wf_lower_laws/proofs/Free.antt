@@ -37,12 +37,17 @@ module _ (P : Code → Continuation → Type 0) (easy : IsEasy P)
   block_free (plain site s rest) tail k h = one site s (lower f n rest tail) k (block_free rest tail k h)
   block_free (choose site chained test a b rest) tail k h =
       let r = lower f n rest tail in
-      let y = lower f n b finish in
-      (easy.branches (lowered_cond f.names test) (lower f n a finish) (other_kind b) y r k,
-      (block_free a finish (behind y r k) tt, (block_free b finish (behind finish r k) tt, block_free rest tail k h)))
+      let y = lower f n b finish in (
+        easy.branches (lowered_cond f.names test) (lower f n a finish) (other_kind b) y r k,
+        (block_free a finish (behind y r k) tt, (block_free b finish (behind finish r k) tt, block_free rest tail k h)),
+      )
   block_free (loop site head body rest) tail k h =
       let r = if breaks site.number body then name_label (behind_label site.number) (empty (lower f n rest tail)) else lower f n rest tail in
       let x = lower f n body (again_here site body) in
-      let test = lowered_cond f.names head.cond in
-      (repeats test x r k, (block_free body (again_here site body) (again test x (behind finish r k)) (labelled (continues site.number body) (again_label site.number) finish (again test x (behind finish r k)) tt),
-      labelled (breaks site.number body) (behind_label site.number) (lower f n rest tail) k (block_free rest tail k h)))
+      let test = lowered_cond f.names head.cond in (
+        repeats test x r k,
+        (
+          block_free body (again_here site body) (again test x (behind finish r k)) (labelled (continues site.number body) (again_label site.number) finish (again test x (behind finish r k)) tt),
+          labelled (breaks site.number body) (behind_label site.number) (lower f n rest tail) k (block_free rest tail k h),
+        ),
+      )

@@ -42,9 +42,10 @@ module _ (P : Code → Continuation → Type 0) (easy : IsEasy P) (f : Form) (se
   around : (coroutine : Bool) (target value test on : ExprTree) (own : Code) → P (select on (case_label (Int 0) (empty own)) (ending f)) stop → Everywhere P own (if coroutine then behind finish (ending f) stop else stop)
       → Everywhere P (if coroutine then assign target value (when_some test (resumed f) (select on (case_label (Int 0) (empty own)) (ending f))) else own) stop
   around true target value test on own q h =
-      straight_everywhere P easy (select on (case_label (Int 0) (empty own)) (ending f)) _ (takes_number f target value test (select on (case_label (Int 0) (empty own)) (ending f))) stop
-      (q,
-      ((easy.cases (Int 0) (empty own) _, (easy.empties own _, h)), straight_everywhere P easy finish (ending f) (ending_straight f) stop tt))
+      straight_everywhere P easy (select on (case_label (Int 0) (empty own)) (ending f)) _ (takes_number f target value test (select on (case_label (Int 0) (empty own)) (ending f))) stop (
+        q,
+        ((easy.cases (Int 0) (empty own) _, (easy.empties own _, h)), straight_everywhere P easy finish (ending f) (ending_straight f) stop tt),
+      )
   around false target value test on own q h = h
 
   pub body_everywhere : (names : List (List ℕ)) (code : Code) → Everywhere P (statements_of f) (lower_trail f (number_of f.method.body) top) → Everywhere P (touched names code (body_code f)) stop

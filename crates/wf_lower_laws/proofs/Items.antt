@@ -73,8 +73,10 @@ module _ (P : ItemTree → Type 0) where
 
     pub in_unit : Each (lowered_unit p)
     unfolding lowered_unit
-    in_unit =
-        (h.structs _ _, both (struct_items p (struct_order p)) _ (in_structs (struct_order p))
-        (both (used_texts (all_functions p) 0 p.statuses) _ (in_texts (all_functions p) 0 p.statuses)
-        (both (used_helpers (all_functions p) all_saturating) (all_functions p) (in_helpers (all_functions p) all_saturating saturatings)
-        (both (initialize_functions p (struct_order p)) (method_functions p p.order) (in_inits (struct_order p)) (in_methods p.order)))))
+    in_unit = (
+      h.structs _ _,
+      both (struct_items p (struct_order p)) _ (in_structs (struct_order p))
+          (both (used_texts (all_functions p) 0 p.statuses) _ (in_texts (all_functions p) 0 p.statuses)
+          (both (used_helpers (all_functions p) all_saturating) (all_functions p) (in_helpers (all_functions p) all_saturating saturatings)
+          (both (initialize_functions p (struct_order p)) (method_functions p p.order) (in_inits (struct_order p)) (in_methods p.order)))),
+    )

@@ -43,9 +43,10 @@ leads_easy look = record {
 module _ (P : Code → Continuation → Type 0) (easy : IsEasy P) where
   point_everywhere : (f : Form) (j : ℕ) (s : Simple) (rest : Code) (k : Continuation) → Everywhere P rest k → Everywhere P (lower_point f j s rest) k
   point_everywhere f j s rest k h =
-      straight_everywhere P easy (resume_here j (awoken f j s rest)) (lower_point f j s rest) (begun_straight f j s (resume_here j (awoken f j s rest))) k
-      (easy.branches _ (case_label (Int j) (empty finish)) _ finish (awoken f j s rest) k,
-      ((easy.cases (Int j) (empty finish) _, (easy.empties finish _, tt)), (tt, straight_everywhere P easy rest (awoken f j s rest) (awoken_straight f j s rest) k h)))
+      straight_everywhere P easy (resume_here j (awoken f j s rest)) (lower_point f j s rest) (begun_straight f j s (resume_here j (awoken f j s rest))) k (
+        easy.branches _ (case_label (Int j) (empty finish)) _ finish (awoken f j s rest) k,
+        ((easy.cases (Int j) (empty finish) _, (easy.empties finish _, tt)), (tt, straight_everywhere P easy rest (awoken f j s rest) (awoken_straight f j s rest) k h)),
+      )
 
   pub simple_everywhere : (f : Form) (j : ℕ) (s : Simple) (rest : Code) (k : Continuation) → is_jump s ≡ false → Everywhere P rest k → Everywhere P (lower_simple f j s rest) k
   simple_everywhere f j s rest k e h =
@@ -124,15 +125,25 @@ module _ (f : Form) (n : Site → ℕ) (c : Context) (body : Block) (look : List
   block_leads (choose site chained cond a b rest) t s h =
       let p = (both_true (well_cond c cond) (well_block c (loops_of t) a && (well_block c (loops_of t) b && well_block c (loops_of t) rest)) h).1 in
       let q = both_true (well_block c (loops_of t) a) (well_block c (loops_of t) b && well_block c (loops_of t) rest) p in
-      let r = both_true (well_block c (loops_of t) b) (well_block c (loops_of t) rest) q.1 in
-      (tt, (block_leads a (within_if b rest t) (record { breaking = inside_then _ _ _ _ body site chained cond a b rest t s.breaking; continuing = inside_then _ _ _ _ body site chained cond a b rest t s.continuing }) q.0,
-      (block_leads b (within_if end rest t) (record { breaking = inside_else _ _ _ _ body site chained cond a b rest t s.breaking; continuing = inside_else _ _ _ _ body site chained cond a b rest t s.continuing }) r.0,
-      block_leads rest t (record { breaking = inside_behind _ _ _ _ body site chained cond a b rest t s.breaking; continuing = inside_behind _ _ _ _ body site chained cond a b rest t s.continuing }) r.1)))
+      let r = both_true (well_block c (loops_of t) b) (well_block c (loops_of t) rest) q.1 in (
+        tt,
+        (
+          block_leads a (within_if b rest t) (record { breaking = inside_then _ _ _ _ body site chained cond a b rest t s.breaking; continuing = inside_then _ _ _ _ body site chained cond a b rest t s.continuing }) q.0,
+          (
+            block_leads b (within_if end rest t) (record { breaking = inside_else _ _ _ _ body site chained cond a b rest t s.breaking; continuing = inside_else _ _ _ _ body site chained cond a b rest t s.continuing }) r.0,
+            block_leads rest t (record { breaking = inside_behind _ _ _ _ body site chained cond a b rest t s.breaking; continuing = inside_behind _ _ _ _ body site chained cond a b rest t s.continuing }) r.1,
+          ),
+        ),
+      )
   block_leads (loop site head inner rest) t s h =
       let p = (both_true (well_cond c head.cond) _ h).1 in
       let q = (both_true _ _ p).1 in
       let r = (both_true _ _ q).1 in
-      let u = both_true (well_block c (site.number ∷ loops_of t) inner) (well_block c (loops_of t) rest) r in
-      (tt, (block_leads inner (in_loop site head inner rest t) (record { breaking = inside_loop _ _ _ _ body site head inner rest t s.breaking; continuing = inside_loop _ _ _ _ body site head inner rest t s.continuing }) u.0,
-      leads_if (breaks site.number inner) (behind_label site.number) (lower f n rest (tail_of f t)) (lower_trail f n t)
-      (block_leads rest t (record { breaking = inside_after _ _ _ _ body site head inner rest t s.breaking; continuing = inside_after _ _ _ _ body site head inner rest t s.continuing }) u.1)))
+      let u = both_true (well_block c (site.number ∷ loops_of t) inner) (well_block c (loops_of t) rest) r in (
+        tt,
+        (
+          block_leads inner (in_loop site head inner rest t) (record { breaking = inside_loop _ _ _ _ body site head inner rest t s.breaking; continuing = inside_loop _ _ _ _ body site head inner rest t s.continuing }) u.0,
+          leads_if (breaks site.number inner) (behind_label site.number) (lower f n rest (tail_of f t)) (lower_trail f n t)
+              (block_leads rest t (record { breaking = inside_after _ _ _ _ body site head inner rest t s.breaking; continuing = inside_after _ _ _ _ body site head inner rest t s.continuing }) u.1),
+        ),
+      )

@@ -318,8 +318,8 @@ pub body_distinct : (f : Form) (names : List (List ℕ)) (code : Code) → apart
     → all_distinct (labels_of (touched names code (body_code f))) ≡ true
 body_distinct f names code h s =
     let e : labels_of (touched names code (body_code f)) ≡ labels_in f.method.body =
-        straight_labels (body_code f) (touched names code (body_code f)) (touches names code (body_code f))
-        ∙ (around_labels f (is_coroutine f.method.mark) (of_self (point_field f.method.name)) (num 0) resume_local resume_local (statements_of f)
-        ∙ (block_labels f (number_of f.method.body) f.method.body (tail_of f top)
-        ∙ (ap (λ ls. labels_in f.method.body ++ ls) (straight_labels finish (tail_of f top) (top_straight f)) ∙ append-nil (labels_in f.method.body)))) in
+    straight_labels (body_code f) (touched names code (body_code f)) (touches names code (body_code f))
+    ∙ (around_labels f (is_coroutine f.method.mark) (of_self (point_field f.method.name)) (num 0) resume_local resume_local (statements_of f)
+    ∙ (block_labels f (number_of f.method.body) f.method.body (tail_of f top)
+    ∙ (ap (λ ls. labels_in f.method.body ++ ls) (straight_labels finish (tail_of f top) (top_straight f)) ∙ append-nil (labels_in f.method.body)))) in
     rw e (distinct_block f.method.body h s)

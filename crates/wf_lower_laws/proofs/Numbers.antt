@@ -35,8 +35,17 @@ fewer_loops w end = omega arith
 fewer_loops w (plain site s rest) = omega (arith, fewer_loops w rest)
 fewer_loops w (choose site chained c a b rest) =
     let own = (if chained then [] else site.number ∷ []) ++ numbers_in rest in
-    omega (arith, fewer_loops w a, fewer_loops w b, fewer_loops w rest, times_append w (loops_in a) (loops_in b ++ loops_in rest), times_append w (loops_in b) (loops_in rest),
-    times_append w (numbers_in a) (numbers_in b ++ own), times_append w (numbers_in b) own, times_skipped chained w site.number (numbers_in rest))
+    omega (
+      arith,
+      fewer_loops w a,
+      fewer_loops w b,
+      fewer_loops w rest,
+      times_append w (loops_in a) (loops_in b ++ loops_in rest),
+      times_append w (loops_in b) (loops_in rest),
+      times_append w (numbers_in a) (numbers_in b ++ own),
+      times_append w (numbers_in b) own,
+      times_skipped chained w site.number (numbers_in rest),
+    )
 fewer_loops w (loop site head body rest) =
     omega (arith, fewer_loops w body, fewer_loops w rest, times_append w (loops_in body) (site.number ∷ loops_in rest), times_append w (numbers_in body) (site.number ∷ numbers_in rest))
 
@@ -123,11 +132,17 @@ has_loops nodes i m typed e = record { apart = apart_once (loops_in m.body) one;
 pub are_spelt : (b : Block) → ((w : ℕ) → has (loops_in b) w ≡ true → w < 2 ^ 64) → AreSpelt b
 are_spelt end h = tt
 are_spelt (plain site s rest) h = are_spelt rest h
-are_spelt (choose site chained c a b rest) h =
-    (are_spelt a (λ w k. h w (list_any-append (nat_eq w) (loops_in a) (loops_in b ++ loops_in rest) ∙ left_or (has (loops_in a) w) (has (loops_in b ++ loops_in rest) w) k)),
-    (are_spelt b (λ w k. h w (list_any-append (nat_eq w) (loops_in a) (loops_in b ++ loops_in rest) ∙ right_or (has (loops_in a) w) (has (loops_in b ++ loops_in rest) w) (list_any-append (nat_eq w) (loops_in b) (loops_in rest) ∙ left_or (has (loops_in b) w) (has (loops_in rest) w) k))),
-    are_spelt rest (λ w k. h w (list_any-append (nat_eq w) (loops_in a) (loops_in b ++ loops_in rest) ∙ right_or (has (loops_in a) w) (has (loops_in b ++ loops_in rest) w) (list_any-append (nat_eq w) (loops_in b) (loops_in rest) ∙ right_or (has (loops_in b) w) (has (loops_in rest) w) k)))))
-are_spelt (loop site head body rest) h =
-    (h site.number (list_any-append (nat_eq site.number) (loops_in body) (site.number ∷ loops_in rest) ∙ right_or (has (loops_in body) site.number) (has (site.number ∷ loops_in rest) site.number) (left_or (nat_eq site.number site.number) (has (loops_in rest) site.number) (same_number site.number))),
-    (are_spelt body (λ w k. h w (list_any-append (nat_eq w) (loops_in body) (site.number ∷ loops_in rest) ∙ left_or (has (loops_in body) w) (has (site.number ∷ loops_in rest) w) k)),
-    are_spelt rest (λ w k. h w (list_any-append (nat_eq w) (loops_in body) (site.number ∷ loops_in rest) ∙ right_or (has (loops_in body) w) (has (site.number ∷ loops_in rest) w) (right_or (nat_eq w site.number) (has (loops_in rest) w) k)))))
+are_spelt (choose site chained c a b rest) h = (
+  are_spelt a (λ w k. h w (list_any-append (nat_eq w) (loops_in a) (loops_in b ++ loops_in rest) ∙ left_or (has (loops_in a) w) (has (loops_in b ++ loops_in rest) w) k)),
+  (
+    are_spelt b (λ w k. h w (list_any-append (nat_eq w) (loops_in a) (loops_in b ++ loops_in rest) ∙ right_or (has (loops_in a) w) (has (loops_in b ++ loops_in rest) w) (list_any-append (nat_eq w) (loops_in b) (loops_in rest) ∙ left_or (has (loops_in b) w) (has (loops_in rest) w) k))),
+    are_spelt rest (λ w k. h w (list_any-append (nat_eq w) (loops_in a) (loops_in b ++ loops_in rest) ∙ right_or (has (loops_in a) w) (has (loops_in b ++ loops_in rest) w) (list_any-append (nat_eq w) (loops_in b) (loops_in rest) ∙ right_or (has (loops_in b) w) (has (loops_in rest) w) k))),
+  ),
+)
+are_spelt (loop site head body rest) h = (
+  h site.number (list_any-append (nat_eq site.number) (loops_in body) (site.number ∷ loops_in rest) ∙ right_or (has (loops_in body) site.number) (has (site.number ∷ loops_in rest) site.number) (left_or (nat_eq site.number site.number) (has (loops_in rest) site.number) (same_number site.number))),
+  (
+    are_spelt body (λ w k. h w (list_any-append (nat_eq w) (loops_in body) (site.number ∷ loops_in rest) ∙ left_or (has (loops_in body) w) (has (site.number ∷ loops_in rest) w) k)),
+    are_spelt rest (λ w k. h w (list_any-append (nat_eq w) (loops_in body) (site.number ∷ loops_in rest) ∙ right_or (has (loops_in body) w) (has (site.number ∷ loops_in rest) w) (right_or (nat_eq w site.number) (has (loops_in rest) w) k))),
+  ),
+)

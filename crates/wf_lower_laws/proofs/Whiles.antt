@@ -58,8 +58,13 @@ block_whiles f n end tail = omega arith
 block_whiles f n (plain site s rest) tail = omega (arith, simple_whiles f (n site) s (lower f n rest tail), block_whiles f n rest tail)
 block_whiles f n (choose site chained c a b rest) tail = omega (arith, block_whiles f n a finish, block_whiles f n b finish, block_whiles f n rest tail)
 block_whiles f n (loop site head body rest) tail =
-    omega (arith, block_whiles f n body (again_here site body), label_whiles (continues site.number body) (again_label site.number) finish,
-    label_whiles (breaks site.number body) (behind_label site.number) (lower f n rest tail), block_whiles f n rest tail)
+    omega (
+      arith,
+      block_whiles f n body (again_here site body),
+      label_whiles (continues site.number body) (again_label site.number) finish,
+      label_whiles (breaks site.number body) (behind_label site.number) (lower f n rest tail),
+      block_whiles f n rest tail,
+    )
 
 around_whiles : (f : Form) (coroutine : Bool) (target value test on : ExprTree) (own : Code)
     → whiles (if coroutine then c.assign target value (when_some test (resumed f) (select on (case_label (Int 0) (empty own)) (ending f))) else own) ≡ whiles own
@@ -71,8 +76,13 @@ around_whiles f false target value test on own = refl
 body_whiles : (p : PackageTree) (m : MethodTree) → whiles (touched (own_names (form_of p m)) (body_code (form_of p m)) (body_code (form_of p m))) ≡ loops m.body
 body_whiles p m =
     let f = form_of p m in
-    omega (arith, straight_whiles (body_code f) (touched (own_names f) (body_code f) (body_code f)) (touches (own_names f) (body_code f) (body_code f)),
-    around_whiles f (is_coroutine m.mark) (of_self (point_field m.name)) (num 0) resume_local resume_local (statements_of f), block_whiles f (number_of m.body) m.body (tail_of f top), straight_whiles finish (tail_of f top) (top_straight f))
+    omega (
+      arith,
+      straight_whiles (body_code f) (touched (own_names f) (body_code f) (body_code f)) (touches (own_names f) (body_code f) (body_code f)),
+      around_whiles f (is_coroutine m.mark) (of_self (point_field m.name)) (num 0) resume_local resume_local (statements_of f),
+      block_whiles f (number_of m.body) m.body (tail_of f top),
+      straight_whiles finish (tail_of f top) (top_straight f),
+    )
 
 pub loop_alike : (p : PackageTree) → LoopAlike p
 loop_alike p = record {

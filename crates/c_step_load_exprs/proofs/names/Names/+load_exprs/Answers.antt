@@ -39,7 +39,7 @@ args-returns-clause-fits t c = args_passed c.args.self.now.scope.now.front.nodes
 pub arms-returns-in-Ok-close_arms-clause-code : goal.arms-returns-in-Ok-close_arms-clause-code
 arms-returns-in-Ok-close_arms-clause-code t c =
     let told : option_map (value_in c.args.self.now.scope.now.front.nodes.names) c.common.result ≡ choice_type (type_of (program_scope c.args.self.now.scope.now) (expr_of c.args.self.now.scope.now.front.nodes c.args.met.0)) (type_of (program_scope c.args.self.now.scope.now) (expr_of c.args.self.now.scope.now.front.nodes c.args.unmet.0)) =
-        c.common.ensures.0 ∙ (ap (λ (o : Option by_name.ExprType). choice_type o (option_map (value_in c.args.self.now.scope.now.front.nodes.names) c.in-Ok-other_arm.second)) c.in-Ok-value.ensures.ty.0 ∙ ap (choice_type (type_of (program_scope c.args.self.now.scope.now) (expr_of c.args.self.now.scope.now.front.nodes c.args.met.0))) c.in-Ok-other_arm.ensures.ty.0) in
+    c.common.ensures.0 ∙ (ap (λ (o : Option by_name.ExprType). choice_type o (option_map (value_in c.args.self.now.scope.now.front.nodes.names) c.in-Ok-other_arm.second)) c.in-Ok-value.ensures.ty.0 ∙ ap (choice_type (type_of (program_scope c.args.self.now.scope.now) (expr_of c.args.self.now.scope.now.front.nodes c.args.met.0))) c.in-Ok-other_arm.ensures.ty.0) in
     let type : choice_type (type_of (program_scope c.args.self.now.scope.now) (expr_of c.args.self.now.scope.now.front.nodes c.args.met.0)) (type_of (program_scope c.args.self.now.scope.now) (expr_of c.args.self.now.scope.now.front.nodes c.args.unmet.0)) ≡ Some (value_in c.args.self.now.scope.now.front.nodes.names c.in-Some.ty) = sym told ∙ ap (option_map (value_in c.args.self.now.scope.now.front.nodes.names)) c.in-Some.is in
     let from : c.len-from.result ≡ length c.args.code.now.items = omega (arith, c.len-from.ensures, c.args.code.now.ok) in
     let size : length c.value.new.code.items ≡ length c.args.code.now.items + 1 + length (value_code (program_scope c.args.self.now.scope.now) (expr_of c.args.self.now.scope.now.front.nodes c.args.met.0)) = behind_one c.args.code.now.items c.put.new.code.items c.value.new.code.items (value_code (program_scope c.args.self.now.scope.now) (expr_of c.args.self.now.scope.now.front.nodes c.args.met.0)) does.Stuck c.in-Ok.ensures c.in-Ok-value.ensures.code in
@@ -52,8 +52,8 @@ pub call-returns-in-Ok-put-clause-code : goal.call-returns-in-Ok-put-clause-code
 call-returns-in-Ok-put-clause-code t c =
     let given = rw c.as_slice.ensures at c.in-Ok.ensures.code in
     let called : call_code (function_number (program_scope c.args.self.now.scope.now).functions (bytes_at c.args.self.now.scope.now.front.nodes.names c.args.it.now.function.0)) (arg_count (args_in c.args.self.now.scope.now.front.nodes.names (expr_of c.args.self.now.scope.now.front.nodes) c.args.it.now.args)) ≡ c.call.result ∷ [] =
-        ap (λ (o : Option ℕ). call_code o (arg_count (args_in c.args.self.now.scope.now.front.nodes.names (expr_of c.args.self.now.scope.now.front.nodes) c.args.it.now.args))) (sym c.function_number-function.ensures)
-        ∙ (ap (call_code c.function_number-function.result) (args_counted c.args.self.now.scope.now.front.nodes c.args.it.now.args ∙ sym (ap length c.as_slice-in-Ok.ensures)) ∙ c.call.ensures) in
+    ap (λ (o : Option ℕ). call_code o (arg_count (args_in c.args.self.now.scope.now.front.nodes.names (expr_of c.args.self.now.scope.now.front.nodes) c.args.it.now.args))) (sym c.function_number-function.ensures)
+    ∙ (ap (call_code c.function_number-function.result) (args_counted c.args.self.now.scope.now.front.nodes c.args.it.now.args ∙ sym (ap length c.as_slice-in-Ok.ensures)) ∙ c.call.ensures) in
     both c.args.code.now.items c.args-2.new.code.items c.put.new.code.items (args_code (program_scope c.args.self.now.scope.now) (args_in c.args.self.now.scope.now.front.nodes.names (expr_of c.args.self.now.scope.now.front.nodes) c.args.it.now.args)) (call_code (function_number (program_scope c.args.self.now.scope.now).functions (bytes_at c.args.self.now.scope.now.front.nodes.names c.args.it.now.function.0)) (arg_count (args_in c.args.self.now.scope.now.front.nodes.names (expr_of c.args.self.now.scope.now.front.nodes) c.args.it.now.args))) given
     (c.in-Ok-put.ensures ∙ ap (λ (us : List Instr). c.args-2.new.code.items ++ us) (sym called))
 
