@@ -17,7 +17,7 @@ circle-at name = record { rule = N4; at = name.at }
 
 module _ (d : Declared) where
   -- A method that calls one is there.
-  caller-there : (a b : ℕ) → calls d a b ≡ true → a < length d.methods
+  pub caller-there : (a b : ℕ) → calls d a b ≡ true → a < length d.methods
   caller-there a b h = by_method (slice_get d.methods a) refl
     where
       by_method : (o : Option Method) → slice_get d.methods a ≡ o → a < length d.methods

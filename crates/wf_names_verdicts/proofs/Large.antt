@@ -50,7 +50,7 @@ flag-none test k [] i e = refl
 flag-none test k (y ∷ xs) zero e = absurd (cc e)
 flag-none test k (y ∷ xs) (suc i) e = flag-none test (suc k) xs i e
 
-mapped-at : {X Y : Type 0} (f : X → Y) (xs : List X) (i : ℕ) → slice_get (map f xs) i ≡ option_map f (slice_get xs i)
+pub mapped-at : {X Y : Type 0} (f : X → Y) (xs : List X) (i : ℕ) → slice_get (map f xs) i ≡ option_map f (slice_get xs i)
 mapped-at f [] i = refl
 mapped-at f (x ∷ xs) zero = refl
 mapped-at f (x ∷ xs) (suc i) = mapped-at f xs i

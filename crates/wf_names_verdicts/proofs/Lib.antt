@@ -1,6 +1,8 @@
+pub mod CallOrders
 pub mod Circles
 pub mod Decided
 pub mod Large
 pub mod Names
+pub mod Ranked
 pub mod Takes
 pub mod Ways

@@ -3,9 +3,12 @@ use Rattle.std.specs.Prelude.{◌⊎◌, ℕ, ◌<◌, ◌≡◌, true, Bool, Li
 use Rattle.wf_text.specs.declared.rules.Refusal.{Refusal}
 use Rattle.wf_text.specs.Precedence.{Decides}
 use Rattle.graphs.specs.Graphs.{Path}
-use Rattle.wf_names_rules.specs.Declarations.{Declared, Variable}
+use Rattle.wf_ast.specs.ParsedTree.{DeclTree}
+use Rattle.wf_names_rules.specs.Declarations.{Declared, Variable, declared}
 use Rattle.wf_names_rules.specs.NameRules.{Breaks}
 use Rattle.wf_names_rules.specs.Sizes.{Take}
+use Rattle.wf_names_resolve.specs.Package.{resolved_package}
+use Rattle.wf_names_laws.specs.Ordered.{HasOrder}
 
 -- Of all that a package breaks of the rules of names one refusal decides, or it breaks none of them.
 abbrev pub NamesAreDecided : Type 0
@@ -18,3 +21,9 @@ WaysAreDecided = (step : ℕ → ℕ → Bool) (n : ℕ) → ((a b : ℕ) → st
 -- Fields take some number of bytes.
 abbrev pub FieldsTakeBytes : Type 0
 FieldsTakeBytes = (d : Declared) (fields : List Variable) → (n : ℕ) × Take d fields n
+
+-- The methods of a package that breaks no rule of names have an order in which each stands behind those that it calls.
+abbrev pub KeptPackagesHaveAnOrder : Type 0
+KeptPackagesHaveAnOrder =
+    (name : List ℕ) (texts : List (List ℕ)) (decls : List DeclTree) → ((s : Refusal) → Breaks (declared texts decls) s → ⊥)
+    → (order : List ℕ) × HasOrder (resolved_package name texts decls order)

@@ -1,6 +1,6 @@
 // That the rules of names have an answer. Each law is the contract of a function that does nothing.
 
-ghost use Rattle.wf_names_verdicts.specs.NameVerdicts.{NamesAreDecided, WaysAreDecided, FieldsTakeBytes};
+ghost use Rattle.wf_names_verdicts.specs.NameVerdicts.{NamesAreDecided, WaysAreDecided, FieldsTakeBytes, KeptPackagesHaveAnOrder};
 
 /// In a graph whose steps start at finitely many numbers there is a way from one to another, or there is none.
 pub fn ways_are_decided()
@@ -15,4 +15,9 @@ pub fn fields_take_bytes()
 /// Of all that a package breaks of the rules of names one refusal decides, or it breaks none of them.
 pub fn names_are_decided()
     ensures { NamesAreDecided }
+{}
+
+/// The methods of a package that breaks no rule of names have an order in which each stands behind those that it calls.
+pub fn kept_packages_have_an_order()
+    ensures { KeptPackagesHaveAnOrder }
 {}

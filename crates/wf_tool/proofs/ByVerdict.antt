@@ -1,14 +1,18 @@
--- The answer is that of the package's verdict, since a package has one verdict and told names hold one list of files.
-use Rattle.std.proofs.Common.{◌≡◌, ℕ, List, [], ◌∷◌, Option, None, Some, IfSome, refl, sym, ◌∙◌, ap, subst}
+-- The answer is that of the package's verdict, since a package has one verdict and told names hold one list of files; and there
+-- is an answer, since there is a verdict.
+use Rattle.std.proofs.Common.{◌≡◌, ℕ, List, [], ◌∷◌, Option, None, Some, IfSome, refl, sym, ◌∙◌, ap, subst, ◌⊎◌, inl, inr}
 use Rattle.std.specs.Io.KnownBytes.{Appends}
 use Rattle.wf_text.specs.declared.rules.Refusal.{Refusal}
 use Rattle.wf_tool.specs.declared.ending.Ending.{Ending}
 use Rattle.wf_tool.specs.declared.ending.Ending.TheVariants.{Done, Refused, Usage, InputFault, OutputFault, ScriptRefused, NoMemory, Turns, TextRefused, Undefined}
-use Rattle.wf_tool.specs.Answer.{AreHeld, AreTold, file_name, Asked, CallsForDone, CallsForRefusal, IsAnswered, IsByVerdict, AnswersAreVerdicts}
-use Rattle.wf_tool.specs.Lines.{accepted_line, refused_line}
+use Rattle.wf_tool.specs.Answer.{AreHeld, AreTold, file_name, Asked, CallFor, CallsForDone, CallsForRefusal, IsAnswered, IsByVerdict, AnswersAreVerdicts, FilesAreTold, AnswersExist}
+use Rattle.wf_tool.specs.Lines.{accepted_line, refused_line, usage_line}
 use Rattle.wf_tool.specs.Verdict.{IsAccepted, IsRefused}
 use Rattle.wf_tool.specs.Words.{ToCheck, to_check}
+use Rattle.wf_tool.proofs.RefusalFiles.{held-file}
+use Rattle.wf_tool.proofs.SoundVerdicts.{accepted-never-stuck}
 use Rattle.wf_tool.proofs.VerdictLaws.{verdicts_exclude}
+use Rattle.wf_tool.proofs.WholeVerdicts.{verdicts_exist}
 
 -- Names that are told hold these files and no others.
 told-once : (held : List ℕ → Option (List ℕ)) (names files others : List (List ℕ)) → AreTold held names files → AreHeld held names others → others ≡ files
@@ -79,3 +83,44 @@ module _ (asked : Asked) (check : ToCheck) (files : List (List ℕ)) (old new : 
 
 pub answers-are-verdicts : AnswersAreVerdicts
 answers-are-verdicts asked check files old new ending named told h m = by-ending asked check files old new named told ending h m
+
+told-held : (held : List ℕ → Option (List ℕ)) (names files : List (List ℕ)) → AreTold held names files → AreHeld held names files
+told-held held [] [] t = tt
+told-held held [] (bytes ∷ files) t = absurd t
+told-held held (name ∷ names) [] t = absurd t
+told-held held (name ∷ names) (bytes ∷ files) t =
+    let P : Option (List ℕ) → Type 0 = λ told. IfSome told (λ known. bytes ≡ known) in
+    (subst P (sym t.0) refl, told-held held names files t.1)
+
+module _ (held : List ℕ → Option (List ℕ)) (failed : Option (List ℕ)) (words : List (List ℕ)) where
+  abbrev HasAnswer : Type 0
+  HasAnswer = (ending : Ending) × (line : List ℕ) × CallFor held failed words ending line
+
+  by-verdict : (asked : ToCheck) (files : List (List ℕ)) → to_check words ≡ Some asked → AreHeld held asked.files files
+      → ((methods : ℕ) × IsAccepted asked.package_name files methods) ⊎ ((refusal : Refusal) × IsRefused asked.package_name files refusal) → HasAnswer
+  by-verdict asked files named hold (inl v) = (
+    Done,
+    accepted_line v.0,
+    record { asked = asked; files = files; methods = v.0; named = named; hold = hold; verdict = v.1; runs = accepted-never-stuck asked.package_name files v.0 v.1; writes = refl },
+  )
+  by-verdict asked files named hold (inr v) = (
+    Refused,
+    refused_line (file_name asked.files v.0.at.file) v.0,
+    record {
+      asked = asked;
+      files = files;
+      refusal = v.0;
+      named = named;
+      hold = hold;
+      verdict = v.1;
+      there = held-file held asked.package_name asked.files files v.0 hold v.1;
+      writes = refl;
+    },
+  )
+
+  by-words : (check : Option ToCheck) → to_check words ≡ check → FilesAreTold held check → HasAnswer
+  by-words None e told = (Usage, usage_line, (e, refl))
+  by-words (Some asked) e told = by-verdict asked told.0 e (told-held held asked.files told.0 told.1) (verdicts_exist asked.package_name told.0)
+
+pub answers-exist : AnswersExist
+answers-exist held failed words told = by-words held failed words (to_check words) refl told

@@ -145,3 +145,14 @@ abbrev pub AnswersAreVerdicts : Type 0
 AnswersAreVerdicts =
     (asked : Asked) (check : ToCheck) (files : List (List ℕ)) (old new : Option (List ℕ)) (ending : Ending) → to_check asked.words ≡ Some check → AreTold asked.held check.files files
     → IsAnswered asked old new ending → (ending ≡ NoMemory → ⊥) → IsByVerdict check files old new ending
+
+-- The inputs tell what the files hold that the words name, where these are a command form.
+abbrev pub FilesAreTold : (held : List ℕ → Option (List ℕ)) → Option ToCheck → Type 0
+FilesAreTold held None = ⊤
+FilesAreTold held (Some asked) = (files : List (List ℕ)) × AreTold held asked.files files
+
+-- Such words call for an ending and a line.
+abbrev pub AnswersExist : Type 0
+AnswersExist =
+    (held : List ℕ → Option (List ℕ)) (failed : Option (List ℕ)) (words : List (List ℕ)) → FilesAreTold held (to_check words)
+    → (ending : Ending) × (line : List ℕ) × CallFor held failed words ending line

@@ -29,6 +29,6 @@ pub record NeverStuck (name : List ℕ) (files : List (List ℕ)) : Type 0 where
   pub ordered : HasSomeOrder read
   pub defined : RunsInOrder read
 
--- So it is of every package that is accepted.
+-- So it is of every package that is accepted: it has such an order, and in each it is never stuck.
 abbrev pub AcceptedAreNeverStuck : Type 0
-AcceptedAreNeverStuck = (name : List ℕ) (files : List (List ℕ)) (methods : ℕ) (accepted : IsAccepted name files methods) → RunsInOrder accepted.read
+AcceptedAreNeverStuck = (name : List ℕ) (files : List (List ℕ)) (methods : ℕ) → IsAccepted name files methods → NeverStuck name files

@@ -1,6 +1,6 @@
 // The laws of the verdict. Each is the contract of a function that does nothing.
 
-ghost use Rattle.wf_tool.specs.Answer.{AnswersAreVerdicts};
+ghost use Rattle.wf_tool.specs.Answer.{AnswersAreVerdicts, AnswersExist};
 ghost use Rattle.wf_tool.specs.Soundness.{AcceptedAreNeverStuck};
 ghost use Rattle.wf_tool.specs.Verdict.{RefusalsHaveFiles, VerdictsExclude, VerdictsExist};
 
@@ -16,7 +16,8 @@ pub fn a_verdict_exists()
 
 /// An accepted package is never stuck: with receivers of its public structs, no action of a host leads to a step that leaves
 /// its type or its bounds, within whatever number of turns, through every suspension and resumption and every interleaved,
-/// uninitialised or disabled call.
+/// uninitialised or disabled call. Its methods have an order in which each stands behind those that it calls, and so it is in
+/// each such order.
 pub fn an_accepted_package_is_never_stuck()
     ensures { AcceptedAreNeverStuck }
 {}
@@ -30,4 +31,9 @@ pub fn a_refusal_has_its_file()
 /// what its files hold, no fault is counted and memory isn't refused, the ending is the verdict's and its line is written.
 pub fn an_answer_is_the_verdict()
     ensures { AnswersAreVerdicts }
+{}
+
+/// Words call for an ending and a line, where the inputs tell what the files hold that they name.
+pub fn an_answer_exists()
+    ensures { AnswersExist }
 {}

@@ -12,5 +12,8 @@ pub mod tool;
 mod words;
 
 pub use ending::Ending;
-pub use laws::{a_refusal_has_its_file, a_verdict_exists, an_answer_is_the_verdict, one_verdict};
+pub use laws::{
+    a_refusal_has_its_file, a_verdict_exists, an_answer_exists, an_answer_is_the_verdict,
+    one_verdict,
+};
 pub use tool::wuffs_tool;
