@@ -1,26 +1,18 @@
 -- The functions of a text, statement by statement.
-use Rattle.std.proofs.Common.{◌≡◌, ℕ, suc, ◌+◌, ◌-◌, ◌^◌, Bool, true, false, List, [], ◌∷◌, ◌++◌, Option, Some, None, refl, ◌∙◌}
-use Rattle.std.specs.Prelude.{if◌then◌else◌, nat_lt, codes, map}
-use Rattle.wf_text.specs.Surface.{AnswerKind}
-use Rattle.wf_text.specs.Surface as surface
+use Rattle.std.proofs.Common.{◌≡◌, ℕ, List, [], ◌∷◌, Option, Some, None, refl, ◌∙◌}
 use Rattle.wf_base.specs.declared.marks.Mark.{Mark}
 use Rattle.wf_ast.specs.declared.types.Ty.{Ty}
 use Rattle.wf_ast.specs.declared.types.Ty.TheVariants as types
 use Rattle.wf_ast.specs.TypedPackage.{Variable, MethodTree, PackageTree, answers_of}
 use Rattle.wf_ast.specs.WellTyped.{is_coroutine, is_pure}
 use Rattle.wf_meaning.specs.SourceState.{fields_of}
-use Rattle.wf_meaning.specs.Remaining.{number_of}
-use Rattle.c_text.specs.declared.kinds.CNumber.TheVariants.{Int}
-use Rattle.c_text.specs.declared.kinds.Otherwise.TheVariants.{Nothing}
-use Rattle.c_text.specs.CTree.{ExprTree, variable, Code, finish, empty, assign, call, branch, select, leave, case_label}
-use Rattle.c_meaning.specs.CStep.{Continuation, stop, behind, Place, Label, by_name, enters_switch, find, first_of}
+use Rattle.c_text.specs.CTree.{ExprTree, Code, finish, assign}
+use Rattle.c_meaning.specs.CStep.{Continuation, behind, Place, Label, find, first_of}
 use Rattle.wf_exprs.specs.Reads.{code_reads}
-use Rattle.wf_lower_stmts.specs.Forms.{Form, when, when_some}
-use Rattle.wf_lower_stmts.specs.Lower.{ending}
-use Rattle.wf_lower.specs.Bodies.{touched, resumed, answered, answer_in, refuse, when_any, when_disabled, when_wrong, when_other, wrong_args, either_of, disable_if_marked, table, settle_if_coroutine, entry_code}
+use Rattle.wf_lower_stmts.specs.Forms.{Form, when_some}
+use Rattle.wf_lower.specs.Bodies.{touched, resumed, answered, answer_in, refuse, when_any, when_disabled, when_wrong, when_other, wrong_args, disable_if_marked, table, settle_if_coroutine, entry_code}
 use Rattle.wf_lower.specs.Unit.{initialize_part, initialize_parts, initialize_code}
-use Rattle.wf_lower_laws.proofs.Straight.{Straight, over, assigned, calling, leaving, guarded, follows, ifs, restores, restores_started, ending_straight}
-use Rattle.wf_lower_laws.proofs.Everywhere.{Everywhere, IsEasy, straight_everywhere}
+use Rattle.wf_lower_laws.proofs.Straight.{Straight, over, assigned, calling, leaving, guarded, follows, ifs, restores, restores_started}
 
 -- A label is looked for behind such statements.
 pub straight_finds : (l : Label) (rest code : Code) → Straight rest code → (k : Continuation) → find l code k ≡ find l rest k

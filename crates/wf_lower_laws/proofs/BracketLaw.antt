@@ -1,5 +1,5 @@
 -- No text opens a bracket where 512 are open.
-use Rattle.std.proofs.Common.{◌≡◌, ◌⊎◌, inl, inr, ℕ, zero, suc, ◌+◌, ◌-◌, ◌*◌, ◌^◌, ◌≤◌, ◌<◌, Bool, true, false, ◌&&◌, List, [], ◌∷◌, ◌++◌, Option, Some, None, refl, sym, subst, arith, map}
+use Rattle.std.proofs.Common.{◌≡◌, ◌⊎◌, inl, inr, ℕ, zero, suc, ◌+◌, ◌-◌, ◌^◌, ◌≤◌, Bool, true, false, List, [], ◌∷◌, ◌++◌, Option, Some, None, subst, arith}
 use Rattle.std.specs.Prelude.{if◌then◌else◌, nat_le, nat_lt, slice_get, codes}
 use Rattle.std.specs.List.{list_all, AllByRecursion}
 use Rattle.wf_text.specs.Surface as surface
@@ -18,19 +18,19 @@ use Rattle.c_text.specs.declared.kinds.COp.TheVariants.{Sub, Lt, Gt, Eq, Ne, Bot
 use Rattle.c_text.specs.declared.kinds.CUnary.TheVariants.{Not, Address}
 use Rattle.c_text.specs.CTree.{ExprTree, variable, unary, Args, expr_arg, sizeof_arg, no_arg, Code, finish, empty, select, case_label, leave, LocalTree, ItemTree, ParamTree}
 use Rattle.c_text.specs.CTree as c
-use Rattle.wf_exprs.specs.Words.{num, two, args}
+use Rattle.wf_exprs.specs.Words.{num, two}
 use Rattle.wf_exprs.specs.Reads.{code_reads}
 use Rattle.wf_exprs.specs.Helpers.{saturating, saturating_value}
-use Rattle.wf_exprs.specs.Exprs.{chained, io_code}
-use Rattle.wf_lower_stmts.specs.Forms.{Form, form_of, resume_local, status_local, is_io, place_in, end_of, when, when_some}
-use Rattle.wf_lower_stmts.specs.Lower.{lower, ending, tail_of, top}
-use Rattle.wf_lower.specs.Bodies.{params_of, io_locals, local_of, locals_of, further_locals, resume_of, only_read, touched, resumed, statements_of, body_code, fixed_locals, own_names, body_locals, body_function, refuse, refused_with, wrong_number, wrong_arg, wrong_args, either_of, when_any, when_disabled, when_wrong, when_other, disable_if_marked, table, settle_if_coroutine, answer_locals, answer_in, answered, handed, entry_code, entry_function}
+use Rattle.wf_exprs.specs.Exprs.{chained}
+use Rattle.wf_lower_stmts.specs.Forms.{Form, form_of, resume_local, status_local, is_io, when_some}
+use Rattle.wf_lower_stmts.specs.Lower.{ending, tail_of, top}
+use Rattle.wf_lower.specs.Bodies.{params_of, io_locals, local_of, locals_of, further_locals, resume_of, only_read, touched, resumed, statements_of, body_code, fixed_locals, own_names, body_locals, body_function, refuse, refused_with, wrong_number, wrong_arg, wrong_args, either_of, when_any, when_disabled, when_other, disable_if_marked, table, settle_if_coroutine, answer_locals, answer_in, answered, handed, entry_code, entry_function}
 use Rattle.wf_lower.specs.Unit.{initialize_part, initialize_parts, initialize_code, initialize_function, lowered_unit}
 use Rattle.wf_lower_laws.specs.BracketLaw.{block_within, TextsAreShallow}
-use Rattle.wf_lower_laws.proofs.OpenBrackets.{ValueOpens, CodeOpens, LocalsOpen, ItemOpens, unit_shallow}
+use Rattle.wf_lower_laws.proofs.OpenBrackets.{LocalsOpen, ItemOpens, unit_shallow}
 use Rattle.wf_lower_laws.proofs.ExprBrackets.{ExprBy, by_more, by_if, by_two, by_unary, by_choice, by_element, by_num, by_constant, by_chained, by_going, Operates, chained_operates}
 use Rattle.wf_lower_laws.proofs.CodeBrackets.{CodeBy, code_more, code_finish, code_if, code_assign, code_when, code_leave, code_call, OptionBy, EachBy, each_both, easy, place_by, end_by, restores_all_by, block_by, ending_by, top_by}
-use Rattle.wf_lower_laws.proofs.Items.{Each, each_at, in_unit}
+use Rattle.wf_lower_laws.proofs.Items.{Each, in_unit}
 
 -- ---- bodies
 
@@ -274,8 +274,9 @@ all_items (x ∷ xs) h = (h.0, all_items xs h.1)
 pub texts_are_shallow : TextsAreShallow
 texts_are_shallow p h =
     unit_shallow (lowered_unit p) (all_items (lowered_unit p) (in_unit ItemOpens p (record {
-      structs = λ fields name. tt;
-      texts = λ name bytes. tt;
+      buffer = tt;
+      structs = λ s. tt;
+      texts = λ n bytes. tt;
       helpers = helper_opens;
       inits = init_opens p;
       bodies = λ n m e. body_opens p m (within_at p.methods n m h e);

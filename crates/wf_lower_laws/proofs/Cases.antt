@@ -9,7 +9,7 @@ use Rattle.wf_text.specs.Precedence.{Decides}
 use Rattle.wf_ast.specs.declared.typed_nodes.TypedNodes.{TypedNodes}
 use Rattle.wf_ast.specs.TypedTree.{Simple, break_from, continue_in, assign, await, perform, invoke, give_back, yield, claim, Site, Block, end, plain, choose, loop}
 use Rattle.wf_ast.specs.TypedInvariant.{IsTyped, numbers_from}
-use Rattle.wf_ast.specs.TypedPackage.{MethodTree, PackageTree, package_of}
+use Rattle.wf_ast.specs.TypedPackage.{MethodTree, package_of}
 use Rattle.wf_ast.specs.WellTyped.{breaks}
 use Rattle.wf_meaning.specs.Remaining.{is_point, points_in, number_of}
 use Rattle.wf_meaning.proofs.Numbers.{numbered}
@@ -18,29 +18,29 @@ use Rattle.wf_points.specs.PointNumbers.{HasTooMany}
 use Rattle.c_text.specs.declared.kinds.CNumber.{CNumber}
 use Rattle.c_text.specs.declared.kinds.CNumber.TheVariants.{Int}
 use Rattle.c_text.specs.CTree.{Code, finish, empty, case_label, name_label}
-use Rattle.c_meaning.specs.UnitForm.{Cases, cases_of, is_other_case, plain_distinct, formed_cases}
+use Rattle.c_meaning.specs.UnitForm.{cases_of, is_other_case, plain_distinct}
 use Rattle.wf_exprs.specs.Names.{again_label, behind_label}
 use Rattle.wf_lower_stmts.specs.Forms.{Form, resume_here}
-use Rattle.wf_lower_stmts.specs.Statements.{awoken, lower_point, lower_plain, lower_simple}
+use Rattle.wf_lower_stmts.specs.Statements.{awoken, lower_point, lower_plain}
 use Rattle.wf_lower_stmts.specs.Lower.{lower, continues, again_here, behind_here, tail_of, top}
 use Rattle.wf_lower.specs.Bodies.{statements_of}
 use Rattle.wf_lower_laws.specs.LabelLaw.{IsCaseNumber, AreCases}
 use Rattle.wf_lower_laws.proofs.Straight.{Straight, over, assigned, calling, leaving, guarded, is_jump, plain_straight, begun_straight, awoken_straight, top_straight}
 
-abbrev case_numbers : Code → List CNumber
+abbrev pub case_numbers : Code → List CNumber
 case_numbers code = (cases_of code).numbers
 
-abbrev defaults : Code → ℕ
+abbrev pub defaults : Code → ℕ
 defaults code = (cases_of code).defaults
 
-straight_cases : (rest code : Code) → Straight rest code → case_numbers code ≡ case_numbers rest
+pub straight_cases : (rest code : Code) → Straight rest code → case_numbers code ≡ case_numbers rest
 straight_cases rest _ over = refl
 straight_cases rest _ (assigned target value code s) = straight_cases rest code s
 straight_cases rest _ (calling target function given code s) = straight_cases rest code s
 straight_cases rest _ (leaving value code s) = straight_cases rest code s
 straight_cases rest _ (guarded test body code t s) = ap (λ ns. ns ++ case_numbers code) (straight_cases finish body t) ∙ straight_cases rest code s
 
-straight_defaults : (rest code : Code) → Straight rest code → defaults code ≡ defaults rest
+pub straight_defaults : (rest code : Code) → Straight rest code → defaults code ≡ defaults rest
 straight_defaults rest _ over = refl
 straight_defaults rest _ (assigned target value code s) = straight_defaults rest code s
 straight_defaults rest _ (calling target function given code s) = straight_defaults rest code s
@@ -77,7 +77,7 @@ map_append g [] ys = refl
 map_append g (x ∷ xs) ys = ap (λ zs. g x ∷ zs) (map_append g xs ys)
 
 module _ (f : Form) (n : Site → ℕ) where
-  abbrev case_of : Site → CNumber
+  abbrev pub case_of : Site → CNumber
   case_of site = Int (n site)
 
   -- With a point in front, or without.
@@ -90,7 +90,7 @@ module _ (f : Form) (n : Site → ℕ) where
   here_defaults true one other m h j = h
   here_defaults false one other m h j = j
 
-  block_cases : (b : Block) (tail : Code) → case_numbers (lower f n b tail) ≡ map case_of (points_in b) ++ case_numbers tail
+  pub block_cases : (b : Block) (tail : Code) → case_numbers (lower f n b tail) ≡ map case_of (points_in b) ++ case_numbers tail
   block_cases end tail = refl
   block_cases (plain site s rest) tail =
       here (is_point s) site (points_in rest) (lower_point f (n site) s (lower f n rest tail)) (lower_plain f s (lower f n rest tail)) (case_numbers tail)
@@ -117,7 +117,7 @@ module _ (f : Form) (n : Site → ℕ) where
       (label_cases (breaks site.number body) (behind_label site.number) (lower f n rest tail)).0 ∙ block_cases rest tail in
       cc (ebody, erest, map_append case_of (points_in body) (points_in rest), append_assoc (map case_of (points_in body)) (map case_of (points_in rest)) t)
 
-  block_defaults : (b : Block) (tail : Code) → defaults (lower f n b tail) ≡ defaults tail
+  pub block_defaults : (b : Block) (tail : Code) → defaults (lower f n b tail) ≡ defaults tail
   block_defaults end tail = refl
   block_defaults (plain site s rest) tail =
       here_defaults (is_point s) (lower_point f (n site) s (lower f n rest tail)) (lower_plain f s (lower f n rest tail)) (defaults tail)

@@ -1,6 +1,6 @@
 -- How many brackets the statements of a text open.
-use Rattle.std.proofs.Common.{◌≡◌, ◌⊎◌, inl, inr, ℕ, zero, suc, ◌+◌, ◌-◌, ◌*◌, ◌/◌, ◌≤◌, ◌<◌, Bool, true, false, ◌&&◌, List, [], ◌∷◌, ◌++◌, Option, Some, None, refl, sym, subst, arith}
-use Rattle.std.specs.Prelude.{if◌then◌else◌, nat_eq, nat_le, nat_lt, slice_get, codes}
+use Rattle.std.proofs.Common.{◌≡◌, ℕ, zero, suc, ◌+◌, ◌-◌, ◌*◌, ◌/◌, ◌≤◌, Bool, true, false, ◌&&◌, List, [], ◌∷◌, ◌++◌, Option, Some, None, arith}
+use Rattle.std.specs.Prelude.{if◌then◌else◌, nat_eq, nat_le, slice_get, codes}
 use Rattle.std.specs.List.{list_all}
 use Rattle.wf_base.specs.declared.base_methods.ReadForm.{ReadForm}
 use Rattle.wf_base.specs.declared.base_methods.ReadForm.TheVariants.{ReadU8, ReadU16Be, ReadU16Le, ReadU32Be, ReadU32Le, ReadU64Be, ReadU64Le}
@@ -18,7 +18,6 @@ use Rattle.wf_meaning.specs.Remaining.{is_point}
 use Rattle.c_text.specs.declared.kinds.COp.TheVariants.{Add, Sub, Mul, Shl, Lt, Gt, Ge, Eq, Both}
 use Rattle.c_text.specs.declared.kinds.CUnary.TheVariants.{Address}
 use Rattle.c_text.specs.declared.kinds.CNumber.TheVariants.{Int}
-use Rattle.c_text.specs.declared.kinds.Otherwise.{Otherwise}
 use Rattle.c_text.specs.declared.kinds.Otherwise.TheVariants as else_is
 use Rattle.c_text.specs.CTree.{ExprTree, variable, Args, Code, finish, empty, leave, case_label, name_label, select}
 use Rattle.c_text.specs.CTree as c
@@ -26,11 +25,11 @@ use Rattle.wf_exprs.specs.Names.{Names, again_label, behind_label}
 use Rattle.wf_exprs.specs.Words.{num, two, args}
 use Rattle.wf_exprs.specs.Exprs.{Pair, given, lowered_slice, lowered_status, lowered_cond, status_constant, begins_with, io_code, place_code, end_code, there}
 use Rattle.wf_lower_stmts.specs.Forms.{Form, status_local, held_local, size_local, count_local, is_io, is_kept, keeps_started, place_in, end_of, when, put, get, save_locals, restore_locals, save_started, restore_started, give, suspend, resume_here}
-use Rattle.wf_lower_stmts.specs.Lower.{lower, continues, again_here, behind_here, other_kind, ending, ending_of, has_result, tail_of, top}
+use Rattle.wf_lower_stmts.specs.Lower.{lower, continues, again_here, other_kind, ending, ending_of, has_result, tail_of, top}
 use Rattle.wf_lower_stmts.specs.Statements.{next_byte, step_on, is_big_endian, with_byte, slice_bits, bytes_for, answer_local, is_wanted, put_into, set_slice, set_value, take_byte, take_bytes, begun_call, awoken_call, lower_written, value_codes, values_codes, receiver_code, is_passed, call_into, hand_on, put_result, handed_call, plain_call, give_status, give_value, begun, awoken, lower_point, lower_plain, lower_simple}
 use Rattle.wf_lower_laws.specs.BracketLaw.{num_within, slice_within, cond_within, value_within, target_within, awaited_within, written_within, simple_within, is_chained, block_within}
 use Rattle.wf_lower_laws.proofs.OpenBrackets.{ExprOpens, ArgsOpen, ValueOpens, CodeOpens}
-use Rattle.wf_lower_laws.proofs.ExprBrackets.{ExprBy, by_more, by_if, by_two, by_unary, by_cast, by_element, by_choice, by_num, by_path, by_byte, by_constant, by_status, by_begins, at_least_one, PairBy, num_by, slice_by, given_by, cond_by}
+use Rattle.wf_lower_laws.proofs.ExprBrackets.{ExprBy, by_more, by_if, by_two, by_unary, by_cast, by_element, by_choice, by_num, by_path, by_constant, by_status, by_begins, at_least_one, PairBy, num_by, slice_by, given_by, cond_by}
 
 pub record CodeBy (k : ℕ) (code : Code) : Type 0 where
   pub by : (n : ℕ) → n + k ≤ 512 → CodeOpens n code

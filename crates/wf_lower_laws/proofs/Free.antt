@@ -1,5 +1,5 @@
 -- What holds of every statement but a `switch` holds of all that a block is lowered to.
-use Rattle.std.proofs.Common.{◌≡◌, ℕ, Bool, true, false, List, Option, refl}
+use Rattle.std.proofs.Common.{ℕ, Bool, true, false, List, refl}
 use Rattle.std.specs.Prelude.{if◌then◌else◌}
 use Rattle.wf_ast.specs.TypedTree.{Simple, break_from, continue_in, assign, await, perform, invoke, give_back, yield, claim, Site, Block, end, plain, choose, loop}
 use Rattle.wf_ast.specs.WellTyped.{breaks}

@@ -1,7 +1,6 @@
 -- The body of a method's function, round the method's own statements.
 use Rattle.std.proofs.Common.{◌≡◌, ℕ, Bool, true, false, List, Option, Some, None, refl, ◌∙◌}
 use Rattle.std.specs.Prelude.{if◌then◌else◌}
-use Rattle.wf_ast.specs.TypedTree.{Site}
 use Rattle.wf_ast.specs.WellTyped.{is_coroutine}
 use Rattle.wf_meaning.specs.Remaining.{number_of}
 use Rattle.c_text.specs.declared.kinds.CNumber.TheVariants.{Int}

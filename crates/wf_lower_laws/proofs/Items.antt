@@ -1,13 +1,13 @@
 -- What holds of each item of a text.
-use Rattle.std.proofs.Common.{◌≡◌, ℕ, zero, suc, Bool, true, false, List, [], ◌∷◌, ◌++◌, length, Option, Some, None, refl, sym, subst}
+use Rattle.std.proofs.Common.{◌≡◌, ℕ, zero, suc, Bool, true, false, List, [], ◌∷◌, ◌++◌, Option, Some, None, refl, subst}
 use Rattle.std.specs.Prelude.{if◌then◌else◌, slice_get}
 use Rattle.wf_ast.specs.TypedPackage.{MethodTree, PackageTree}
-use Rattle.c_text.specs.CTree.{FieldTree, ItemTree, struct_item, text_item}
-use Rattle.wf_exprs.specs.Names.{status_name}
+use Rattle.c_text.specs.CTree.{ItemTree, struct_item, text_item}
+use Rattle.wf_exprs.specs.Names.{struct_type, status_name}
 use Rattle.wf_exprs.specs.Helpers.{saturating, all_saturating}
 use Rattle.wf_lower_stmts.specs.Forms.{form_of}
 use Rattle.wf_lower.specs.Bodies.{functions_of, body_function, entry_function}
-use Rattle.wf_lower.specs.Unit.{io_buffer_item, struct_order, struct_items, initialize_function, initialize_functions, method_functions, all_functions, is_used, used_texts, helper_name, used_helpers, lowered_unit}
+use Rattle.wf_lower.specs.Unit.{io_buffer_item, struct_fields, struct_order, struct_items, initialize_function, initialize_functions, method_functions, all_functions, is_used, used_texts, helper_name, used_helpers, lowered_unit}
 
 module _ (P : ItemTree → Type 0) where
   -- It holds of each item of a list.
@@ -32,8 +32,9 @@ module _ (P : ItemTree → Type 0) where
 
   -- It holds of each item of a package's text where it holds of each kind of item.
   pub record HoldsOfKinds (p : PackageTree) : Type 0 where
-    pub structs : (fields : List FieldTree) (name : List ℕ) → P (struct_item fields name)
-    pub texts : (name bytes : List ℕ) → P (text_item name bytes)
+    pub buffer : P io_buffer_item
+    pub structs : (s : ℕ) → P (struct_item (struct_fields p s) (struct_type p s))
+    pub texts : (n : ℕ) (bytes : List ℕ) → P (text_item (status_name n) bytes)
     pub helpers : (sum : Bool) (bits : ℕ) → P (saturating sum bits)
     pub inits : (s : ℕ) → P (initialize_function p s)
     pub bodies : (n : ℕ) (m : MethodTree) → slice_get p.methods n ≡ Some m → P (body_function (form_of p m))
@@ -42,7 +43,7 @@ module _ (P : ItemTree → Type 0) where
   module _ (p : PackageTree) (h : HoldsOfKinds p) where
     in_structs : (ss : List ℕ) → Each (struct_items p ss)
     in_structs [] = tt
-    in_structs (s ∷ ss) = (h.structs _ _, in_structs ss)
+    in_structs (s ∷ ss) = (h.structs s, in_structs ss)
 
     in_inits : (ss : List ℕ) → Each (initialize_functions p ss)
     in_inits [] = tt
@@ -60,7 +61,7 @@ module _ (P : ItemTree → Type 0) where
     in_texts functions n [] = tt
     in_texts functions n (bytes ∷ others) =
         each_if (is_used functions (status_name n)) (text_item (status_name n) bytes ∷ used_texts functions (suc n) others) (used_texts functions (suc n) others)
-        (h.texts _ _, in_texts functions (suc n) others) (in_texts functions (suc n) others)
+        (h.texts n bytes, in_texts functions (suc n) others) (in_texts functions (suc n) others)
 
     in_helpers : (functions its : List ItemTree) → Each its → Each (used_helpers functions its)
     in_helpers functions [] j = tt
@@ -74,7 +75,7 @@ module _ (P : ItemTree → Type 0) where
     pub in_unit : Each (lowered_unit p)
     unfolding lowered_unit
     in_unit = (
-      h.structs _ _,
+      h.buffer,
       both (struct_items p (struct_order p)) _ (in_structs (struct_order p))
           (both (used_texts (all_functions p) 0 p.statuses) _ (in_texts (all_functions p) 0 p.statuses)
           (both (used_helpers (all_functions p) all_saturating) (all_functions p) (in_helpers (all_functions p) all_saturating saturatings)

@@ -1,25 +1,21 @@
 -- Each `goto` of a text leads to a label behind it.
-use Rattle.std.proofs.Common.{◌≡◌, ℕ, zero, suc, ◌<◌, ◌^◌, Bool, true, List, [], ◌∷◌, ◌&&◌, Option, Some, None, refl, sym, ap, ◌∙◌, subst}
+use Rattle.std.proofs.Common.{◌≡◌, ℕ, zero, suc, true, List, [], ◌∷◌, Option, Some, subst}
 use Rattle.std.specs.Prelude.{nat_lt, length, slice_get}
 use Rattle.std.specs.List.{list_all}
-use Rattle.wf_ast.specs.declared.typed_nodes.TypedNodes.{TypedNodes}
-use Rattle.wf_ast.specs.TypedTree.{Block}
-use Rattle.wf_ast.specs.TypedInvariant.{IsTyped}
 use Rattle.wf_ast.specs.TypedPackage.{MethodTree, PackageTree, package_of}
-use Rattle.wf_ast.specs.WellTyped.{Context, may_be_arg, may_be_local, may_be_result, answers_always, well_block, well_method, well_typed}
+use Rattle.wf_ast.specs.WellTyped.{may_be_arg, may_be_local, may_be_result, answers_always, well_block, well_method, well_typed}
 use Rattle.wf_ast.proofs.Arena.{both_true}
 use Rattle.wf_meaning.specs.Remaining.{number_of}
-use Rattle.c_text.specs.CTree.{Code, finish, jump, ItemTree}
-use Rattle.c_meaning.specs.CStep.{Continuation, stop, Place, at, by_name, find}
-use Rattle.wf_exprs.specs.Helpers.{saturating}
+use Rattle.c_text.specs.CTree.{Code, finish, jump}
+use Rattle.c_meaning.specs.CStep.{stop, Place, at, by_name, find}
 use Rattle.wf_lower_stmts.specs.Forms.{Form, form_of}
-use Rattle.wf_lower_stmts.specs.Lower.{top, lower_trail}
-use Rattle.wf_lower.specs.Bodies.{body_code, own_names, touched, statements_of, body_function, entry_code, entry_function}
-use Rattle.wf_lower.specs.Unit.{initialize_code, initialize_function, lowered_unit}
-use Rattle.wf_lower_laws.specs.JumpLaw.{LeadsBehind, LeadForward, JumpsForward, TextsJumpForward}
+use Rattle.wf_lower_stmts.specs.Lower.{top}
+use Rattle.wf_lower.specs.Bodies.{body_code, own_names, touched, body_function, entry_code}
+use Rattle.wf_lower.specs.Unit.{initialize_code, lowered_unit}
+use Rattle.wf_lower_laws.specs.JumpLaw.{LeadForward, JumpsForward, TextsJumpForward}
 use Rattle.wf_lower_laws.proofs.Straight.{Straight, leaving, over}
 use Rattle.wf_lower_laws.proofs.Everywhere.{Everywhere, everywhere_at, straight_everywhere}
-use Rattle.wf_lower_laws.proofs.Loops.{whole, break_plain, continue_plain}
+use Rattle.wf_lower_laws.proofs.Loops.{whole}
 use Rattle.wf_lower_laws.proofs.Bodies.{entry_straight, initialize_straight}
 use Rattle.wf_lower_laws.proofs.Functions.{body_finds, body_everywhere}
 use Rattle.wf_lower_laws.proofs.Jumps.{Leads, leads_easy, block_leads}
@@ -55,7 +51,7 @@ block_rules p m h =
 abbrev pub body_of : Form → Code
 body_of f = touched (own_names f) (body_code f) (body_code f)
 
-abbrev look_in : Code → List ℕ → Option Place
+abbrev pub look_in : Code → List ℕ → Option Place
 look_in code name = find (by_name name) code stop
 
 pub body_forward : (p : PackageTree) (m : MethodTree) → well_method p m ≡ true → HasLoops m.body → JumpsForward (body_function (form_of p m))
@@ -70,8 +66,9 @@ pub texts_jump_forward : TextsJumpForward
 texts_jump_forward nodes number item typed e =
     let p = package_of nodes in
     each_at JumpsForward (lowered_unit p) (in_unit JumpsForward p (record {
-      structs = λ fields name. tt;
-      texts = λ name bytes. tt;
+      buffer = tt;
+      structs = λ s. tt;
+      texts = λ n bytes. tt;
       helpers = λ sum bits. straight_forward _ (leaving _ _ over);
       inits = λ s. straight_forward (initialize_code p s) (initialize_straight p s);
       bodies = λ n m is. body_forward p m (method_rules p p.methods n m (all_methods p typed.rules) is) (has_loops nodes n m typed is);

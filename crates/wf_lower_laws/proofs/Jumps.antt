@@ -1,28 +1,25 @@
 -- Each `goto` leads to a label that stands behind it.
-use Rattle.std.proofs.Common.{◌≡◌, ◌⊎◌, inl, inr, ℕ, ◌+◌, ◌<◌, ◌^◌, Bool, true, false, ◌&&◌, ◌||◌, List, [], ◌∷◌, ◌++◌, Option, Some, None, nat_eq, refl, sym, ap, ◌∙◌, subst, arith}
+use Rattle.std.proofs.Common.{◌≡◌, ℕ, ◌<◌, ◌^◌, Bool, true, false, ◌&&◌, List, ◌∷◌, Option, Some, None, nat_eq, refl, sym, ap, ◌∙◌, subst}
 use Rattle.std.specs.Prelude.{if◌then◌else◌, option_map}
-use Rattle.wf_ast.specs.TypedTree.{Simple, break_from, continue_in, assign, await, perform, invoke, give_back, yield, claim, Site, Head, Block, end, plain, choose, loop}
-use Rattle.wf_ast.specs.WellTyped.{Context, is_coroutine, breaks, well_block, well_simple, well_cond}
+use Rattle.wf_ast.specs.TypedTree.{Simple, break_from, continue_in, assign, await, perform, invoke, give_back, yield, claim, Site, Block, end, plain, choose, loop}
+use Rattle.wf_ast.specs.WellTyped.{Context, breaks, well_block, well_simple, well_cond}
 use Rattle.wf_ast.proofs.Arena.{both_true}
 use Rattle.wf_meaning.specs.Remaining.{is_point}
 use Rattle.c_text.specs.declared.kinds.CNumber.TheVariants.{Int}
-use Rattle.c_text.specs.CTree.{ExprTree, Code, finish, empty, jump, select, case_label, name_label}
-use Rattle.c_text.specs.CTree as c
-use Rattle.c_meaning.specs.CStep.{Continuation, stop, behind, Place, at, place_weight, Label, by_name, find, first_of}
+use Rattle.c_text.specs.CTree.{Code, finish, empty, jump, case_label, name_label}
+use Rattle.c_meaning.specs.CStep.{Continuation, Place, at, by_name, find, first_of}
 use Rattle.wf_exprs.specs.Names.{again_label, behind_label}
-use Rattle.wf_lower_stmts.specs.Forms.{Form, when_some, resume_here}
-use Rattle.wf_lower_stmts.specs.Statements.{awoken, begun, lower_point, lower_plain, lower_simple}
-use Rattle.wf_lower_stmts.specs.Lower.{lower, continues, ending, Trail, top, within_if, in_loop, tail_of, lower_trail, Loop, loop_in, again_place, behind_place}
+use Rattle.wf_lower_stmts.specs.Forms.{Form, resume_here}
+use Rattle.wf_lower_stmts.specs.Statements.{awoken, lower_point, lower_plain, lower_simple}
+use Rattle.wf_lower_stmts.specs.Lower.{lower, continues, Trail, top, within_if, in_loop, tail_of, lower_trail, Loop, loop_in, again_place, behind_place}
 use Rattle.wf_lower_stmts.specs.Laws.{AreSpelt}
 use Rattle.wf_lower_stmts.proofs.LoopLabels.{continues_at, breaks_at}
-use Rattle.wf_lower.specs.Bodies.{body_code, own_names, touched, resumed, statements_of}
 use Rattle.wf_lower_laws.specs.JumpLaw.{LeadsBehind}
-use Rattle.wf_lower_laws.proofs.Apart.{has, apart, left_or, same_number}
-use Rattle.wf_lower_laws.proofs.Straight.{Straight, is_jump, plain_straight, begun_straight, awoken_straight, top_straight, ending_straight}
+use Rattle.wf_lower_laws.proofs.Apart.{has, left_or, same_number}
+use Rattle.wf_lower_laws.proofs.Straight.{is_jump, plain_straight, begun_straight, awoken_straight, top_straight}
 use Rattle.wf_lower_laws.proofs.Everywhere.{Everywhere, IsEasy, straight_everywhere, everywhere_if}
-use Rattle.wf_lower_laws.proofs.Loops.{loops_in, loops_of, Around, Named, named_loop, Inside, whole, inside_rest, inside_then, inside_else, inside_behind, inside_loop, inside_after, jump_finds, jump_held, is_in, break_plain, continue_plain}
+use Rattle.wf_lower_laws.proofs.Loops.{loops_in, loops_of, named_loop, Inside, inside_rest, inside_then, inside_else, inside_behind, inside_loop, inside_after, jump_finds, jump_held, is_in, break_plain, continue_plain}
 use Rattle.wf_lower_laws.proofs.Weights.{before_behind, before_again}
-use Rattle.wf_lower_laws.proofs.Bodies.{straight_finds, touches, takes_number}
 
 -- What is asked of a `goto`; nothing of other statements.
 abbrev pub Leads : (look : List ℕ → Option Place) → Code → Continuation → Type 0

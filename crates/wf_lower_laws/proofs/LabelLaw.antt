@@ -1,21 +1,16 @@
 -- The labels of each function differ, and so do the cases of each `switch`.
-use Rattle.std.proofs.Common.{◌≡◌, ℕ, ◌<◌, ◌^◌, Bool, true, List, [], ◌∷◌, Option, Some, None, refl}
-use Rattle.std.specs.Prelude.{slice_get}
-use Rattle.wf_text.specs.Precedence.{Decides}
-use Rattle.wf_ast.specs.declared.typed_nodes.TypedNodes.{TypedNodes}
-use Rattle.wf_ast.specs.TypedInvariant.{IsTyped}
+use Rattle.std.proofs.Common.{◌≡◌, ℕ, true, List, Option, Some, None, refl}
 use Rattle.wf_ast.specs.TypedPackage.{MethodTree, PackageTree, package_of}
 use Rattle.wf_ast.specs.WellTyped.{well_method}
 use Rattle.wf_meaning.specs.Remaining.{number_of}
-use Rattle.wf_points.specs.PointNumbers.{HasTooMany}
-use Rattle.c_text.specs.CTree.{ExprTree, Code, finish, empty, case_label, jump, select}
+use Rattle.c_text.specs.CTree.{Code, finish, empty, case_label, jump, select}
 use Rattle.c_text.specs.declared.kinds.CNumber.TheVariants.{Int}
 use Rattle.c_meaning.specs.CStep.{Continuation, stop, Place, at, by_name, find}
 use Rattle.c_meaning.specs.UnitForm.{is_among, all_distinct, labels_of, cases_of}
 use Rattle.c_meaning.specs.TextOrder.{StandsAt}
-use Rattle.wf_lower_stmts.specs.Forms.{Form, form_of}
+use Rattle.wf_lower_stmts.specs.Forms.{form_of}
 use Rattle.wf_lower_stmts.specs.Lower.{top, tail_of, lower_trail}
-use Rattle.wf_lower.specs.Bodies.{statements_of, body_code, own_names, body_function, entry_code}
+use Rattle.wf_lower.specs.Bodies.{statements_of, body_code, own_names, entry_code}
 use Rattle.wf_lower.specs.Unit.{initialize_code, lowered_unit}
 use Rattle.wf_lower_laws.specs.JumpLaw.{LeadsBehind, LeadForward}
 use Rattle.wf_lower_laws.specs.LabelLaw.{AreCases, IsLabelled, LabelledItem, TextsAreLabelled}
@@ -74,8 +69,9 @@ pub texts_are_labelled : TextsAreLabelled
 texts_are_labelled nodes number item typed few e =
     let p = package_of nodes in
     each_at LabelledItem (lowered_unit p) (in_unit LabelledItem p (record {
-      structs = λ fields name. tt;
-      texts = λ name bytes. tt;
+      buffer = tt;
+      structs = λ s. tt;
+      texts = λ n bytes. tt;
       helpers = λ sum bits. straight_labelled _ (leaving _ _ over);
       inits = λ s. straight_labelled (initialize_code p s) (initialize_straight p s);
       bodies = λ n m is. body_labelled p m (method_rules p p.methods n m (all_methods p typed.rules) is) (has_loops nodes n m typed is) (switch_cases (form_of p m) nodes typed few n is);

@@ -4,8 +4,11 @@ pub mod OpenBrackets
 pub mod BracketLaw
 pub mod Cases
 pub mod CodeBrackets
+pub mod Control
 pub mod Everywhere
 pub mod ExprBrackets
+pub mod ExprKinds
+pub mod FormLaw
 pub mod Free
 pub mod Functions
 pub mod Items
@@ -14,7 +17,10 @@ pub mod Jumps
 pub mod LabelLaw
 pub mod Labels
 pub mod Loops
+pub mod NameLaw
+pub mod Names
 pub mod Numbers
+pub mod OwnNames
 pub mod Straight
 pub mod Weights
 pub mod Whiles

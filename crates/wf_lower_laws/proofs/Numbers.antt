@@ -1,15 +1,15 @@
 -- The loops of a method of a typed package have different numbers, and small ones.
-use Rattle.std.proofs.Common.{◌≡◌, ℕ, zero, suc, ◌+◌, ◌≤◌, ◌<◌, ◌^◌, Bool, true, false, not, ◌&&◌, ◌||◌, List, [], ◌∷◌, ◌++◌, length, Option, Some, None, nat_eq, refl, sym, ap, ◌∙◌, subst, arith}
+use Rattle.std.proofs.Common.{◌≡◌, ℕ, zero, suc, ◌+◌, ◌≤◌, ◌<◌, ◌^◌, Bool, true, false, not, ◌&&◌, ◌||◌, List, [], ◌∷◌, ◌++◌, length, Some, nat_eq, refl, ap, ◌∙◌, subst, arith}
 use Rattle.std.specs.Prelude.{if◌then◌else◌, nat_le, slice_get}
 use Rattle.std.specs.List.{flat_map}
 use Rattle.std.proofs.lemmas.Bool.Decides.{nat_tests}
 use Rattle.std.proofs.lemmas.List.Folds.{list_any-append}
 use Rattle.wf_ast.specs.declared.typed_nodes.TypedNodes.{TypedNodes}
-use Rattle.wf_ast.specs.TypedTree.{Site, Block, end, plain, choose, loop}
+use Rattle.wf_ast.specs.TypedTree.{Block, end, plain, choose, loop}
 use Rattle.wf_ast.specs.TypedPackage.{MethodTree, package_of}
 use Rattle.wf_ast.specs.TypedInvariant.{IsTyped, numbers_in, numbers_from}
 use Rattle.wf_lower_stmts.specs.Laws.{AreSpelt}
-use Rattle.wf_lower_laws.proofs.Apart.{has, apart, left_or, right_or, has_neither, same_number}
+use Rattle.wf_lower_laws.proofs.Apart.{has, apart, left_or, right_or, same_number}
 use Rattle.wf_lower_laws.proofs.Loops.{loops_in}
 
 -- How often a number stands in a list.

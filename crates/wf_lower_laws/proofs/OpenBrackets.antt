@@ -1,6 +1,5 @@
 -- How many brackets a tree of C opens inside those that are open before it.
-use Rattle.std.proofs.Common.{◌≡◌, ℕ, ◌+◌, ◌-◌, ◌≤◌, ◌<◌, Bool, true, false, List, [], ◌∷◌, ◌++◌, Option, Some, None, refl, sym, subst, arith}
-use Rattle.std.specs.Prelude.{if◌then◌else◌}
+use Rattle.std.proofs.Common.{◌≡◌, ℕ, ◌+◌, ◌-◌, ◌<◌, false, List, [], ◌∷◌, Option, Some, None, refl, sym, subst, arith}
 use Rattle.std.specs.List.{AllByRecursion}
 use Rattle.c_text.specs.declared.kinds.COp.{COp}
 use Rattle.c_text.specs.declared.kinds.CUint.TheVariants as width
@@ -14,7 +13,7 @@ use Rattle.c_text.specs.declared.kinds.Otherwise.{Otherwise}
 use Rattle.c_text.specs.declared.kinds.Otherwise.TheVariants as else_is
 use Rattle.c_text.specs.declared.tokens.CMark.TheVariants as mark
 use Rattle.c_text.specs.CSpelling.{CToken, marked}
-use Rattle.c_text.specs.CGrammar.{uint_token, type_tokens, unary_token, expr_tokens, operands_tokens, args_tokens, more_args_tokens, value_tokens, target_tokens, else_tokens, code_tokens, field_kind_tokens, count_tokens, fields_tokens, param_tokens, more_params_tokens, params_tokens, initial_tokens, locals_tokens, linkage_tokens, result_tokens, item_tokens, unit_tokens}
+use Rattle.c_text.specs.CGrammar.{uint_token, type_tokens, unary_token, expr_tokens, operands_tokens, args_tokens, more_args_tokens, value_tokens, target_tokens, else_tokens, code_tokens, field_kind_tokens, count_tokens, fields_tokens, more_params_tokens, params_tokens, initial_tokens, locals_tokens, linkage_tokens, result_tokens, item_tokens, unit_tokens}
 use Rattle.c_text.specs.CTree.{TypeTree, uint, size, boolean, uint_pointer, struct_pointer, text, ExprTree, number, variable, member, element, pointed, operation, unary, cast, choice, called, Operands, no_operand, operand, Args, no_arg, expr_arg, sizeof_arg, Code, finish, nested, empty, assign, call, jump, branch, repeat, select, leave, case_label, default_label, name_label, FieldKind, plain, inside, FieldTree, ParamTree, LocalTree, ItemTree, struct_item, text_item, function_item}
 use Rattle.c_read_grammar.specs.Texts.{is_opening, open_after}
 use Rattle.c_read_grammar.specs.Outcomes.{IsShallow}

@@ -1,6 +1,6 @@
 -- What a statement that is no jump is lowered to: statements in front of the code that follows it, with no loop, no label and no
 -- `goto` among them, but for the `case` of a point.
-use Rattle.std.proofs.Common.{◌≡◌, ℕ, zero, suc, Bool, true, false, List, [], ◌∷◌, ◌&&◌, Option, Some, None, refl}
+use Rattle.std.proofs.Common.{◌≡◌, ℕ, zero, suc, Bool, true, false, List, [], ◌∷◌, Option, Some, None}
 use Rattle.std.specs.Prelude.{if◌then◌else◌, slice_get}
 use Rattle.wf_base.specs.declared.base_methods.ReadForm.{ReadForm}
 use Rattle.wf_base.specs.declared.base_methods.ReadForm.TheVariants.{ReadU8, ReadU16Be, ReadU16Le, ReadU32Be, ReadU32Le, ReadU64Be, ReadU64Le}
@@ -14,9 +14,9 @@ use Rattle.c_text.specs.CTree as c
 use Rattle.wf_exprs.specs.Names.{Names, point_field}
 use Rattle.wf_exprs.specs.Words.{num, of_self}
 use Rattle.wf_exprs.specs.Exprs.{Pair, given, lowered_slice, lowered_status, lowered_cond, status_constant}
-use Rattle.wf_lower_stmts.specs.Forms.{Form, status_local, held_local, size_local, is_io, is_kept, keeps_started, when, put, get, save_locals, restore_locals, save_started, restore_started, give, suspend}
+use Rattle.wf_lower_stmts.specs.Forms.{Form, status_local, size_local, is_io, is_kept, keeps_started, when, put, get, save_locals, restore_locals, save_started, restore_started, give, suspend}
 use Rattle.wf_lower_stmts.specs.Lower.{ending, ending_of, has_result, tail_of, top}
-use Rattle.wf_lower_stmts.specs.Statements.{next_byte, step_on, answer_local, is_wanted, is_suspension, put_into, set_slice, set_value, take_bytes, begun_call, awoken_call, lower_written, is_passed, call_into, hand_on, put_result, handed_call, plain_call, give_status, give_value, begun, awoken, lower_plain}
+use Rattle.wf_lower_stmts.specs.Statements.{next_byte, step_on, answer_local, put_into, set_slice, set_value, take_bytes, begun_call, awoken_call, lower_written, is_passed, call_into, hand_on, put_result, handed_call, plain_call, give_status, give_value, begun, awoken, lower_plain}
 
 pub data Straight : (rest code : Code) → Type 0 where
   over : {rest : Code} → Straight rest rest

@@ -1,15 +1,15 @@
 -- How much text is left where a block is lowered.
-use Rattle.std.proofs.Common.{◌≡◌, ◌⊎◌, inl, inr, ℕ, ◌+◌, ◌≤◌, ◌<◌, Bool, true, false, List, Option, Some, None, refl, sym, ap, subst, arith}
+use Rattle.std.proofs.Common.{◌≡◌, inl, inr, ℕ, ◌+◌, ◌≤◌, ◌<◌, Bool, true, false, List, refl, sym, subst, arith}
 use Rattle.std.specs.Prelude.{if◌then◌else◌}
-use Rattle.wf_ast.specs.TypedTree.{Simple, break_from, continue_in, assign, await, perform, invoke, give_back, yield, claim, Site, Head, Block, end, plain, choose, loop}
+use Rattle.wf_ast.specs.TypedTree.{Simple, break_from, continue_in, assign, await, perform, invoke, give_back, yield, claim, Site, Block, end, plain, choose, loop}
 use Rattle.wf_ast.specs.WellTyped.{breaks}
 use Rattle.wf_meaning.specs.Remaining.{is_point}
 use Rattle.c_text.specs.CTree.{Code, finish, empty, jump, name_label}
 use Rattle.c_meaning.specs.CStep.{at, place_weight, code_weight, continuation_weight}
 use Rattle.wf_exprs.specs.Names.{again_label, behind_label}
 use Rattle.wf_lower_stmts.specs.Forms.{Form, resume_here}
-use Rattle.wf_lower_stmts.specs.Statements.{awoken, begun, lower_point, lower_plain, lower_simple}
-use Rattle.wf_lower_stmts.specs.Lower.{lower, continues, again_here, behind_here, Trail, top, within_if, in_loop, tail_of, lower_trail, Loop, again_place, behind_place}
+use Rattle.wf_lower_stmts.specs.Statements.{awoken, lower_point, lower_plain, lower_simple}
+use Rattle.wf_lower_stmts.specs.Lower.{lower, continues, behind_here, Trail, top, within_if, in_loop, tail_of, lower_trail, Loop, again_place, behind_place}
 use Rattle.wf_lower_laws.proofs.Straight.{Straight, over, assigned, calling, leaving, guarded, is_jump, plain_straight, begun_straight, awoken_straight}
 use Rattle.wf_lower_laws.proofs.Loops.{Around}
 

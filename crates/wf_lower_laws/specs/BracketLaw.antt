@@ -1,5 +1,5 @@
 -- How deep brackets stand inside one another, in a package and in its text.
-use Rattle.std.specs.Prelude.{◌≡◌, ℕ, ◌-◌, Bool, true, false, ◌&&◌, List, Option, None, Some, if◌then◌else◌, nat_eq, nat_le}
+use Rattle.std.specs.Prelude.{◌≡◌, ℕ, ◌-◌, Bool, true, false, ◌&&◌, Some, if◌then◌else◌, nat_eq, nat_le}
 use Rattle.std.specs.List.{list_all}
 use Rattle.wf_ast.specs.TypedTree.{Arith, plus, times, bits_and, bits_or, bits_xor, NumTree, number, read, element, link, convert, length_of, asked, SliceTree, slice, array, cut, EndTree, absent, present, CondTree, truth, flag, compare, same_status, junction, negation, closed, has_category, ValueTree, numeric, logical, elements, Target, to_element, Awaited, skip, write, Written, skip_fast, write_fast, copy_to_writer, copy_to_slice, Simple, assign, await, perform, invoke, give_back, Block, end, plain, choose, loop}
 use Rattle.wf_ast.specs.TypedPackage.{PackageTree}

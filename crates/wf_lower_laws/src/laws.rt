@@ -2,8 +2,11 @@
 
 ghost use Rattle.wf_ast.specs.TypedPackage.{PackageTree};
 ghost use Rattle.wf_lower_laws.specs.BracketLaw.{TextsAreShallow};
+ghost use Rattle.wf_lower_laws.specs.FormLaw.{TextsAreFormed};
 ghost use Rattle.wf_lower_laws.specs.JumpLaw.{TextsJumpForward};
+ghost use Rattle.wf_lower_laws.specs.KindLaw.{ExpressionsKeepKinds};
 ghost use Rattle.wf_lower_laws.specs.LabelLaw.{TextsAreLabelled};
+ghost use Rattle.wf_lower_laws.specs.NameLaw.{TextsNameApart};
 ghost use Rattle.wf_lower_laws.specs.TurnLaw.{LoopAlike};
 
 /// Each `goto` of the text of a typed package leads to a label of its function that stands behind it. So it takes no turn, and no
@@ -27,4 +30,24 @@ pub fn labels_and_cases_differ()
 /// inside one another, each but the outermost in brackets of its own, as 48 open brackets allow.
 pub fn texts_open_few_brackets()
     ensures { TextsAreShallow }
+{}
+
+/// The parameters and locals of each function of a text have different names, all of them names of C and none a word of C or of
+/// the headers that a text includes, or the name of an item, where the arguments of each method of the package differ, and its
+/// locals, and are made of letters, digits and `_`.
+pub fn names_of_a_function_differ()
+    ensures { TextsNameApart }
+{}
+
+/// The text of a typed package in which no method has too many points has the unit form for the package's surface, where the rules
+/// of types hold of its items, no two items have one name and the surface's functions are there. All other rules hold of it: the
+/// first item, results, the names of a function, its labels, jumps, loops and cases.
+pub fn a_text_has_the_unit_form_where_typed()
+    ensures { TextsAreFormed }
+{}
+
+/// In a scope that declares what a method's paths name, each expression of the method that keeps the rules of types has its kind in
+/// C: a number, a pointer to numbers of a width with a length, or a status.
+pub fn expressions_keep_their_kinds()
+    ensures { ExpressionsKeepKinds }
 {}

@@ -1,5 +1,5 @@
-// Of the C text of a package: that it has the unit form, and where its labels, loops and points stand. Laws alone, on functions
-// that do nothing.
+// Of the C text of a package: where its jumps lead, how many loops, labels, cases, names and brackets it has, and what of the unit
+// form it keeps. Laws alone, on functions that do nothing.
 #![tactic(auto)]
 
 pub mod laws;

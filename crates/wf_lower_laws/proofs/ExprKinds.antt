@@ -1,0 +1,393 @@
+-- What kind of value the expressions of a text have: numbers, pointers to cells, and pointers to strings.
+use Rattle.std.proofs.Common.{◌≡◌, ◌⊎◌, inl, inr, ℕ, ◌*◌, Bool, true, false, not, ◌&&◌, ◌||◌, List, [], ◌∷◌, ◌++◌, Option, Some, None, nat_eq, refl, sym, ap, ◌∙◌, subst, arith}
+use Rattle.std.specs.Prelude.{if◌then◌else◌, nat_le, nat_lt, option_and_then, codes}
+use Rattle.std.proofs.lemmas.Bool.Decides.{nat_tests}
+use Rattle.wf_num.specs.declared.c_arithmetic.CTy.{CTy}
+use Rattle.wf_num.specs.declared.c_arithmetic.CTy.TheVariants.{Int, U32, U64}
+use Rattle.wf_base.specs.declared.base_methods.PeekForm.{PeekForm}
+use Rattle.wf_base.specs.declared.base_methods.PeekForm.TheVariants.{PeekU8, PeekU16Le, PeekU32Le}
+use Rattle.wf_text.specs.declared.categories.Category.{Category}
+use Rattle.wf_text.specs.declared.categories.Category.TheVariants.{Fine, Note, Suspension, Fault}
+use Rattle.wf_ast.specs.TypedTree.{arg, Arith, plus, minus, times, divided, remainder, shift_left, shift_right, bits_and, bits_or, bits_xor, mod_plus, mod_minus, mod_times, mod_shift_left, sat_plus, sat_minus, Order, less, at_most, equal, differs, at_least, greater, Question, reader_length, reader_position, peek, writer_length, writer_position, NumType, NumTree, number, read, element, link, convert, length_of, asked, SliceTree, slice, array, cut, EndTree, absent, present, StatusTree, status, held, no_status, CondTree, truth, flag, compare, same_status, junction, negation, closed, has_category}
+use Rattle.wf_ast.specs.WellTyped.{Context, type_at, is_width, is_range, is_number, is_array, may_ask, is_shift, fits, continues, is_whole_number, same_num_type, element_type, is_unrefined, well_num, well_part, well_slice, well_end, well_status, well_cond}
+use Rattle.wf_ast.proofs.Arena.{both_true}
+use Rattle.c_text.specs.declared.kinds.CNumber.{CNumber}
+use Rattle.c_text.specs.declared.kinds.CNumber.TheVariants as literals
+use Rattle.c_text.specs.declared.kinds.COp.{COp}
+use Rattle.c_text.specs.declared.kinds.COp.TheVariants.{Add, Sub, Mul, Div, Rem, Shl, Shr, BitAnd, BitOr, BitXor, Lt, Le, Gt, Ge, Eq, Ne, Both, Either}
+use Rattle.c_text.specs.declared.kinds.CUnary.TheVariants.{Not}
+use Rattle.c_text.specs.CTree.{uint, ExprTree, variable, member, operation, unary, cast, choice, called, Operands, no_operand, operand}
+use Rattle.c_text.specs.CTree as c
+use Rattle.c_text.specs.declared.kinds.CUint.{CUint}
+use Rattle.c_meaning.specs.CValues.{common}
+use Rattle.c_meaning.specs.CTypes.{Scope, promoted, ExprType, numbers, points_to, zero_literal, byte, as_number, arithmetic_type, sum_type, one_type, test_type, operation_type, operations_type, type_of, operand_types, cast_from, literal_type}
+use Rattle.wf_exprs.specs.Names.{Names}
+use Rattle.wf_exprs.specs.Words.{literal, num, uint_of, width_of, two}
+use Rattle.wf_exprs.specs.Exprs.{calculated, rank, Rated, rated, recast, firm, balanced, with_operand, same_op, chained, cut_off, factor, linked, converted, is_held, is_array as is_whole, moved, part_pointer, part_length, io_code, place_code, end_code, peeked, raised, peek_code, asked_code, same_code, compared, is_literal, is_constant, statuses_compared, begins_with, category_code, lowered, lowered_slice, lowered_end, lowered_status, lowered_cond}
+use Rattle.wf_lower_laws.specs.KindLaw.{IsNum, IsPointer, IsText, IsBuffer, Declares, has_op, has_question, num_served, slice_served, end_served, status_served, cond_served, ExpressionsKeepKinds}
+
+module _ (S : Scope) where
+  of_literal : (n : CNumber) → IsNum S (c.number n)
+  of_literal (literals.Int n) = record { type = literal_type (literals.Int n); is = refl; ty = Int; counts = by (nat_eq n 0) }
+    where
+      by : (b : Bool) → as_number (if b then zero_literal else numbers Int) ≡ Some Int
+      by true = refl
+      by false = refl
+  of_literal (literals.Unsigned n) = record { type = numbers U32; is = refl; ty = U32; counts = refl }
+  of_literal (literals.Long n) = record { type = numbers U64; is = refl; ty = U64; counts = refl }
+
+  pub num_kind : (n : ℕ) → IsNum S (num n)
+  num_kind n = of_literal (literal n)
+
+  -- Numbers are no pointers.
+  sum_of : (a b : ExprType) (t u : CTy) → as_number a ≡ Some t → as_number b ≡ Some u → sum_type a b ≡ Some (numbers (common t u))
+  sum_of (numbers x) b t u h j = rw (h, j) refl
+  sum_of zero_literal b t u h j = rw (h, j) refl
+  sum_of (points_to x) b t u h j = absurd (cc h)
+
+  both_of : (a b : ExprType) (t u : CTy) → as_number a ≡ Some t → as_number b ≡ Some u → arithmetic_type (as_number a) (as_number b) ≡ Some (numbers (common t u))
+  both_of a b t u h j = rw (h, j) refl
+
+  one_of : (z : Bool) (a b : ExprType) (t u : CTy) → as_number a ≡ Some t → as_number b ≡ Some u → test_type (one_type z a b) ≡ Some (numbers Int)
+  one_of z (numbers x) (numbers y) t u h j = refl
+  one_of z (numbers x) zero_literal t u h j = refl
+  one_of z zero_literal (numbers y) t u h j = refl
+  one_of z zero_literal zero_literal t u h j = refl
+  one_of z (points_to x) b t u h j = absurd (cc h)
+  one_of z (numbers x) (points_to y) t u h j = absurd (cc j)
+  one_of z zero_literal (points_to y) t u h j = absurd (cc j)
+
+  -- Any operator gives a number of two.
+  record Gives (op : COp) (a b : ExprType) : Type 0 where
+    ty : CTy
+    is : operation_type op a b ≡ Some (numbers ty)
+
+  gives : (op : COp) (a b : ExprType) (t u : CTy) → as_number a ≡ Some t → as_number b ≡ Some u → Gives op a b
+  gives Add a b t u h j = record { ty = common t u; is = sum_of a b t u h j }
+  gives Sub a b t u h j = record { ty = common t u; is = both_of a b t u h j }
+  gives Mul a b t u h j = record { ty = common t u; is = both_of a b t u h j }
+  gives Div a b t u h j = record { ty = common t u; is = both_of a b t u h j }
+  gives Rem a b t u h j = record { ty = common t u; is = both_of a b t u h j }
+  gives Shl a b t u h j = record { ty = t; is = rw (h, j) refl }
+  gives Shr a b t u h j = record { ty = t; is = rw (h, j) refl }
+  gives BitAnd a b t u h j = record { ty = common t u; is = both_of a b t u h j }
+  gives BitOr a b t u h j = record { ty = common t u; is = both_of a b t u h j }
+  gives BitXor a b t u h j = record { ty = common t u; is = both_of a b t u h j }
+  gives Lt a b t u h j = record { ty = Int; is = one_of false a b t u h j }
+  gives Le a b t u h j = record { ty = Int; is = one_of false a b t u h j }
+  gives Gt a b t u h j = record { ty = Int; is = one_of false a b t u h j }
+  gives Ge a b t u h j = record { ty = Int; is = one_of false a b t u h j }
+  gives Eq a b t u h j = record { ty = Int; is = one_of true a b t u h j }
+  gives Ne a b t u h j = record { ty = Int; is = one_of true a b t u h j }
+  gives Both a b t u h j = record { ty = Int; is = refl }
+  gives Either a b t u h j = record { ty = Int; is = refl }
+
+  pub two_kind : (op : COp) (x y : ExprTree) → IsNum S x → IsNum S y → IsNum S (two op x y)
+  two_kind op x y h j =
+      let g = gives op h.type j.type h.ty j.ty h.counts j.counts in
+      record { type = numbers g.ty; is = rw (h.is, j.is) g.is; ty = g.ty; counts = refl }
+
+  cast_num : (u : CUint) (t : ExprType) (ty : CTy) → as_number t ≡ Some ty → cast_from S.structs (uint u) t ≡ Some (numbers (promoted u))
+  cast_num u (numbers x) ty h = refl
+  cast_num u zero_literal ty h = refl
+  cast_num u (points_to x) ty h = absurd (cc h)
+
+  cast_kind : (bits : ℕ) (x : ExprTree) → IsNum S x → IsNum S (cast (uint_of bits) x)
+  cast_kind bits x h = record { type = numbers (promoted (width_of bits)); is = rw h.is (cast_num (width_of bits) h.type h.ty h.counts); ty = promoted (width_of bits); counts = refl }
+
+  kind_if : (b : Bool) (x y : ExprTree) → IsNum S x → IsNum S y → IsNum S (if b then x else y)
+  kind_if true x y h j = h
+  kind_if false x y h j = j
+
+  recast_kind : (bits : ℕ) (x : ExprTree) → IsNum S x → IsNum S (recast bits x)
+  recast_kind bits (c.number (literals.Int v)) h = of_literal _
+  recast_kind bits (c.number (literals.Unsigned v)) h = of_literal _
+  recast_kind bits (c.number (literals.Long v)) h = cast_kind bits _ h
+  recast_kind bits (variable name) h = cast_kind bits _ h
+  recast_kind bits (member p x) h = cast_kind bits _ h
+  recast_kind bits (c.element p i) h = cast_kind bits _ h
+  recast_kind bits (c.pointed p) h = cast_kind bits _ h
+  recast_kind bits (operation op a b es) h = cast_kind bits _ h
+  recast_kind bits (unary op a) h = cast_kind bits _ h
+  recast_kind bits (cast t a) h = cast_kind bits _ h
+  recast_kind bits (choice a b x) h = cast_kind bits _ h
+  recast_kind bits (called name es) h = cast_kind bits _ h
+
+  firm_kind : (bits : ℕ) (a : Rated) → IsNum S a.code → IsNum S (firm bits a)
+  firm_kind bits a h = kind_if (nat_eq (rank a.ty) (rank (calculated bits))) a.code (recast bits a.code) h (recast_kind bits a.code h)
+
+  balanced_kind : (bits : ℕ) (a b : Rated) → IsNum S a.code → IsNum S (balanced bits a b)
+  balanced_kind bits a b h = kind_if (nat_eq (rank b.ty) (rank (calculated bits))) a.code (firm bits a) h (firm_kind bits a h)
+
+  cut_off_kind : (bits : ℕ) (x : ExprTree) → IsNum S x → IsNum S (cut_off bits x)
+  cut_off_kind bits x h = kind_if (nat_le bits 16) (cast (uint_of bits) x) x (cast_kind bits x h) h
+
+  factor_kind : (bits : ℕ) (a b : Rated) → IsNum S a.code → IsNum S (factor bits a b)
+  factor_kind bits a b h = kind_if (nat_eq bits 16) (recast 32 a.code) (balanced bits a b) (recast_kind 32 a.code h) (balanced_kind bits a b h)
+
+  -- A chain with one operand more.
+  operations_more : (op : COp) (first : Option ExprType) (ts : List (Option ExprType)) (t : Option ExprType)
+      → operations_type op first (ts ++ t ∷ []) ≡ option_and_then (λ a. option_and_then (operation_type op a) t) (operations_type op first ts)
+  operations_more op first [] t = refl
+  operations_more op first (x ∷ ts) t = operations_more op (option_and_then (λ a. option_and_then (operation_type op a) x) first) ts t
+
+  operands_more : (es : Operands) (e : ExprTree) → operand_types S (with_operand es e) ≡ operand_types S es ++ type_of S e ∷ []
+  operands_more no_operand e = refl
+  operands_more (operand x es) e = ap (λ ts. type_of S x ∷ ts) (operands_more es e)
+
+  longer_kind : (own : COp) (x y : ExprTree) (es : Operands) (e : ExprTree) → IsNum S (operation own x y es) → IsNum S e → IsNum S (operation own x y (with_operand es e))
+  longer_kind own x y es e h j =
+      let g = gives own h.type j.type h.ty j.ty h.counts j.counts in
+      let P : List (Option ExprType) → Type 0 = λ ts. operations_type own (type_of S x) (type_of S y ∷ ts) ≡ Some (numbers g.ty) in
+      let more : operations_type own (type_of S x) ((type_of S y ∷ operand_types S es) ++ type_of S e ∷ []) ≡ Some (numbers g.ty) =
+      operations_more own (type_of S x) (type_of S y ∷ operand_types S es) (type_of S e) ∙ rw (h.is, j.is) g.is in
+      record { type = numbers g.ty; is = subst P (sym (operands_more es e)) more; ty = g.ty; counts = refl }
+
+  chained_if : (b : Bool) (op own : COp) (x y : ExprTree) (es : Operands) (e : ExprTree) → IsNum S (operation own x y es) → IsNum S e → IsNum S (if b then operation own x y (with_operand es e) else two op (operation own x y es) e)
+  chained_if true op own x y es e h j = longer_kind own x y es e h j
+  chained_if false op own x y es e h j = two_kind op (operation own x y es) e h j
+
+  pub chained_kind : (joined : Bool) (op : COp) (a e : ExprTree) → IsNum S a → IsNum S e → IsNum S (chained joined op a e)
+  chained_kind false op a e h j = two_kind op a e h j
+  chained_kind true op (operation own x y es) e h j = chained_if (same_op op own) op own x y es e h j
+  chained_kind true op (c.number v) e h j = two_kind op _ e h j
+  chained_kind true op (variable name) e h j = two_kind op _ e h j
+  chained_kind true op (member p x) e h j = two_kind op _ e h j
+  chained_kind true op (c.element p i) e h j = two_kind op _ e h j
+  chained_kind true op (c.pointed p) e h j = two_kind op _ e h j
+  chained_kind true op (unary o a) e h j = two_kind op _ e h j
+  chained_kind true op (cast t a) e h j = two_kind op _ e h j
+  chained_kind true op (choice a b x) e h j = two_kind op _ e h j
+  chained_kind true op (called name es) e h j = two_kind op _ e h j
+
+  rated_if : (b : Bool) (x y : Rated) → IsNum S x.code → IsNum S y.code → IsNum S (if b then x else y).code
+  rated_if true x y h j = h
+  rated_if false x y h j = j
+
+  converted_kind : (bits : ℕ) (a : Rated) → IsNum S a.code → IsNum S (converted bits a).code
+  converted_kind bits a h =
+      let it = rated (cast (uint_of bits) a.code) (calculated bits) in
+      rated_if (nat_lt (rank (calculated bits)) (rank a.ty)) it (if nat_eq (rank (calculated bits)) (rank a.ty) || (is_held a.code || nat_lt 0 (rank a.ty)) then a else it) (cast_kind bits a.code h)
+      (rated_if (nat_eq (rank (calculated bits)) (rank a.ty) || (is_held a.code || nat_lt 0 (rank a.ty))) a it h (cast_kind bits a.code h))
+
+  -- ---- trees
+
+  element_kind : (bits : ℕ) (p i : ExprTree) → IsPointer S bits p → IsNum S i → IsNum S (c.element p i)
+  element_kind bits p i h j = record { type = numbers (promoted (width_of bits)); is = rw (h, j.is, j.counts) refl; ty = promoted (width_of bits); counts = refl }
+
+  plus_kind : (bits : ℕ) (p i : ExprTree) → IsPointer S bits p → IsNum S i → IsPointer S bits (two Add p i)
+  plus_kind bits p i h j = rw (h, j.is, j.counts) refl
+
+  choice_kind : (bits : ℕ) (p i : ExprTree) → IsPointer S bits p → IsNum S i → IsPointer S bits (choice p (two Add p i) (num 0))
+  choice_kind bits p i h j = rw (h, j.is, j.counts) refl
+
+  moved_kind : (never_null : Bool) (bits : ℕ) (p i : ExprTree) → IsPointer S bits p → IsNum S i → IsPointer S bits (moved never_null p i)
+  moved_kind true bits p i h j = plus_kind bits p i h j
+  moved_kind false bits p i h j = choice_kind bits p i h j
+
+  abbrev EndKind : Option Rated → Type 0
+  EndKind None = Unit {0}
+  EndKind (Some a) = IsNum S a.code
+
+  part_pointer_kind : (never_null : Bool) (bits : ℕ) (p : ExprTree) (from : Option Rated) → IsPointer S bits p → EndKind from → IsPointer S bits (part_pointer never_null p from)
+  part_pointer_kind never_null bits p None h j = h
+  part_pointer_kind never_null bits p (Some f) h j = moved_kind never_null bits p f.code h j
+
+  part_length_kind : (whole : Rated) (from to : Option Rated) → IsNum S whole.code → EndKind from → EndKind to → IsNum S (part_length whole from to).code
+  part_length_kind whole None None h j i = h
+  part_length_kind whole None (Some t) h j i = i
+  part_length_kind whole (Some f) None h j i = two_kind Sub whole.code f.code h j
+  part_length_kind whole (Some f) (Some t) h j i = two_kind Sub t.code f.code i j
+
+  not_kind : (e : ExprTree) → IsNum S e → IsNum S (unary Not e)
+  not_kind e h = record { type = numbers Int; is = rw h.is refl; ty = Int; counts = refl }
+
+  same_code_kind : (a b : ExprTree) (fixed : Bool) → IsNum S (two Eq b a) → IsNum S (two Ne a b) → IsNum S (two Eq a b) → IsNum S (same_code a b fixed)
+  same_code_kind a b fixed h j i = kind_if fixed (two Eq b a) _ h (kind_if (is_held a) (unary Not (two Ne a b)) (two Eq a b) (not_kind (two Ne a b) j) i)
+
+  compared_kind : (op : Order) (a b : ExprTree) → IsNum S a → IsNum S b → IsNum S (compared op a b)
+  compared_kind equal a b h j = kind_if (is_literal a) (two Eq a b) _ (two_kind Eq a b h j) (same_code_kind a b (is_literal b) (two_kind Eq b a j h) (two_kind Ne a b h j) (two_kind Eq a b h j))
+  compared_kind less a b h j = two_kind Lt a b h j
+  compared_kind at_most a b h j = two_kind Le a b h j
+  compared_kind differs a b h j = two_kind Ne a b h j
+  compared_kind at_least a b h j = two_kind Ge a b h j
+  compared_kind greater a b h j = two_kind Gt a b h j
+
+  -- Statuses are compared, and asked for their first bytes.
+  text_type : (e : ExprTree) → IsText S e → (type_of S e ≡ Some zero_literal) ⊎ (type_of S e ≡ Some (points_to byte))
+  text_type e (inl h) = inl (rw h refl)
+  text_type e (inr h) = inr h
+
+  texts_type : (op : COp) (a b : ExprTree) → (op ≡ Eq) ⊎ (op ≡ Ne) → (type_of S a ≡ Some zero_literal) ⊎ (type_of S a ≡ Some (points_to byte)) → (type_of S b ≡ Some zero_literal) ⊎ (type_of S b ≡ Some (points_to byte)) → IsNum S (two op a b)
+  texts_type op a b (inl o) (inl h) (inl j) = record { type = numbers Int; is = rw (o, h, j) refl; ty = Int; counts = refl }
+  texts_type op a b (inl o) (inl h) (inr j) = record { type = numbers Int; is = rw (o, h, j) refl; ty = Int; counts = refl }
+  texts_type op a b (inl o) (inr h) (inl j) = record { type = numbers Int; is = rw (o, h, j) refl; ty = Int; counts = refl }
+  texts_type op a b (inl o) (inr h) (inr j) = record { type = numbers Int; is = rw (o, h, j) refl; ty = Int; counts = refl }
+  texts_type op a b (inr o) (inl h) (inl j) = record { type = numbers Int; is = rw (o, h, j) refl; ty = Int; counts = refl }
+  texts_type op a b (inr o) (inl h) (inr j) = record { type = numbers Int; is = rw (o, h, j) refl; ty = Int; counts = refl }
+  texts_type op a b (inr o) (inr h) (inl j) = record { type = numbers Int; is = rw (o, h, j) refl; ty = Int; counts = refl }
+  texts_type op a b (inr o) (inr h) (inr j) = record { type = numbers Int; is = rw (o, h, j) refl; ty = Int; counts = refl }
+
+  eq_kind : (a b : ExprTree) → IsText S a → IsText S b → IsNum S (two Eq a b)
+  eq_kind a b h j = texts_type Eq a b (inl refl) (text_type a h) (text_type b j)
+
+  ne_kind : (a b : ExprTree) → IsText S a → IsText S b → IsNum S (two Ne a b)
+  ne_kind a b h j = texts_type Ne a b (inr refl) (text_type a h) (text_type b j)
+
+  either_kind : (x y : ExprTree) (t u : ExprType) → type_of S x ≡ Some t → type_of S y ≡ Some u → IsNum S (two Both x y)
+  either_kind x y t u h j = record { type = numbers Int; is = rw (h, j) refl; ty = Int; counts = refl }
+
+  first_byte : (k : ℕ) (e : ExprTree) → type_of S e ≡ Some (points_to byte) → IsNum S (two Both e (two Eq (num k) (c.element e (num 0))))
+  first_byte k e h =
+      let n = num_kind k in
+      let first : IsNum S (c.element e (num 0)) = record { type = numbers Int; is = rw h refl; ty = Int; counts = refl } in
+      let same = two_kind Eq (num k) (c.element e (num 0)) n first in
+      either_kind e (two Eq (num k) (c.element e (num 0))) (points_to byte) same.type h same.is
+
+  begins_at : (k : ℕ) (e : ExprTree) → type_of S e ≡ Some (points_to byte) → IsNum S (begins_with k e)
+  begins_at k (c.number v) h = num_kind 0
+  begins_at k (variable name) h = first_byte k _ h
+  begins_at k (member p x) h = first_byte k _ h
+  begins_at k (c.element p i) h = first_byte k _ h
+  begins_at k (c.pointed p) h = first_byte k _ h
+  begins_at k (operation op a b es) h = first_byte k _ h
+  begins_at k (unary o a) h = first_byte k _ h
+  begins_at k (cast t a) h = first_byte k _ h
+  begins_at k (choice a b x) h = first_byte k _ h
+  begins_at k (called name es) h = first_byte k _ h
+
+  begins_kind : (k : ℕ) (e : ExprTree) → IsText S e → IsNum S (begins_with k e)
+  begins_kind k e (inl h) =
+      let P : ExprTree → Type 0 = λ e. IsNum S (begins_with k e) in
+      subst P (sym h) (num_kind 0)
+  begins_kind k e (inr h) = begins_at k e h
+
+  category_kind : (category : Category) (e : ExprTree) → IsText S e → IsNum S (category_code category e)
+  category_kind Fine e h = eq_kind (num 0) e (inl refl) h
+  category_kind Note e h = begins_kind 64 e h
+  category_kind Suspension e h = begins_kind 36 e h
+  category_kind Fault e h = begins_kind 35 e h
+
+  module _ (x : Context) (names : Names) (has : Bool → ℕ → Bool) (knows : ℕ → Bool) (d : Declares S x names has knows) where
+    linked_kind : (op : Arith) (bits : ℕ) (joined : Bool) (a b : Rated) → has_op has op bits ≡ true → IsNum S a.code → IsNum S b.code → IsNum S (linked op bits joined a b)
+    linked_kind plus bits joined a b g h j = chained_kind joined Add (balanced bits a b) b.code (balanced_kind bits a b h) j
+    linked_kind minus bits joined a b g h j = two_kind Sub (balanced bits a b) b.code (balanced_kind bits a b h) j
+    linked_kind times bits joined a b g h j = chained_kind joined Mul (balanced bits a b) b.code (balanced_kind bits a b h) j
+    linked_kind divided bits joined a b g h j = two_kind Div (balanced bits a b) b.code (balanced_kind bits a b h) j
+    linked_kind remainder bits joined a b g h j = two_kind Rem (balanced bits a b) b.code (balanced_kind bits a b h) j
+    linked_kind shift_left bits joined a b g h j = two_kind Shl (firm bits a) b.code (firm_kind bits a h) j
+    linked_kind shift_right bits joined a b g h j = two_kind Shr (firm bits a) b.code (firm_kind bits a h) j
+    linked_kind bits_and bits joined a b g h j = chained_kind joined BitAnd (balanced bits a b) b.code (balanced_kind bits a b h) j
+    linked_kind bits_or bits joined a b g h j = chained_kind joined BitOr (balanced bits a b) b.code (balanced_kind bits a b h) j
+    linked_kind bits_xor bits joined a b g h j = chained_kind joined BitXor (balanced bits a b) b.code (balanced_kind bits a b h) j
+    linked_kind mod_plus bits joined a b g h j = cut_off_kind bits _ (two_kind Add (balanced bits a b) b.code (balanced_kind bits a b h) j)
+    linked_kind mod_minus bits joined a b g h j = cut_off_kind bits _ (two_kind Sub (balanced bits a b) b.code (balanced_kind bits a b h) j)
+    linked_kind mod_times bits joined a b g h j = cut_off_kind bits _ (two_kind Mul (factor bits a b) b.code (factor_kind bits a b h) j)
+    linked_kind mod_shift_left bits joined a b g h j = cut_off_kind bits _ (two_kind Shl (firm bits a) b.code (firm_kind bits a h) j)
+    linked_kind sat_plus bits joined a b g h j = d.calls true bits a.code b.code g h j
+    linked_kind sat_minus bits joined a b g h j = d.calls false bits a.code b.code g h j
+
+    byte_kind : (a j : ℕ) → IsBuffer S names a → IsNum S (peeked names a j)
+    byte_kind a j b =
+        element_kind 8 _ _ b.bytes (kind_if (nat_eq j 0) (place_code names a) (two Add (place_code names a) (num j)) b.place (two_kind Add (place_code names a) (num j) b.place (num_kind j)))
+
+    raised_kind : (bits j : ℕ) (e : ExprTree) → IsNum S e → IsNum S (raised bits j e)
+    raised_kind bits j e h = two_kind Shl _ (num (8 * j)) (kind_if (nat_eq bits 32) (cast (uint_of 32) e) e (cast_kind 32 e h) h) (num_kind (8 * j))
+
+    peek_kind : (a : ℕ) (form : PeekForm) → IsBuffer S names a → IsNum S (peek_code names a form).code
+    peek_kind a PeekU8 b = byte_kind a 0 b
+    peek_kind a PeekU16Le b = two_kind Add _ _ (byte_kind a 0 b) (raised_kind 16 1 _ (byte_kind a 1 b))
+    peek_kind a PeekU32Le b =
+        longer_kind Add (peeked names a 0) (raised 32 1 (peeked names a 1)) (operand (raised 32 2 (peeked names a 2)) no_operand) (raised 32 3 (peeked names a 3))
+        (longer_kind Add (peeked names a 0) (raised 32 1 (peeked names a 1)) no_operand (raised 32 2 (peeked names a 2))
+        (two_kind Add (peeked names a 0) (raised 32 1 (peeked names a 1)) (byte_kind a 0 b) (raised_kind 32 1 _ (byte_kind a 1 b))) (raised_kind 32 2 _ (byte_kind a 2 b))) (raised_kind 32 3 _ (byte_kind a 3 b))
+
+    asked_kind : (a : ℕ) (question : Question) → may_ask question (type_at x (arg a)) ≡ true → has_question has question ≡ true → IsNum S (asked_code names a question).code
+    asked_kind a reader_length h g = let b = d.readers a h in two_kind Sub (end_code names a) (place_code names a) b.end b.place
+    asked_kind a reader_position h g = let b = d.readers a h in d.calls true 64 (member (io_code names a) (codes "pos")) (place_code names a) g b.position b.place
+    asked_kind a (peek form) h g = peek_kind a form (d.readers a h)
+    asked_kind a writer_length h g = let b = d.writers a h in two_kind Sub (end_code names a) (place_code names a) b.end b.place
+    asked_kind a writer_position h g = let b = d.writers a h in d.calls true 64 (member (io_code names a) (codes "pos")) (place_code names a) g b.position b.place
+
+    same_bits : (of own : NumType) → same_num_type of own ≡ true → of.bits ≡ own.bits
+    same_bits of own h = grind (arith, nat_tests, (both_true (nat_eq of.bits own.bits) _ h).0)
+
+    mutual
+      number_kind : (t : NumTree) → well_part x t ≡ true → num_served has t ≡ true → IsNum S (lowered names t).code
+      number_kind (number at n) w s = num_kind n
+      number_kind (read at of path) w s = d.numbers of path (both_true (is_range of) (is_number of (type_at x path)) w).1
+      number_kind (element at of cells index) w s =
+          let p = both_true (same_num_type of (element_type cells)) _ w in
+          let q = both_true (well_slice x cells) _ p.1 in
+          let r = both_true (is_whole_number index) (well_part x index) q.1 in
+          let u = both_true (slice_served has cells) (num_served has index) s in
+          element_kind (element_type cells).bits _ _ (slice_kind cells q.0 u.0).0 (number_kind index r.1 u.1)
+      number_kind (link at sign op bits joined a b) w s =
+          let p = (both_true (is_width bits) _ w).1 in
+          let q = (both_true (fits bits a) _ p).1 in
+          let r = (both_true (is_shift op || fits bits b) _ q).1 in
+          let u = (both_true (not joined || continues op bits a) _ r).1 in
+          let v = (both_true (joined || is_whole_number a) _ u).1 in
+          let y = both_true (well_part x a) _ v in
+          let z = both_true (is_whole_number b) (well_part x b) y.1 in
+          let m = both_true (has_op has op bits) (num_served has a && num_served has b) s in
+          let n = both_true (num_served has a) (num_served has b) m.1 in
+          linked_kind op bits joined (lowered names a) (lowered names b) m.0 (number_kind a y.0 n.0) (number_kind b z.1 n.1)
+      number_kind (convert at sign bits a) w s =
+          let p = (both_true (is_width bits) _ w).1 in
+          converted_kind bits (lowered names a) (number_kind a (both_true (is_whole_number a) (well_part x a) p).1 s)
+      number_kind (length_of at cells) w s = (slice_kind cells w s).1
+      number_kind (asked at question a) w s = asked_kind a question w s
+
+      slice_kind : (t : SliceTree) → well_slice x t ≡ true → slice_served has t ≡ true → IsPointer S (element_type t).bits (lowered_slice names t).pointer × IsNum S (lowered_slice names t).length.code
+      slice_kind (slice at bits path) w s = d.slices bits path w
+      slice_kind (array at of count path) w s = (d.arrays of count path (both_true (is_range of) (is_array of count (type_at x path)) w).1, num_kind count)
+      slice_kind (cut at cells from to) w s =
+          let p = (both_true (is_unrefined (element_type cells)) _ w).1 in
+          let q = both_true (well_slice x cells) _ p in
+          let r = both_true (well_end x from) (well_end x to) q.1 in
+          let u = both_true (slice_served has cells) _ s in
+          let v = both_true (end_served has from) (end_served has to) u.1 in
+          let it = slice_kind cells q.0 u.0 in
+          let f = end_kind from r.0 v.0 in
+          let t = end_kind to r.1 v.1 in
+          (part_pointer_kind (is_whole cells) (element_type cells).bits _ (lowered_end names from) it.0 f, part_length_kind _ (lowered_end names from) (lowered_end names to) it.1 f t)
+
+      end_kind : (e : EndTree) → well_end x e ≡ true → end_served has e ≡ true → EndKind (lowered_end names e)
+      end_kind absent w s = tt
+      end_kind (present e) w s = number_kind e (both_true (is_whole_number e) (well_part x e) w).1 s
+
+    status_kind : (t : StatusTree) → well_status x t ≡ true → status_served knows t ≡ true → IsText S (lowered_status names t)
+    status_kind (status at n) w s = d.constants n s
+    status_kind (held at path) w s = inr (d.statuses path w)
+    status_kind no_status w s = inl refl
+
+    statuses_kind : (one : Bool) (a b : StatusTree) → IsText S (lowered_status names a) → IsText S (lowered_status names b) → IsNum S (statuses_compared one names a b)
+    statuses_kind true a b h j =
+        kind_if (is_constant a) (two Eq (lowered_status names a) (lowered_status names b)) _ (eq_kind (lowered_status names a) (lowered_status names b) h j)
+        (same_code_kind (lowered_status names a) (lowered_status names b) (is_constant b) (eq_kind (lowered_status names b) (lowered_status names a) j h) (ne_kind (lowered_status names a) (lowered_status names b) h j) (eq_kind (lowered_status names a) (lowered_status names b) h j))
+    statuses_kind false a b h j = ne_kind (lowered_status names a) (lowered_status names b) h j
+
+    condition_kind : (t : CondTree) → well_cond x t ≡ true → cond_served has knows t ≡ true → IsNum S (lowered_cond names t)
+    condition_kind (truth at b) w s = num_kind (if b then 1 else 0)
+    condition_kind (flag at path) w s = d.flags path w
+    condition_kind (compare at sign a op b) w s =
+        let p = (both_true _ (well_num x a && well_num x b) w).1 in
+        let q = both_true (well_num x a) (well_num x b) p in
+        let u = both_true (num_served has a) (num_served has b) s in
+        compared_kind op _ _ (number_kind a (both_true (is_whole_number a) (well_part x a) q.0).1 u.0) (number_kind b (both_true (is_whole_number b) (well_part x b) q.1).1 u.1)
+    condition_kind (same_status at sign a one b) w s =
+        let p = both_true (well_status x a) (well_status x b) w in
+        let u = both_true (status_served knows a) (status_served knows b) s in
+        statuses_kind one a b (status_kind a p.0 u.0) (status_kind b p.1 u.1)
+    condition_kind (junction at both joined a b) w s =
+        let p = both_true (well_cond x a) (well_cond x b) w in
+        let u = both_true (cond_served has knows a) (cond_served has knows b) s in
+        chained_kind joined (if both then Both else Either) _ _ (condition_kind a p.0 u.0) (condition_kind b p.1 u.1)
+    condition_kind (negation at a) w s = not_kind _ (condition_kind a w s)
+    condition_kind (closed at a) w s = (d.readers a w).closed
+    condition_kind (has_category at t category) w s = category_kind category _ (status_kind t w s)
+
+pub expressions_keep_kinds : ExpressionsKeepKinds
+expressions_keep_kinds s x names has knows d =
+    record { numbers = number_kind s x names has knows d; slices = slice_kind s x names has knows d; statuses = status_kind s x names has knows d; conditions = condition_kind s x names has knows d }
