@@ -1,0 +1,5 @@
+pub mod Spared
+pub mod Structs
+pub mod Steps
+pub mod Lent
+pub mod Taken

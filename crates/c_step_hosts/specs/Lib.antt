@@ -1,0 +1,4 @@
+pub mod Lending
+pub mod Ios
+pub mod Spares
+pub mod Taking
