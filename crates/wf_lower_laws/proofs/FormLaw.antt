@@ -45,6 +45,7 @@ use Rattle.wf_lower_laws.proofs.JumpLaw.{body_of, look_in, block_rules, method_r
 use Rattle.wf_lower_laws.proofs.Names.{either_true, both_hold, is_item}
 use Rattle.wf_lower_laws.proofs.NameLaw.{item_is_named, texts_name_apart}
 use Rattle.wf_lower_laws.proofs.Apart.{left_or, right_or}
+use Rattle.wf_lower_laws.proofs.ItemNames.{items_name_apart}
 use Rattle.wf_lower_laws.proofs.Control.{Controls, jump_formed, CasesIn, no_cases_in, formed, no_points}
 use Rattle.wf_lower_laws.proofs.Items.{each_at, in_unit}
 
@@ -297,10 +298,10 @@ free_item p i item d e = by (is_among (map item_name (take i (lowered_unit p))) 
     by false a = rw (a, no_library (item_name item) named_so) refl
 
 pub texts_are_formed : TextsAreFormed
-texts_are_formed nodes typed few named keeps =
+texts_are_formed nodes typed few named apart keeps =
     let p = package_of nodes in
     let items = lowered_unit p in
     let all = map item_name items in
     formed_list (surface_of p) items [] items refl keeps.complete (λ i item e.
-    item_formed (surface_of p) (take i items) all item (first_item p i item e) (free_item p i item keeps.distinct e)
+    item_formed (surface_of p) (take i items) all item (first_item p i item e) (free_item p i item (items_name_apart p apart) e)
     (where_typed all item (rest_of nodes typed few i item e) (take i items) (texts_name_apart p i item named e) (keeps.typed i item e)) (keeps.meets i item e))

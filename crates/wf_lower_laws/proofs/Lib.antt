@@ -11,6 +11,7 @@ pub mod ExprKinds
 pub mod FormLaw
 pub mod Free
 pub mod Functions
+pub mod ItemNames
 pub mod Items
 pub mod JumpLaw
 pub mod Jumps

@@ -10,8 +10,9 @@ use Rattle.wf_text.specs.Surface.{Surface}
 use Rattle.c_text.specs.CTree.{Code, finish, nested, empty, assign, call, jump, branch, repeat, select, leave, case_label, default_label, name_label, ItemTree, struct_item, text_item, function_item}
 use Rattle.c_meaning.specs.CTypes.{structs_of, scope_of, is_known, local_name, type_of, held_of}
 use Rattle.c_meaning.specs.CStep.{callee_of}
-use Rattle.c_meaning.specs.UnitForm.{Checked, checked, has_type, is_number, may_assign, formed_call, formed_return, formed_fields, formed_locals, all_distinct, item_name, meets_surface, is_complete, HasUnitForm}
+use Rattle.c_meaning.specs.UnitForm.{Checked, checked, has_type, is_number, may_assign, formed_call, formed_return, formed_fields, formed_locals, meets_surface, is_complete, HasUnitForm}
 use Rattle.wf_lower.specs.Unit.{lowered_unit}
+use Rattle.wf_lower_laws.specs.ItemLaw.{HasItemNames}
 use Rattle.wf_lower_laws.specs.NameLaw.{HasNames}
 
 -- The expressions of each statement have the types that it asks.
@@ -38,15 +39,14 @@ typed_item before (function_item linkage result_type name params locals body) =
     list_all (λ p. is_known (structs_of before) p.kind) params
     && (formed_locals (scope_of before params) locals && typed_code (checked before linkage result_type (params ++ map local_name locals) body) body)
 
--- The rules of the unit form that speak of types, of a package's surface, and of items of one name.
+-- The rules of the unit form that speak of types and of a package's surface.
 pub record KeepsTypes (surface : Surface) (items : List ItemTree) : Type 0 where
   pub typed : (i : ℕ) (item : ItemTree) → slice_get items i ≡ Some item → typed_item (take i items) item ≡ true
-  pub distinct : all_distinct (map item_name items) ≡ true
   pub meets : (i : ℕ) (item : ItemTree) → slice_get items i ≡ Some item → meets_surface surface item ≡ true
   pub complete : is_complete surface items ≡ true
 
 -- The text of a typed package keeps all other rules: so it has the unit form where it keeps these.
 abbrev pub TextsAreFormed : Type 0
 TextsAreFormed =
-    (nodes : TypedNodes) → IsTyped nodes → Decides (HasTooMany (package_of nodes)) None → HasNames (package_of nodes)
+    (nodes : TypedNodes) → IsTyped nodes → Decides (HasTooMany (package_of nodes)) None → HasNames (package_of nodes) → HasItemNames (package_of nodes)
     → KeepsTypes (surface_of (package_of nodes)) (lowered_unit (package_of nodes)) → HasUnitForm (surface_of (package_of nodes)) (lowered_unit (package_of nodes))

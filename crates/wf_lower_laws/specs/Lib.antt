@@ -5,3 +5,4 @@ pub mod BracketLaw
 pub mod NameLaw
 pub mod FormLaw
 pub mod KindLaw
+pub mod ItemLaw

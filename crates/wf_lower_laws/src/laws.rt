@@ -3,6 +3,7 @@
 ghost use Rattle.wf_ast.specs.TypedPackage.{PackageTree};
 ghost use Rattle.wf_lower_laws.specs.BracketLaw.{TextsAreShallow};
 ghost use Rattle.wf_lower_laws.specs.FormLaw.{TextsAreFormed};
+ghost use Rattle.wf_lower_laws.specs.ItemLaw.{ItemsNameApart};
 ghost use Rattle.wf_lower_laws.specs.JumpLaw.{TextsJumpForward};
 ghost use Rattle.wf_lower_laws.specs.KindLaw.{ExpressionsKeepKinds};
 ghost use Rattle.wf_lower_laws.specs.LabelLaw.{TextsAreLabelled};
@@ -39,9 +40,15 @@ pub fn names_of_a_function_differ()
     ensures { TextsNameApart }
 {}
 
-/// The text of a typed package in which no method has too many points has the unit form for the package's surface, where the rules
-/// of types hold of its items, no two items have one name and the surface's functions are there. All other rules hold of it: the
-/// first item, results, the names of a function, its labels, jumps, loops and cases.
+/// No two items of a text have one name, where no two structs have and no two methods of a struct, names of structs have no two
+/// `_` in a row and don't end with one, no method is named `initialize`, and the package isn't named `base`.
+pub fn names_of_items_differ()
+    ensures { ItemsNameApart }
+{}
+
+/// The text of a typed package with such names, in which no method has too many points, has the unit form for the package's surface,
+/// where the rules of types hold of its items and the surface's functions are there. All other rules hold of it: the first item,
+/// the names of items, results, the names of a function, its labels, jumps, loops and cases.
 pub fn a_text_has_the_unit_form_where_typed()
     ensures { TextsAreFormed }
 {}
