@@ -1,8 +1,7 @@
 -- No two items of a text have one name.
 use Rattle.std.proofs.Common.{◌≡◌, ◌⊎◌, inl, inr, ℕ, zero, suc, ◌+◌, ◌<◌, ◌≤◌, ◌^◌, Bool, true, false, not, ◌&&◌, ◌||◌, List, [], ◌∷◌, ◌++◌, length, map, Option, Some, None, nat_eq, refl, sym, ap, ◌∙◌, subst, arith, append_assoc}
 use Rattle.std.specs.Prelude.{if◌then◌else◌, bytes_eq, codes, decimal, take, slice_get}
-use Rattle.std.specs.List.{list_all, list_any}
-use Rattle.std.proofs.lemmas.Bool.Decides.{nat_tests}
+use Rattle.std.specs.List.{list_all}
 use Rattle.std.proofs.lemmas.Fmt.{decimal_injective}
 use Rattle.std.proofs.lemmas.List.{append_cancel_right}
 use Rattle.std.proofs.lemmas.List.Folds.{list_any-append}
@@ -14,11 +13,11 @@ use Rattle.c_meaning.specs.UnitForm.{is_among, all_distinct, item_name}
 use Rattle.wf_exprs.specs.Names.{struct_called, status_name}
 use Rattle.wf_exprs.specs.Helpers.{all_saturating}
 use Rattle.wf_lower.specs.Bodies.{functions_of, entry_function}
-use Rattle.wf_lower.specs.Unit.{io_buffer_item, struct_order, struct_items, initialize_functions, method_functions, all_functions, is_used, used_texts, helper_name, used_helpers, lowered_unit}
+use Rattle.wf_lower.specs.Unit.{struct_order, struct_items, initialize_functions, method_functions, all_functions, is_used, used_texts, helper_name, used_helpers, lowered_unit}
 use Rattle.wf_lower_laws.specs.NameLaw.{begins}
 use Rattle.wf_lower_laws.specs.ItemLaw.{is_clean, method_called, method_names, methods_called, HasItemNames, ItemsNameApart}
 use Rattle.wf_lower_laws.proofs.Apart.{neither, left_or, right_or, not_true}
-use Rattle.wf_lower_laws.proofs.Names.{either_true, both_hold, among_passes, distinct_both, distinct_by, Owner, Owned, owned_none, owned_next, distinct_next, after_prefix}
+use Rattle.wf_lower_laws.proofs.Names.{either_true, both_hold, among_passes, distinct_both, distinct_by, Owned, owned_none, owned_next, distinct_next, after_prefix}
 use Rattle.wf_lower_laws.proofs.OwnNames.{all_both, map_both}
 
 -- ---- names with a seam
