@@ -1,16 +1,30 @@
 -- The answer is that of the package's verdict, since a package has one verdict and told names hold one list of files; and there
--- is an answer, since there is a verdict.
-use Rattle.std.proofs.Common.{◌≡◌, ℕ, List, [], ◌∷◌, Option, None, Some, IfSome, refl, sym, ◌∙◌, ap, subst, ◌⊎◌, inl, inr}
+-- is an answer, since there is a verdict and a script is read or refused.
+use Rattle.std.proofs.Common.{◌≡◌, ℕ, List, [], ◌∷◌, length, Option, None, Some, IfSome, Result, Ok, Err, refl, sym, ◌∙◌, ap, subst, ◌⊎◌, inl, inr}
 use Rattle.std.specs.Io.KnownBytes.{Appends}
 use Rattle.wf_text.specs.declared.rules.Refusal.{Refusal}
+use Rattle.wf_ast.specs.TypedPackage.{PackageTree, surface_of}
+use Rattle.wf_parse.specs.Parsing.{decls_of}
+use Rattle.wf_typed_tree.specs.ElaboratedPackage.{typed_package}
+use Rattle.wf_meaning.specs.SourceCall.{source_run}
+use Rattle.wf_sound_runs.specs.Accepted.{IsDefined}
+use Rattle.wf_script_rules.specs.Report.{Report, End, finished, out_of_turns, not_defined}
+use Rattle.wf_script_rules.specs.Scripts as scripts
+use Rattle.wf_script_rules.specs.Scripts.{Script, actions_of, script_of}
+use Rattle.wf_names_verdicts.proofs.CallOrders.{kept-have-orders}
 use Rattle.wf_tool.specs.declared.ending.Ending.{Ending}
 use Rattle.wf_tool.specs.declared.ending.Ending.TheVariants.{Done, Refused, Usage, InputFault, OutputFault, ScriptRefused, NoMemory, Turns, TextRefused, Undefined}
-use Rattle.wf_tool.specs.Answer.{AreHeld, AreTold, file_name, Asked, CallFor, CallsForDone, CallsForRefusal, IsAnswered, IsByVerdict, AnswersAreVerdicts, FilesAreTold, AnswersExist}
-use Rattle.wf_tool.specs.Lines.{accepted_line, refused_line, usage_line}
+use Rattle.wf_tool.specs.Answer.{AreHeld, AreTold, file_name, Asked, AskedFor, Called, CallsForDone, CallsForRefusal, CallsForRun, CheckCallsFor, CountsInputs, MeanCallsFor, IsAnswered, asked_package, RefusesByVerdict, ChecksByVerdict, MeansByVerdict, IsByVerdict, AnswersAreVerdicts, FilesAreTold, InputsAreTold, AnswersExist}
+use Rattle.wf_tool.specs.Lines.{accepted_line, refused_line, script_line, usage_line}
+use Rattle.wf_tool.specs.Runs.{IsAcceptedAs, RunCallsFor, source_report}
+use Rattle.wf_tool.specs.Soundness.{in_order}
 use Rattle.wf_tool.specs.Verdict.{IsAccepted, IsRefused}
-use Rattle.wf_tool.specs.Words.{ToCheck, to_check}
+use Rattle.wf_tool.specs.Words.{PackageWords, Command, check, mean, command_of}
+use Rattle.wf_tool.proofs.JudgingLemmas.{typed-counted}
 use Rattle.wf_tool.proofs.RefusalFiles.{held-file}
-use Rattle.wf_tool.proofs.SoundVerdicts.{accepted-never-stuck}
+use Rattle.wf_tool.proofs.RunLemmas.{shows-source, script-seen}
+use Rattle.wf_tool.proofs.ScriptEnds.{defined-report}
+use Rattle.wf_tool.proofs.SoundVerdicts.{accepted-never-stuck, accepted-runs}
 use Rattle.wf_tool.proofs.VerdictLaws.{verdicts_exclude}
 use Rattle.wf_tool.proofs.WholeVerdicts.{verdicts_exist}
 
@@ -27,62 +41,94 @@ told-once held (name ∷ names) (bytes ∷ files) (other ∷ others) t h =
     let rest = told-once held names files others t.1 h.1 in
     ap (λ x. x ∷ others) first ∙ ap (λ xs. bytes ∷ xs) rest
 
-some-same : (a b : ToCheck) → Some a ≡ Some b → a ≡ b
-some-same a b e = cc e
+module _ (held : List ℕ → Option (List ℕ)) (failed : Option (List ℕ)) (asked : PackageWords) (files : List (List ℕ)) (old new : Option (List ℕ)) (told : AreTold held asked.files files) where
+  -- What a verdict says of files that the names hold, it says of those that are told.
+  refused-so : (line : List ℕ) → CallsForRefusal held asked line → Appends old new line → RefusesByVerdict asked files old new Refused
+  refused-so line c wrote refusal r =
+      let F : List (List ℕ) → Type 0 = λ xs. IsRefused asked.package_name xs c.refusal in
+      let here : IsRefused asked.package_name files c.refusal = subst F (told-once held asked.files files c.files told c.hold) c.verdict in
+      let W : List ℕ → Type 0 = Appends old new in
+      let line_of : Refusal → List ℕ = λ it. refused_line (file_name asked.files it.at.file) it in
+      (refl, subst W (c.writes ∙ ap line_of (verdicts_exclude.one_refusal asked.package_name files c.refusal refusal here r)) wrote)
 
-module _ (asked : Asked) (check : ToCheck) (files : List (List ℕ)) (old new : Option (List ℕ)) (named : to_check asked.words ≡ Some check) (told : AreTold asked.held check.files files) where
-  -- What a verdict says of the words and files that it is of, it says of these.
-  accepted-here : (c : ToCheck) (others : List (List ℕ)) (methods : ℕ) → to_check asked.words ≡ Some c → AreHeld asked.held c.files others → IsAccepted c.package_name others methods → IsAccepted check.package_name files methods
-  accepted-here c others methods e h v =
-      let same : c ≡ check = some-same c check (sym e ∙ named) in
-      let H : ToCheck → Type 0 = λ x. AreHeld asked.held x.files others in
-      let V : ToCheck → Type 0 = λ x. IsAccepted x.package_name others methods in
-      let F : List (List ℕ) → Type 0 = λ xs. IsAccepted check.package_name xs methods in
-      subst F (told-once asked.held check.files files others told (subst H same h)) (subst V same v)
+  not-accepted : (line : List ℕ) → CallsForRefusal held asked line → (methods : ℕ) → IsAccepted asked.package_name files methods → ⊥
+  not-accepted line c methods a =
+      let F : List (List ℕ) → Type 0 = λ xs. IsRefused asked.package_name xs c.refusal in
+      verdicts_exclude.one_answer asked.package_name files methods c.refusal a (subst F (told-once held asked.files files c.files told c.hold) c.verdict)
 
-  refused-here : (c : ToCheck) (others : List (List ℕ)) (refusal : Refusal) → to_check asked.words ≡ Some c → AreHeld asked.held c.files others → IsRefused c.package_name others refusal → IsRefused check.package_name files refusal
-  refused-here c others refusal e h v =
-      let same : c ≡ check = some-same c check (sym e ∙ named) in
-      let H : ToCheck → Type 0 = λ x. AreHeld asked.held x.files others in
-      let V : ToCheck → Type 0 = λ x. IsRefused x.package_name others refusal in
-      let F : List (List ℕ) → Type 0 = λ xs. IsRefused check.package_name xs refusal in
-      subst F (told-once asked.held check.files files others told (subst H same h)) (subst V same v)
-
-  done-here : (line : List ℕ) → CallsForDone asked.held asked.words line → Appends old new line → IsByVerdict check files old new Done
-  done-here line c wrote =
-      let here = accepted-here c.asked c.files c.methods c.named c.hold c.verdict in
+  check-done : (line : List ℕ) → CallsForDone held asked line → Appends old new line → ChecksByVerdict asked files old new Done
+  check-done line c wrote =
+      let F : List (List ℕ) → Type 0 = λ xs. IsAccepted asked.package_name xs c.methods in
+      let here : IsAccepted asked.package_name files c.methods = subst F (told-once held asked.files files c.files told c.hold) c.verdict in
       let W : List ℕ → Type 0 = Appends old new in
       record {
-        accepted = λ methods a. (refl, subst W (c.writes ∙ ap accepted_line (verdicts_exclude.one_count check.package_name files c.methods methods here a)) wrote);
-        refused = λ refusal r. absurd (verdicts_exclude.one_answer check.package_name files c.methods refusal here r);
+        accepted = λ methods a. (refl, subst W (c.writes ∙ ap accepted_line (verdicts_exclude.one_count asked.package_name files c.methods methods here a)) wrote);
+        refused = λ refusal r. absurd (verdicts_exclude.one_answer asked.package_name files c.methods refusal here r);
       }
 
-  refused-so : (line : List ℕ) → CallsForRefusal asked.held asked.words line → Appends old new line → IsByVerdict check files old new Refused
-  refused-so line c wrote =
-      let here = refused-here c.asked c.files c.refusal c.named c.hold c.verdict in
-      let same : c.asked ≡ check = some-same c.asked check (sym c.named ∙ named) in
-      let W : List ℕ → Type 0 = Appends old new in
-      let lines : ToCheck → Refusal → List ℕ = λ x r. refused_line (file_name x.files r.at.file) r in
+  check-by : (ending : Ending) (text : List ℕ) → (ending ≡ InputFault → ⊥) → CheckCallsFor held failed asked ending text → Appends old new text → ChecksByVerdict asked files old new ending
+  check-by Done text f c wrote = check-done text c wrote
+  check-by Refused text f c wrote = record { accepted = λ methods a. absurd (not-accepted text c methods a); refused = refused-so text c wrote }
+  check-by Usage text f c wrote = absurd c
+  check-by InputFault text f c wrote = absurd (f refl)
+  check-by OutputFault text f c wrote = absurd c
+  check-by ScriptRefused text f c wrote = absurd c
+  check-by NoMemory text f c wrote = absurd c
+  check-by Turns text f c wrote = absurd c
+  check-by TextRefused text f c wrote = absurd c
+  check-by Undefined text f c wrote = absurd c
+
+  -- What ran is the script that is told, over the package that these files have.
+  mean-run : (script : List ℕ) (ending : Ending) (text : List ℕ) → CallsForRun held asked script ending text → Appends old new text → MeansByVerdict asked files (held script) old new ending
+  mean-run script ending text c wrote =
+      let F : List (List ℕ) → Type 0 = λ xs. IsAcceptedAs asked.package_name xs c.tree in
+      let here : IsAcceptedAs asked.package_name files c.tree = subst F (told-once held asked.files files c.files told c.hold) c.accepted in
+      let H : Option (List ℕ) → Type 0 = λ known. IfSome known (λ it. c.bytes ≡ it) in
+      let C : List ℕ → Type 0 = λ bytes. RunCallsFor (surface_of c.tree) (source_report c.tree) bytes ending text in
       record {
-        accepted = λ methods a. absurd (verdicts_exclude.one_answer check.package_name files methods c.refusal a here);
-        refused = λ refusal r.
-            (refl, subst W (c.writes ∙ ap (λ x. lines x c.refusal) same ∙ ap (lines check) (verdicts_exclude.one_refusal check.package_name files c.refusal refusal here r)) wrote);
+        accepted = λ methods a bytes is. record { tree = c.tree; accepted = here; text = text; calls = subst C (subst H is c.script_holds) c.calls; wrote = wrote };
+        refused = λ refusal r. absurd (verdicts_exclude.one_answer asked.package_name files (length c.tree.methods) refusal here.verdict r);
       }
 
-  by-ending : (ending : Ending) → IsAnswered asked old new ending → (ending ≡ NoMemory → ⊥) → IsByVerdict check files old new ending
-  by-ending Done h m = done-here h.line h.calls h.wrote
-  by-ending Refused h m = refused-so h.line h.calls h.wrote
-  by-ending Usage h m = absurd (let none = h.calls.0 in cc (none, named))
-  by-ending InputFault h m = absurd h
-  by-ending OutputFault h m = absurd h
-  by-ending ScriptRefused h m = absurd h.calls
-  by-ending NoMemory h m = absurd (m refl)
-  by-ending Turns h m = absurd h.calls
-  by-ending TextRefused h m = absurd h.calls
-  by-ending Undefined h m = absurd h.calls
+  mean-by : (script : List ℕ) (ending : Ending) (text : List ℕ) → (ending ≡ InputFault → ⊥) → MeanCallsFor held failed asked script ending text → Appends old new text
+      → MeansByVerdict asked files (held script) old new ending
+  mean-by script Done text f c wrote = mean-run script Done text c wrote
+  mean-by script Refused text f c wrote = record { accepted = λ methods a bytes is. absurd (not-accepted text c methods a); refused = refused-so text c wrote }
+  mean-by script Usage text f c wrote = absurd c
+  mean-by script InputFault text f c wrote = absurd (f refl)
+  mean-by script OutputFault text f c wrote = absurd c
+  mean-by script ScriptRefused text f c wrote = mean-run script ScriptRefused text c wrote
+  mean-by script NoMemory text f c wrote = absurd c
+  mean-by script Turns text f c wrote = mean-run script Turns text c wrote
+  mean-by script TextRefused text f c wrote = absurd c
+  mean-by script Undefined text f c wrote = absurd c
+
+-- Without a fault and with memory a text that is called for is written.
+abbrev IsTextWritten : (calls : Ending → List ℕ → Type 0) → (old new : Option (List ℕ)) → Ending → Type 0
+IsTextWritten calls old new ending = (text : List ℕ) × calls ending text × Appends old new text × (ending ≡ InputFault → ⊥)
+
+text-written : (calls : Ending → List ℕ → Type 0) (old new : Option (List ℕ)) (ending : Ending) → IsAnswered calls old new ending → (ending ≡ NoMemory → ⊥) → IsTextWritten calls old new ending
+text-written calls old new Done h m = (h.text, h.called, h.wrote, λ e. absurd (cc e))
+text-written calls old new Refused h m = (h.text, h.called, h.wrote, λ e. absurd (cc e))
+text-written calls old new Usage h m = (h.text, h.called, h.wrote, λ e. absurd (cc e))
+text-written calls old new InputFault h m = absurd h
+text-written calls old new OutputFault h m = absurd h
+text-written calls old new ScriptRefused h m = (h.text, h.called, h.wrote, λ e. absurd (cc e))
+text-written calls old new NoMemory h m = absurd (m refl)
+text-written calls old new Turns h m = (h.text, h.called, h.wrote, λ e. absurd (cc e))
+text-written calls old new TextRefused h m = (h.text, h.called, h.wrote, λ e. absurd (cc e))
+text-written calls old new Undefined h m = (h.text, h.called, h.wrote, λ e. absurd (cc e))
+
+by-command : (held : List ℕ → Option (List ℕ)) (failed : Option (List ℕ)) (command : Command) (files : List (List ℕ)) (old new : Option (List ℕ)) (ending : Ending) (text : List ℕ)
+    → AreTold held (asked_package command).files files → (ending ≡ InputFault → ⊥) → AskedFor held failed (Some command) ending text → Appends old new text → IsByVerdict held command files old new ending
+by-command held failed (check asked) files old new ending text told f c wrote = check-by held failed asked files old new told ending text f c wrote
+by-command held failed (mean asked script) files old new ending text told f c wrote = mean-by held failed asked files old new told script ending text f c wrote
 
 pub answers-are-verdicts : AnswersAreVerdicts
-answers-are-verdicts asked check files old new ending named told h m = by-ending asked check files old new named told ending h m
+answers-are-verdicts asked command files before now old new ending named told h m =
+    let written : IsTextWritten (Called asked before now) old new ending = text-written (Called asked before now) old new ending h m in
+    let A : Option Command → Type 0 = λ it. AskedFor asked.held asked.failed it ending written.0 in
+    by-command asked.held asked.failed command files old new ending written.0 told written.3 (subst A named written.1.0) written.2
 
 told-held : (held : List ℕ → Option (List ℕ)) (names files : List (List ℕ)) → AreTold held names files → AreHeld held names files
 told-held held [] [] t = tt
@@ -92,35 +138,79 @@ told-held held (name ∷ names) (bytes ∷ files) t =
     let P : Option (List ℕ) → Type 0 = λ told. IfSome told (λ known. bytes ≡ known) in
     (subst P (sym t.0) refl, told-held held names files t.1)
 
-module _ (held : List ℕ → Option (List ℕ)) (failed : Option (List ℕ)) (words : List (List ℕ)) where
-  abbrev HasAnswer : Type 0
-  HasAnswer = (ending : Ending) × (line : List ℕ) × CallFor held failed words ending line
+-- A package that is accepted has a typed tree.
+accepted-as : (name : List ℕ) (files : List (List ℕ)) (methods : ℕ) → IsAccepted name files methods → (p : PackageTree) × IsAcceptedAs name files p
+accepted-as name files methods a =
+    let read = a.read in
+    let some_order = kept-have-orders read.name read.texts (decls_of read) a.names in
+    let p = typed_package (in_order read some_order.0) in
+    let accepted : IsAccepted name files (length p.methods) =
+    record { sized = a.sized; read = read; parsed = a.parsed; names = a.names; types = a.types; bounds = a.bounds; points = a.points; counted = typed-counted read some_order.0 } in
+    (p, record { verdict = accepted; runs = accepted-runs name files (length p.methods) accepted some_order; order = some_order.0; ordered = some_order.1; tree = refl })
 
-  by-verdict : (asked : ToCheck) (files : List (List ℕ)) → to_check words ≡ Some asked → AreHeld held asked.files files
-      → ((methods : ℕ) × IsAccepted asked.package_name files methods) ⊎ ((refusal : Refusal) × IsRefused asked.package_name files refusal) → HasAnswer
-  by-verdict asked files named hold (inl v) = (
-    Done,
-    accepted_line v.0,
-    record { asked = asked; files = files; methods = v.0; named = named; hold = hold; verdict = v.1; runs = accepted-never-stuck asked.package_name files v.0 v.1; writes = refl },
-  )
-  by-verdict asked files named hold (inr v) = (
-    Refused,
-    refused_line (file_name asked.files v.0.at.file) v.0,
-    record {
-      asked = asked;
-      files = files;
-      refusal = v.0;
-      named = named;
-      hold = hold;
-      verdict = v.1;
-      there = held-file held asked.package_name asked.files files v.0 hold v.1;
-      writes = refl;
-    },
-  )
+module _ (asked : Asked) (faults : ℕ) where
+  abbrev Answers : Option Command → Type 0
+  Answers command = (ending : Ending) × (text : List ℕ) × (AskedFor asked.held asked.failed command ending text × CountsInputs faults faults ending)
 
-  by-words : (check : Option ToCheck) → to_check words ≡ check → FilesAreTold held check → HasAnswer
-  by-words None e told = (Usage, usage_line, (e, refl))
-  by-words (Some asked) e told = by-verdict asked told.0 e (told-held held asked.files told.0 told.1) (verdicts_exist asked.package_name told.0)
+  -- A refused package calls for the line of its refusal.
+  refusal-called : (of : PackageWords) (files : List (List ℕ)) → AreHeld asked.held of.files files → (refusal : Refusal) → IsRefused of.package_name files refusal
+      → CallsForRefusal asked.held of (refused_line (file_name of.files refusal.at.file) refusal)
+  refusal-called of files hold refusal r = record {
+    files = files;
+    refusal = refusal;
+    hold = hold;
+    verdict = r;
+    there = held-file asked.held of.package_name of.files files refusal hold r;
+    writes = refl;
+  }
+
+  check-answer : (of : PackageWords) (files : List (List ℕ)) → AreHeld asked.held of.files files
+      → ((methods : ℕ) × IsAccepted of.package_name files methods) ⊎ ((refusal : Refusal) × IsRefused of.package_name files refusal) → Answers (Some (check of))
+  check-answer of files hold (inl v) =
+      let done : CallsForDone asked.held of (accepted_line v.0) =
+      record { files = files; methods = v.0; hold = hold; verdict = v.1; runs = accepted-never-stuck of.package_name files v.0 v.1; writes = refl } in
+      (Done, accepted_line v.0, (done, refl))
+  check-answer of files hold (inr v) = (Refused, refused_line (file_name of.files v.0.at.file) v.0, (refusal-called of files hold v.0 v.1, refl))
+
+  -- A script over an accepted package is refused, or its report ends, and not with what isn't defined.
+  module _ (of : PackageWords) (files : List (List ℕ)) (hold : AreHeld asked.held of.files files) (script bytes : List ℕ) (is : asked.held script ≡ Some bytes) (p : PackageTree) (accepted : IsAcceptedAs of.package_name files p) where
+    run-called : (ending : Ending) (text : List ℕ) → RunCallsFor (surface_of p) (source_report p) bytes ending text → CallsForRun asked.held of script ending text
+    run-called ending text c =
+        let P : Option (List ℕ) → Type 0 = λ told. IfSome told (λ known. bytes ≡ known) in
+        record { files = files; bytes = bytes; tree = p; hold = hold; script_holds = subst P (sym is) refl; accepted = accepted; calls = c }
+
+    never-undefined : (it : Script) → script_of (surface_of p) bytes ≡ Ok it → (line : ℕ) → (source_report p it).end ≡ not_defined line → ⊥
+    never-undefined it reads line e =
+        let seen = script-seen p (shows-source of.package_name files p accepted) bytes it reads in
+        defined-report (surface_of p) it (source_run p it.declared.receivers (actions_of it)) (subst IsDefined seen.same seen.defined) line e
+
+    by-end : (it : Script) → script_of (surface_of p) bytes ≡ Ok it → (end : End) → (source_report p it).end ≡ end → Answers (Some (mean of script))
+    by-end it reads finished e =
+        let text = (source_report p it).text in
+        (Done, text, (run-called Done text (record { script = it; reads = reads; is = ap (λ (x : End). record { text = text; end = x }) e }), refl))
+    by-end it reads (out_of_turns line) e =
+        let text = (source_report p it).text in
+        (Turns, text, (run-called Turns text (line, record { script = it; reads = reads; is = ap (λ (x : End). record { text = text; end = x }) e }), refl))
+    by-end it reads (not_defined line) e = absurd (never-undefined it reads line e)
+
+    by-reading : (read : Result Script scripts.Refusal) → script_of (surface_of p) bytes ≡ read → Answers (Some (mean of script))
+    by-reading (Ok it) e = by-end it e (source_report p it).end refl
+    by-reading (Err refusal) e =
+        let text = script_line refusal.rule refusal.line in
+        (ScriptRefused, text, (run-called ScriptRefused text (record { refusal = refusal; refused = e; writes = refl }), refl))
+
+  mean-answer : (of : PackageWords) (files : List (List ℕ)) → AreHeld asked.held of.files files → (script bytes : List ℕ) → asked.held script ≡ Some bytes
+      → ((methods : ℕ) × IsAccepted of.package_name files methods) ⊎ ((refusal : Refusal) × IsRefused of.package_name files refusal) → Answers (Some (mean of script))
+  mean-answer of files hold script bytes is (inl v) =
+      let a = accepted-as of.package_name files v.0 v.1 in
+      by-reading of files hold script bytes is a.0 a.1 (script_of (surface_of a.0) bytes) refl
+  mean-answer of files hold script bytes is (inr v) = (Refused, refused_line (file_name of.files v.0.at.file) v.0, (refusal-called of files hold v.0 v.1, refl))
+
+  by-words : (command : Option Command) → InputsAreTold asked.held command → Answers command
+  by-words None told = (Usage, usage_line, ((refl, refl), refl))
+  by-words (Some (check of)) told = check-answer of told.0 (told-held asked.held of.files told.0 told.1) (verdicts_exist of.package_name told.0)
+  by-words (Some (mean of script)) told =
+      mean-answer of told.0.0 (told-held asked.held of.files told.0.0 told.0.1) script told.1.0 told.1.1 (verdicts_exist of.package_name told.0.0)
 
 pub answers-exist : AnswersExist
-answers-exist held failed words told = by-words held failed words (to_check words) refl told
+answers-exist asked faults told = by-words asked faults (command_of asked.words) told

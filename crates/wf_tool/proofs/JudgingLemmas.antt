@@ -1,6 +1,5 @@
 -- From a package that is resolved to one that is read, and from this to the verdict on its files.
-use Rattle.std.proofs.Common.{◌≡◌, ◌⊎◌, ℕ, suc, true, List, [], ◌∷◌, length, Option, None, Some, Result, Ok, Err, inl, inr, refl, sym, ap, ◌∙◌, subst}
-use Rattle.std.proofs.lemmas.List.{length-map}
+use Rattle.std.proofs.Common.{◌≡◌, ◌⊎◌, ◌+◌, ℕ, suc, true, List, [], ◌∷◌, length, Option, None, Some, Result, Ok, Err, inl, inr, refl, sym, ap, ◌∙◌, subst}
 use Rattle.wf_text.specs.declared.faults.PhaseFault.{PhaseFault}
 use Rattle.wf_text.specs.declared.faults.PhaseFault.TheVariants as phase
 use Rattle.wf_text.specs.declared.rules.Refusal.{Refusal}
@@ -10,56 +9,69 @@ use Rattle.wf_ast.specs.ParsedParts.{Parsed}
 use Rattle.wf_ast.specs.ParsedTree.{DeclTree, status, constant, structure, method}
 use Rattle.wf_ast.specs.StatementOrder.{stand_in_order}
 use Rattle.wf_ast.specs.declared.typed_nodes.TypedNodes.{TypedNodes}
-use Rattle.wf_ast.specs.TypedPackage.{package_of}
+use Rattle.wf_ast.specs.declared.declarations.Method.{Method}
+use Rattle.wf_ast.specs.declared.resolved.Block as resolved_tree
+use Rattle.wf_ast.specs.TypedPackage as typed
+use Rattle.wf_ast.specs.TypedPackage.{PackageTree, package_of}
 use Rattle.wf_parse.specs.Parsing.{IsParsed, decls_of}
-use Rattle.wf_named.specs.declared.declarations.NamedMethod.{NamedMethod}
-use Rattle.wf_named.specs.NamedParts.{NamedParts, exprs_of, stmts_of, named_package}
-use Rattle.wf_named.specs.NamedTrees.{method_made}
-use Rattle.wf_named.specs.NamedTree.{NamedPackageTree}
+use Rattle.wf_named.specs.NamedParts.{NamedParts, named_package}
+use Rattle.wf_named.specs.NamedTree.{NamedMethodTree, NamedPackageTree}
 use Rattle.wf_names_rules.specs.Declarations.{Declared, declared, methods_of}
 use Rattle.wf_names.specs.Naming.{IsMisnamed, IsResolved}
 use Rattle.wf_names_resolve.specs.Package.{resolved_methods, resolved_package}
 use Rattle.wf_names_laws.specs.Ordered.{HasOrder}
 use Rattle.wf_types_rules.specs.TypeRules.{Breaks}
-use Rattle.wf_typed_tree.specs.ElaboratedPackage.{typed_package}
+use Rattle.wf_typed_tree.specs.ElaboratedStmts.{count_block}
+use Rattle.wf_typed_tree.specs.ElaboratedPackage.{typed_methods, typed_package}
 use Rattle.wf_typed_tree.specs.Grammar.{package_by_grammar}
 use Rattle.wf_types.specs.Typing.{IsMistyped, IsElaborated}
 use Rattle.wf_points.specs.PointNumbers.{HasTooMany}
 use Rattle.wf_bounds_stmts.specs.MethodRules.{facts_refusal}
-use Rattle.wf_bounds.specs.Acceptance.{IsRefusedFor}
+use Rattle.wf_bounds.specs.Acceptance.{AcceptedPackage, IsAccepted, IsRefusedFor}
+use Rattle.wf_typed_laws.specs.PlainNames.{HasPlainNames}
+use Rattle.wf_typed_laws.proofs.NodeNames.{nodes_have_names}
+use Rattle.wf_typed_laws.proofs.TypedNames.{read_names_are_plain}
 use Rattle.wf_bounds_laws.specs.BoundsRules.{bounds_refusal, BreaksPoints}
 use Rattle.wf_bounds_laws.proofs.AnyOrder.{bounds_ignore_order, points_ignore_order}
 use Rattle.wf_bounds_laws.proofs.TypedBounds.{typing_keeps_bounds, typing_keeps_points}
 use Rattle.wf_tool.specs.Sizes.{too_large}
-use Rattle.wf_tool.specs.Taken.{Judges, RefusesTyped, JudgesNamed, JudgesRead}
+use Rattle.wf_tool.specs.Runs.{IsAcceptedAs}
+use Rattle.wf_tool.specs.Taken.{Judges, RefusesTyped, JudgesNamed, JudgesRead, JudgesTaken}
 use Rattle.wf_tool.specs.Verdict as verdicts
 use Rattle.wf_tool.specs.Verdict.{BreaksTypes, resolved, misnamed, mistyped}
 use Rattle.wf_tool.specs.Soundness.{in_order}
 use Rattle.wf_tool.proofs.OrderLemmas.{any-order}
 use Rattle.wf_tool.proofs.SoundVerdicts.{accepted-runs}
 
--- A resolved package has as many methods as its nodes tell.
-pub methods-told : (p q : NamedParts) (told : List NamedMethod) → told ≡ q.methods → q ≡ p → length told ≡ length (named_package p).methods
-unfolding named_package
-methods-told p q told are same =
-    ap length (are ∙ ap (λ (x : NamedParts). x.methods) same) ∙ sym (length-map p.methods (method_made p.texts (exprs_of p) (stmts_of p)))
+-- A package has as many methods as its nodes.
+methods-made : (nodes : TypedNodes) (ms : List Method) (bodies : List resolved_tree.Block) → length bodies ≡ length ms → length (typed.methods_of nodes ms bodies) ≡ length ms
+methods-made nodes [] bodies count = refl
+methods-made nodes (m ∷ ms) [] count = absurd (cc count)
+methods-made nodes (m ∷ ms) (body ∷ bodies) count =
+    let others : length bodies ≡ length ms = cc count in
+    ap suc (methods-made nodes ms bodies others)
+
+pub methods-told : (nodes : TypedNodes) → length nodes.bodies ≡ length nodes.methods → length nodes.methods ≡ length (package_of nodes).methods
+unfolding package_of
+methods-told nodes bodied = sym (methods-made nodes nodes.methods nodes.bodies bodied)
 
 -- What the phase of types refuses is refused.
 pub mistyped-judged : (named : NamedParts) (fault : PhaseFault) → IsMistyped named fault → JudgesNamed (named_package named) (Err fault)
 mistyped-judged named (phase.Refused refusal) h = inl h
 mistyped-judged named phase.Memory h = tt
 
--- Nodes that are those of a package have as few points as it.
-pub few-typed : (nodes typed : TypedNodes) → nodes ≡ typed → Decides (HasTooMany (package_of nodes)) None → Decides (HasTooMany (package_of typed)) None
-few-typed nodes typed same h =
-    let D : TypedNodes → Type 0 = λ t. Decides (HasTooMany (package_of t)) None in
-    subst D same h
-
 -- What the phase of bounds says of the typed nodes of a package it says of the package.
 module _ (named : NamedParts) (typed : TypedNodes) (is : IsElaborated named typed) where
-  pub bounded-judged : (methods : ℕ) → facts_refusal typed ≡ None → Decides (HasTooMany (package_of typed)) None → methods ≡ length (named_package named).methods → JudgesNamed (named_package named) (Ok methods)
-  bounded-judged methods bounds points counted =
-      (is.kept, sym (typing_keeps_bounds named typed is) ∙ bounds, typing_keeps_points named typed is None points, counted)
+  pub bounded-judged : (a : AcceptedPackage) → IsAccepted a → a.nodes ≡ typed → JudgesNamed (named_package named) (Ok a)
+  bounded-judged a accepted same =
+      let F : TypedNodes → Type 0 = λ t. facts_refusal t ≡ None in
+      let D : TypedNodes → Type 0 = λ t. Decides (HasTooMany (package_of t)) None in (
+        is.kept,
+        sym (typing_keeps_bounds named typed is) ∙ subst F same accepted.bounds,
+        typing_keeps_points named typed is None (subst D same accepted.few),
+        ap package_of same ∙ is.tree,
+        accepted.typed,
+      )
 
   refuses-typed : (refusal : Refusal) → IsRefusedFor typed (phase.Refused refusal) → RefusesTyped (named_package named) refusal
   refuses-typed refusal h = elim h [
@@ -99,14 +111,14 @@ module _ (read : Parsed) where
     | inr points ↦ inr (sym (bounds-decide order) ∙ points.0, points-decide order (Some refusal) points.1)
   ]
 
-  ordered-judged : (order : List ℕ) (result : Result ℕ PhaseFault) → verdicts.KeepsNames read → HasOrder (in_order read order) → JudgesNamed (in_order read order) result → JudgesRead read result
-  ordered-judged order (Ok methods) names ordered h = (
+  ordered-judged : (order : List ℕ) (result : Result AcceptedPackage PhaseFault) → verdicts.KeepsNames read → HasOrder (in_order read order) → JudgesNamed (in_order read order) result → JudgesRead read result
+  ordered-judged order (Ok a) names ordered h = (
     names,
     types-decide order None h.0,
     sym (bounds-decide order) ∙ h.1,
     points-decide order None h.2,
-    h.3 ∙ methods-counted (declared read.texts (decls_of read)) (decls_of read),
-    (order, ordered),
+    record { order = order; ordered = ordered; tree = h.3 },
+    h.4,
   )
   ordered-judged order (Err (phase.Refused refusal)) names ordered h = elim h [
     | inl first ↦ inr (inl (names, types-decide order (Some refusal) first))
@@ -114,7 +126,7 @@ module _ (read : Parsed) where
   ]
   ordered-judged order (Err phase.Memory) names ordered h = tt
 
-  pub named-judged : (named : NamedParts) (result : Result ℕ PhaseFault) → IsResolved read named → JudgesNamed (named_package named) result → JudgesRead read result
+  pub named-judged : (named : NamedParts) (result : Result AcceptedPackage PhaseFault) → IsResolved read named → JudgesNamed (named_package named) result → JudgesRead read result
   named-judged named result is h =
       let J : NamedPackageTree → Type 0 = λ p. JudgesNamed p result in
       let O : NamedPackageTree → Type 0 = HasOrder in
@@ -133,12 +145,43 @@ module _ (read : Parsed) where
   misnamed-judged (phase.Refused refusal) h = inl h
   misnamed-judged phase.Memory h = tt
 
-pub read-judged : (name : List ℕ) (files : List (List ℕ)) (read : Parsed) (result : Result ℕ PhaseFault)
+-- As many methods are typed as are resolved.
+typed-long : (p : NamedPackageTree) (n : ℕ) (ms : List NamedMethodTree) → length (typed_methods p n ms) ≡ length ms
+typed-long p n [] = refl
+typed-long p n (m ∷ ms) = ap suc (typed-long p (n + count_block m.body) ms)
+
+pub typed-counted : (read : Parsed) (order : List ℕ) → length (typed_package (in_order read order)).methods ≡ verdicts.method_count read
+unfolding typed_package
+typed-counted read order =
+    typed-long (in_order read order) 0 (in_order read order).methods ∙ methods-counted (declared read.texts (decls_of read)) (decls_of read)
+
+pub read-judged : (name : List ℕ) (files : List (List ℕ)) (read : Parsed) (result : Result AcceptedPackage PhaseFault)
     → too_large files ≡ None → IsParsed name files read → JudgesRead read result → Judges name files result
-read-judged name files read (Ok methods) sized parsed h = (accepted, accepted-runs name files methods accepted h.5)
+read-judged name files read (Ok a) sized parsed h = (accepted_as, nodes_have_names a.nodes h.5 plain)
   where
-    accepted : verdicts.IsAccepted name files methods
-    accepted = record { sized = sized; read = read; parsed = parsed; names = h.0; types = h.1; bounds = h.2; points = h.3; counted = h.4 }
+    accepted : verdicts.IsAccepted name files (length (package_of a.nodes).methods)
+    accepted = record {
+      sized = sized;
+      read = read;
+      parsed = parsed;
+      names = h.0;
+      types = h.1;
+      bounds = h.2;
+      points = h.3;
+      counted = ap (λ (p : PackageTree). length p.methods) h.4.tree ∙ typed-counted read h.4.order;
+    }
+
+    accepted_as : IsAcceptedAs name files (package_of a.nodes)
+    accepted_as = record {
+      verdict = accepted;
+      runs = accepted-runs name files (length (package_of a.nodes).methods) accepted (h.4.order, h.4.ordered);
+      order = h.4.order;
+      ordered = h.4.ordered;
+      tree = h.4.tree;
+    }
+
+    plain : HasPlainNames (package_of a.nodes)
+    plain = subst HasPlainNames (sym h.4.tree) (read_names_are_plain name files read parsed h.0 h.4.order)
 read-judged name files read (Err (phase.Refused refusal)) sized parsed h = elim h [
   | inl first ↦ misnamed (record { sized = sized; read = read; parsed = parsed; decides = first })
   | inr other ↦ later-judged other

@@ -1,9 +1,14 @@
 pub mod ByVerdict
+pub mod DrivenRuns
+pub mod FaultLines
 pub mod JudgingLemmas
 pub mod OrderLemmas
 pub mod RefusalFiles
-pub mod RefusedLine
+pub mod RunLemmas
+pub mod ScriptEnds
 pub mod SoundVerdicts
 pub mod TakingLemmas
+pub mod UsageLine
 pub mod VerdictLaws
 pub mod WholeVerdicts
+pub mod WritingLemmas

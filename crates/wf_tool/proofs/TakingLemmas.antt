@@ -11,8 +11,7 @@ use Rattle.wf_tool.specs.declared.taking.TakingFault.{TakingFault}
 use Rattle.wf_tool.specs.declared.taking.TakingFault.TheVariants.{Refused, Failed, Memory}
 use Rattle.wf_tool.specs.Answer.{AreHeld, FailsAt, file_name, text_or}
 use Rattle.wf_tool.specs.Sizes.{too_large, too_long, too_many, most_bytes}
-use Rattle.wf_tool.specs.Taken.{JudgesPackage, NamesFailed, NamesFile, RefusesHeld, StopsFile, StopsFiles, TakesFile, TakesFiles}
-use Rattle.wf_tool.specs.Verdict.{large}
+use Rattle.wf_tool.specs.Taken.{AreTooLarge, NamesFailed, NamesFile, StopsFile, StopsFiles, StopsPackage, TakesFile, TakesFiles, TakesPackage}
 
 -- what names hold, and nothing where it isn't told
 abbrev pub told_files : (held : List ℕ → Option (List ℕ)) → List (List ℕ) → List (List ℕ)
@@ -122,6 +121,9 @@ none-of-test : (b : Bool) (n most : ℕ) (other : Option Refusal) (refusal : Ref
 none-of-test true n most other refusal is none = (grind (arith, is), none)
 none-of-test false n most other refusal is none = absurd (cc none)
 
+pub short-first : (number most : ℕ) (bytes : List ℕ) (rest : List (List ℕ)) → too_long number most (bytes ∷ rest) ≡ None → (length bytes ≤ most) × (too_long (number + 1) (most - length bytes) rest ≡ None)
+short-first number most bytes rest none = none-of-test (nat_le (length bytes) most) (length bytes) most (too_long (number + 1) (most - length bytes) rest) (record { rule = L1; at = first_place number }) refl none
+
 pub few-names : (count : ℕ) → too_many count ≡ None → count ≤ 16
 few-names count none = (none-of-test (nat_le count 16) count 16 None (record { rule = L2; at = first_place 16 }) refl none).0
 
@@ -139,6 +141,9 @@ or-none (Some refusal) b none = absurd (cc none)
 pub sized-few : (files : List (List ℕ)) → too_large files ≡ None → length files ≤ 16
 sized-few files none = few-names (length files) (or-none (too_many (length files)) (too_long 0 most_bytes files) none).0
 
+pub sized-both : (files : List (List ℕ)) → too_large files ≡ None → (too_many (length files) ≡ None) × (too_long 0 most_bytes files ≡ None)
+sized-both files none = or-none (too_many (length files)) (too_long 0 most_bytes files) none
+
 pub sized-bytes : {X : Type 0} (f : X → List ℕ) (xs : List X) → too_large (map f xs) ≡ None → sum_by (λ x. length (f x)) xs ≤ 1048576
 sized-bytes f xs none = few-bytes f xs 0 most_bytes (or-none (too_many (length (map f xs))) (too_long 0 most_bytes (map f xs)) none).1
 
@@ -150,26 +155,26 @@ pub sized-taken : (held : List ℕ → Option (List ℕ)) (names files : List (L
 sized-taken held names files few takes =
     ap (λ f. option_or f (too_long 0 most_bytes files)) (same-count held names files None takes.0 few) ∙ takes.1
 
-pub many-refused : (held : List ℕ → Option (List ℕ)) (name : List ℕ) (names : List (List ℕ)) (refusal : Refusal) → too_many (length names) ≡ Some refusal → RefusesHeld held name names refusal
-many-refused held name names refusal many =
+pub many-stopped : (held : List ℕ → Option (List ℕ)) (names : List (List ℕ)) (refusal : Refusal) → too_many (length names) ≡ Some refusal → AreTooLarge held names refusal
+many-stopped held names refusal many =
     let files = told_files held names in
     record {
       files = files;
       hold = told-hold held names;
-      verdict = large (ap (λ f. option_or f (too_long 0 most_bytes files)) (same-count held names files (Some refusal) (told-hold held names) many));
+      large = ap (λ f. option_or f (too_long 0 most_bytes files)) (same-count held names files (Some refusal) (told-hold held names) many);
     }
 
--- what ended the taking is what becomes of the package
-pub judge-fault : (held : List ℕ → Option (List ℕ)) (name : List ℕ) (names : List (List ℕ)) (fault : TakingFault) → too_many (length names) ≡ None → StopsFiles held most_bytes 0 names fault → JudgesPackage held name names (Err fault)
-judge-fault held name names (Refused refusal) few (files, hold, long) = record {
+-- what ended the taking is what becomes of the files of the package
+pub stopped-package : (held : List ℕ → Option (List ℕ)) (names : List (List ℕ)) (fault : TakingFault) → too_many (length names) ≡ None → StopsFiles held most_bytes 0 names fault → StopsPackage held names fault
+stopped-package held names (Refused refusal) few (files, hold, long) = record {
   files = files;
   hold = hold;
-  verdict = large (ap (λ f. option_or f (too_long 0 most_bytes files)) (same-count held names files None hold few) ∙ long);
+  large = ap (λ f. option_or f (too_long 0 most_bytes files)) (same-count held names files None hold few) ∙ long;
 }
-judge-fault held name names (Failed at) few (index, is, fails) =
+stopped-package held names (Failed at) few (index, is, fails) =
     let spot : index ≡ at = sym (is ∙ omega arith) in
     record { few = few; fails = subst (FailsAt held most_bytes names) spot fails }
-judge-fault held name names Memory few stops = tt
+stopped-package held names Memory few stops = tt
 
 -- the same, of names and files as the program has them
 module _ {X Y : Type 0} (f : X → List ℕ) (n : Y → List ℕ) (held now : List ℕ → Option (List ℕ)) (same : now ≡ held) (names : List Y) (number left : ℕ) (files : List X) (name : List ℕ) where
@@ -196,13 +201,11 @@ taken-all f n held names number left files had past =
     let M : ℕ → Type 0 = λ l. l ≤ number in
     takes-all held 1048576 (map n names) number left (map f files) had (drop-end (map n names) number (subst M (sym (length-map names n)) past))
 
-pub too-many-names : {Y : Type 0} (n : Y → List ℕ) (held : List ℕ → Option (List ℕ)) (name : List ℕ) (names : List Y) (refusal : Refusal) → Some refusal ≡ too_many (length names) → RefusesHeld held name (map n names) refusal
-too-many-names n held name names refusal many = many-refused held name (map n names) refusal (ap too_many (length-map names n) ∙ sym many)
+pub too-many-names : {Y : Type 0} (n : Y → List ℕ) (held : List ℕ → Option (List ℕ)) (names : List Y) (refusal : Refusal) → Some refusal ≡ too_many (length names) → AreTooLarge held (map n names) refusal
+too-many-names n held names refusal many = many-stopped held (map n names) refusal (ap too_many (length-map names n) ∙ sym many)
 
-pub sized-files : {X Y : Type 0} (f : X → List ℕ) (n : Y → List ℕ) (held : List ℕ → Option (List ℕ)) (names : List Y) (files others : List X) → too_many (length names) ≡ None → TakesFiles held 1048576 (map n names) (map f files) → others ≡ files → too_large (map f others) ≡ None
-sized-files {X} f n held names files others few takes is =
-    let T : List X → Type 0 = λ fs. too_large (map f fs) ≡ None in
-    subst T (sym is) (sized-taken held (map n names) (map f files) (ap too_many (length-map names n) ∙ few) takes)
+pub taken-package : {X Y : Type 0} (f : X → List ℕ) (n : Y → List ℕ) (held : List ℕ → Option (List ℕ)) (names : List Y) (files : List X) → too_many (length names) ≡ None → TakesFiles held 1048576 (map n names) (map f files) → TakesPackage held (map n names) (map f files)
+taken-package f n held names files few takes = (takes.0, sized-taken held (map n names) (map f files) (ap too_many (length-map names n) ∙ few) takes)
 
-pub fault-judged : {Y : Type 0} (n : Y → List ℕ) (held : List ℕ → Option (List ℕ)) (name : List ℕ) (names : List Y) (fault : TakingFault) → too_many (length names) ≡ None → StopsFiles held 1048576 0 (map n names) fault → JudgesPackage held name (map n names) (Err fault)
-fault-judged n held name names fault few stops = judge-fault held name (map n names) fault (ap too_many (length-map names n) ∙ few) stops
+pub fault-stopped : {Y : Type 0} (n : Y → List ℕ) (held : List ℕ → Option (List ℕ)) (names : List Y) (fault : TakingFault) → too_many (length names) ≡ None → StopsFiles held 1048576 0 (map n names) fault → StopsPackage held (map n names) fault
+fault-stopped n held names fault few stops = stopped-package held (map n names) fault (ap too_many (length-map names n) ∙ few) stops

@@ -1,14 +1,16 @@
 -- The answer of the program: for its words and what its inputs hold, how it ends and what it writes.
-use Rattle.std.specs.Prelude.{ℕ, zero, suc, ⊤, ◌-◌, List, [], ◌∷◌, length, take, slice_get, Option, None, Some, IfSome, ◌≡◌, ◌≤◌, ◌<◌}
+use Rattle.std.specs.Prelude.{ℕ, zero, suc, ⊤, ◌-◌, List, [], ◌∷◌, ◌++◌, length, take, slice_get, Option, None, Some, IfSome, ◌≡◌, ◌≤◌, ◌<◌}
 use Rattle.std.specs.Io.KnownBytes.{Appends, Keeps}
 use Rattle.wf_text.specs.declared.rules.Refusal.{Refusal}
+use Rattle.wf_ast.specs.TypedPackage.{PackageTree, surface_of}
 use Rattle.wf_tool.specs.declared.ending.Ending.{Ending}
 use Rattle.wf_tool.specs.declared.ending.Ending.TheVariants.{Done, Refused, Usage, InputFault, OutputFault, ScriptRefused, NoMemory, Turns, TextRefused, Undefined}
 use Rattle.wf_tool.specs.Lines.{accepted_line, fault_line, refused_line, usage_line}
 use Rattle.wf_tool.specs.Sizes.{most_bytes, too_many}
 use Rattle.wf_tool.specs.Soundness.{NeverStuck}
+use Rattle.wf_tool.specs.Runs.{IsAcceptedAs, RunCallsFor, source_report}
 use Rattle.wf_tool.specs.Verdict.{IsAccepted, IsRefused}
-use Rattle.wf_tool.specs.Words.{ToCheck, to_check}
+use Rattle.wf_tool.specs.Words.{PackageWords, Command, check, mean, command_of}
 
 -- Bytes that the names hold, one after the other: each is what its name holds, where that is told.
 abbrev pub AreHeld : (held : List ℕ → Option (List ℕ)) → (names files : List (List ℕ)) → Type 0
@@ -26,22 +28,18 @@ abbrev pub file_name : (names : List (List ℕ)) → (number : ℕ) → List ℕ
 file_name names number = text_or (slice_get names number)
 
 -- The package is refused. The line names the file of the refusal, which is one of those that the words name.
-pub record CallsForRefusal (held : List ℕ → Option (List ℕ)) (words : List (List ℕ)) (line : List ℕ) : Type 0 where
-  pub asked : ToCheck
+pub record CallsForRefusal (held : List ℕ → Option (List ℕ)) (asked : PackageWords) (line : List ℕ) : Type 0 where
   pub files : List (List ℕ)
   pub refusal : Refusal
-  pub named : to_check words ≡ Some asked
   pub hold : AreHeld held asked.files files
   pub verdict : IsRefused asked.package_name files refusal
   pub there : refusal.at.file < length asked.files
   pub writes : line ≡ refused_line (file_name asked.files refusal.at.file) refusal
 
 -- The package is accepted, and so it is never stuck. The line tells how many methods it declares.
-pub record CallsForDone (held : List ℕ → Option (List ℕ)) (words : List (List ℕ)) (line : List ℕ) : Type 0 where
-  pub asked : ToCheck
+pub record CallsForDone (held : List ℕ → Option (List ℕ)) (asked : PackageWords) (line : List ℕ) : Type 0 where
   pub files : List (List ℕ)
   pub methods : ℕ
-  pub named : to_check words ≡ Some asked
   pub hold : AreHeld held asked.files files
   pub verdict : IsAccepted asked.package_name files methods
   pub runs : NeverStuck asked.package_name files
@@ -53,29 +51,61 @@ FailsAt held most [] number = ⊥
 FailsAt held most (name ∷ names) zero = ⊤
 FailsAt held most (name ∷ names) (suc number) = (bytes : List ℕ) × IfSome (held name) (λ told. bytes ≡ told) × (length bytes ≤ most) × FailsAt held (most - length bytes) names number
 
--- An input failed: one that the words name, and the last failed one, where that is told.
-pub record CallsForFault (held : List ℕ → Option (List ℕ)) (failed : Option (List ℕ)) (words : List (List ℕ)) (line : List ℕ) : Type 0 where
-  pub asked : ToCheck
+-- An input failed: one of these, which the words name in this order, and the last failed one, where that is told. The files of the
+-- package aren't too many.
+pub record CallsForFault (held : List ℕ → Option (List ℕ)) (failed : Option (List ℕ)) (asked : PackageWords) (names : List (List ℕ)) (line : List ℕ) : Type 0 where
   pub number : ℕ
-  pub named : to_check words ≡ Some asked
   pub few : too_many (length asked.files) ≡ None
-  pub fails : FailsAt held most_bytes asked.files number
-  pub writes : line ≡ fault_line (file_name asked.files number)
-  pub last : IfSome failed (λ name. name ≡ file_name asked.files number)
+  pub fails : FailsAt held most_bytes names number
+  pub writes : line ≡ fault_line (file_name names number)
+  pub last : IfSome failed (λ name. name ≡ file_name names number)
 
--- These words, over inputs that hold this and of which this failed last, call for this ending and this line. The
--- other endings come with no line.
-abbrev pub CallFor : (held : List ℕ → Option (List ℕ)) → (failed : Option (List ℕ)) → (words : List (List ℕ)) → Ending → (line : List ℕ) → Type 0
-CallFor held failed words Done line = CallsForDone held words line
-CallFor held failed words Refused line = CallsForRefusal held words line
-CallFor held failed words Usage line = (to_check words ≡ None) × (line ≡ usage_line)
-CallFor held failed words InputFault line = CallsForFault held failed words line
-CallFor held failed words OutputFault line = ⊥
-CallFor held failed words ScriptRefused line = ⊥
-CallFor held failed words NoMemory line = ⊥
-CallFor held failed words Turns line = ⊥
-CallFor held failed words TextRefused line = ⊥
-CallFor held failed words Undefined line = ⊥
+-- A script is run over the package, which is accepted and so never stuck: it calls for this ending with this text, which is its
+-- report by what is seen of the package's source, or the line of its refusal.
+pub record CallsForRun (held : List ℕ → Option (List ℕ)) (asked : PackageWords) (script : List ℕ) (ending : Ending) (text : List ℕ) : Type 0 where
+  pub files : List (List ℕ)
+  pub bytes : List ℕ
+  pub tree : PackageTree
+  pub hold : AreHeld held asked.files files
+  pub script_holds : IfSome (held script) (λ told. bytes ≡ told)
+  pub accepted : IsAcceptedAs asked.package_name files tree
+  pub calls : RunCallsFor (surface_of tree) (source_report tree) bytes ending text
+
+-- A package that is to be checked calls for this ending and this text.
+abbrev pub CheckCallsFor : (held : List ℕ → Option (List ℕ)) → (failed : Option (List ℕ)) → PackageWords → Ending → (text : List ℕ) → Type 0
+CheckCallsFor held failed asked Done text = CallsForDone held asked text
+CheckCallsFor held failed asked Refused text = CallsForRefusal held asked text
+CheckCallsFor held failed asked Usage text = ⊥
+CheckCallsFor held failed asked InputFault text = CallsForFault held failed asked asked.files text
+CheckCallsFor held failed asked OutputFault text = ⊥
+CheckCallsFor held failed asked ScriptRefused text = ⊥
+CheckCallsFor held failed asked NoMemory text = ⊥
+CheckCallsFor held failed asked Turns text = ⊥
+CheckCallsFor held failed asked TextRefused text = ⊥
+CheckCallsFor held failed asked Undefined text = ⊥
+
+-- A package whose source is to be run calls for it. The script is taken after the files.
+abbrev pub MeanCallsFor : (held : List ℕ → Option (List ℕ)) → (failed : Option (List ℕ)) → PackageWords → (script : List ℕ) → Ending → (text : List ℕ) → Type 0
+MeanCallsFor held failed asked script Done text = CallsForRun held asked script Done text
+MeanCallsFor held failed asked script Refused text = CallsForRefusal held asked text
+MeanCallsFor held failed asked script Usage text = ⊥
+MeanCallsFor held failed asked script InputFault text = CallsForFault held failed asked (asked.files ++ script ∷ []) text
+MeanCallsFor held failed asked script OutputFault text = ⊥
+MeanCallsFor held failed asked script ScriptRefused text = CallsForRun held asked script ScriptRefused text
+MeanCallsFor held failed asked script NoMemory text = ⊥
+MeanCallsFor held failed asked script Turns text = CallsForRun held asked script Turns text
+MeanCallsFor held failed asked script TextRefused text = ⊥
+MeanCallsFor held failed asked script Undefined text = ⊥
+
+-- What is asked for, over inputs that hold this and of which this failed last, calls for this ending and this text. Words that are no
+-- command form call for the line on usage.
+abbrev pub AskedFor : (held : List ℕ → Option (List ℕ)) → (failed : Option (List ℕ)) → Option Command → Ending → (text : List ℕ) → Type 0
+AskedFor held failed None ending text = (ending ≡ Usage) × (text ≡ usage_line)
+AskedFor held failed (Some (check asked)) ending text = CheckCallsFor held failed asked ending text
+AskedFor held failed (Some (mean asked script)) ending text = MeanCallsFor held failed asked script ending text
+
+abbrev pub CallFor : (held : List ℕ → Option (List ℕ)) → (failed : Option (List ℕ)) → (words : List (List ℕ)) → Ending → (text : List ℕ) → Type 0
+CallFor held failed words ending text = AskedFor held failed (command_of words) ending text
 
 -- The inputs' count of faults rises where an input fault is the ending. It may have risen where memory or the
 -- output failed, and has not at every other ending.
@@ -96,37 +126,39 @@ pub record Asked : Type 0 where
   pub failed : Option (List ℕ)
   pub words : List (List ℕ)
 
--- The sink, where it tells, has gained the line that is called for.
-pub record WritesLine (asked : Asked) (old new : Option (List ℕ)) (ending : Ending) : Type 0 where
-  pub line : List ℕ
-  pub calls : CallFor asked.held asked.failed asked.words ending line
-  pub wrote : Appends old new line
+-- They call for this ending and this text, where the inputs' faults were so many before and are so many now.
+abbrev pub Called : Asked → (before now : ℕ) → Ending → (text : List ℕ) → Type 0
+Called asked before now ending text = CallFor asked.held asked.failed asked.words ending text × CountsInputs before now ending
 
--- The sink, where it tells, has gained the first bytes of a line that is called for. Where it tells a room, the
--- room didn't hold the line.
-pub record WritesPart (asked : Asked) (before now : ℕ) (old new : Option (List ℕ)) (room : Option ℕ) : Type 0 where
+-- The sink, where it tells, has gained the text that is called for.
+pub record WritesText (calls : Ending → List ℕ → Type 0) (old new : Option (List ℕ)) (ending : Ending) : Type 0 where
+  pub text : List ℕ
+  pub called : calls ending text
+  pub wrote : Appends old new text
+
+-- The sink, where it tells, has gained the first bytes of a text that is called for. Where it tells a room, the room didn't hold
+-- the text.
+pub record WritesPart (calls : Ending → List ℕ → Type 0) (old new : Option (List ℕ)) (room : Option ℕ) : Type 0 where
   pub ending : Ending
-  pub line : List ℕ
+  pub text : List ℕ
   pub gone : ℕ
-  pub calls : CallFor asked.held asked.failed asked.words ending line
-  pub counts : CountsInputs before now ending
-  pub wrote : Appends old new (take gone line)
-  pub lacking : IfSome room (λ left. left < length line)
+  pub called : calls ending text
+  pub wrote : Appends old new (take gone text)
+  pub lacking : IfSome room (λ left. left < length text)
 
--- What is written with each ending. `before` and `now` count the inputs' faults, `old` and `new` are the sink's
--- bytes, and `room` is the room that it had.
-abbrev pub Writes : (asked : Asked) → (before now : ℕ) → (old new : Option (List ℕ)) → (room : Option ℕ) → Ending → Type 0
-Writes asked before now old new room OutputFault = WritesPart asked before now old new room
-Writes asked before now old new room NoMemory = Keeps old new
-Writes asked before now old new room ending = WritesLine asked old new ending
+-- What is written with each ending. `old` and `new` are the sink's bytes, and `room` is the room that it had.
+abbrev pub Writes : (calls : Ending → List ℕ → Type 0) → (old new : Option (List ℕ)) → (room : Option ℕ) → Ending → Type 0
+Writes calls old new room OutputFault = WritesPart calls old new room
+Writes calls old new room NoMemory = Keeps old new
+Writes calls old new room ending = WritesText calls old new ending
 
--- With no fault, the ending and the line are those that the words and the told bytes call for; or memory was
--- refused, and nothing was written.
-abbrev pub IsAnswered : (asked : Asked) → (old new : Option (List ℕ)) → Ending → Type 0
-IsAnswered asked old new InputFault = ⊥
-IsAnswered asked old new OutputFault = ⊥
-IsAnswered asked old new NoMemory = Keeps old new
-IsAnswered asked old new ending = WritesLine asked old new ending
+-- With no fault, the ending and the text are those that the words and the told bytes call for; or memory was refused, and nothing
+-- was written.
+abbrev pub IsAnswered : (calls : Ending → List ℕ → Type 0) → (old new : Option (List ℕ)) → Ending → Type 0
+IsAnswered calls old new InputFault = ⊥
+IsAnswered calls old new OutputFault = ⊥
+IsAnswered calls old new NoMemory = Keeps old new
+IsAnswered calls old new ending = WritesText calls old new ending
 
 -- The inputs tell what each of the names holds.
 abbrev pub AreTold : (held : List ℕ → Option (List ℕ)) → (names files : List (List ℕ)) → Type 0
@@ -134,25 +166,55 @@ AreTold held [] [] = ⊤
 AreTold held (name ∷ names) (bytes ∷ files) = (held name ≡ Some bytes) × AreTold held names files
 AreTold held _ _ = ⊥
 
--- The ending is that of the package's verdict, and the verdict's line is written.
-pub record IsByVerdict (asked : ToCheck) (files : List (List ℕ)) (old new : Option (List ℕ)) (ending : Ending) : Type 0 where
-  pub accepted : (methods : ℕ) → IsAccepted asked.package_name files methods → (ending ≡ Done) × Appends old new (accepted_line methods)
-  pub refused : (refusal : Refusal) → IsRefused asked.package_name files refusal → (ending ≡ Refused) × Appends old new (refused_line (file_name asked.files refusal.at.file) refusal)
+-- A package that is refused ends so, and the line of its refusal is written.
+abbrev pub RefusesByVerdict : PackageWords → (files : List (List ℕ)) → (old new : Option (List ℕ)) → Ending → Type 0
+RefusesByVerdict asked files old new ending =
+    (refusal : Refusal) → IsRefused asked.package_name files refusal → (ending ≡ Refused) × Appends old new (refused_line (file_name asked.files refusal.at.file) refusal)
 
--- Where the words are a command form, the inputs tell what its files hold, no fault is counted and memory isn't refused, the
--- program answers the package's verdict.
+-- `check`: the ending is that of the package's verdict, and the verdict's line is written.
+pub record ChecksByVerdict (asked : PackageWords) (files : List (List ℕ)) (old new : Option (List ℕ)) (ending : Ending) : Type 0 where
+  pub accepted : (methods : ℕ) → IsAccepted asked.package_name files methods → (ending ≡ Done) × Appends old new (accepted_line methods)
+  pub refused : RefusesByVerdict asked files old new ending
+
+-- The ending and what is written are those of a script with these bytes, run over the source of a package that is accepted.
+pub record RunsByVerdict (asked : PackageWords) (files : List (List ℕ)) (bytes : List ℕ) (old new : Option (List ℕ)) (ending : Ending) : Type 0 where
+  pub tree : PackageTree
+  pub accepted : IsAcceptedAs asked.package_name files tree
+  pub text : List ℕ
+  pub calls : RunCallsFor (surface_of tree) (source_report tree) bytes ending text
+  pub wrote : Appends old new text
+
+-- `mean`: so it is of a package that is refused, whatever the script holds; over one that is accepted, the script runs that is told.
+pub record MeansByVerdict (asked : PackageWords) (files : List (List ℕ)) (script : Option (List ℕ)) (old new : Option (List ℕ)) (ending : Ending) : Type 0 where
+  pub accepted : (methods : ℕ) → IsAccepted asked.package_name files methods → (bytes : List ℕ) → script ≡ Some bytes → RunsByVerdict asked files bytes old new ending
+  pub refused : RefusesByVerdict asked files old new ending
+
+-- What is answered to a command over a package with these files.
+abbrev pub IsByVerdict : (held : List ℕ → Option (List ℕ)) → Command → (files : List (List ℕ)) → (old new : Option (List ℕ)) → Ending → Type 0
+IsByVerdict held (check asked) files old new ending = ChecksByVerdict asked files old new ending
+IsByVerdict held (mean asked script) files old new ending = MeansByVerdict asked files (held script) old new ending
+
+-- The package that a command is about.
+abbrev pub asked_package : Command → PackageWords
+asked_package (check asked) = asked
+asked_package (mean asked script) = asked
+
+-- Where the words are a command form, the inputs tell what the package's files hold, no fault is counted and memory isn't refused,
+-- the program answers by the package's verdict.
 abbrev pub AnswersAreVerdicts : Type 0
 AnswersAreVerdicts =
-    (asked : Asked) (check : ToCheck) (files : List (List ℕ)) (old new : Option (List ℕ)) (ending : Ending) → to_check asked.words ≡ Some check → AreTold asked.held check.files files
-    → IsAnswered asked old new ending → (ending ≡ NoMemory → ⊥) → IsByVerdict check files old new ending
+    (asked : Asked) (command : Command) (files : List (List ℕ)) (before now : ℕ) (old new : Option (List ℕ)) (ending : Ending) → command_of asked.words ≡ Some command
+    → AreTold asked.held (asked_package command).files files → IsAnswered (Called asked before now) old new ending → (ending ≡ NoMemory → ⊥) → IsByVerdict asked.held command files old new ending
 
--- The inputs tell what the files hold that the words name, where these are a command form.
-abbrev pub FilesAreTold : (held : List ℕ → Option (List ℕ)) → Option ToCheck → Type 0
-FilesAreTold held None = ⊤
-FilesAreTold held (Some asked) = (files : List (List ℕ)) × AreTold held asked.files files
+-- The inputs tell what the files of a package hold, and the script where there is one.
+abbrev pub FilesAreTold : (held : List ℕ → Option (List ℕ)) → PackageWords → Type 0
+FilesAreTold held asked = (files : List (List ℕ)) × AreTold held asked.files files
 
--- Such words call for an ending and a line.
+abbrev pub InputsAreTold : (held : List ℕ → Option (List ℕ)) → Option Command → Type 0
+InputsAreTold held None = ⊤
+InputsAreTold held (Some (check asked)) = FilesAreTold held asked
+InputsAreTold held (Some (mean asked script)) = FilesAreTold held asked × ((bytes : List ℕ) × (held script ≡ Some bytes))
+
+-- Words whose inputs are told call for an ending and a text, with no fault counted.
 abbrev pub AnswersExist : Type 0
-AnswersExist =
-    (held : List ℕ → Option (List ℕ)) (failed : Option (List ℕ)) (words : List (List ℕ)) → FilesAreTold held (to_check words)
-    → (ending : Ending) × (line : List ℕ) × CallFor held failed words ending line
+AnswersExist = (asked : Asked) (faults : ℕ) → InputsAreTold asked.held (command_of asked.words) → (ending : Ending) × (text : List ℕ) × Called asked faults faults ending text

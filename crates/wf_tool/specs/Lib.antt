@@ -1,8 +1,11 @@
 pub mod Answer
 pub mod Lines
+pub mod Runs
 pub mod Sizes
 pub mod Soundness
 pub mod Statuses
 pub mod Taken
+pub mod Told
 pub mod Verdict
+pub mod Views
 pub mod Words

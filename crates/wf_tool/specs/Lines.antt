@@ -2,6 +2,8 @@
 use Rattle.std.specs.Prelude.{ℕ, List, [], ◌∷◌, ◌++◌, codes, decimal}
 use Rattle.wf_text.specs.RuleNames.{name_of}
 use Rattle.wf_text.specs.declared.rules.Refusal.{Refusal}
+use Rattle.wf_script_rules.specs.declared.rules.XRule.{XRule}
+use Rattle.wf_script_rules.specs.declared.rules.XRule.TheVariants.{X1, X2, X3, X4, X5}
 
 abbrev pub line_end : List ℕ
 line_end = 10 ∷ []
@@ -20,3 +22,15 @@ refused_line file refusal = codes "refused " ++ (name_of refusal.rule ++ (codes 
 -- `input fault FILE`
 abbrev pub fault_line : (file : List ℕ) → List ℕ
 fault_line file = codes "input fault " ++ file ++ line_end
+
+-- The name of a rule of scripts, as it is printed.
+abbrev pub script_rule_name : XRule → List ℕ
+script_rule_name X1 = codes "X1"
+script_rule_name X2 = codes "X2"
+script_rule_name X3 = codes "X3"
+script_rule_name X4 = codes "X4"
+script_rule_name X5 = codes "X5"
+
+-- `script RULE line N`
+unfoldable pub script_line : XRule → (line : ℕ) → List ℕ
+script_line rule line = codes "script " ++ (script_rule_name rule ++ (codes " line " ++ (decimal line ++ line_end)))

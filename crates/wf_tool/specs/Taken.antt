@@ -1,21 +1,30 @@
 -- What becomes of the files that the words name: they are taken one after the other, within a number of bytes.
-use Rattle.std.specs.Prelude.{ℕ, ◌+◌, ◌⊎◌, ⊤, List, length, Option, None, Some, IfSome, Result, Ok, Err, ◌≡◌, ◌≤◌, ◌<◌}
+use Rattle.std.specs.Prelude.{ℕ, ◌+◌, ◌⊎◌, ⊤, List, [], ◌∷◌, ◌++◌, length, Option, None, Some, IfSome, Result, Ok, Err, ◌≡◌, ◌≤◌, ◌<◌}
 use Rattle.wf_text.specs.declared.faults.PhaseFault.{PhaseFault}
 use Rattle.wf_text.specs.declared.faults.PhaseFault.TheVariants as phase
 use Rattle.wf_text.specs.declared.rules.Refusal.{Refusal}
 use Rattle.wf_text.specs.declared.rules.Rule.TheVariants.{L1}
 use Rattle.wf_text.specs.Precedence.{Decides, IsFirst}
 use Rattle.wf_ast.specs.ParsedParts.{Parsed}
+use Rattle.wf_ast.specs.TypedInvariant.{IsTyped}
+use Rattle.wf_ast.specs.TypedPackage.{PackageTree, package_of}
 use Rattle.wf_tokens.specs.Places.{first_place}
 use Rattle.wf_named.specs.NamedTree.{NamedPackageTree}
 use Rattle.wf_types_rules.specs.TypeRules.{Breaks}
+use Rattle.wf_typed_tree.specs.ElaboratedPackage.{typed_package}
+use Rattle.wf_names_laws.specs.Ordered.{HasOrder}
+use Rattle.wf_bounds.specs.Acceptance.{AcceptedPackage}
+use Rattle.wf_surfaces.specs.Names.{HasNames}
 use Rattle.wf_bounds_laws.specs.BoundsRules as bounds
+use Rattle.wf_tool.specs.declared.judging.Ready.{Ready}
 use Rattle.wf_tool.specs.declared.taking.TakingFault.{TakingFault}
 use Rattle.wf_tool.specs.declared.taking.TakingFault.TheVariants.{Refused, Failed, Memory}
 use Rattle.wf_tool.specs.Answer.{AreHeld, FailsAt, file_name}
-use Rattle.wf_tool.specs.Sizes.{most_bytes, too_long, too_many}
-use Rattle.wf_tool.specs.Soundness.{HasSomeOrder, NeverStuck}
-use Rattle.wf_tool.specs.Verdict.{BreaksNames, KeepsNames, resolved, BreaksTypes, KeepsTypes, out_of_bounds_at, KeepsPoints, method_count, IsAccepted, IsRefused}
+use Rattle.wf_tool.specs.Sizes.{most_bytes, too_large, too_long, too_many}
+use Rattle.wf_tool.specs.Runs.{IsAcceptedAs}
+use Rattle.wf_tool.specs.Soundness.{NeverStuck, in_order}
+use Rattle.wf_tool.specs.Verdict.{BreaksNames, KeepsNames, resolved, BreaksTypes, KeepsTypes, out_of_bounds_at, KeepsPoints, IsAccepted, IsRefused}
+use Rattle.wf_tool.specs.Words.{PackageWords}
 
 -- One file, with `most` bytes left for it: these are its bytes.
 abbrev pub TakesFile : (held : List ℕ → Option (List ℕ)) → (most : ℕ) → (name : List ℕ) → (bytes : List ℕ) → Type 0
@@ -55,54 +64,120 @@ NamesFailed failed names (Refused refusal) = ⊤
 NamesFailed failed names (Failed at) = IfSome failed (λ last. last ≡ file_name names at)
 NamesFailed failed names Memory = ⊤
 
+-- A script: its bytes, or, where it has more than a script may have, more than that.
+abbrev pub IsScriptOf : (told bytes : List ℕ) → Type 0
+IsScriptOf told bytes = (bytes ≡ told) ⊎ ((most_bytes < length told) × (most_bytes < length bytes))
+
+abbrev pub TakesScript : (held : List ℕ → Option (List ℕ)) → (name bytes : List ℕ) → Type 0
+TakesScript held name bytes = IfSome (held name) (λ told. IsScriptOf told bytes)
+
+-- It isn't taken, after so many files.
+abbrev pub StopsScript : (number : ℕ) → TakingFault → Type 0
+StopsScript number (Refused refusal) = ⊥
+StopsScript number (Failed at) = at ≡ number
+StopsScript number Memory = ⊤
+
 -- Why a package is refused that keeps the rules of types: by those of bounds, and where these refuse nothing by that of
 -- suspension points.
 abbrev pub RefusesTyped : NamedPackageTree → Refusal → Type 0
 RefusesTyped p refusal = (bounds.bounds_refusal p ≡ Some refusal) ⊎ ((bounds.bounds_refusal p ≡ None) × IsFirst (bounds.BreaksPoints p) refusal)
 
--- The verdict on a package whose names are resolved, with the number of its methods: by its types, then by its bounds, and then by
--- its suspension points.
-abbrev pub JudgesNamed : NamedPackageTree → Result ℕ PhaseFault → Type 0
-JudgesNamed p (Ok methods) = Decides (Breaks p) None × (bounds.bounds_refusal p ≡ None) × Decides (bounds.BreaksPoints p) None × (methods ≡ length p.methods)
+-- The verdict on a package whose names are resolved: by its types, then by its bounds, and then by its suspension points. An
+-- accepted one has its typed tree.
+abbrev pub JudgesNamed : NamedPackageTree → Result AcceptedPackage PhaseFault → Type 0
+JudgesNamed p (Ok a) = Decides (Breaks p) None × (bounds.bounds_refusal p ≡ None) × Decides (bounds.BreaksPoints p) None × (package_of a.nodes ≡ typed_package p) × IsTyped a.nodes
 JudgesNamed p (Err (phase.Refused refusal)) = IsFirst (Breaks p) refusal ⊎ (Decides (Breaks p) None × RefusesTyped p refusal)
 JudgesNamed p (Err phase.Memory) = ⊤
 
--- The verdict on a package that is read: its names come before all these. The methods of an accepted one have an order.
-abbrev pub JudgesRead : Parsed → Result ℕ PhaseFault → Type 0
-JudgesRead read (Ok methods) = KeepsNames read × KeepsTypes read × (out_of_bounds_at read ≡ None) × KeepsPoints read × (methods ≡ method_count read) × HasSomeOrder read
+-- The typed tree of a package that is read, with its methods in an order.
+pub record HasTree (read : Parsed) (p : PackageTree) : Type 0 where
+  pub order : List ℕ
+  pub ordered : HasOrder (in_order read order)
+  pub tree : p ≡ typed_package (in_order read order)
+
+-- The verdict on a package that is read: its names come before all these.
+abbrev pub JudgesRead : Parsed → Result AcceptedPackage PhaseFault → Type 0
+JudgesRead read (Ok a) = KeepsNames read × KeepsTypes read × (out_of_bounds_at read ≡ None) × KeepsPoints read × HasTree read (package_of a.nodes) × IsTyped a.nodes
 JudgesRead read (Err (phase.Refused refusal)) =
     IsFirst (BreaksNames read) refusal
     ⊎ ((KeepsNames read × IsFirst (BreaksTypes read) refusal)
     ⊎ (KeepsNames read × KeepsTypes read × RefusesTyped (resolved read) refusal))
 JudgesRead read (Err phase.Memory) = ⊤
 
--- The verdict on files whose bytes are within the limits. An accepted package is never stuck.
-abbrev pub Judges : (name : List ℕ) → (files : List (List ℕ)) → Result ℕ PhaseFault → Type 0
-Judges name files (Ok methods) = IsAccepted name files methods × NeverStuck name files
+-- The verdict on files whose bytes are within the limits. An accepted package is never stuck, and its
+-- nodes have texts for their names.
+abbrev pub Judges : (name : List ℕ) → (files : List (List ℕ)) → Result AcceptedPackage PhaseFault → Type 0
+Judges name files (Ok a) = IsAcceptedAs name files (package_of a.nodes) × HasNames a.nodes
 Judges name files (Err (phase.Refused refusal)) = IsRefused name files refusal
 Judges name files (Err phase.Memory) = ⊤
 
--- The package is accepted with so many methods, for bytes that its files hold, and it is never stuck.
-pub record AcceptsHeld (held : List ℕ → Option (List ℕ)) (name : List ℕ) (names : List (List ℕ)) (methods : ℕ) : Type 0 where
+-- The same of files that have been taken.
+abbrev pub JudgesTaken : (name : List ℕ) → (files : List (List ℕ)) → Result AcceptedPackage TakingFault → Type 0
+JudgesTaken name files (Ok a) = IsAcceptedAs name files (package_of a.nodes) × HasNames a.nodes
+JudgesTaken name files (Err (Refused refusal)) = IsRefused name files refusal
+JudgesTaken name files (Err (Failed at)) = ⊥
+JudgesTaken name files (Err Memory) = ⊤
+
+-- The same with the bytes of a script beside them.
+abbrev pub JudgesReady : (name : List ℕ) → (files : List (List ℕ)) → (script : List ℕ) → Result Ready TakingFault → Type 0
+JudgesReady name files script (Ok ready) = IsAcceptedAs name files (package_of ready.accepted.nodes) × HasNames ready.accepted.nodes × (ready.script.items ≡ script)
+JudgesReady name files script (Err (Refused refusal)) = IsRefused name files refusal
+JudgesReady name files script (Err (Failed at)) = ⊥
+JudgesReady name files script (Err Memory) = ⊤
+
+-- The files of a package are too many, or have too many bytes.
+pub record AreTooLarge (held : List ℕ → Option (List ℕ)) (names : List (List ℕ)) (refusal : Refusal) : Type 0 where
   pub files : List (List ℕ)
   pub hold : AreHeld held names files
-  pub verdict : IsAccepted name files methods
-  pub runs : NeverStuck name files
+  pub large : too_large files ≡ Some refusal
 
--- It is refused, for bytes that they hold.
-pub record RefusesHeld (held : List ℕ → Option (List ℕ)) (name : List ℕ) (names : List (List ℕ)) (refusal : Refusal) : Type 0 where
-  pub files : List (List ℕ)
-  pub hold : AreHeld held names files
-  pub verdict : IsRefused name files refusal
-
--- One of them failed; they aren't too many.
-pub record FailsHeld (held : List ℕ → Option (List ℕ)) (names : List (List ℕ)) (number : ℕ) : Type 0 where
-  pub few : too_many (length names) ≡ None
+-- One of these failed; the files of the package aren't too many.
+pub record FailsHeld (held : List ℕ → Option (List ℕ)) (count : ℕ) (names : List (List ℕ)) (number : ℕ) : Type 0 where
+  pub few : too_many count ≡ None
   pub fails : FailsAt held most_bytes names number
 
--- What becomes of the package that the words name.
-abbrev pub JudgesPackage : (held : List ℕ → Option (List ℕ)) → (name : List ℕ) → (names : List (List ℕ)) → Result ℕ TakingFault → Type 0
-JudgesPackage held name names (Ok methods) = AcceptsHeld held name names methods
-JudgesPackage held name names (Err (Refused refusal)) = RefusesHeld held name names refusal
-JudgesPackage held name names (Err (Failed at)) = FailsHeld held names at
-JudgesPackage held name names (Err Memory) = ⊤
+-- What becomes of the files of a package.
+abbrev pub TakesPackage : (held : List ℕ → Option (List ℕ)) → (names files : List (List ℕ)) → Type 0
+TakesPackage held names files = AreHeld held names files × (too_large files ≡ None)
+
+abbrev pub StopsPackage : (held : List ℕ → Option (List ℕ)) → (names : List (List ℕ)) → TakingFault → Type 0
+StopsPackage held names (Refused refusal) = AreTooLarge held names refusal
+StopsPackage held names (Failed at) = FailsHeld held (length names) names at
+StopsPackage held names Memory = ⊤
+
+-- The package is accepted with so many methods, for bytes that its files hold, and it is never stuck.
+pub record AcceptsHeld (held : List ℕ → Option (List ℕ)) (asked : PackageWords) (methods : ℕ) : Type 0 where
+  pub files : List (List ℕ)
+  pub hold : AreHeld held asked.files files
+  pub verdict : IsAccepted asked.package_name files methods
+  pub runs : NeverStuck asked.package_name files
+
+-- It is refused, for bytes that they hold.
+pub record RefusesHeld (held : List ℕ → Option (List ℕ)) (asked : PackageWords) (refusal : Refusal) : Type 0 where
+  pub files : List (List ℕ)
+  pub hold : AreHeld held asked.files files
+  pub verdict : IsRefused asked.package_name files refusal
+
+-- Why the package isn't accepted, or not all of these names are taken.
+abbrev pub FaultsPackage : (held : List ℕ → Option (List ℕ)) → PackageWords → (names : List (List ℕ)) → TakingFault → Type 0
+FaultsPackage held asked names (Refused refusal) = RefusesHeld held asked refusal
+FaultsPackage held asked names (Failed at) = FailsHeld held (length asked.files) names at
+FaultsPackage held asked names Memory = ⊤
+
+-- What becomes of the package that is to be checked.
+abbrev pub JudgesPackage : (held : List ℕ → Option (List ℕ)) → PackageWords → Result ℕ TakingFault → Type 0
+JudgesPackage held asked (Ok methods) = AcceptsHeld held asked methods
+JudgesPackage held asked (Err fault) = FaultsPackage held asked asked.files fault
+
+-- A package that is accepted, for bytes that its files hold, with the bytes of a script.
+pub record IsReadied (held : List ℕ → Option (List ℕ)) (asked : PackageWords) (script : List ℕ) (ready : Ready) : Type 0 where
+  pub files : List (List ℕ)
+  pub hold : AreHeld held asked.files files
+  pub accepted : IsAcceptedAs asked.package_name files (package_of ready.accepted.nodes)
+  pub names : HasNames ready.accepted.nodes
+  pub taken : TakesScript held script ready.script.items
+
+-- What becomes of a package and a script that is to run over it.
+abbrev pub ReadiesPackage : (held : List ℕ → Option (List ℕ)) → PackageWords → (script : List ℕ) → Result Ready TakingFault → Type 0
+ReadiesPackage held asked script (Ok ready) = IsReadied held asked script ready
+ReadiesPackage held asked script (Err fault) = FaultsPackage held asked (asked.files ++ script ∷ []) fault

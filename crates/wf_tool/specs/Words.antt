@@ -14,15 +14,32 @@ is_package_byte byte = is_between 97 122 byte || is_between 48 57 byte || nat_eq
 abbrev pub is_package_name : List ℕ → Bool
 is_package_name name = is_between 1 32 (length name) && list_all is_package_byte name && not (bytes_eq name (codes "base"))
 
--- A package that is to be checked: its name, and the names of its files in order.
-pub record ToCheck : Type 0 where
+-- A package by its words: its name, and the names of its files in order.
+pub record PackageWords : Type 0 where
   pub package_name : List ℕ
   pub files : List (List ℕ)
 
--- `check PACKAGE FILE...`, with one file or more; other words are no command form.
-abbrev pub to_check : List (List ℕ) → Option ToCheck
-to_check [] = None
-to_check (_ ∷ []) = None
-to_check (_ ∷ (_ ∷ [])) = None
-to_check (command ∷ (package_name ∷ (file ∷ files))) =
-    if bytes_eq command (codes "check") && is_package_name package_name then Some (record { package_name = package_name; files = file ∷ files }) else None
+-- What is asked for: that a package is checked, or that its source is run by the script with this name.
+pub data Command : Type 0 where
+  check : PackageWords → Command
+  mean : PackageWords → (script : List ℕ) → Command
+
+-- `check PACKAGE FILE...` and `mean PACKAGE SCRIPT FILE...`, with one file or more, by the words behind the package's name.
+abbrev pub to_check : (package_name : List ℕ) → List (List ℕ) → Option Command
+to_check package_name [] = None
+to_check package_name (file ∷ files) = Some (check (record { package_name = package_name; files = file ∷ files }))
+
+abbrev pub to_mean : (package_name : List ℕ) → List (List ℕ) → Option Command
+to_mean package_name [] = None
+to_mean package_name (script ∷ []) = None
+to_mean package_name (script ∷ (file ∷ files)) = Some (mean (record { package_name = package_name; files = file ∷ files }) script)
+
+abbrev pub asked_of : (command package_name : List ℕ) → List (List ℕ) → Option Command
+asked_of command package_name rest =
+    if bytes_eq command (codes "check") then to_check package_name rest else if bytes_eq command (codes "mean") then to_mean package_name rest else None
+
+-- Other words are no command form.
+abbrev pub command_of : List (List ℕ) → Option Command
+command_of [] = None
+command_of (_ ∷ []) = None
+command_of (command ∷ (package_name ∷ rest)) = if is_package_name package_name then asked_of command package_name rest else None

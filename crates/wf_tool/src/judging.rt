@@ -1,25 +1,22 @@
-// The files of a package are taken, and their bytes are judged.
+// The files of a package are taken, and their bytes are judged; a script may be taken after them.
 
-ghost use Rattle.std.specs.Prelude.{◌≡◌, ◌-◌, ◌^◌, ◌<◌, ◌≤◌, ℕ, true, None, List, length, map, string_bytes, IfErr, IfNone, OnOk};
+ghost use Rattle.std.specs.Prelude.{◌≡◌, ◌-◌, ◌^◌, ◌<◌, ◌≤◌, ◌++◌, ◌∷◌, [], ℕ, true, None, List, length, map, string_bytes, IfErr, IfNone, IfOk};
 ghost use Rattle.wf_ast.specs.StatementOrder.{stand_in_order};
-ghost use Rattle.wf_ast.specs.TypedInvariant.{IsTyped};
 ghost use Rattle.wf_ast.specs.TypedPackage.{package_of};
 ghost use Rattle.wf_parse.specs.Parsing.{decls_of};
 ghost use Rattle.wf_named.specs.NamedParts.{named_package};
 ghost use Rattle.wf_names_resolve.specs.Package.{resolved_package};
 ghost use Rattle.wf_typed_tree.specs.ElaboratedPackage.{typed_package};
 ghost use Rattle.wf_typed_tree.specs.Grammar.{package_by_grammar};
-ghost use Rattle.wf_text.specs.Precedence.{Decides};
-ghost use Rattle.wf_points.specs.PointNumbers.{HasTooMany};
-ghost use Rattle.wf_bounds_stmts.specs.MethodRules.{facts_refusal};
-ghost use Rattle.wf_bounds.specs.Acceptance.{IsRefusedFor};
 ghost use Rattle.wf_tool.specs.Sizes.{too_large, too_many};
-ghost use Rattle.wf_tool.specs.Taken.{CountsTaking, Judges, JudgesNamed, JudgesPackage, JudgesRead, NamesFailed};
+ghost use Rattle.wf_tool.specs.Taken.{CountsTaking, Judges, JudgesNamed, JudgesPackage, JudgesRead, JudgesReady, JudgesTaken, NamesFailed, ReadiesPackage, StopsPackage, TakesPackage};
+ghost use Rattle.wf_tool.specs.Views.{words_seen};
 
-use crate::taking::{TakingFault, first_place, take_files};
+use crate::taking::{TakingFault, first_place, take_files, take_script};
+use crate::words::PackageWords;
 use std::alloc::Global;
-use wf_ast::{Package, Typed};
-use wf_bounds::check;
+use wf_ast::Package;
+use wf_bounds::{Accepted, check};
 use wf_named::Named;
 use wf_names::resolving::resolve;
 use wf_outside::Inputs;
@@ -45,46 +42,23 @@ fn too_many(count: usize) -> Option<Refusal>
     }
 }
 
-/// How many methods a package has whose names are resolved.
-fn number_of_methods(named: &Named) -> usize
-    ensures { result ≡ length (named_package named.now).methods }
-{
-    named.nodes().methods().len()
-}
-
-/// Checks the bounds of a package whose types are known, and how many suspension points its methods have. The package is let
-/// go, since nothing after this phase reads it.
-fn check_bounds(alloc: Global, typed: Typed) -> Result<(), PhaseFault>
-    requires { IsTyped typed }
-    ensures bounds { OnOk result (facts_refusal typed ≡ None) }
-    ensures points { OnOk result (Decides (HasTooMany (package_of typed)) None) }
-    ensures refused { IfErr result (IsRefusedFor typed) }
-{
-    match check(alloc, typed) {
-        Ok(_) => Ok(()),
-        Err(refused) => Err(refused),
-    }
-}
-
-/// Decides whether a package whose names are resolved is accepted: by its types and effects, then by its bounds and its points. Ok
-/// is the number of its methods.
-fn judge_named(alloc: Global, named: Named) -> Result<usize, PhaseFault>
+/// Accepts a package whose names are resolved, or refuses it: by its types and effects, then by its bounds and its points.
+fn judge_named(alloc: Global, named: Named) -> Result<Accepted, PhaseFault>
     requires grammar { package_by_grammar (named_package named) ≡ true }
     requires placed { stand_in_order (typed_package (named_package named)) ≡ true }
     ensures { JudgesNamed (named_package named) result }
 {
-    let methods = number_of_methods(&named);
     match type_check(alloc, named) {
-        Ok(typed) => match check_bounds(alloc, typed) {
-            Ok(()) => Ok(methods),
+        Ok(typed) => match check(alloc, typed) {
+            Ok(accepted) => Ok(accepted),
             Err(outside) => Err(outside),
         },
         Err(mistyped) => Err(mistyped),
     }
 }
 
-/// Decides whether a package that is read is accepted: by its names, and then by all that comes after them.
-fn judge_read(alloc: Global, parsed: Package) -> Result<usize, PhaseFault>
+/// Accepts a package that is read, or refuses it: by its names, and then by all that comes after them.
+fn judge_read(alloc: Global, parsed: Package) -> Result<Accepted, PhaseFault>
     requires few { length parsed.decls < 2 ^ 32 - 1 }
     requires grammar { (order : List ℕ) → package_by_grammar (resolved_package parsed.name parsed.texts (decls_of parsed) order) ≡ true }
     requires placed { (order : List ℕ) → stand_in_order (typed_package (resolved_package parsed.name parsed.texts (decls_of parsed) order)) ≡ true }
@@ -96,9 +70,8 @@ fn judge_read(alloc: Global, parsed: Package) -> Result<usize, PhaseFault>
     }
 }
 
-/// Decides whether a package is accepted, whose files are within the limits. Ok is the number of its methods, and Err the
-/// refusal that decides.
-pub fn judge_files(alloc: Global, name: &str, files: &[Vec<u8>]) -> Result<usize, PhaseFault>
+/// Accepts a package whose files are within the limits, or answers the refusal that decides.
+pub fn judge_files(alloc: Global, name: &str, files: &[Vec<u8>]) -> Result<Accepted, PhaseFault>
     requires { too_large (map (λ bytes. bytes.items) files.now) ≡ None }
     ensures { Judges name.now (map (λ bytes. bytes.items) files.now) result }
 {
@@ -108,47 +81,125 @@ pub fn judge_files(alloc: Global, name: &str, files: &[Vec<u8>]) -> Result<usize
     }
 }
 
-/// Takes the files with these names, which aren't too many, and judges the package that they make. Ok is the number of its
-/// methods.
-fn judge_few<I: Inputs>(
+/// The same of files that have been taken.
+fn judge_taken(alloc: Global, name: &str, files: &[Vec<u8>]) -> Result<Accepted, TakingFault>
+    requires { too_large (map (λ bytes. bytes.items) files.now) ≡ None }
+    ensures { JudgesTaken name.now (map (λ bytes. bytes.items) files.now) result }
+{
+    match judge_files(alloc, name, files) {
+        Ok(accepted) => Ok(accepted),
+        Err(PhaseFault::Refused(refusal)) => Err(TakingFault::Refused(refusal)),
+        Err(PhaseFault::Memory) => Err(TakingFault::Memory),
+    }
+}
+
+/// Takes the files of a package, where they aren't too many.
+fn take_package<I: Inputs>(
     alloc: Global,
-    name: &str,
     names: &[String],
     inputs: &mut I,
-) -> Result<usize, TakingFault>
-    requires few { too_many (length names.now) ≡ None }
-    requires number { length names.now ≤ 16 }
-    requires faults { I.faults inputs.old < 2 ^ 64 - 1 }
-    ensures verdict { JudgesPackage (I.held inputs.old) name.now (map (λ name. string_bytes name) names.now) result }
+) -> Result<Vec<Vec<u8>>, TakingFault>
+    requires { I.faults inputs.old < 2 ^ 64 - 1 }
+    ensures takes { IfOk result (λ files. TakesPackage (I.held inputs.old) (map (λ name. string_bytes name) names.now) (map (λ bytes. bytes.items) files.items)) }
+    ensures stops { IfErr result (StopsPackage (I.held inputs.old) (map (λ name. string_bytes name) names.now)) }
     ensures count { CountsTaking (I.faults inputs.old) (I.faults inputs.new) result }
-    ensures name { IfErr result (λ fault. NamesFailed (I.last_failed inputs.new) (map (λ name. string_bytes name) names.now) fault) }
+    ensures name { IfErr result (NamesFailed (I.last_failed inputs.new) (map (λ name. string_bytes name) names.now)) }
     ensures same { I.held inputs.new ≡ I.held inputs.old }
 {
-    match take_files(alloc, names, inputs) {
-        Ok(files) => match judge_files(alloc, name, files.as_slice()) {
-            Ok(methods) => Ok(methods),
-            Err(PhaseFault::Refused(refusal)) => Err(TakingFault::Refused(refusal)),
-            Err(PhaseFault::Memory) => Err(TakingFault::Memory),
+    match too_many(names.len()) {
+        Some(refusal) => Err(TakingFault::Refused(refusal)),
+        None => take_files(alloc, names, inputs),
+    }
+}
+
+/// How many methods an accepted package has.
+fn number_of_methods(accepted: &Accepted) -> usize
+    ensures { result ≡ length (package_of accepted.now.nodes).methods }
+{
+    accepted.typed().methods() as usize
+}
+
+/// Judges the package with these words. Ok is the number of its methods.
+pub fn judge_package<I: Inputs>(
+    alloc: Global,
+    asked: PackageWords<'_>,
+    inputs: &mut I,
+) -> Result<usize, TakingFault>
+    requires { I.faults inputs.old < 2 ^ 64 - 1 }
+    ensures verdict { JudgesPackage (I.held inputs.old) (words_seen asked.entry) result }
+    ensures count { CountsTaking (I.faults inputs.old) (I.faults inputs.new) result }
+    ensures name { IfErr result (NamesFailed (I.last_failed inputs.new) (words_seen asked.entry).files) }
+    ensures same { I.held inputs.new ≡ I.held inputs.old }
+{
+    match take_package(alloc, asked.files, inputs) {
+        Ok(files) => match judge_taken(alloc, asked.name, files.as_slice()) {
+            Ok(accepted) => Ok(number_of_methods(&accepted)),
+            Err(fault) => Err(fault),
         },
         Err(fault) => Err(fault),
     }
 }
 
-/// Judges the package with this name, whose files have these names. Ok is the number of its methods.
-pub fn judge_package<I: Inputs>(
+/// A package that is accepted, with the bytes of a script that is to run over it.
+#[derive(Drop)]
+pub struct Ready {
+    pub accepted: Accepted,
+    pub script: Vec<u8>,
+}
+
+// Judges a package whose files have been taken, and a script after them.
+fn readied(
     alloc: Global,
     name: &str,
-    names: &[String],
+    files: &[Vec<u8>],
+    script: Vec<u8>,
+) -> Result<Ready, TakingFault>
+    requires { too_large (map (λ bytes. bytes.items) files.now) ≡ None }
+    ensures verdict { JudgesReady name.now (map (λ bytes. bytes.items) files.now) script.items result }
+{
+    match judge_taken(alloc, name, files) {
+        Ok(accepted) => Ok(Ready { accepted, script }),
+        Err(fault) => Err(fault),
+    }
+}
+
+// Takes a script after the files of a package, and judges the package.
+fn ready_taken<I: Inputs>(
+    alloc: Global,
+    asked: PackageWords<'_>,
+    files: &[Vec<u8>],
+    script: &str,
     inputs: &mut I,
-) -> Result<usize, TakingFault>
-    requires { I.faults inputs.old < 2 ^ 64 - 1 }
-    ensures verdict { JudgesPackage (I.held inputs.old) name.now (map (λ name. string_bytes name) names.now) result }
+) -> Result<Ready, TakingFault>
+    requires taken { TakesPackage (I.held inputs.old) (words_seen asked).files (map (λ bytes. bytes.items) files.now) }
+    requires faults { I.faults inputs.old < 2 ^ 64 - 1 }
+    ensures verdict { ReadiesPackage (I.held inputs.old) (words_seen asked.entry) script.now result }
     ensures count { CountsTaking (I.faults inputs.old) (I.faults inputs.new) result }
-    ensures name { IfErr result (λ fault. NamesFailed (I.last_failed inputs.new) (map (λ name. string_bytes name) names.now) fault) }
+    ensures name { IfErr result (NamesFailed (I.last_failed inputs.new) ((words_seen asked.entry).files ++ script.now ∷ [])) }
     ensures same { I.held inputs.new ≡ I.held inputs.old }
 {
-    match too_many(names.len()) {
-        Some(refusal) => Err(TakingFault::Refused(refusal)),
-        None => judge_few(alloc, name, names, inputs),
+    match take_script(alloc, script, asked.files.len(), inputs) {
+        Ok(script) => readied(alloc, asked.name, files, script),
+        Err(fault) => Err(fault),
+    }
+}
+
+/// Takes the files of the package with these words and then the script with this name, and judges the package. Ok is the accepted
+/// package with the bytes of the script.
+pub fn ready_package<I: Inputs>(
+    alloc: Global,
+    asked: PackageWords<'_>,
+    script: &str,
+    inputs: &mut I,
+) -> Result<Ready, TakingFault>
+    requires { I.faults inputs.old < 2 ^ 64 - 1 }
+    ensures verdict { ReadiesPackage (I.held inputs.old) (words_seen asked.entry) script.now result }
+    ensures count { CountsTaking (I.faults inputs.old) (I.faults inputs.new) result }
+    ensures name { IfErr result (NamesFailed (I.last_failed inputs.new) ((words_seen asked.entry).files ++ script.now ∷ [])) }
+    ensures same { I.held inputs.new ≡ I.held inputs.old }
+{
+    match take_package(alloc, asked.files, inputs) {
+        Ok(files) => ready_taken(alloc, asked, files.as_slice(), script, inputs),
+        Err(fault) => Err(fault),
     }
 }

@@ -27,13 +27,16 @@ pub fn a_refusal_has_its_file()
     ensures { RefusalsHaveFiles }
 {}
 
-/// What the clause `answered` of `wuffs_tool` says is the package's verdict: where the words are a command form, the inputs tell
-/// what its files hold, no fault is counted and memory isn't refused, the ending is the verdict's and its line is written.
+/// What the clause `answered` of `wuffs_tool` says is by the package's verdict, where the words are a command form, the inputs tell
+/// what the package's files hold, no fault is counted and memory isn't refused. To `check` the ending is the verdict's and its line
+/// is written. To `mean` it is so of a package that is refused; over one that is accepted, where the inputs tell the script, the
+/// ending is the script's and its report by the package's source is written, or the line of the script's own refusal.
 pub fn an_answer_is_the_verdict()
     ensures { AnswersAreVerdicts }
 {}
 
-/// Words call for an ending and a line, where the inputs tell what the files hold that they name.
+/// Words call for an ending and a text with no fault counted, where the inputs tell what the files and the script hold that they
+/// name. A script over an accepted package never comes to a reply that isn't defined.
 pub fn an_answer_exists()
     ensures { AnswersExist }
 {}

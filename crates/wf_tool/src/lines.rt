@@ -1,9 +1,10 @@
 // The lines that the program writes.
 
 ghost use Rattle.std.specs.Prelude.{◌≡◌, IfOk, string_bytes};
-ghost use Rattle.wf_tool.specs.Lines.{accepted_line, fault_line, refused_line, usage_line};
+ghost use Rattle.wf_tool.specs.Lines.{accepted_line, fault_line, refused_line, script_line, script_rule_name, usage_line};
 
 use std::alloc::{AllocError, Global};
+use wf_script_rules::XRule;
 use wf_text::{Refusal, rule_name};
 
 /// What words get that are no command form.
@@ -37,4 +38,26 @@ pub fn fault_line(alloc: Global, file: &str) -> Result<String, AllocError>
     ensures { IfOk result (λ line. string_bytes line ≡ fault_line file.now) }
 {
     format!(in alloc; "input fault {file}\n")
+}
+
+// The name of a rule of scripts.
+fn script_rule_name(rule: XRule) -> &'static str
+    ensures { result.now ≡ script_rule_name rule }
+{
+    match rule {
+        XRule::X1 => "X1",
+        XRule::X2 => "X2",
+        XRule::X3 => "X3",
+        XRule::X4 => "X4",
+        XRule::X5 => "X5",
+    }
+}
+
+/// `script RULE line N`
+#[tactic(auto, unfolding(crate::specs::Lines::script_line))]
+pub fn script_line(alloc: Global, rule: XRule, line: u32) -> Result<String, AllocError>
+    ensures { IfOk result (λ text. string_bytes text ≡ script_line rule line) }
+{
+    let name = script_rule_name(rule);
+    format!(in alloc; "script {name} line {line}\n")
 }

@@ -3,7 +3,7 @@
 ghost use Rattle.std.specs.Prelude.{◌≡◌, ◌-◌, ◌^◌, ◌≤◌, ◌<◌, length, map, string_bytes, IfOk, IfErr};
 ghost use Rattle.wf_text.specs.declared.rules.Rule.TheVariants.{L1};
 ghost use Rattle.wf_tokens.specs.Places.{first_place};
-ghost use Rattle.wf_tool.specs.Taken.{CountsTaking, NamesFailed, NamesFile, StopsFile, StopsFiles, TakesFile, TakesFiles};
+ghost use Rattle.wf_tool.specs.Taken.{CountsTaking, NamesFailed, NamesFile, StopsFile, StopsFiles, StopsScript, TakesFile, TakesFiles, TakesScript};
 
 use crate::words::file_name;
 use std::alloc::Global;
@@ -95,4 +95,28 @@ pub fn take_files<I: Inputs>(
         number += 1;
     }
     Ok(files)
+}
+
+/// Takes the script with this name. Of one that has more than 1,048,576 bytes, one byte more is taken. `number` is how many files
+/// were taken before it.
+pub fn take_script<I: Inputs>(
+    alloc: Global,
+    name: &str,
+    number: usize,
+    inputs: &mut I,
+) -> Result<Vec<u8>, TakingFault>
+    requires faults { I.faults inputs.old < 2 ^ 64 - 1 }
+    ensures takes { IfOk result (λ bytes. TakesScript (I.held inputs.old) name.now bytes.items) }
+    ensures stops { IfErr result (StopsScript number) }
+    ensures count { CountsTaking (I.faults inputs.old) (I.faults inputs.new) result }
+    ensures name { IfErr result (λ fault. NamesFile (I.last_failed inputs.new) name.now fault) }
+    ensures same { I.held inputs.new ≡ I.held inputs.old }
+{
+    let mut bytes = Vec::new(alloc);
+    match inputs.take(name, &mut bytes, 1_048_576) {
+        Ok(()) => Ok(bytes),
+        Err(TakeFault::TooLong) => Ok(bytes),
+        Err(TakeFault::Failed) => Err(TakingFault::Failed(number)),
+        Err(TakeFault::Memory) => Err(TakingFault::Memory),
+    }
 }

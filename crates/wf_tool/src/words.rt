@@ -4,32 +4,73 @@ ghost use Rattle.std.specs.Prelude.{◌≡◌, ℕ, List, [], ◌∷◌, length,
 ghost use Rattle.std.specs.List.{list_all};
 ghost use Rattle.std.specs.Option.{option_map};
 ghost use Rattle.wf_tool.specs.Answer.{file_name};
-ghost use Rattle.wf_tool.specs.Words.{is_between, is_package_byte, is_package_name, to_check};
+ghost use Rattle.wf_tool.specs.Told.{input_name};
+ghost use Rattle.wf_tool.specs.Views.{command_seen};
+ghost use Rattle.wf_tool.specs.Words.{asked_of, command_of, is_between, is_package_byte, is_package_name, to_check, to_mean};
 
-/// A package that is to be checked: its name, and the names of its files in order.
+/// A package by its words: its name, and the names of its files in order.
 #[derive(Clone, Copy)]
-pub struct ToCheck<'a> {
-    pub package: &'a str,
+pub struct PackageWords<'a> {
+    pub name: &'a str,
     pub files: &'a [String],
 }
 
-/// What `check PACKAGE FILE...` names. None for other words, which are no command form.
-pub fn to_check(words: &[String]) -> Option<ToCheck>
-    ensures { option_map (λ found. record { package_name = found.package.now; files = map (λ file. string_bytes file) found.files.now }) result
-        ≡ to_check (map (λ word. string_bytes word) words.now) }
+/// What words ask for.
+#[derive(Clone, Copy)]
+pub enum Command<'a> {
+    /// A package is to be checked.
+    Check(PackageWords<'a>),
+    /// Its source is to be run by the script with this name.
+    Mean(PackageWords<'a>, &'a str),
+}
+
+/// What words ask for: `check PACKAGE FILE...` or `mean PACKAGE SCRIPT FILE...`. None for other words, which are no command form.
+pub fn command_of(words: &[String]) -> Option<Command>
+    ensures { option_map command_seen result ≡ command_of (map (λ word. string_bytes word) words.now) }
 {
     match words {
-        [command, package, files @ ..] => {
-            if command.as_str() == "check"
-                && is_package_name(package.as_str())
-                && !files.is_empty()
-            {
-                Some(ToCheck {
-                    package: package.as_str(),
-                    files,
-                })
+        [command, name, rest @ ..] => {
+            if is_package_name(name.as_str()) {
+                asked_of(command.as_str(), name.as_str(), rest)
             } else {
                 None
+            }
+        }
+        _ => None,
+    }
+}
+
+// What this command asks for of the package with this name, by the words after it.
+fn asked_of<'a>(command: &str, name: &'a str, rest: &'a [String]) -> Option<Command<'a>>
+    ensures { option_map command_seen result ≡ asked_of command.now name.now (map (λ word. string_bytes word) rest.now) }
+{
+    if command == "check" {
+        to_check(name, rest)
+    } else if command == "mean" {
+        to_mean(name, rest)
+    } else {
+        None
+    }
+}
+
+fn to_check<'a>(name: &'a str, files: &'a [String]) -> Option<Command<'a>>
+    ensures { option_map command_seen result ≡ to_check name.now (map (λ word. string_bytes word) files.now) }
+{
+    match files {
+        [] => None,
+        _ => Some(Command::Check(PackageWords { name, files })),
+    }
+}
+
+fn to_mean<'a>(name: &'a str, rest: &'a [String]) -> Option<Command<'a>>
+    ensures { option_map command_seen result ≡ to_mean name.now (map (λ word. string_bytes word) rest.now) }
+{
+    match rest {
+        [script, files @ ..] => {
+            if files.is_empty() {
+                None
+            } else {
+                Some(Command::Mean(PackageWords { name, files }, script.as_str()))
             }
         }
         _ => None,
@@ -43,6 +84,16 @@ pub fn file_name(names: &[String], number: usize) -> &str
     match names.get(number) {
         Some(name) => name.as_str(),
         None => "",
+    }
+}
+
+/// The name of the file with this number, and the other name after the last one.
+pub fn input_name<'a>(names: &'a [String], other: &'a str, number: usize) -> &'a str
+    ensures { result.now ≡ input_name (map (λ name. string_bytes name) names.now) other.now number }
+{
+    match names.get(number) {
+        Some(name) => name.as_str(),
+        None => other,
     }
 }
 

@@ -1,0 +1,37 @@
+use Rattle.std.proofs.Common.{map, string_bytes}
+use Rattle.wf_ast.specs.TypedPackage.{package_of, surface_of}
+use Rattle.wf_tool_runs.specs.Sources.{engine_report}
+use Rattle.wf_tool.specs.Runs.{RunCallsFor}
+use Rattle.wf_tool.specs.Told.{IsFaultTold, IsTold, MeanTold}
+use Rattle.wf_tool.specs.Views.{words_seen}
+use Rattle.wf_tool.proofs.FaultLines.{mean-fault-told, told-answer}
+use Rattle.wf_tool.proofs.RunLemmas.{run-told}
+use Rattle.wf_tool.proofs.WritingLemmas.{writes-more}
+use Rattle.wf_tool.proofs.tool.mean.Goals as goal
+
+pub returns-in-Ok-clause-written : goal.returns-in-Ok-clause-written
+returns-in-Ok-clause-written g c =
+    let held = g.I.Inputs.held c.args.inputs.now in
+    let failed = g.I.Inputs.last_failed c.ready_package.new.inputs in
+    let asked = words_seen c.args.asked in
+    let before = g.I.Inputs.faults c.args.inputs.now in
+    let now = g.I.Inputs.faults c.ready_package.new.inputs in
+    let ready = c.in-Ok.ready in
+    let p = package_of ready.accepted.nodes in
+    let is = c.in-Ok.ensures.verdict in
+    writes-more (RunCallsFor (surface_of p) (engine_report p) ready.script.items) (MeanTold held failed asked c.args.script.now before now)
+    (run-told held failed asked c.args.script.now before now c.in-Ok.ensures.count is.files p ready.script.items is.hold is.accepted is.taken)
+    (g.O.Sink.written c.args.out.now) (g.O.Sink.written c.run_ready.new.out) (g.O.Sink.room c.args.out.now) c.run_ready.result c.run_ready.ensures.written
+
+pub returns-in-Err-clause-written : goal.returns-in-Err-clause-written
+returns-in-Err-clause-written g c =
+    let held = g.I.Inputs.held c.args.inputs.now in
+    let failed = g.I.Inputs.last_failed c.ready_package.new.inputs in
+    let asked = words_seen c.args.asked in
+    let before = g.I.Inputs.faults c.args.inputs.now in
+    let now = g.I.Inputs.faults c.ready_package.new.inputs in
+    let fault = c.in-Err.fault in
+    writes-more (IsTold c.fault_answer.result) (MeanTold held failed asked c.args.script.now before now)
+    (λ ending text told. mean-fault-told held failed asked c.args.script.now before now fault c.in-Err.ensures.verdict c.in-Err.ensures.count c.in-Err.ensures.name ending text
+    (told-answer (IsFaultTold asked.files c.args.script.now fault) c.fault_answer.result c.fault_answer.ensures ending text told))
+    (g.O.Sink.written c.args.out.now) (g.O.Sink.written c.tell.new.out) (g.O.Sink.room c.args.out.now) c.tell.result c.tell.ensures.written

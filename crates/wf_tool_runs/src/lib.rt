@@ -1,0 +1,9 @@
+// Scripts run over the engines of an accepted package: a script is read over the package's public surface, an engine is made for
+// its receivers, and the script's report is written.
+#![tactic(auto)]
+
+pub mod prepared;
+pub mod source;
+
+pub use prepared::Prepared;
+pub use source::run_source;
