@@ -8,13 +8,13 @@ use Rattle.wf_parse.specs.Parsing.{decls_of}
 use Rattle.wf_typed_tree.specs.ElaboratedPackage.{typed_package}
 use Rattle.wf_meaning.specs.SourceCall.{source_run}
 use Rattle.wf_sound_runs.specs.Accepted.{IsDefined}
-use Rattle.wf_script_rules.specs.Report.{Report, End, finished, out_of_turns, not_defined}
+use Rattle.wf_script_rules.specs.Report.{End, finished, out_of_turns, not_defined}
 use Rattle.wf_script_rules.specs.Scripts as scripts
 use Rattle.wf_script_rules.specs.Scripts.{Script, actions_of, script_of}
 use Rattle.wf_names_verdicts.proofs.CallOrders.{kept-have-orders}
 use Rattle.wf_tool.specs.declared.ending.Ending.{Ending}
 use Rattle.wf_tool.specs.declared.ending.Ending.TheVariants.{Done, Refused, Usage, InputFault, OutputFault, ScriptRefused, NoMemory, Turns, TextRefused, Undefined}
-use Rattle.wf_tool.specs.Answer.{AreHeld, AreTold, file_name, Asked, AskedFor, Called, CallsForDone, CallsForRefusal, CallsForRun, CheckCallsFor, CountsInputs, MeanCallsFor, IsAnswered, asked_package, RefusesByVerdict, ChecksByVerdict, MeansByVerdict, IsByVerdict, AnswersAreVerdicts, FilesAreTold, InputsAreTold, AnswersExist}
+use Rattle.wf_tool.specs.Answer.{AreHeld, AreTold, file_name, Asked, AskedFor, Called, CallsForDone, CallsForRefusal, CallsForRun, CheckCallsFor, CountsInputs, MeanCallsFor, IsAnswered, asked_package, RefusesByVerdict, ChecksByVerdict, MeansByVerdict, IsByVerdict, AnswersAreVerdicts, InputsAreTold, AnswersExist}
 use Rattle.wf_tool.specs.Lines.{accepted_line, refused_line, script_line, usage_line}
 use Rattle.wf_tool.specs.Runs.{IsAcceptedAs, RunCallsFor, source_report}
 use Rattle.wf_tool.specs.Soundness.{in_order}
@@ -145,7 +145,7 @@ accepted-as name files methods a =
     let some_order = kept-have-orders read.name read.texts (decls_of read) a.names in
     let p = typed_package (in_order read some_order.0) in
     let accepted : IsAccepted name files (length p.methods) =
-    record { sized = a.sized; read = read; parsed = a.parsed; names = a.names; types = a.types; bounds = a.bounds; points = a.points; counted = typed-counted read some_order.0 } in
+        record { sized = a.sized; read = read; parsed = a.parsed; names = a.names; types = a.types; bounds = a.bounds; points = a.points; counted = typed-counted read some_order.0 } in
     (p, record { verdict = accepted; runs = accepted-runs name files (length p.methods) accepted some_order; order = some_order.0; ordered = some_order.1; tree = refl })
 
 module _ (asked : Asked) (faults : ℕ) where
@@ -168,7 +168,7 @@ module _ (asked : Asked) (faults : ℕ) where
       → ((methods : ℕ) × IsAccepted of.package_name files methods) ⊎ ((refusal : Refusal) × IsRefused of.package_name files refusal) → Answers (Some (check of))
   check-answer of files hold (inl v) =
       let done : CallsForDone asked.held of (accepted_line v.0) =
-      record { files = files; methods = v.0; hold = hold; verdict = v.1; runs = accepted-never-stuck of.package_name files v.0 v.1; writes = refl } in
+          record { files = files; methods = v.0; hold = hold; verdict = v.1; runs = accepted-never-stuck of.package_name files v.0 v.1; writes = refl } in
       (Done, accepted_line v.0, (done, refl))
   check-answer of files hold (inr v) = (Refused, refused_line (file_name of.files v.0.at.file) v.0, (refusal-called of files hold v.0 v.1, refl))
 
