@@ -145,7 +145,7 @@ accepted-as name files methods a =
     let some_order = kept-have-orders read.name read.texts (decls_of read) a.names in
     let p = typed_package (in_order read some_order.0) in
     let accepted : IsAccepted name files (length p.methods) =
-        record { sized = a.sized; read = read; parsed = a.parsed; names = a.names; types = a.types; bounds = a.bounds; points = a.points; counted = typed-counted read some_order.0 } in
+    record { sized = a.sized; read = read; parsed = a.parsed; names = a.names; types = a.types; bounds = a.bounds; points = a.points; counted = typed-counted read some_order.0 } in
     (p, record { verdict = accepted; runs = accepted-runs name files (length p.methods) accepted some_order; order = some_order.0; ordered = some_order.1; tree = refl })
 
 module _ (asked : Asked) (faults : ℕ) where
@@ -168,7 +168,7 @@ module _ (asked : Asked) (faults : ℕ) where
       → ((methods : ℕ) × IsAccepted of.package_name files methods) ⊎ ((refusal : Refusal) × IsRefused of.package_name files refusal) → Answers (Some (check of))
   check-answer of files hold (inl v) =
       let done : CallsForDone asked.held of (accepted_line v.0) =
-          record { files = files; methods = v.0; hold = hold; verdict = v.1; runs = accepted-never-stuck of.package_name files v.0 v.1; writes = refl } in
+      record { files = files; methods = v.0; hold = hold; verdict = v.1; runs = accepted-never-stuck of.package_name files v.0 v.1; writes = refl } in
       (Done, accepted_line v.0, (done, refl))
   check-answer of files hold (inr v) = (Refused, refused_line (file_name of.files v.0.at.file) v.0, (refusal-called of files hold v.0 v.1, refl))
 
