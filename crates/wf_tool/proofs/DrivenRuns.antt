@@ -1,5 +1,5 @@
 -- What a script's run over an engine has come to is what its run calls for.
-use Rattle.std.proofs.Common.{◌≡◌, ◌≤◌, ◌<◌, ℕ, Bool, true, false, nat_le, List, length, Option, None, Some, IfSome, IfOk, IsErr, MatchResult, Result, Ok, Err, string_bytes, refl, sym, ap, ◌∙◌, subst, arith}
+use Rattle.std.proofs.Common.{◌≡◌, ◌<◌, ℕ, Bool, true, false, nat_le, List, length, Option, None, Some, IfSome, IfOk, IsErr, MatchResult, Result, Ok, Err, string_bytes, refl, sym, ap, ◌∙◌, subst, arith}
 use Rattle.std.proofs.lemmas.Bool.Decides.{nat_tests}
 use Rattle.wf_text.specs.Surface.{Surface}
 use Rattle.wf_text.specs.declared.faults.NoMemory.{NoMemory as Wants}
@@ -7,7 +7,6 @@ use Rattle.wf_ast.specs.TypedPackage.{PackageTree, surface_of}
 use Rattle.wf_script_rules.specs.declared.rules.XRule.{XRule}
 use Rattle.wf_script_rules.specs.Report.{Report, End, finished, out_of_turns, not_defined}
 use Rattle.wf_script_rules.specs.Scripts.{Script, script_of}
-use Rattle.wf_script_drive.specs.declared.driving.DriveEnd.{DriveEnd}
 use Rattle.wf_script_drive.specs.declared.driving.DriveEnd.TheVariants.{OutFailed}
 use Rattle.wf_script_drive.specs.Driving.{FitsDrive}
 use Rattle.wf_tool_runs.specs.Sources.{DrivesScript, engine_report}

@@ -1,13 +1,12 @@
 -- What is told of a fault is what is called for.
-use Rattle.std.proofs.Common.{◌≡◌, ◌+◌, ◌-◌, ◌<◌, ◌≤◌, ℕ, zero, suc, List, [], ◌∷◌, ◌++◌, length, Option, None, Some, IfOk, IfSome, Result, Ok, Err, string_bytes, slice_get, unwrap_or, refl, sym, ap, ◌∙◌, subst, arith}
+use Rattle.std.proofs.Common.{◌≡◌, ◌+◌, ◌-◌, ◌<◌, ℕ, zero, suc, List, [], ◌∷◌, ◌++◌, length, Option, None, Some, IfOk, IfSome, Result, Ok, Err, string_bytes, slice_get, unwrap_or, refl, sym, ap, ◌∙◌, subst, arith}
 use Rattle.wf_text.specs.declared.rules.Refusal.{Refusal}
 use Rattle.wf_tool.specs.declared.ending.Ending.{Ending}
-use Rattle.wf_tool.specs.declared.ending.Ending.TheVariants as endings
 use Rattle.wf_text.specs.declared.faults.NoMemory.{NoMemory as Wants}
 use Rattle.wf_tool.specs.declared.tool.Answer.{Answer}
 use Rattle.wf_tool.specs.declared.taking.TakingFault.{TakingFault}
 use Rattle.wf_tool.specs.declared.taking.TakingFault.TheVariants.{Refused, Failed, Memory}
-use Rattle.wf_tool.specs.Answer.{AreHeld, CallsForFault, CallsForRefusal, CheckCallsFor, FailsAt, MeanCallsFor, file_name, text_or}
+use Rattle.wf_tool.specs.Answer.{AreHeld, CallsForFault, CallsForRefusal, FailsAt, file_name, text_or}
 use Rattle.wf_tool.specs.Lines.{fault_line, refused_line}
 use Rattle.wf_tool.specs.Sizes.{most_bytes, too_long, too_many}
 use Rattle.wf_tool.specs.Taken.{CountsTaking, FailsHeld, FaultsPackage, NamesFailed, NamesFile, RefusesHeld, StopsPackage, StopsScript, TakesPackage}

@@ -1,5 +1,5 @@
 -- From a package that is resolved to one that is read, and from this to the verdict on its files.
-use Rattle.std.proofs.Common.{◌≡◌, ◌⊎◌, ◌+◌, ℕ, suc, true, List, [], ◌∷◌, length, Option, None, Some, Result, Ok, Err, inl, inr, refl, sym, ap, ◌∙◌, subst}
+use Rattle.std.proofs.Common.{◌≡◌, ◌⊎◌, ◌+◌, ℕ, suc, true, List, [], ◌∷◌, length, Option, None, Some, Result, Ok, Err, IfOk, IfErr, inl, inr, refl, sym, ap, ◌∙◌, subst}
 use Rattle.wf_text.specs.declared.faults.PhaseFault.{PhaseFault}
 use Rattle.wf_text.specs.declared.faults.PhaseFault.TheVariants as phase
 use Rattle.wf_text.specs.declared.rules.Refusal.{Refusal}
@@ -36,7 +36,7 @@ use Rattle.wf_bounds_laws.proofs.AnyOrder.{bounds_ignore_order, points_ignore_or
 use Rattle.wf_bounds_laws.proofs.TypedBounds.{typing_keeps_bounds, typing_keeps_points}
 use Rattle.wf_tool.specs.Sizes.{too_large}
 use Rattle.wf_tool.specs.Runs.{IsAcceptedAs}
-use Rattle.wf_tool.specs.Taken.{Judges, RefusesTyped, JudgesNamed, JudgesRead, JudgesTaken}
+use Rattle.wf_tool.specs.Taken.{Judges, RefusesTyped, JudgesNamed, JudgesRead}
 use Rattle.wf_tool.specs.Verdict as verdicts
 use Rattle.wf_tool.specs.Verdict.{BreaksTypes, resolved, misnamed, mistyped}
 use Rattle.wf_tool.specs.Soundness.{in_order}
@@ -62,7 +62,7 @@ mistyped-judged named phase.Memory h = tt
 
 -- What the phase of bounds says of the typed nodes of a package it says of the package.
 module _ (named : NamedParts) (typed : TypedNodes) (is : IsElaborated named typed) where
-  pub bounded-judged : (a : AcceptedPackage) → IsAccepted a → a.nodes ≡ typed → JudgesNamed (named_package named) (Ok a)
+  bounded-judged : (a : AcceptedPackage) → IsAccepted a → a.nodes ≡ typed → JudgesNamed (named_package named) (Ok a)
   bounded-judged a accepted same =
       let F : TypedNodes → Type 0 = λ t. facts_refusal t ≡ None in
       let D : TypedNodes → Type 0 = λ t. Decides (HasTooMany (package_of t)) None in (
@@ -79,9 +79,13 @@ module _ (named : NamedParts) (typed : TypedNodes) (is : IsElaborated named type
     | inr points ↦ inr (sym (typing_keeps_bounds named typed is) ∙ points.0, typing_keeps_points named typed is (Some refusal) points.1)
   ]
 
-  pub refused-judged : (fault : PhaseFault) → IsRefusedFor typed fault → JudgesNamed (named_package named) (Err fault)
+  refused-judged : (fault : PhaseFault) → IsRefusedFor typed fault → JudgesNamed (named_package named) (Err fault)
   refused-judged (phase.Refused refusal) h = inr (is.kept, refuses-typed refusal h)
   refused-judged phase.Memory h = tt
+
+  pub checked-judged : (result : Result AcceptedPackage PhaseFault) → IfOk result (λ a. a.nodes ≡ typed) → IfOk result IsAccepted → IfErr result (IsRefusedFor typed) → JudgesNamed (named_package named) result
+  checked-judged (Ok a) same accepted refused = bounded-judged a accepted same
+  checked-judged (Err fault) same accepted refused = refused-judged fault refused
 
 -- As many methods are resolved as are declared.
 methods-counted : (d : Declared) (decls : List DeclTree) → length (resolved_methods d decls) ≡ length (methods_of decls)

@@ -1,20 +1,18 @@
 -- What a script's run over the engine of an accepted package calls for is what it calls for by the package's source.
-use Rattle.std.proofs.Common.{◌≡◌, ◌⊎◌, inl, inr, ◌<◌, ℕ, true, List, [], length, Option, None, Some, IfSome, Result, Ok, Err, nat_lt, refl, sym, ap, ◌∙◌, subst, arith}
+use Rattle.std.proofs.Common.{◌≡◌, inl, inr, ◌<◌, ℕ, true, List, [], length, Option, None, Some, IfSome, Ok, Err, nat_lt, refl, sym, ap, ◌∙◌, subst, arith}
 use Rattle.std.proofs.lemmas.Bool.Decides.{nat_tests}
 use Rattle.wf_text.specs.Precedence.{Decides}
 use Rattle.wf_text.specs.Surface.{Surface}
 use Rattle.wf_ast.specs.TypedPackage.{PackageTree, surface_of}
 use Rattle.wf_parse.specs.Parsing.{decls_of}
 use Rattle.wf_types_rules.specs.TypeRules.{Breaks}
-use Rattle.wf_typed_tree.specs.ElaboratedPackage.{typed_package}
 use Rattle.wf_bounds_laws.specs.BoundsRules.{bounds_refusal}
 use Rattle.wf_bounds_laws.proofs.AnyOrder.{bounds_ignore_order}
-use Rattle.wf_meaning.specs.SourceCall.{source_run}
 use Rattle.wf_mean_laws.specs.SourceSeen.{ShowsItsSource, SourceIsSeen}
 use Rattle.wf_mean_laws.proofs.SeenPackages.{read-seen}
 use Rattle.wf_script_rules.specs.declared.rules.XRule.TheVariants.{X4}
 use Rattle.wf_script_rules.specs.Report.{Report, End, report_of, not_defined}
-use Rattle.wf_script_rules.specs.Scripts.{Script, Refusal, actions_of, script_of}
+use Rattle.wf_script_rules.specs.Scripts.{Script, actions_of, script_of}
 use Rattle.wf_script_drive.specs.Lawful.{IsScript}
 use Rattle.wf_script_drive.proofs.Numbers.{own_numbers}
 use Rattle.wf_script_drive.proofs.Scripts.{script_sound, script_lawful}

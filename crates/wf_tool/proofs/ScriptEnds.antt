@@ -1,5 +1,5 @@
 -- A report by what is seen of actions none of which is undefined doesn't end with one that is.
-use Rattle.std.proofs.Common.{◌≡◌, ℕ, suc, List, [], ◌∷◌, refl, Some, slice_get}
+use Rattle.std.proofs.Common.{◌≡◌, ℕ, suc, List, [], ◌∷◌, refl}
 use Rattle.wf_text.specs.HostActions.{HostAction}
 use Rattle.wf_text.specs.Seen.{Seen, answered, turns, undefined}
 use Rattle.wf_text.specs.Surface.{Surface}

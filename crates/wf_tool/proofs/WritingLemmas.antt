@@ -1,5 +1,5 @@
 -- What is written, by what is called for.
-use Rattle.std.proofs.Common.{◌≡◌, ◌≤◌, ◌<◌, ℕ, Bool, true, false, nat_le, List, length, take, Option, None, Some, IfSome, Result, Err, refl, subst, arith}
+use Rattle.std.proofs.Common.{◌≡◌, ◌≤◌, ◌<◌, ℕ, Bool, true, false, nat_le, List, length, take, Option, None, Some, IfSome, Err, refl, subst, arith}
 use Rattle.std.proofs.lemmas.Bool.Decides.{nat_tests}
 use Rattle.std.specs.Io.KnownBytes.{Appends}
 use Rattle.wf_outside.specs.declared.sinks.SinkFault.{SinkFault}

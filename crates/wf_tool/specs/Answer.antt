@@ -1,6 +1,7 @@
 -- The answer of the program: for its words and what its inputs hold, how it ends and what it writes.
 use Rattle.std.specs.Prelude.{ℕ, zero, suc, ⊤, ◌-◌, List, [], ◌∷◌, ◌++◌, length, take, slice_get, Option, None, Some, IfSome, ◌≡◌, ◌≤◌, ◌<◌}
 use Rattle.std.specs.Io.KnownBytes.{Appends, Keeps}
+use Rattle.pens.specs.Pens.{KeepsLongest}
 use Rattle.wf_text.specs.declared.rules.Refusal.{Refusal}
 use Rattle.wf_ast.specs.TypedPackage.{PackageTree, surface_of}
 use Rattle.wf_tool.specs.declared.ending.Ending.{Ending}
@@ -159,6 +160,16 @@ IsAnswered calls old new InputFault = ⊥
 IsAnswered calls old new OutputFault = ⊥
 IsAnswered calls old new NoMemory = Keeps old new
 IsAnswered calls old new ending = WritesText calls old new ending
+
+-- No piece longer than 4,096 bytes was put where a report was written to its end.
+abbrev pub KeepsRunPieces : Ending → (old new : Option ℕ) → Type 0
+KeepsRunPieces Done old new = KeepsLongest old new
+KeepsRunPieces Turns old new = KeepsLongest old new
+KeepsRunPieces ending old new = ⊤
+
+abbrev pub KeepsPieces : Option Command → Ending → (old new : Option ℕ) → Type 0
+KeepsPieces (Some (mean asked script)) ending old new = KeepsRunPieces ending old new
+KeepsPieces command ending old new = ⊤
 
 -- The inputs tell what each of the names holds.
 abbrev pub AreTold : (held : List ℕ → Option (List ℕ)) → (names files : List (List ℕ)) → Type 0

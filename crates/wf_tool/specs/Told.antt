@@ -1,5 +1,5 @@
 -- What the program tells on its way to an answer.
-use Rattle.std.specs.Prelude.{◌≡◌, ℕ, ⊤, List, [], ◌∷◌, ◌++◌, Option, Result, Ok, Err, slice_get, unwrap_or, string_bytes}
+use Rattle.std.specs.Prelude.{◌≡◌, ℕ, ⊤, List, Option, Result, Ok, Err, slice_get, unwrap_or, string_bytes}
 use Rattle.wf_text.specs.declared.faults.NoMemory.{NoMemory as Wants}
 use Rattle.wf_tool.specs.declared.ending.Ending.{Ending}
 use Rattle.wf_tool.specs.declared.ending.Ending.TheVariants as endings

@@ -49,10 +49,7 @@ fn judge_named(alloc: Global, named: Named) -> Result<Accepted, PhaseFault>
     ensures { JudgesNamed (named_package named) result }
 {
     match type_check(alloc, named) {
-        Ok(typed) => match check(alloc, typed) {
-            Ok(accepted) => Ok(accepted),
-            Err(outside) => Err(outside),
-        },
+        Ok(typed) => check(alloc, typed),
         Err(mistyped) => Err(mistyped),
     }
 }

@@ -97,17 +97,17 @@ pub fn take_files<I: Inputs>(
     Ok(files)
 }
 
-/// Takes the script with this name. Of one that has more than 1,048,576 bytes, one byte more is taken. `number` is how many files
+/// Takes the script with this name. Of one that has more than 1,048,576 bytes, one byte more is taken. `before` is how many files
 /// were taken before it.
 pub fn take_script<I: Inputs>(
     alloc: Global,
     name: &str,
-    number: usize,
+    before: usize,
     inputs: &mut I,
 ) -> Result<Vec<u8>, TakingFault>
     requires faults { I.faults inputs.old < 2 ^ 64 - 1 }
     ensures takes { IfOk result (λ bytes. TakesScript (I.held inputs.old) name.now bytes.items) }
-    ensures stops { IfErr result (StopsScript number) }
+    ensures stops { IfErr result (StopsScript before) }
     ensures count { CountsTaking (I.faults inputs.old) (I.faults inputs.new) result }
     ensures name { IfErr result (λ fault. NamesFile (I.last_failed inputs.new) name.now fault) }
     ensures same { I.held inputs.new ≡ I.held inputs.old }
@@ -116,7 +116,7 @@ pub fn take_script<I: Inputs>(
     match inputs.take(name, &mut bytes, 1_048_576) {
         Ok(()) => Ok(bytes),
         Err(TakeFault::TooLong) => Ok(bytes),
-        Err(TakeFault::Failed) => Err(TakingFault::Failed(number)),
+        Err(TakeFault::Failed) => Err(TakingFault::Failed(before)),
         Err(TakeFault::Memory) => Err(TakingFault::Memory),
     }
 }

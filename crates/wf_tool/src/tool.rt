@@ -4,10 +4,11 @@ ghost use Rattle.std.specs.Prelude.{◌≡◌, ◌-◌, ◌^◌, ◌<◌, ◌≤
 ghost use Rattle.wf_ast.specs.TypedPackage.{package_of, surface_of};
 ghost use Rattle.wf_surfaces.specs.Names.{HasNames};
 ghost use Rattle.wf_tool_runs.specs.Sources.{engine_report};
-ghost use Rattle.wf_tool.specs.Answer.{Called, CountsInputs, CountsSink, IsAnswered, Writes};
+ghost use Rattle.wf_tool.specs.Answer.{Called, CountsInputs, CountsSink, IsAnswered, KeepsPieces, KeepsRunPieces, Writes};
 ghost use Rattle.wf_tool.specs.Runs.{RunCallsFor};
 ghost use Rattle.wf_tool.specs.Told.{CheckTold, IsFaultTold, IsTold, MeanTold, TellsText};
 ghost use Rattle.wf_tool.specs.Views.{words_seen};
+ghost use Rattle.wf_tool.specs.Words.{command_of};
 
 use crate::ending::Ending;
 use crate::judging::{Ready, judge_package, ready_package};
@@ -53,6 +54,7 @@ pub fn wuffs_tool<I: Inputs, O: Sink>(
           words = map (λ word. string_bytes word) words.now;
         }) (I.faults inputs.old) (I.faults inputs.new))
         (O.written out.old) (O.written out.new) result }
+    ensures pieces { KeepsPieces (command_of (map (λ word. string_bytes word) words.now)) result (O.longest out.old) (O.longest out.new) }
     ensures inputs { CountsInputs (I.faults inputs.old) (I.faults inputs.new) result }
     ensures sink { CountsSink (O.faults out.old) (O.faults out.new) result }
     ensures same { I.held inputs.new ≡ I.held inputs.old }
@@ -150,6 +152,7 @@ fn mean<I: Inputs, O: Sink>(
     requires sink { O.faults out.old < 2 ^ 64 - 1 }
     ensures written { Writes (MeanTold (I.held inputs.old) (I.last_failed inputs.new) (words_seen asked.entry) script.now (I.faults inputs.old) (I.faults inputs.new))
         (O.written out.old) (O.written out.new) (O.room out.old) result }
+    ensures pieces { KeepsRunPieces result (O.longest out.old) (O.longest out.new) }
     ensures counts { I.faults inputs.old ≤ I.faults inputs.new }
     ensures sink { CountsSink (O.faults out.old) (O.faults out.new) result }
     ensures same { I.held inputs.new ≡ I.held inputs.old }
@@ -166,6 +169,7 @@ fn run_ready<O: Sink>(alloc: Global, ready: &Ready, out: &mut O) -> Ending
     requires sink { O.faults out.old < 2 ^ 64 - 1 }
     ensures written { Writes (RunCallsFor (surface_of (package_of ready.now.accepted.nodes)) (engine_report (package_of ready.now.accepted.nodes)) ready.now.script.items)
         (O.written out.old) (O.written out.new) (O.room out.old) result }
+    ensures pieces { KeepsRunPieces result (O.longest out.old) (O.longest out.new) }
     ensures sink { CountsSink (O.faults out.old) (O.faults out.new) result }
 {
     match run_source(alloc, &ready.accepted, ready.script.as_slice(), out) {

@@ -82,7 +82,7 @@ impl Prepared {
                 let mut host = host;
                 Ok(drive(&self.script, &self.surface, engine, &mut host, out))
             }
-            Err(fault) => Err(fault),
+            Err(NoMemory) => Err(NoMemory),
         }
     }
 }

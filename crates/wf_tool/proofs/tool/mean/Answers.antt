@@ -1,4 +1,3 @@
-use Rattle.std.proofs.Common.{map, string_bytes}
 use Rattle.wf_ast.specs.TypedPackage.{package_of, surface_of}
 use Rattle.wf_tool_runs.specs.Sources.{engine_report}
 use Rattle.wf_tool.specs.Runs.{RunCallsFor}

@@ -1,4 +1,4 @@
-use Rattle.std.proofs.Common.{List, ℕ, Result, refl, string_bytes, subst, sym}
+use Rattle.std.proofs.Common.{Result, refl, string_bytes, subst, sym}
 use Rattle.wf_text.specs.declared.faults.NoMemory.{NoMemory}
 use Rattle.wf_tool.specs.declared.tool.Answer.{Answer}
 use Rattle.wf_tool.specs.Told.{IsTold}
