@@ -14,24 +14,24 @@ use Rattle.c_meaning.specs.CRun.{bytes_object, arg_bytes, byte_objects}
 use Rattle.c_step_hosts.specs.Lending.{IsThere, AreThere, lent_buffer, lent_for, all_lent}
 use Rattle.c_step_hosts.proofs.Steps.{next_arg, no_args, grows}
 
-elsewhere : {A : Type 0} (xs : List A) (i j : ℕ) (x : A) → (i ≡ j → ⊥) → slice_get (slice_set xs i x) j ≡ slice_get xs j
+pub elsewhere : {A : Type 0} (xs : List A) (i j : ℕ) (x : A) → (i ≡ j → ⊥) → slice_get (slice_set xs i x) j ≡ slice_get xs j
 elsewhere [] i j x h = refl
 elsewhere (z ∷ zs) zero zero x h = absurd (h refl)
 elsewhere (z ∷ zs) zero (suc j) x h = refl
 elsewhere (z ∷ zs) (suc i) zero x h = refl
 elsewhere (z ∷ zs) (suc i) (suc j) x h = elsewhere zs i j x (λ e. h (ap suc e))
 
-all_tail : {A : Type 0} (P : A → Type 0) (x : A) (xs : List A) → All P (x ∷ xs) → All P xs
+pub all_tail : {A : Type 0} (P : A → Type 0) (x : A) (xs : List A) → All P (x ∷ xs) → All P xs
 all_tail P x xs h = λ k d l. h (suc k) d (omega (arith, l))
 
-all_head : {A : Type 0} (P : A → Type 0) (x : A) (xs : List A) → All P (x ∷ xs) → P x
+pub all_head : {A : Type 0} (P : A → Type 0) (x : A) (xs : List A) → All P (x ∷ xs) → P x
 all_head P x xs h = h 0 x (omega arith)
 
 -- What others name stays.
-abbrev Apart : ℕ → ℕ → Type 0
+abbrev pub Apart : ℕ → ℕ → Type 0
 Apart k other = k ≡ other → ⊥
 
-buffers_apart : (host : Host) (k : ℕ) (b : Buffer) (args : List HostArg) → All (Apart k) (named_buffers args) → byte_objects (record host { buffers = slice_set host.buffers k b }) args ≡ byte_objects host args
+pub buffers_apart : (host : Host) (k : ℕ) (b : Buffer) (args : List HostArg) → All (Apart k) (named_buffers args) → byte_objects (record host { buffers = slice_set host.buffers k b }) args ≡ byte_objects host args
 buffers_apart host k b [] h = refl
 buffers_apart host k b (num n ∷ args) h = ap (λ (xs : List Object). bytes_object [] ∷ xs) (buffers_apart host k b args h)
 buffers_apart host k b (flag t ∷ args) h = ap (λ (xs : List Object). bytes_object [] ∷ xs) (buffers_apart host k b args h)
@@ -42,7 +42,7 @@ buffers_apart host k b (io (Some j) ∷ args) h =
 buffers_apart host k b (bytes None ∷ args) h = ap (λ (xs : List Object). bytes_object [] ∷ xs) (buffers_apart host k b args h)
 buffers_apart host k b (bytes (Some j) ∷ args) h = ap (λ (xs : List Object). bytes_object (option_map_or (λ them. them) (slice_get host.arrays j) []) ∷ xs) (buffers_apart host k b args h)
 
-arrays_apart : (host : Host) (k : ℕ) (them : List ℕ) (args : List HostArg) → All (Apart k) (named_arrays args) → byte_objects (record host { arrays = slice_set host.arrays k them }) args ≡ byte_objects host args
+pub arrays_apart : (host : Host) (k : ℕ) (them : List ℕ) (args : List HostArg) → All (Apart k) (named_arrays args) → byte_objects (record host { arrays = slice_set host.arrays k them }) args ≡ byte_objects host args
 arrays_apart host k them [] h = refl
 arrays_apart host k them (num n ∷ args) h = ap (λ (xs : List Object). bytes_object [] ∷ xs) (arrays_apart host k them args h)
 arrays_apart host k them (flag t ∷ args) h = ap (λ (xs : List Object). bytes_object [] ∷ xs) (arrays_apart host k them args h)
@@ -65,14 +65,14 @@ others_stay host (io (Some k)) args p q = by_found (slice_get host.buffers k)
 others_stay host (bytes None) args p q = refl
 others_stay host (bytes (Some k)) args p q = arrays_apart host k [] args q.0
 
-once_buffers : (arg : HostArg) (args : List HostArg) → AreDistinct (named_buffers (arg ∷ args)) → AreDistinct (named_buffers args)
+pub once_buffers : (arg : HostArg) (args : List HostArg) → AreDistinct (named_buffers (arg ∷ args)) → AreDistinct (named_buffers args)
 once_buffers (num n) args p = p
 once_buffers (flag t) args p = p
 once_buffers (io None) args p = p
 once_buffers (io (Some k)) args p = p.1
 once_buffers (bytes name) args p = p
 
-once_arrays : (arg : HostArg) (args : List HostArg) → AreDistinct (named_arrays (arg ∷ args)) → AreDistinct (named_arrays args)
+pub once_arrays : (arg : HostArg) (args : List HostArg) → AreDistinct (named_arrays (arg ∷ args)) → AreDistinct (named_arrays args)
 once_arrays (num n) args p = p
 once_arrays (flag t) args p = p
 once_arrays (io name) args p = p
@@ -80,7 +80,7 @@ once_arrays (bytes None) args p = p
 once_arrays (bytes (Some k)) args p = p.1
 
 -- As many as before.
-as_many : (host : Host) (arg : HostArg) → (length (lent_for arg host).buffers ≡ length host.buffers) × (length (lent_for arg host).arrays ≡ length host.arrays)
+pub as_many : (host : Host) (arg : HostArg) → (length (lent_for arg host).buffers ≡ length host.buffers) × (length (lent_for arg host).arrays ≡ length host.arrays)
 as_many host (num n) = (refl, refl)
 as_many host (flag t) = (refl, refl)
 as_many host (io None) = (refl, refl)

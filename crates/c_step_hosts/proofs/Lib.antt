@@ -3,3 +3,7 @@ pub mod Structs
 pub mod Steps
 pub mod Lent
 pub mod Taken
+pub mod Around
+pub mod Back
+pub mod Backs
+pub mod Left

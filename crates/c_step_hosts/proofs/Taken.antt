@@ -114,6 +114,24 @@ pub struct_stays : (memory : Memory) (buffer object : ℕ) (x : Object) (them : 
 struct_stays memory buffer object x them h =
     rw (same_cell memory buffer object 0 x h, same_cell memory buffer object 1 x h, same_cell memory buffer object 2 x h, same_cell memory buffer object 3 x h, same_cell memory buffer object 4 x h, same_cell memory buffer object 5 x h) refl
 
+pub same_bytes : (memory : Memory) (traded object : ℕ) (x : Object) → (traded ≡ object → ⊥) → bytes_in (slice_set memory traded x) object ≡ bytes_in memory object
+unfolding bytes_of
+same_bytes memory traded object x h = ap bytes_of (elsewhere memory traded object x h)
+
+pub same_buffer : (memory : Memory) (traded buffer object : ℕ) (x : Object) (was : Buffer) → (traded ≡ buffer → ⊥) → (traded ≡ object → ⊥) → buffer_left (slice_set memory traded x) buffer object was ≡ buffer_left memory buffer object was
+same_buffer memory traded buffer object x was h k =
+    rw (same_cell memory buffer traded 0 x h, same_cell memory buffer traded 1 x h, same_cell memory buffer traded 2 x h, same_cell memory buffer traded 3 x h, same_cell memory buffer traded 4 x h, same_cell memory buffer traded 5 x h, same_bytes memory traded object x k) refl
+
+pub empty_has_bytes : (o : Object) → object_shape o ≡ of_cells u8 0 ∷ [] → has_bytes o ≡ true
+empty_has_bytes [] e = absurd (cc (e))
+empty_has_bytes (cells type [] ∷ []) e = let t : type ≡ u8 = cc (e) in ap (λ (u : CellType). has_bytes (cells u [] ∷ [])) t
+empty_has_bytes (cells type (c ∷ cs) ∷ []) e = absurd (too_many (cc (e)))
+  where
+    too_many : suc (length cs) ≡ 0 → ⊥
+    too_many h = absurd (omega (arith, h))
+empty_has_bytes (part k ∷ []) e = absurd (cc (e))
+empty_has_bytes (f ∷ g ∷ fs) e = absurd (cc (e))
+
 -- What is taken back, once the bytes are in the hand.
 module _ (before after : Memory) (buffer object : ℕ) (was : Buffer) (o : Object) (hand given : List ℕ) (apart : object ≡ buffer → ⊥) (there : slice_get before object ≡ Some o)
     (shaped : object_shape o ≡ object_shape (bytes_object was.cells)) (taken : slice_get before object ≡ Some (bytes_object hand)) (now : after ≡ slice_set before object (bytes_object given)) where

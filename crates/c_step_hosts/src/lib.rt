@@ -4,6 +4,7 @@
 
 pub mod givens;
 pub mod ios;
+pub mod leaving;
 pub mod lending;
 pub mod spares;
-mod taking;
+pub mod taking;

@@ -1,19 +1,26 @@
 // What a call has left of a host's io buffers is taken back.
 
-ghost use Rattle.std.specs.Prelude.{◌≡◌, ℕ, ◌<◌, ◌≤◌, ◌&&◌, [], List, length, nat_le, Some, slice_get, slice_set, MatchBool};
+ghost use Rattle.std.specs.Prelude.{◌≡◌, ℕ, ◌+◌, ◌^◌, ◌<◌, ◌≤◌, ◌&&◌, [], ◌∷◌, List, length, map, take, nat_le, Some, slice_get, slice_set, MatchBool};
+ghost use Rattle.wf_text.specs.HostActions.{HostArg};
+ghost use Rattle.wf_base.specs.HostRun.{Host};
+ghost use Rattle.wf_base.specs.LawfulActions.{AreDistinct, named_buffers, named_arrays};
+ghost use Rattle.wf_bufs.specs.EngineLaw.{SameSizes};
+ghost use Rattle.wf_bufs.specs.HostViews.{arg_of};
+ghost use Rattle.wf_bufs.specs.HostSeen.{host_of};
 ghost use Rattle.c_meaning.specs.CMemory.{Object as ObjectOfMemory};
 ghost use Rattle.c_meaning.specs.CValues.{same_pointer};
 ghost use Rattle.wf_base.specs.BaseOps.{Buffer};
-ghost use Rattle.c_meaning.specs.CRun.{bytes_object, bytes_pointer, number_in, keeps_pointer, is_same_cell, field_cell, bytes_in, buffer_left};
+ghost use Rattle.c_meaning.specs.CRun.{bytes_object, bytes_pointer, number_in, keeps_pointer, is_same_cell, field_cell, arg_bytes, bytes_in, buffer_left, arg_left, args_left};
 ghost use Rattle.c_meaning.specs.Typed.{object_shape};
 ghost use Rattle.c_mem.specs.MemoryViews.{memory, HasRoom};
-ghost use Rattle.c_step_hosts.specs.Taking.{indices_of, has_length, indices_left, buffer_with, Gives};
+ghost use Rattle.c_step_hosts.specs.Lending.{IsThere, AreThere, all_lent};
+ghost use Rattle.c_step_hosts.specs.Taking.{indices_of, has_length, indices_left, buffer_with, Gives, bytes_back, HasShape, HaveShapes, HaveBytesBetween};
 
 use crate::ios::start_of;
 use c_meaning::cells::Cell;
 use c_meaning::values::Pointer;
 use c_mem::Mem;
-use wf_bufs::{BufList, ByteArrays};
+use wf_bufs::{Arg, BufList, Bufs, ByteArrays};
 
 /// The numbers of an io buffer's struct.
 #[derive(Clone, Copy)]
@@ -160,6 +167,7 @@ fn take_buffer(
     requires apart { io < bytes }
     ensures taken { (was : Buffer) (o : ObjectOfMemory) → slice_get (memory mem.old) bytes ≡ Some o → object_shape o ≡ object_shape (bytes_object was.cells)
         → Gives (buffer_left (memory mem.old) io bytes was) result (λ b. bufs.new ≡ slice_set bufs.old k b) }
+    ensures many { MatchBool result (length bufs.new ≡ length bufs.old) (Unit {0}) }
     ensures memory { MatchBool result (memory mem.new ≡ slice_set (memory mem.old) bytes (bytes_object [])) (Unit {0}) }
     ensures room { (more : ℕ) → HasRoom mem.old more → HasRoom mem.new more }
 {
@@ -186,6 +194,7 @@ fn take_array(
     requires there { k < length arrays.old }
     ensures taken { (was : List ℕ) (o : ObjectOfMemory) → slice_get (memory mem.old) bytes ≡ Some o → object_shape o ≡ object_shape (bytes_object was)
         → Gives (bytes_in (memory mem.old) bytes) result (λ them. arrays.new ≡ slice_set arrays.old k them) }
+    ensures many { MatchBool result (length arrays.new ≡ length arrays.old) (Unit {0}) }
     ensures memory { MatchBool result (memory mem.new ≡ slice_set (memory mem.old) bytes (bytes_object [])) (Unit {0}) }
     ensures room { (more : ℕ) → HasRoom mem.old more → HasRoom mem.new more }
 {
@@ -194,5 +203,70 @@ fn take_array(
         return false;
     }
     arrays.at_mut(k).swap_bytes(hand);
+    true
+}
+
+/// Where the objects of a call's first argument stand in memory; those of the others follow.
+#[derive(Clone, Copy)]
+pub struct Places {
+    /// The struct of its io buffer.
+    pub buffer: usize,
+    /// Its bytes.
+    pub bytes: usize,
+}
+
+/// What is left of what an argument names is taken back. False where that isn't defined.
+fn take_argument(
+    arg: Arg,
+    host: &mut Bufs,
+    mem: &mut Mem,
+    io: usize,
+    bytes: usize,
+    hand: &mut Vec<u8>,
+) -> bool
+    requires there { IsThere (length host.old.bufs) (length host.old.arrays) (arg_of arg) }
+    requires apart { io < bytes }
+    ensures host { (was : Host) (rest : List HostArg) → host_of host.old ≡ all_lent (arg_of arg ∷ rest) was → AreDistinct (named_buffers (arg_of arg ∷ rest)) → AreDistinct (named_arrays (arg_of arg ∷ rest))
+        → HasShape (memory mem.old) bytes (arg_bytes was (arg_of arg)) → Gives (arg_left (memory mem.old) io bytes (arg_of arg) was) result (λ left. host_of host.new ≡ all_lent rest left) }
+    ensures many { MatchBool result ((length host.new.bufs ≡ length host.old.bufs) × (length host.new.arrays ≡ length host.old.arrays)) (Unit {0}) }
+    ensures memory { MatchBool result (memory mem.new ≡ bytes_back (arg_of arg) (memory mem.old) bytes) (Unit {0}) }
+    ensures room { (more : ℕ) → HasRoom mem.old more → HasRoom mem.new more }
+{
+    match arg {
+        Arg::Io(Some(k)) => take_buffer(mem, io, bytes, &mut host.bufs, k as usize, hand),
+        Arg::Bytes(Some(k)) => take_array(mem, bytes, &mut host.arrays, k as usize, hand),
+        Arg::Io(None) | Arg::Bytes(None) | Arg::Num(_) | Arg::Flag(_) => true,
+    }
+}
+
+/// What a call has left of what its arguments name is taken back from memory. False where that isn't defined; nothing is
+/// said then of what stands.
+pub fn take_back(
+    args: &[Arg],
+    host: &mut Bufs,
+    mem: &mut Mem,
+    places: Places,
+    hand: &mut Vec<u8>,
+) -> bool
+    requires there { AreThere (length host.old.bufs) (length host.old.arrays) (map arg_of args.now) }
+    requires buffers { AreDistinct (named_buffers (map arg_of args.now)) }
+    requires arrays { AreDistinct (named_arrays (map arg_of args.now)) }
+    requires apart { places.buffer + length args.now ≤ places.bytes }
+    requires numbers { places.bytes + length args.now < 2 ^ 64 }
+    ensures host { (was : Host) → host_of host.old ≡ all_lent (map arg_of args.now) was → HaveShapes (memory mem.old) places.bytes was (map arg_of args.now)
+        → Gives (args_left (memory mem.old) places.buffer places.bytes (map arg_of args.now) was) result (λ left. (host_of host.new ≡ left) × HaveBytesBetween places.bytes (places.bytes + length args.now) (memory mem.new)) }
+    ensures below { MatchBool result (take places.bytes (memory mem.new) ≡ take places.bytes (memory mem.old)) (Unit {0}) }
+    ensures count { MatchBool result (length (memory mem.new) ≡ length (memory mem.old)) (Unit {0}) }
+    ensures room { (more : ℕ) → HasRoom mem.old more → HasRoom mem.new more }
+{
+    let mut io = places.buffer;
+    let mut object = places.bytes;
+    for arg in args {
+        if !take_argument(*arg, host, mem, io, object, hand) {
+            return false;
+        }
+        io += 1;
+        object += 1;
+    }
     true
 }
