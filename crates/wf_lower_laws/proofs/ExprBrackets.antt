@@ -21,8 +21,8 @@ use Rattle.c_text.specs.CSpelling.{op_bytes}
 use Rattle.c_text.specs.CTree.{TypeTree, ExprTree, variable, member, operation, unary, cast, choice, called, Operands, no_operand, operand, Args, no_arg, expr_arg}
 use Rattle.c_text.specs.CTree as c
 use Rattle.wf_exprs.specs.Names.{Names}
-use Rattle.wf_exprs.specs.Words.{num, uint_of, two, byte_at, args}
-use Rattle.wf_exprs.specs.Exprs.{calculated, rank, Rated, rated, recast, firm, balanced, op_of, with_operand, same_op, chained, saturated, cut_off, factor, linked, converted, path_code, Pair, path_pair, is_array, moved, from_to, part_pointer, part_length, part_pair, io_code, place_code, end_code, there, peeked, raised, peek_code, position_code, asked_code, lowered, lowered_slice, lowered_end, lowered_expr, given, status_constant, lowered_status, order_op, same_code, is_literal, is_held, compared, is_constant, statuses_compared, begins_with, category_code, lowered_cond}
+use Rattle.wf_exprs.specs.Words.{num, uint_of, two, args}
+use Rattle.wf_exprs.specs.Exprs.{calculated, rank, Rated, rated, recast, firm, balanced, op_of, with_operand, same_op, chained, saturated, cut_off, factor, linked, converted, path_code, Pair, path_pair, is_array, moved, from_to, part_pointer, part_length, part_pair, io_code, place_code, end_code, bytes_code, there, peeked, raised, peek_code, position_code, asked_code, lowered, lowered_slice, lowered_end, lowered_expr, given, status_constant, lowered_status, order_op, same_code, is_literal, is_held, compared, is_constant, statuses_compared, begins_with, category_code, lowered_cond}
 use Rattle.wf_lower_laws.specs.BracketLaw.{repeats, goes_on, cond_goes_on, num_within, slice_within, end_within, cond_within}
 use Rattle.wf_lower_laws.proofs.Apart.{same_number}
 use Rattle.wf_lower_laws.proofs.OpenBrackets.{ExprOpens, OperandsOpen, ArgsOpen}
@@ -381,7 +381,7 @@ module _ (names : Names) where
   -- A byte but so many, raised or not.
   pub by_byte : (a j : ℕ) → ExprBy 2 (peeked names a j)
   by_byte a j =
-      by_element 1 2 (member (io_code names a) (codes "ptr")) _ (omega arith) (record { by = λ m o. tt })
+      by_element 1 2 (bytes_code names a) _ (omega arith) (record { by = λ m o. tt })
       (by_if 1 (nat_eq j 0) (place_code names a) (two Add (place_code names a) (num j)) (record { by = λ m o. tt }) (by_two 0 1 Add _ _ (omega arith) (record { by = λ m o. tt }) (record { by = λ m o. tt })))
 
   by_raised : (bits j : ℕ) (e : ExprTree) → ExprBy 2 e → ExprBy 4 (raised bits j e)

@@ -1,3 +1,8 @@
+pub mod FrontLaws
+pub mod PlaceLaws
+pub mod StandLaws
+pub mod StayLaws
+pub mod TargetLaws
 pub mod Cases
 pub mod Labels
 pub mod LoopLabels
