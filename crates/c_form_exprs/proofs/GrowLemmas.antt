@@ -56,7 +56,7 @@ grown_fresh {V} {X} tells name es xs n v x h is t q =
     rw (named_end es n v q, find-append (λ y. bytes_eq (name y) q) xs (x ∷ [])) (found_before tells (named es q) (find (λ y. bytes_eq (name y) q) xs) (if bytes_eq q n then Some v else None) (find (λ y. bytes_eq (name y) q) (x ∷ [])) (h q) (λ e. one_found tells name n v x q is t))
 
 -- A name that the table has already is found where it was.
-taken_not : {V : Type 0} (es : List (List ℕ × V)) (n q : List ℕ) → false ≡ is_none (named es n) → named es q ≡ None → bytes_eq q n ≡ false
+pub taken_not : {V : Type 0} (es : List (List ℕ × V)) (n q : List ℕ) → false ≡ is_none (named es n) → named es q ≡ None → bytes_eq q n ≡ false
 taken_not {V} es n q taken none = by (bytes_eq q n) refl
   where
     by : (b : Bool) → bytes_eq q n ≡ b → bytes_eq q n ≡ false
@@ -110,7 +110,7 @@ fields_grow nodes fs i old new fresh within has h f g =
 struct_stays : (nodes : Nodes) (tables : List (List (List ℕ × CField))) (more : List (List ℕ × CField)) (k : ℕ) (s : StructDecl) → IsStruct nodes tables k s → IsStruct nodes (tables ++ more ∷ []) k s
 struct_stays nodes tables more k s h = record { fields = h.fields; stands = slice_get-front tables (more ∷ []) k (slice_get_within tables k h.fields h.stands) ∙ h.stands; tells = h.tells }
 
-finds_more : {V X : Type 0} (P Q : V → X → Type 0) → ((v : V) (x : X) → P v x → Q v x) → (o : Option V) (p : Option X) → Finds P o p → Finds Q o p
+pub finds_more : {V X : Type 0} (P Q : V → X → Type 0) → ((v : V) (x : X) → P v x → Q v x) → (o : Option V) (p : Option X) → Finds P o p → Finds Q o p
 finds_more P Q more None p h = h
 finds_more P Q more (Some v) p h = (h.0, h.1, more v h.0 h.2)
 

@@ -49,7 +49,7 @@ impl<'k, 'u> Scope<'k, 'u> {
 
     /// The type of two numbers, or of two pointers of one type; where `zero` says so, also of a pointer and the literal
     /// 0 (6.5.8, 6.5.9, 6.5.15).
-    pub(crate) fn one_type(&self, zero: bool, a: ExprType, b: ExprType) -> Option<ExprType>
+    pub fn one_type(&self, zero: bool, a: ExprType, b: ExprType) -> Option<ExprType>
         requires first { HasValue self.now.front.nodes a }
         requires second { HasValue self.now.front.nodes b }
         ensures tells { option_map (value_in self.now.front.nodes.names) result ≡ common_of_two zero (value_in self.now.front.nodes.names a) (value_in self.now.front.nodes.names b) }

@@ -29,7 +29,7 @@ impl<'k, 'u> Scope<'k, 'u> {
 
     /// The expressions from this one down to the one in front of which no other stands, that one apart.
     #[tactic(auto, using(crate::proofs::SpineLemmas::spine_push))]
-    pub(crate) fn spine(&self, e: CExprId) -> Result<(Vec<CExprId>, CExprId), NoMemory>
+    pub fn spine(&self, e: CExprId) -> Result<(Vec<CExprId>, CExprId), NoMemory>
         requires { e.0 < length self.now.front.nodes.exprs }
         ensures spine { IfOk result (λ it. Spine self.now.front.nodes e it.0.items it.1) }
         ensures base { IfOk result (λ it. link_of (expr_of self.now.front.nodes it.1.0) ≡ None) }
@@ -48,7 +48,7 @@ impl<'k, 'u> Scope<'k, 'u> {
     }
 
     /// The type of the value that is held; None where there is none.
-    pub(crate) fn held_value(&self, held: Option<Held>) -> Option<ExprType>
+    pub fn held_value(&self, held: Option<Held>) -> Option<ExprType>
         requires { IfSome held (HasHeld self.now.front.nodes) }
         ensures { TellsType self.now.front.nodes result (option_and_then held_type (option_map (held_in self.now.front.nodes.names) held)) }
     {
@@ -59,7 +59,7 @@ impl<'k, 'u> Scope<'k, 'u> {
     }
 
     /// What `*of` stands for, by the type of `of` (6.5.3.2p4).
-    pub(crate) fn pointed(&self, of: Option<ExprType>) -> Option<Held>
+    pub fn pointed(&self, of: Option<ExprType>) -> Option<Held>
         requires { IfSome of (HasValue self.now.front.nodes) }
         ensures { TellsHeld self.now.front.nodes result (pointed_held (option_map (value_in self.now.front.nodes.names) of)) }
     {
@@ -70,7 +70,7 @@ impl<'k, 'u> Scope<'k, 'u> {
     }
 
     /// What `of[at]` stands for, by the types of both (6.5.2.1).
-    pub(crate) fn element(&self, of: Option<ExprType>, at: Option<ExprType>) -> Option<Held>
+    pub fn element(&self, of: Option<ExprType>, at: Option<ExprType>) -> Option<Held>
         requires { IfSome of (HasValue self.now.front.nodes) }
         ensures { TellsHeld self.now.front.nodes result (element_held (option_map (value_in self.now.front.nodes.names) of) (option_map (value_in self.now.front.nodes.names) at)) }
     {
@@ -84,7 +84,7 @@ impl<'k, 'u> Scope<'k, 'u> {
     }
 
     /// The type of `a op b`, by the types of both.
-    pub(crate) fn join(&self, op: COp, a: Option<ExprType>, b: Option<ExprType>) -> Option<ExprType>
+    pub fn join(&self, op: COp, a: Option<ExprType>, b: Option<ExprType>) -> Option<ExprType>
         requires first { IfSome a (HasValue self.now.front.nodes) }
         requires second { IfSome b (HasValue self.now.front.nodes) }
         ensures { TellsType self.now.front.nodes result (joined op (option_map (value_in self.now.front.nodes.names) a) (option_map (value_in self.now.front.nodes.names) b)) }
@@ -122,7 +122,7 @@ impl<'k, 'u> Scope<'k, 'u> {
     }
 
     /// The type of `~` of a value.
-    pub(crate) fn complement(&self, of: Option<ExprType>) -> Option<ExprType>
+    pub fn complement(&self, of: Option<ExprType>) -> Option<ExprType>
         ensures { TellsType self.now.front.nodes result (unary_type Complement (option_map (value_in self.now.front.nodes.names) of) None) }
     {
         match of {
@@ -135,7 +135,7 @@ impl<'k, 'u> Scope<'k, 'u> {
     }
 
     /// The type of the value that a function returns.
-    pub(crate) fn result_type(&self, of: Option<CType>) -> Option<ExprType>
+    pub fn result_type(&self, of: Option<CType>) -> Option<ExprType>
         requires { IfSome of (HasType self.now.front.nodes) }
         ensures { TellsType self.now.front.nodes result (option_map type_of_value (option_map (type_in self.now.front.nodes.names) of)) }
     {

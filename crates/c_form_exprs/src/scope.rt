@@ -1,6 +1,6 @@
 // The names that an expression of a function may use (ISO/IEC 9899:1999, 6.2.1).
 
-ghost use Rattle.std.specs.Prelude.{◌≡◌, ◌++◌, [], ◌∷◌, if◌then◌else◌, ◌<◌, length, is_none, find, option_map, IfOk, IfSome};
+ghost use Rattle.std.specs.Prelude.{◌≡◌, ◌++◌, [], ◌∷◌, if◌then◌else◌, ◌<◌, length, is_none, find, position, option_map, IfOk, IfSome};
 ghost use Rattle.std.specs.Str.{bytes_eq};
 ghost use Rattle.c_text.specs.CNodes.{bytes_at, type_in, expr_of, made_expr};
 ghost use Rattle.c_text.specs.CFits.{HasName, HasType, FitsExpr};
@@ -81,7 +81,7 @@ impl<'k, 'u> Scope<'k, 'u> {
     }
 
     /// The bytes of a name.
-    pub(crate) fn spelt(&self, name: CNameId) -> &'u [u8]
+    pub fn spelt(&self, name: CNameId) -> &'u [u8]
         requires { HasName self.now.front.nodes name }
         ensures { result.now ≡ bytes_at self.now.front.nodes.names name.0 }
     {
@@ -128,8 +128,16 @@ impl<'k, 'u> Scope<'k, 'u> {
         self.names.get(self.spelt(name))
     }
 
+    /// The place of a parameter or local among these.
+    pub fn place(&self, name: CNameId) -> Option<usize>
+        requires { HasName self.now.front.nodes name }
+        ensures { result ≡ position (λ it. bytes_eq it.name (bytes_at self.now.front.nodes.names name.0)) (scope_in self.now).names }
+    {
+        self.names.place(self.spelt(name))
+    }
+
     /// What a name stands for: a parameter or local, else a string (6.5.1p2).
-    pub(crate) fn variable(&self, name: CNameId) -> Option<Held>
+    pub fn variable(&self, name: CNameId) -> Option<Held>
         requires { HasName self.now.front.nodes name }
         ensures { TellsHeld self.now.front.nodes result (variable_held (scope_in self.now) (bytes_at self.now.front.nodes.names name.0)) }
     {
@@ -155,7 +163,7 @@ impl<'k, 'u> Scope<'k, 'u> {
     }
 
     /// What `of->field` stands for (6.5.2.3p4).
-    pub(crate) fn member(&self, of: Option<ExprType>, field: CNameId) -> Option<Held>
+    pub fn member(&self, of: Option<ExprType>, field: CNameId) -> Option<Held>
         requires of { IfSome of (HasValue self.now.front.nodes) }
         requires field { HasName self.now.front.nodes field }
         ensures { TellsHeld self.now.front.nodes result (member_held (scope_in self.now) (bytes_at self.now.front.nodes.names field.0) (option_map (value_in self.now.front.nodes.names) of)) }
@@ -176,7 +184,7 @@ impl<'k, 'u> Scope<'k, 'u> {
     }
 
     /// The type of a cast: between number types, or from the literal 0 to any known type (6.5.4).
-    pub(crate) fn cast(&self, to: CType, of: ExprType) -> Option<ExprType>
+    pub fn cast(&self, to: CType, of: ExprType) -> Option<ExprType>
         requires { HasType self.now.front.nodes to }
         ensures { TellsType self.now.front.nodes result (cast_from (scope_in self.now).structs (type_in self.now.front.nodes.names to) (value_in self.now.front.nodes.names of)) }
     {

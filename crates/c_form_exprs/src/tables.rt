@@ -1,7 +1,8 @@
 // Tables from names to what they declare. Contracts see the names with what they declare, in the order in which they were
 // added.
 
-ghost use Rattle.std.specs.Prelude.{◌≡◌, ◌++◌, [], ◌∷◌, if◌then◌else◌, is_none, IfOk, OnErr};
+ghost use Rattle.std.specs.Prelude.{◌≡◌, ◌++◌, [], ◌∷◌, if◌then◌else◌, is_none, position, IfOk, OnErr};
+ghost use Rattle.std.specs.Str.{bytes_eq};
 ghost use Rattle.c_form_exprs.specs.Tables.{named};
 
 use indexmap::IndexMap;
@@ -44,6 +45,13 @@ impl<'u, V: Copy + Drop> NameTable<'u, V> {
         ensures { result ≡ named self.now name.now }
     {
         self.entries.get(name).copied()
+    }
+
+    /// The place of the name among those of the table.
+    pub fn place(&self, name: &[u8]) -> Option<usize>
+        ensures { result ≡ position (λ entry. bytes_eq entry.0 name.now) self.now }
+    {
+        self.entries.get_index_of(name)
     }
 
     /// Adds a name at the end; whether it is new. A name that isn't new keeps what it declares. After `NoMemory` the

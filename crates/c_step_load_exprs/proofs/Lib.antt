@@ -1,0 +1,4 @@
+pub mod CodeLemmas
+pub mod ExprLemmas
+pub mod NameLemmas
+pub mod PlaceLemmas

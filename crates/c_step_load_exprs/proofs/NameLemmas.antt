@@ -1,0 +1,117 @@
+-- What names stand for is the same from the last item on.
+use Rattle.std.proofs.Common.{◌≡◌, ◌<◌, ◌≤◌, ℕ, zero, suc, Bool, false, if◌then◌else◌, List, [], ◌∷◌, ◌++◌, length, map, drop, get_or, position, Option, Some, None, is_some, refl, sym, ap, ◌∙◌, subst, arith}
+use Rattle.std.specs.Prelude.{bytes_eq}
+use Rattle.std.specs.Option.{option_map, option_and_then}
+use Rattle.c_text.specs.declared.nodes.CParam.{CParam}
+use Rattle.c_text.specs.CTree.{TypeTree, uint, size, boolean, uint_pointer, struct_pointer, text, ParamTree, ItemTree}
+use Rattle.c_text.specs.CNodes.{Nodes, param_tree, unit_tree}
+use Rattle.c_text.specs.CFits.{HasParam, HasParams}
+use Rattle.c_text.proofs.Parts.{no_param}
+use Rattle.c_meaning.specs.CTypes.{StructDecl, TextDecl, Scope, structs_of, texts_of, functions_of, struct_named, function_named, field_named, variable_held, member_held, field_held, cast_from, is_known, value_type, ExprType, numbers, points_to, zero_literal, cell, object, byte, Held, one, fixed, many, inner, character, characters}
+use Rattle.c_meaning.specs.CExprs.{field_number}
+use Rattle.c_form_exprs.specs.declared.front.Head.{Head}
+use Rattle.c_form_exprs.specs.declared.types.ExprType.{ExprType as TypeOf}
+use Rattle.c_form_exprs.specs.declared.types.Held.{Held as HeldOf}
+use Rattle.c_form_exprs.specs.Front.{Within, Finds, IsHead, scope_in, front_items}
+use Rattle.c_form_exprs.specs.TypeViews.{TellsType, TellsHeld}
+use Rattle.c_form_exprs.specs.Spines.{fits_type}
+use Rattle.c_step_exprs.specs.declared.instrs.Instr.TheVariants as does
+use Rattle.c_step_exprs.specs.declared.instrs.Put.TheVariants as put
+use Rattle.c_step_exprs.specs.Resolving.{function_number, named_code, held_code, variable_code}
+use Rattle.c_step_load_exprs.specs.Knowing.{Knows, program_scope}
+use Rattle.c_step_load_exprs.specs.Codes.{fits_first}
+use Rattle.c_step_load_exprs.proofs.PlaceLemmas.{all_items, place_found}
+
+module _ (w : Within) (numbered : Nodes) (k : Knows w numbered) where
+  known_items : front_items w.front ≡ unit_tree w.front.nodes
+  known_items = all_items w.front.nodes w.front.count (let a = k.all in omega (arith, a))
+
+  structs_same : (q : List ℕ) → struct_named (program_scope w).structs q ≡ struct_named (scope_in w).structs q
+  structs_same q = k.alike.structs q ∙ ap (λ (items : List ItemTree). struct_named (structs_of items) q) (sym known_items)
+
+  functions_same : (q : List ℕ) → function_named (program_scope w).functions q ≡ function_named (scope_in w).functions q
+  functions_same q = k.alike.functions q ∙ ap (λ (items : List ItemTree). function_named (functions_of items) q) (sym known_items)
+
+  texts_same : (program_scope w).texts ≡ (scope_in w).texts
+  texts_same = ap texts_of (sym known_items)
+
+  pub function_here : (q : List ℕ) (r : Option Head) → Finds (IsHead w.front.nodes) r (function_named (scope_in w).functions q) → Finds (IsHead w.front.nodes) r (function_named (program_scope w).functions q)
+  function_here q r h = subst (Finds (IsHead w.front.nodes) r) (sym (functions_same q)) h
+
+  pub number_here : (q : List ℕ) (r : Option ℕ) → r ≡ position (λ it. bytes_eq it.name q) (functions_of (unit_tree numbered)) → r ≡ function_number (program_scope w).functions q
+  number_here q r e = e ∙ (ap (λ (n : Nodes). position (λ it. bytes_eq it.name q) (functions_of (unit_tree n))) k.same ∙ sym (k.alike.numbers q))
+
+  variables_same : (q : List ℕ) → variable_held (program_scope w) q ≡ variable_held (scope_in w) q
+  variables_same q = ap (λ (texts : List TextDecl). variable_held (record (scope_in w) { texts = texts }) q) texts_same
+
+  pub variable_here : (q : List ℕ) (r : Option HeldOf) → TellsHeld w.front.nodes r (variable_held (scope_in w) q) → TellsHeld w.front.nodes r (variable_held (program_scope w) q)
+  variable_here q r h = subst (TellsHeld w.front.nodes r) (sym (variables_same q)) h
+
+  members_same : (field : List ℕ) (type : Option ExprType) → member_held (program_scope w) field type ≡ member_held (scope_in w) field type
+  members_same field None = refl
+  members_same field (Some (numbers c)) = refl
+  members_same field (Some zero_literal) = refl
+  members_same field (Some (points_to (cell ty))) = refl
+  members_same field (Some (points_to byte)) = refl
+  members_same field (Some (points_to (object name))) = ap (λ (o : Option StructDecl). option_map (field_held name) (option_and_then (λ it. field_named it.fields field) o)) (structs_same name)
+
+  pub member_here : (field : List ℕ) (type : Option ExprType) (r : Option HeldOf) → TellsHeld w.front.nodes r (member_held (scope_in w) field type) → TellsHeld w.front.nodes r (member_held (program_scope w) field type)
+  member_here field type r h = subst (TellsHeld w.front.nodes r) (sym (members_same field type)) h
+
+  known_same : (ty : TypeTree) → is_known (program_scope w).structs ty ≡ is_known (scope_in w).structs ty
+  known_same (struct_pointer name) = ap (λ (o : Option StructDecl). is_some o) (structs_same name)
+  known_same (uint u) = refl
+  known_same size = refl
+  known_same boolean = refl
+  known_same (uint_pointer u) = refl
+  known_same text = refl
+
+  casts_same : (ty : TypeTree) (type : ExprType) → cast_from (program_scope w).structs ty type ≡ cast_from (scope_in w).structs ty type
+  casts_same ty (numbers c) = refl
+  casts_same ty (points_to p) = refl
+  casts_same ty zero_literal = ap (λ (b : Bool). if b then Some (value_type ty) else None) (known_same ty)
+
+  pub cast_here : (ty : TypeTree) (type : ExprType) (r : Option TypeOf) → TellsType w.front.nodes r (cast_from (scope_in w).structs ty type) → TellsType w.front.nodes r (cast_from (program_scope w).structs ty type)
+  cast_here ty type r h = subst (TellsType w.front.nodes r) (sym (casts_same ty type)) h
+
+  pub field_here : (name field : List ℕ) (r : Option ℕ) → r ≡ option_and_then (λ it. position (λ f. bytes_eq f.name field) it.fields) (struct_named (structs_of (unit_tree numbered)) name) → r ≡ field_number (program_scope w) field (Some (points_to (object name)))
+  field_here name field r e =
+      e ∙ (ap (λ (n : Nodes). option_and_then (λ it. position (λ f. bytes_eq f.name field) it.fields) (struct_named (structs_of (unit_tree n)) name)) k.same
+      ∙ ap (λ (o : Option StructDecl). option_and_then (λ it. position (λ f. bytes_eq f.name field) it.fields) o) (sym (k.alike.structs name)))
+
+-- The value of a name.
+pub local_value : (scope : Scope) (q : List ℕ) (r : Option ℕ) (k : ℕ) (string : Option ℕ) → r ≡ position (λ it. bytes_eq it.name q) scope.names → r ≡ Some k → does.Put (put.Fetch k) ∷ [] ≡ variable_code (variable_held scope q) (position (λ it. bytes_eq it.name q) scope.names) string
+local_value scope q r k string e f =
+    let at : position (λ it. bytes_eq it.name q) scope.names ≡ Some k = sym e ∙ f in
+    let found = place_found (λ (it : ParamTree). bytes_eq it.name q) scope.names k at in
+    rw (at, found.1) refl
+
+pub other_value : (held : Option Held) (name string : Option ℕ) → name ≡ None → named_code name string ++ held_code held ≡ variable_code held name string
+other_value held (Some k) string e = absurd (cc (e))
+other_value None None string e = refl
+other_value (Some held) None string e = by held
+  where
+    by : (h : Held) → named_code None string ++ held_code (Some h) ≡ variable_code (Some h) None string
+    by (one t) = refl
+    by (fixed t) = refl
+    by (many t) = refl
+    by (inner name) = refl
+    by character = refl
+    by characters = refl
+
+-- Parameters.
+pub param_has : (nodes : Nodes) (ps : List CParam) (i : ℕ) → i < length ps → HasParams nodes ps → HasParam nodes (get_or ps i no_param)
+param_has nodes [] i within h = absurd (omega (arith, within))
+param_has nodes (p ∷ ps) zero within h = h.0
+param_has nodes (p ∷ ps) (suc i) within h = param_has nodes ps i (omega (arith, within)) h.1
+
+pub first_param : (nodes : Nodes) (ps : List CParam) (i : ℕ) (type : Option ExprType) → i < length ps → fits_type (param_tree nodes.names (get_or ps i no_param)) type ≡ fits_first (map (param_tree nodes.names) (drop i ps)) type
+first_param nodes [] i type within = absurd (omega (arith, within))
+first_param nodes (p ∷ ps) zero type within = refl
+first_param nodes (p ∷ ps) (suc i) type within = first_param nodes ps i type (omega (arith, within))
+
+pub no_param_left : (nodes : Nodes) (ps : List CParam) (i : ℕ) (type : Option ExprType) → length ps ≤ i → false ≡ fits_first (map (param_tree nodes.names) (drop i ps)) type
+no_param_left nodes [] zero type past = refl
+no_param_left nodes [] (suc i) type past = refl
+no_param_left nodes (p ∷ ps) zero type past = absurd (omega (arith, past))
+no_param_left nodes (p ∷ ps) (suc i) type past = no_param_left nodes ps i type (omega (arith, past))

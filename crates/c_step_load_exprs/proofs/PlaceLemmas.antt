@@ -1,0 +1,167 @@
+-- Tables of places, as names are added to them.
+use Rattle.std.proofs.Common.{◌≡◌, ℕ, zero, suc, ◌+◌, ◌<◌, Bool, true, false, nat_lt, if◌then◌else◌, List, [], ◌∷◌, ◌++◌, length, map, find, Option, Some, None, is_none, position, refl, sym, ap, ◌∙◌, subst, arith, lt-ltb, le-ltb, ltb-true, ltb-false, take, get_or, ◌≤◌}
+use Rattle.std.specs.List.{position_or_len, slice_get}
+use Rattle.std.specs.Option.{option_map, option_or, option_and_then}
+use Rattle.std.specs.Str.{bytes_eq}
+use Rattle.std.proofs.lemmas.List.{take_all, map-append}
+use Rattle.std.proofs.lemmas.Option.{slice_get_within, slice_get-get_or}
+use Rattle.c_text.proofs.Arena.{slice_get-front, slice_get-seam}
+use Rattle.c_text.specs.CTree.{ItemTree, text_item}
+use Rattle.c_text.specs.CNodes.{Nodes, bytes_at, field_tree, unit_tree}
+use Rattle.c_text.specs.CFits.{HasFields}
+use Rattle.c_text.specs.declared.nodes.CField.{CField}
+use Rattle.c_text.proofs.Parts.{no_field}
+use Rattle.c_meaning.specs.CTypes.{StructDecl, structs_of, texts_of, functions_of}
+use Rattle.c_form_exprs.specs.Tables.{named}
+use Rattle.c_form_exprs.specs.Front.{Finds}
+use Rattle.c_form_exprs.proofs.TableLemmas.{place_in}
+use Rattle.c_form_exprs.proofs.FrontLemmas.{bytes_eq-swap}
+use Rattle.c_form_exprs.proofs.GrowLemmas.{named_end, taken_not, tells_grow, finds_more, structs_append, texts_append, functions_append, take_one_more, tree_length}
+use Rattle.c_step_load_exprs.specs.declared.numbers.Kind.{Kind}
+use Rattle.c_step_load_exprs.specs.declared.numbers.Kind.TheVariants as kind
+use Rattle.c_step_load_exprs.specs.Knowing.{HasPlaces, HasFieldPlaces, HasStructs, names_of}
+
+-- The place of the first that passes, one element at a time.
+less_on : (m n : ℕ) → nat_lt (1 + m) (suc n) ≡ nat_lt m n
+less_on m n = by (nat_lt m n) refl
+  where
+    by : (b : Bool) → nat_lt m n ≡ b → nat_lt (1 + m) (suc n) ≡ nat_lt m n
+    by true e = lt-ltb (1 + m) (suc n) (omega (arith, ltb-true m n e)) ∙ sym e
+    by false e = le-ltb (1 + m) (suc n) (omega (arith, ltb-false m n e)) ∙ sym e
+
+first_less : (n : ℕ) → nat_lt 0 (suc n) ≡ true
+first_less n = lt-ltb 0 (suc n) (omega arith)
+
+place_cons : {A : Type 0} (p : A → Bool) (x : A) (xs : List A) → position p (x ∷ xs) ≡ (if p x then Some 0 else option_map suc (position p xs))
+place_cons {A} p x xs = by (p x) refl
+  where
+    one : (n : ℕ) → 1 + n ≡ suc n
+    one n = omega arith
+
+    on : (t : Bool) → (if t then Some (1 + position_or_len p xs) else None) ≡ option_map suc (if t then Some (position_or_len p xs) else None)
+    on true = ap Some (one (position_or_len p xs))
+    on false = refl
+
+    by : (b : Bool) → p x ≡ b → position p (x ∷ xs) ≡ (if b then Some 0 else option_map suc (position p xs))
+    by true e = rw (e, first_less (length xs)) refl
+    by false e = rw (e, less_on (position_or_len p xs) (length xs)) (on (nat_lt (position_or_len p xs) (length xs)))
+
+pub place_end : {A : Type 0} (p : A → Bool) (xs : List A) (y : A) → position p (xs ++ y ∷ []) ≡ option_or (position p xs) (if p y then Some (length xs) else None)
+place_end {A} p [] y = place_cons p y [] ∙ by (p y)
+  where
+    by : (b : Bool) → (if b then Some 0 else option_map suc (position p [])) ≡ (if b then Some 0 else None)
+    by true = refl
+    by false = refl
+place_end {A} p (x ∷ xs) y = place_cons p x (xs ++ y ∷ []) ∙ (ap (λ (o : Option ℕ). if p x then Some 0 else option_map suc o) (place_end p xs y) ∙ (by (p x) (position p xs) (p y) ∙ ap (λ (o : Option ℕ). option_or o (if p y then Some (suc (length xs)) else None)) (sym (place_cons p x xs))))
+  where
+    by : (b : Bool) (o : Option ℕ) (c : Bool) → (if b then Some 0 else option_map suc (option_or o (if c then Some (length xs) else None))) ≡ option_or (if b then Some 0 else option_map suc o) (if c then Some (suc (length xs)) else None)
+    by true o c = refl
+    by false (Some k) c = refl
+    by false None true = refl
+    by false None false = refl
+
+-- A name more.
+places_fresh : (es : List (List ℕ × ℕ)) (names : List (List ℕ)) (name : List ℕ) (n : ℕ) → n ≡ length names → HasPlaces es names → HasPlaces (es ++ (name, n) ∷ []) (names ++ name ∷ [])
+places_fresh es names name n at h q =
+    named_end es name n q
+    ∙ (ap (λ (o : Option ℕ). option_or o (if bytes_eq q name then Some n else None)) (h q)
+    ∙ (ap (λ (b : Bool). option_or (position (λ name. bytes_eq name q) names) (if b then Some n else None)) (bytes_eq-swap q name)
+    ∙ (ap (λ (k : ℕ). option_or (position (λ name. bytes_eq name q) names) (if bytes_eq name q then Some k else None)) at
+    ∙ sym (place_end (λ name. bytes_eq name q) names name))))
+
+places_taken : (es : List (List ℕ × ℕ)) (names : List (List ℕ)) (name : List ℕ) → false ≡ is_none (named es name) → HasPlaces es names → HasPlaces es (names ++ name ∷ [])
+places_taken es names name taken h q = by (named es q) refl
+  where
+    by : (o : Option ℕ) → named es q ≡ o → named es q ≡ position (λ name. bytes_eq name q) (names ++ name ∷ [])
+    by None e =
+        let apart : bytes_eq name q ≡ false = bytes_eq-swap name q ∙ taken_not es name q taken e in
+        e ∙ sym (place_end (λ name. bytes_eq name q) names name ∙ rw (apart, sym (h q) ∙ e) refl)
+    by (Some k) e = e ∙ sym (place_end (λ name. bytes_eq name q) names name ∙ rw (sym (h q) ∙ e) refl)
+
+pub places_more : (es new : List (List ℕ × ℕ)) (names : List (List ℕ)) (name : List ℕ) (n : ℕ) (fresh : Bool) → fresh ≡ is_none (named es name) → new ≡ (if fresh then es ++ (name, n) ∷ [] else es) → n ≡ length names → HasPlaces es names → HasPlaces new (names ++ name ∷ [])
+places_more es new names name n true f g at h = subst (λ (xs : List (List ℕ × ℕ)). HasPlaces xs (names ++ name ∷ [])) (sym g) (places_fresh es names name n at h)
+places_more es new names name n false f g at h = subst (λ (xs : List (List ℕ × ℕ)). HasPlaces xs (names ++ name ∷ [])) (sym g) (places_taken es names name f h)
+
+pub no_places : (es : List (List ℕ × ℕ)) → es ≡ [] → HasPlaces es []
+no_places es e q = ap (λ (xs : List (List ℕ × ℕ)). named xs q) e
+
+-- What a table of places of names tells of those that have these names.
+pub place_of : {A : Type 0} (name : A → List ℕ) (es : List (List ℕ × ℕ)) (xs : List A) → HasPlaces es (map name xs) → (q : List ℕ) → named es q ≡ position (λ x. bytes_eq (name x) q) xs
+place_of name es xs h q = h q ∙ place_in (λ n. bytes_eq n q) name xs
+
+-- A struct more, whose table of fields is the last one.
+table_stays : (tables : List (List (List ℕ × ℕ))) (more : List (List ℕ × ℕ)) (k : ℕ) (s : StructDecl) → HasFieldPlaces tables k s → HasFieldPlaces (tables ++ more ∷ []) k s
+table_stays tables more k s h = record { fields = h.fields; stands = slice_get-front tables (more ∷ []) k (slice_get_within tables k h.fields h.stands) ∙ h.stands; places = h.places }
+
+pub struct_more : (tables after : List (List (List ℕ × ℕ))) (by_name new : List (List ℕ × ℕ)) (before : List StructDecl) (struct : StructDecl) (table : List (List ℕ × ℕ)) (k : ℕ) (fresh : Bool)
+    → HasStructs tables by_name before → HasPlaces table (map (λ f. f.name) struct.fields) → after ≡ tables ++ table ∷ [] → k ≡ length tables → fresh ≡ is_none (named by_name struct.name) → new ≡ (if fresh then by_name ++ (struct.name, k) ∷ [] else by_name)
+    → HasStructs after new (before ++ struct ∷ [])
+struct_more tables after by_name new before struct table k fresh h places more at f g =
+    let known : HasStructs after by_name before = subst (λ (ts : List (List (List ℕ × ℕ))). HasStructs ts by_name before) (sym more) (λ q. finds_more (HasFieldPlaces tables) (HasFieldPlaces (tables ++ table ∷ [])) (table_stays tables table) (named by_name q) (find (λ s. bytes_eq s.name q) before) (h q)) in
+    let stands : slice_get after k ≡ Some table = ap (λ (ts : List (List (List ℕ × ℕ))). slice_get ts k) more ∙ (ap (slice_get (tables ++ table ∷ [])) at ∙ slice_get-seam tables table []) in
+    tells_grow (HasFieldPlaces after) (λ s. s.name) by_name new before struct.name k struct fresh known refl (record { fields = table; stands = stands; places = places }) f g
+
+-- Items, one after the other.
+abbrev pub no_item : ItemTree
+no_item = text_item [] []
+
+pub item_here : (nodes : Nodes) (i : ℕ) → i < length nodes.items → slice_get (unit_tree nodes) i ≡ Some (get_or (unit_tree nodes) i no_item)
+item_here nodes i within = let l : length (unit_tree nodes) ≡ length nodes.items = tree_length nodes in slice_get-get_or (unit_tree nodes) i no_item (omega (arith, within, l))
+
+pub all_items : (nodes : Nodes) (i : ℕ) → length nodes.items ≤ i → take i (unit_tree nodes) ≡ unit_tree nodes
+all_items nodes i past = let l : length (unit_tree nodes) ≡ length nodes.items = tree_length nodes in take_all i (unit_tree nodes) (omega (arith, past, l))
+
+pub names_more : (kind : Kind) (items : List ItemTree) (i : ℕ) (item : ItemTree) → slice_get items i ≡ Some item → names_of kind (take (i + 1) items) ≡ names_of kind (take i items) ++ names_of kind (item ∷ [])
+names_more kind.Text items i item is = ap (names_of kind.Text) (take_one_more items i item is) ∙ (ap (map (λ t. t.name)) (texts_append (take i items) (item ∷ [])) ∙ map-append (λ t. t.name) (texts_of (take i items)) (texts_of (item ∷ [])))
+names_more kind.Function items i item is = ap (names_of kind.Function) (take_one_more items i item is) ∙ (ap (map (λ f. f.name)) (functions_append (take i items) (item ∷ [])) ∙ map-append (λ f. f.name) (functions_of (take i items)) (functions_of (item ∷ [])))
+
+pub no_names : (kind : Kind) (items : List ItemTree) → names_of kind (take 0 items) ≡ []
+no_names kind.Text items = refl
+no_names kind.Function items = refl
+
+pub structs_more : (items : List ItemTree) (i : ℕ) (item : ItemTree) → slice_get items i ≡ Some item → structs_of (take (i + 1) items) ≡ structs_of (take i items) ++ structs_of (item ∷ [])
+structs_more items i item is = ap structs_of (take_one_more items i item is) ∙ structs_append (take i items) (item ∷ [])
+
+-- Fields, one after the other.
+pub field_name_has : (nodes : Nodes) (fs : List CField) (i : ℕ) → i < length fs → HasFields nodes fs → (get_or fs i no_field).name.0 < length nodes.names
+field_name_has nodes [] i within h = absurd (omega (arith, within))
+field_name_has nodes (f ∷ fs) zero within h = h.0.1
+field_name_has nodes (f ∷ fs) (suc i) within h = field_name_has nodes fs i (omega (arith, within)) h.1
+
+pub fields_more : (nodes : Nodes) (fs : List CField) (i : ℕ) → i < length fs → map (λ f. bytes_at nodes.names f.name.0) (take (i + 1) fs) ≡ map (λ f. bytes_at nodes.names f.name.0) (take i fs) ++ bytes_at nodes.names (get_or fs i no_field).name.0 ∷ []
+fields_more nodes fs i within = ap (map (λ f. bytes_at nodes.names f.name.0)) (take_one_more fs i (get_or fs i no_field) (slice_get-get_or fs i no_field within)) ∙ map-append (λ f. bytes_at nodes.names f.name.0) (take i fs) (get_or fs i no_field ∷ [])
+
+pub field_names : (nodes : Nodes) (fs : List CField) → map (λ f. f.name) (map (field_tree nodes.names) fs) ≡ map (λ f. bytes_at nodes.names f.name.0) fs
+field_names nodes [] = refl
+field_names nodes (f ∷ fs) = ap (λ (names : List (List ℕ)). bytes_at nodes.names f.name.0 ∷ names) (field_names nodes fs)
+
+pub as_many : (nodes : Nodes) (fs : List CField) (i : ℕ) → i ≤ length fs → i ≡ length (map (λ f. bytes_at nodes.names f.name.0) (take i fs))
+as_many nodes [] zero within = refl
+as_many nodes [] (suc i) within = absurd (omega (arith, within))
+as_many nodes (f ∷ fs) zero within = refl
+as_many nodes (f ∷ fs) (suc i) within = ap suc (as_many nodes fs i (omega (arith, within)))
+
+-- The place of a field, by the table of its struct.
+pub no_struct_field : (tables : List (List (List ℕ × ℕ))) (x : Option StructDecl) (q : List ℕ) → Finds (HasFieldPlaces tables) None x → None ≡ option_and_then (λ it. position (λ f. bytes_eq f.name q) it.fields) x
+no_struct_field tables x q h = rw h refl
+
+pub struct_field : (tables : List (List (List ℕ × ℕ))) (k : ℕ) (x : Option StructDecl) (table : List (List ℕ × ℕ)) (q : List ℕ) → Finds (HasFieldPlaces tables) (Some k) x → slice_get tables k ≡ Some table → named table q ≡ option_and_then (λ it. position (λ f. bytes_eq f.name q) it.fields) x
+struct_field tables k x table q h is =
+    let same : table ≡ h.2.fields = (let p = h.2.stands in cc (is, p)) in
+    rw (h.1, same) (place_of (λ f. f.name) h.2.fields h.0.fields h.2.places q)
+
+pub struct_found : (tables : List (List (List ℕ × ℕ))) (by_name : List (List ℕ × ℕ)) (structs : List StructDecl) → HasStructs tables by_name structs → (q : List ℕ) (r o : Option ℕ) → r ≡ named by_name q → r ≡ o → Finds (HasFieldPlaces tables) o (find (λ s. bytes_eq s.name q) structs)
+struct_found tables by_name structs h q r o is some = subst (λ (x : Option ℕ). Finds (HasFieldPlaces tables) x (find (λ s. bytes_eq s.name q) structs)) (sym is ∙ some) (h q)
+
+pub table_within : (tables : List (List (List ℕ × ℕ))) (k : ℕ) (x : Option StructDecl) → Finds (HasFieldPlaces tables) (Some k) x → k < length tables
+table_within tables k x h = slice_get_within tables k h.2.fields h.2.stands
+
+-- One with a place is found.
+pub place_found : {A : Type 0} (p : A → Bool) (xs : List A) (k : ℕ) → position p xs ≡ Some k → (y : A) × (find p xs ≡ Some y)
+place_found {A} p [] k e = absurd (cc (e))
+place_found {A} p (x ∷ xs) k e = by (p x) refl (position p xs) refl (place_found p xs)
+  where
+    by : (b : Bool) → p x ≡ b → (o : Option ℕ) → position p xs ≡ o → ((k : ℕ) → position p xs ≡ Some k → (y : A) × (find p xs ≡ Some y)) → (y : A) × (find p (x ∷ xs) ≡ Some y)
+    by true t o f later = (x, rw t refl)
+    by false t (Some j) f later = rw t (later j f)
+    by false t None f later = absurd (let g : position p (x ∷ xs) ≡ None = place_cons p x xs ∙ rw (t, f) refl in cc (g, e))

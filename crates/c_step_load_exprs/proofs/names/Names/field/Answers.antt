@@ -1,0 +1,10 @@
+use Rattle.c_step_load_exprs.proofs.NameLemmas.{field_here}
+use Rattle.c_step_load_exprs.proofs.names.Names.field.Goals as goal
+
+pub returns-in-Some-PointsTo-Object : goal.returns-in-Some-PointsTo-Object
+returns-in-Some-PointsTo-Object c =
+    let some = c.in-Some-PointsTo-Object.is in
+    let points = rw some at c.in-Some-PointsTo-Object.field-0-is in
+    let within = rw some at c.in-Some-PointsTo-Object.field-0-0-is in
+    let object = rw points at within in
+    rw (some, points, object, ← c.spelt.ensures, ← c.spelt-in-Some-PointsTo-Object.ensures) (field_here c.args.self.now.scope.now c.args.self.now.numbers.now c.requires.knows c.spelt.result.now c.spelt-in-Some-PointsTo-Object.result.now c.field.result c.field.ensures)

@@ -1,0 +1,4 @@
+pub mod CodeLemmas
+pub mod LabelLemmas
+pub mod StepLemmas
+pub mod TaskLemmas
