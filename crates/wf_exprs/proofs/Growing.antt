@@ -15,19 +15,20 @@ use Rattle.wf_exprs.specs.Grown.{Grows, HasExpr, HasNamed}
 longer : {X : Type 0} (xs ys zs : List X) (n : ℕ) → ys ≡ xs ++ zs → n < length xs → n < length ys
 longer xs ys zs n h k = let l = length-append xs zs in let e = ap length h in omega (arith, l, e, k)
 
-pub grown : (old new : Nodes) → IsSound old → Extends old new → new.items ≡ old.items → Grows old new
-grown old new sound extends same = record {
+pub grown : (old new : Nodes) → IsSound old → Extends old new → new.strings ≡ old.strings → new.items ≡ old.items → Grows old new
+grown old new sound extends texts same = record {
   more_names = λ n h. longer old.names new.names extends.more.names n extends.names h;
   more_exprs = λ e h. longer old.exprs new.exprs extends.more.exprs e extends.exprs h;
   more_stmts = λ s h. longer old.stmts new.stmts extends.more.stmts s extends.stmts h;
   names = λ n h. ap (λ (x : List (List ℕ)). bytes_at x n) extends.names ∙ bytes_at-front old.names extends.more.names n h;
   exprs = λ e h. expr_of-kept old new sound extends e h;
   stmts = λ s h. code_of-kept old new sound extends s h;
+  strings = texts;
   items = same;
 }
 
 pub unchanged : (old new : Nodes) → new ≡ old → Grows old new
-unchanged old new same = subst (λ (n : Nodes). Grows old n) (sym same) (record { more_names = λ n h. h; more_exprs = λ e h. h; more_stmts = λ s h. h; names = λ n h. refl; exprs = λ e h. refl; stmts = λ s h. refl; items = refl })
+unchanged old new same = subst (λ (n : Nodes). Grows old n) (sym same) (record { more_names = λ n h. h; more_exprs = λ e h. h; more_stmts = λ s h. h; names = λ n h. refl; exprs = λ e h. refl; stmts = λ s h. refl; strings = refl; items = refl })
 
 pub grows_on : {a b c : Nodes} → Grows a b → Grows b c → Grows a c
 grows_on g h = record {
@@ -37,20 +38,21 @@ grows_on g h = record {
   names = λ n k. h.names n (g.more_names n k) ∙ g.names n k;
   exprs = λ e k. h.exprs e (g.more_exprs e k) ∙ g.exprs e k;
   stmts = λ s k. h.stmts s (g.more_stmts s k) ∙ g.stmts s k;
+  strings = h.strings ∙ g.strings;
   items = h.items ∙ g.items;
 }
 
 pub grown_expr : (old new : Nodes) (x : CExpr) → IsSound old → new ≡ record old { exprs = old.exprs ++ x ∷ [] } → Grows old new
-grown_expr old new x sound is = let there : Grows old (record old { exprs = old.exprs ++ x ∷ [] }) = grown old (record old { exprs = old.exprs ++ x ∷ [] }) sound (with_expr old x) refl in subst (λ (n : Nodes). Grows old n) (sym is) there
+grown_expr old new x sound is = let there : Grows old (record old { exprs = old.exprs ++ x ∷ [] }) = grown old (record old { exprs = old.exprs ++ x ∷ [] }) sound (with_expr old x) refl refl in subst (λ (n : Nodes). Grows old n) (sym is) there
 
 pub grown_stmt : (old new : Nodes) (x : CStmt) → IsSound old → new ≡ record old { stmts = old.stmts ++ x ∷ [] } → Grows old new
-grown_stmt old new x sound is = let there : Grows old (record old { stmts = old.stmts ++ x ∷ [] }) = grown old (record old { stmts = old.stmts ++ x ∷ [] }) sound (with_stmt old x) refl in subst (λ (n : Nodes). Grows old n) (sym is) there
+grown_stmt old new x sound is = let there : Grows old (record old { stmts = old.stmts ++ x ∷ [] }) = grown old (record old { stmts = old.stmts ++ x ∷ [] }) sound (with_stmt old x) refl refl in subst (λ (n : Nodes). Grows old n) (sym is) there
 
 with_names : (old : Nodes) (added : List (List ℕ)) → Extends old (record old { names = old.names ++ added })
 with_names old added = record { more = record no_nodes { names = added }; names = refl; strings = sym (append_nil old.strings); exprs = sym (append_nil old.exprs); stmts = sym (append_nil old.stmts); items = sym (append_nil old.items) }
 
 pub grown_name : (old new : Nodes) (name : List ℕ) (n : ℕ) → IsSound old → AddsName old new name n → Grows old new
-grown_name old new name n sound adds = let there : Grows old (record old { names = old.names ++ adds.added }) = grown old (record old { names = old.names ++ adds.added }) sound (with_names old adds.added) refl in subst (λ (m : Nodes). Grows old m) (sym adds.grown) there
+grown_name old new name n sound adds = let there : Grows old (record old { names = old.names ++ adds.added }) = grown old (record old { names = old.names ++ adds.added }) sound (with_names old adds.added) refl refl in subst (λ (m : Nodes). Grows old m) (sym adds.grown) there
 
 -- The last expression of a unit has this tree.
 pub last_expr : (old new : Nodes) (x : CExpr) (e : ℕ) (tree : ExprTree) → e ≡ length old.exprs → new ≡ record old { exprs = old.exprs ++ x ∷ [] } → expr_of new e ≡ tree → HasExpr new e tree

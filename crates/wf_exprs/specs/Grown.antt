@@ -3,7 +3,7 @@ use Rattle.std.specs.Prelude.{◌≡◌, ◌<◌, ℕ, List, length}
 use Rattle.c_text.specs.CNodes.{Nodes, bytes_at, expr_of, code_of}
 use Rattle.c_text.specs.CTree.{ExprTree, Code}
 
--- Names, expressions and statements were added, and no item.
+-- Names, expressions and statements were added, and no string and no item.
 pub record Grows (old new : Nodes) : Type 0 where
   pub more_names : (n : ℕ) → n < length old.names → n < length new.names
   pub more_exprs : (e : ℕ) → e < length old.exprs → e < length new.exprs
@@ -11,6 +11,7 @@ pub record Grows (old new : Nodes) : Type 0 where
   pub names : (n : ℕ) → n < length old.names → bytes_at new.names n ≡ bytes_at old.names n
   pub exprs : (e : ℕ) → e < length old.exprs → expr_of new e ≡ expr_of old e
   pub stmts : (s : ℕ) → s < length old.stmts → code_of new s ≡ code_of old s
+  pub strings : new.strings ≡ old.strings
   pub items : new.items ≡ old.items
 
 -- The unit has this expression under this number, and likewise a name and a code.

@@ -1,3 +1,10 @@
+pub mod AlikeLaws
+pub mod FrontLaws
+pub mod PlaceLaws
+pub mod PointerLaws
+pub mod StandLaws
+pub mod TargetLaws
+pub mod WordLaws
 pub mod Cases
 pub mod Labels
 pub mod LoopLabels

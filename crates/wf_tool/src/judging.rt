@@ -31,7 +31,7 @@ use wf_types::typing::type_check;
 const MOST_FILES: usize = 16;
 
 /// L2 at the first file beyond the number of files.
-fn too_many(count: usize) -> Option<Refusal>
+pub fn too_many(count: usize) -> Option<Refusal>
     ensures refused { result ≡ too_many count }
     ensures few { IfNone result (count ≤ 16) }
 {

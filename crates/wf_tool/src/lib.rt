@@ -4,6 +4,7 @@
 #![tactic(auto)]
 
 pub mod ending;
+mod generating;
 mod judging;
 mod laws;
 mod lines;

@@ -4,10 +4,11 @@ ghost use Rattle.std.specs.Prelude.{◌≡◌, ◌-◌, ◌^◌, ◌<◌, ◌≤
 ghost use Rattle.wf_tool.specs.Answer.{CallFor, CountsInputs, CountsSink, IsAnswered, Writes};
 
 use crate::ending::Ending;
+use crate::generating::generate_package;
 use crate::judging::judge_package;
 use crate::lines::{accepted_line, fault_line, refused_line, usage_line};
 use crate::taking::TakingFault;
-use crate::words::{file_name, to_check};
+use crate::words::{file_name, to_check, to_generate};
 use std::alloc::{AllocError, Global};
 use wf_outside::{Inputs, Sink};
 use wf_text::NoMemory;
@@ -46,6 +47,9 @@ pub fn wuffs_tool<I: Inputs, O: Sink>(
     ensures sink { CountsSink (O.faults out.old) (O.faults out.new) result }
     ensures same { I.held inputs.new ≡ I.held inputs.old }
 {
+    if let Some(asked) = to_generate(words) {
+        return generate_package(alloc, asked, inputs, out);
+    }
     match find_answer(alloc, words, inputs) {
         Ok(answer) => match out.put(answer.line.as_bytes()) {
             Ok(()) => answer.ending,

@@ -36,6 +36,23 @@ pub fn to_check(words: &[String]) -> Option<ToCheck>
     }
 }
 
+/// What `gen PACKAGE FILE...` names. None for other words.
+pub fn to_generate(words: &[String]) -> Option<ToCheck> {
+    match words {
+        [command, package, files @ ..] => {
+            if command.as_str() == "gen" && is_package_name(package.as_str()) && !files.is_empty() {
+                Some(ToCheck {
+                    package: package.as_str(),
+                    files,
+                })
+            } else {
+                None
+            }
+        }
+        _ => None,
+    }
+}
+
 /// The name of the file with this number, from 0. No bytes where there is none.
 pub fn file_name(names: &[String], number: usize) -> &str
     ensures { result.now ≡ file_name (map (λ name. string_bytes name) names.now) number }

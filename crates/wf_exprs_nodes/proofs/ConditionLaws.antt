@@ -1,0 +1,212 @@
+-- What a chain of conditions and a comparison are in C.
+use Rattle.std.proofs.Common.{◌≡◌, ℕ, ◌+◌, ◌<◌, ◌≤◌, Bool, true, false, ◌&&◌, ◌||◌, List, [], ◌∷◌, length, map, drop, get_or, refl, sym, ap, ◌∙◌, subst, arith}
+use Rattle.wf_text.specs.declared.place.Place.{Place}
+use Rattle.wf_ast.specs.declared.numbers.ExprId.{ExprId}
+use Rattle.wf_ast.specs.declared.types.Ty.{Ty}
+use Rattle.wf_ast.specs.declared.types.Ty.TheVariants as types
+use Rattle.wf_ast.specs.declared.typed_nodes.TypedNodes.{TypedNodes}
+use Rattle.wf_ast.specs.TypedTree.{Order, less, at_most, equal, differs, at_least, greater, CondTree, junction, ValueTree, numeric, logical, state, elements, io, lost}
+use Rattle.wf_ast.specs.TypedTrees.{Sort, arithmetic, ordering, joining, num_in, cond_in, status_in, cond_chain, chain_of, comparison, first_sign, tree_of, type_of_node}
+use Rattle.wf_ast.specs.TypedInvariant.{is_expr, is_numeric, is_logical, is_state, chain_fits, compares_kinds, is_tree_of}
+use Rattle.wf_ast.proofs.Arena.{both_true}
+use Rattle.c_text.specs.CTree.{ExprTree, operation, Operands, no_operand}
+use Rattle.wf_exprs.specs.Names.{Names}
+use Rattle.wf_exprs.specs.Exprs.{with_operand, chained, compared, statuses_compared, lowered_cond, lowered_expr}
+use Rattle.wf_exprs.specs.Making.{c_op, is_number_at, is_status_at}
+use Rattle.wf_exprs.specs.Grown.{HasExpr}
+use Rattle.c_text.specs.declared.ids.CExprId.{CExprId}
+use Rattle.c_text.specs.CNodes.{Nodes, expr_of, operands_in}
+use Rattle.wf_exprs_nodes.specs.Trees.{HasOperands, node_cond, is_joining, is_ordering, is_equal, order_in, conditions_behind}
+use Rattle.wf_exprs_nodes.proofs.ChainLaws.{appended, appended_none, appended_one}
+use Rattle.wf_exprs_nodes.proofs.OperandLaws.{has_is}
+use Rattle.std.proofs.Math.ListN.{drop_of_length-le}
+use Rattle.std.proofs.lemmas.List.{drop_more}
+
+joined_on : (both : Bool) (f s : ExprTree) (es : Operands) (e : ExprTree) → chained true (c_op (joining both)) (operation (c_op (joining both)) f s es) e ≡ operation (c_op (joining both)) f s (with_operand es e)
+joined_on true f s es e = refl
+joined_on false f s es e = refl
+
+map_conditions : (nodes : TypedNodes) (es : List ExprId) → map cond_in (map (tree_of nodes) es) ≡ map (node_cond nodes) es
+map_conditions nodes [] = refl
+map_conditions nodes (e ∷ es) = ap (λ ts. node_cond nodes e ∷ ts) (map_conditions nodes es)
+
+module _ (names : Names) where
+  conditions_on : (at : Place) (both : Bool) (so_far : CondTree) (f s : ExprTree) (es : Operands) (ts : List ValueTree) → lowered_cond names so_far ≡ operation (c_op (joining both)) f s es
+      → lowered_cond names (cond_chain at both true so_far ts) ≡ operation (c_op (joining both)) f s (appended es (conditions_behind names (map cond_in ts)))
+  conditions_on at both so_far f s es [] h = h ∙ ap (operation (c_op (joining both)) f s) (sym (appended_none es))
+  conditions_on at both so_far f s es (t ∷ ts) h =
+      conditions_on at both (junction at both true so_far (cond_in t)) f s (with_operand es (lowered_cond names (cond_in t))) ts
+      (ap (λ a. chained true (c_op (joining both)) a (lowered_cond names (cond_in t))) h ∙ joined_on both f s es (lowered_cond names (cond_in t)))
+      ∙ ap (operation (c_op (joining both)) f s) (appended_one es (lowered_cond names (cond_in t)) (conditions_behind names (map cond_in ts)))
+
+  two_conditions : (at : Place) (both : Bool) (a b : CondTree) → lowered_cond names (junction at both false a b) ≡ operation (c_op (joining both)) (lowered_cond names a) (lowered_cond names b) no_operand
+  two_conditions at true a b = refl
+  two_conditions at false a b = refl
+
+  -- A chain of conditions is one operation.
+  pub one_junction : (nodes : TypedNodes) (at : Place) (signs : List Place) (ty : Ty) (sort : Sort) (es : List ExprId) (d : ExprId) → is_joining sort ≡ true → 1 < length es
+      → operation (c_op sort) (lowered_cond names (node_cond nodes (get_or es 0 d))) (lowered_cond names (node_cond nodes (get_or es 1 d))) (conditions_behind names (map (node_cond nodes) (drop 2 es)))
+      ≡ lowered_cond names (cond_in (chain_of at signs ty sort (map (tree_of nodes) es)))
+  one_junction nodes at signs ty (joining both) [] d j l = absurd (omega (arith, l))
+  one_junction nodes at signs ty (joining both) (a ∷ []) d j l = absurd (omega (arith, l))
+  one_junction nodes at signs ty (joining both) (a ∷ b ∷ es) d j l =
+      ap (λ ts. operation (c_op (joining both)) (lowered_cond names (node_cond nodes a)) (lowered_cond names (node_cond nodes b)) (conditions_behind names ts)) (sym (map_conditions nodes es))
+      ∙ sym (conditions_on at both (junction at both false (node_cond nodes a) (node_cond nodes b)) (lowered_cond names (node_cond nodes a)) (lowered_cond names (node_cond nodes b)) no_operand (map (tree_of nodes) es) (two_conditions at both (node_cond nodes a) (node_cond nodes b)))
+  one_junction nodes at signs ty (ordering op) es d j l = absurd (cc j)
+  one_junction nodes at signs ty (arithmetic op) es d j l = absurd (cc j)
+
+  -- Operands one by one.
+  pub behind_next : (nodes : TypedNodes) (es : List ExprId) (i : ℕ) (d : ExprId) (so_far all : Operands) → i < length es → appended so_far (conditions_behind names (map (node_cond nodes) (drop i es))) ≡ all
+      → appended (with_operand so_far (lowered_cond names (node_cond nodes (get_or es i d)))) (conditions_behind names (map (node_cond nodes) (drop (i + 1) es))) ≡ all
+  behind_next nodes es i d so_far all l h =
+      appended_one so_far (lowered_cond names (node_cond nodes (get_or es i d))) (conditions_behind names (map (node_cond nodes) (drop (i + 1) es)))
+      ∙ ap (λ xs. appended so_far (conditions_behind names (map (node_cond nodes) xs))) (sym (drop_more es i d l)) ∙ h
+
+  pub behind_end : (nodes : TypedNodes) (es : List ExprId) (i : ℕ) (so_far all : Operands) → length es ≤ i → appended so_far (conditions_behind names (map (node_cond nodes) (drop i es))) ≡ all → so_far ≡ all
+  behind_end nodes es i so_far all l h =
+      let P : List ExprId → Type 0 = λ xs. appended so_far (conditions_behind names (map (node_cond nodes) xs)) ≡ all in
+      sym (appended_none so_far) ∙ subst P (drop_of_length-le es l) h
+
+  -- The operation of what a unit has is the whole chain.
+  pub junction_is : (nodes : TypedNodes) (at : Place) (signs : List Place) (ty : Ty) (sort : Sort) (es : List ExprId) (d : ExprId) (u : Nodes) (first second : CExprId) (others : List CExprId)
+      → is_joining sort ≡ true → 1 < length es
+      → HasExpr u first.0 (lowered_cond names (node_cond nodes (get_or es 0 d))) → HasExpr u second.0 (lowered_cond names (node_cond nodes (get_or es 1 d))) → HasOperands u others (conditions_behind names (map (node_cond nodes) (drop 2 es)))
+      → operation (c_op sort) (expr_of u first.0) (expr_of u second.0) (operands_in (expr_of u) others) ≡ lowered_cond names (cond_in (chain_of at signs ty sort (map (tree_of nodes) es)))
+  junction_is nodes at signs ty sort es d u first second others j l a b o =
+      ap (λ x. operation (c_op sort) x (expr_of u second.0) (operands_in (expr_of u) others)) a.is
+      ∙ ap (λ x. operation (c_op sort) (lowered_cond names (node_cond nodes (get_or es 0 d))) x (operands_in (expr_of u) others)) b.is
+      ∙ ap (λ x. operation (c_op sort) (lowered_cond names (node_cond nodes (get_or es 0 d))) (lowered_cond names (node_cond nodes (get_or es 1 d))) x) (has_is u others (conditions_behind names (map (node_cond nodes) (drop 2 es))) o)
+      ∙ one_junction nodes at signs ty sort es d j l
+
+  -- Numbers.
+  numbers_of : (at sign : Place) (op : Order) (a t : ValueTree) (ty : Ty) → is_state ty ≡ false → is_tree_of ty a ≡ true
+      → compared op (lowered_expr names (num_in a)) (lowered_expr names (num_in t)) ≡ lowered_cond names (cond_in (comparison at sign op a t))
+  numbers_of at sign equal (state x) t types.Status h k = absurd (cc h)
+  numbers_of at sign differs (state x) t types.Status h k = absurd (cc h)
+  numbers_of at sign equal (numeric x) t ty h k = refl
+  numbers_of at sign equal (logical x) t ty h k = refl
+  numbers_of at sign equal (elements x) t ty h k = refl
+  numbers_of at sign equal (io p x) t ty h k = refl
+  numbers_of at sign equal lost t ty h k = refl
+  numbers_of at sign differs (numeric x) t ty h k = refl
+  numbers_of at sign differs (logical x) t ty h k = refl
+  numbers_of at sign differs (elements x) t ty h k = refl
+  numbers_of at sign differs (io p x) t ty h k = refl
+  numbers_of at sign differs lost t ty h k = refl
+  numbers_of at sign less a t ty h k = refl
+  numbers_of at sign at_most a t ty h k = refl
+  numbers_of at sign at_least a t ty h k = refl
+  numbers_of at sign greater a t ty h k = refl
+  numbers_of at sign equal (state x) t (types.Num width lo hi) h k = absurd (cc k)
+  numbers_of at sign equal (state x) t types.Flag h k = absurd (cc k)
+  numbers_of at sign equal (state x) t types.Reader h k = absurd (cc k)
+  numbers_of at sign equal (state x) t types.Writer h k = absurd (cc k)
+  numbers_of at sign equal (state x) t (types.Slice width) h k = absurd (cc k)
+  numbers_of at sign equal (state x) t (types.Array width lo hi count) h k = absurd (cc k)
+  numbers_of at sign equal (state x) t (types.Part p) h k = absurd (cc k)
+  numbers_of at sign differs (state x) t (types.Num width lo hi) h k = absurd (cc k)
+  numbers_of at sign differs (state x) t types.Flag h k = absurd (cc k)
+  numbers_of at sign differs (state x) t types.Reader h k = absurd (cc k)
+  numbers_of at sign differs (state x) t types.Writer h k = absurd (cc k)
+  numbers_of at sign differs (state x) t (types.Slice width) h k = absurd (cc k)
+  numbers_of at sign differs (state x) t (types.Array width lo hi count) h k = absurd (cc k)
+  numbers_of at sign differs (state x) t (types.Part p) h k = absurd (cc k)
+
+  pub numbers_compared : (at : Place) (signs : List Place) (ty tya : Ty) (sort : Sort) (a b : ValueTree) → is_ordering sort ≡ true → is_state tya ≡ false → is_tree_of tya a ≡ true
+      → compared (order_in sort) (lowered_expr names (num_in a)) (lowered_expr names (num_in b)) ≡ lowered_cond names (cond_in (chain_of at signs ty sort (a ∷ b ∷ [])))
+  numbers_compared at signs ty tya (ordering op) a b o h k = numbers_of at (first_sign at signs) op a b tya h k
+  numbers_compared at signs ty tya (joining both) a b o h k = absurd (cc o)
+  numbers_compared at signs ty tya (arithmetic op) a b o h k = absurd (cc o)
+
+  -- Statuses.
+  statuses_of : (at sign : Place) (op : Order) (a t : ValueTree) (tyb : Ty) → is_tree_of types.Status a ≡ true → compares_kinds (ordering op) types.Status tyb ≡ true
+      → statuses_compared (is_equal op) names (status_in a) (status_in t) ≡ lowered_cond names (cond_in (comparison at sign op a t))
+  statuses_of at sign equal (state x) t tyb k c = refl
+  statuses_of at sign differs (state x) t tyb k c = refl
+  statuses_of at sign less (state x) t tyb k c = absurd (cc c)
+  statuses_of at sign at_most (state x) t tyb k c = absurd (cc c)
+  statuses_of at sign at_least (state x) t tyb k c = absurd (cc c)
+  statuses_of at sign greater (state x) t tyb k c = absurd (cc c)
+  statuses_of at sign op (numeric x) t tyb k c = absurd (cc k)
+  statuses_of at sign op (logical x) t tyb k c = absurd (cc k)
+  statuses_of at sign op (elements x) t tyb k c = absurd (cc k)
+  statuses_of at sign op (io p x) t tyb k c = absurd (cc k)
+  statuses_of at sign op lost t tyb k c = absurd (cc k)
+
+  pub statuses_as_one : (at : Place) (signs : List Place) (ty tya tyb : Ty) (sort : Sort) (a b : ValueTree) → is_ordering sort ≡ true → is_state tya ≡ true → is_tree_of tya a ≡ true → compares_kinds sort tya tyb ≡ true
+      → statuses_compared (is_equal (order_in sort)) names (status_in a) (status_in b) ≡ lowered_cond names (cond_in (chain_of at signs ty sort (a ∷ b ∷ [])))
+  statuses_as_one at signs ty types.Status tyb (ordering op) a b o h k c = statuses_of at (first_sign at signs) op a b tyb k c
+  statuses_as_one at signs ty types.Status tyb (joining both) a b o h k c = absurd (cc o)
+  statuses_as_one at signs ty types.Status tyb (arithmetic op) a b o h k c = absurd (cc o)
+  statuses_as_one at signs ty (types.Num width lo hi) tyb sort a b o h k c = absurd (cc h)
+  statuses_as_one at signs ty types.Flag tyb sort a b o h k c = absurd (cc h)
+  statuses_as_one at signs ty types.Reader tyb sort a b o h k c = absurd (cc h)
+  statuses_as_one at signs ty types.Writer tyb sort a b o h k c = absurd (cc h)
+  statuses_as_one at signs ty (types.Slice width) tyb sort a b o h k c = absurd (cc h)
+  statuses_as_one at signs ty (types.Array width lo hi count) tyb sort a b o h k c = absurd (cc h)
+  statuses_as_one at signs ty (types.Part p) tyb sort a b o h k c = absurd (cc h)
+
+-- What is compared is of kinds that compare.
+pub compared_kinds : (nodes : TypedNodes) (ty : Ty) (sort : Sort) (es : List ExprId) (d : ExprId) → is_ordering sort ≡ true → chain_fits nodes sort es ty ≡ true
+    → compares_kinds sort (type_of_node nodes (get_or es 0 d).0) (type_of_node nodes (get_or es 1 d).0) ≡ true
+compared_kinds nodes ty (ordering op) [] d o f = absurd (cc f)
+compared_kinds nodes ty (ordering op) (e ∷ []) d o f = absurd (cc f)
+compared_kinds nodes ty (ordering op) (e ∷ g ∷ []) d o f = (both_true (is_logical ty) (compares_kinds (ordering op) (type_of_node nodes e.0) (type_of_node nodes g.0)) f).1
+compared_kinds nodes ty (ordering op) (e ∷ g ∷ i ∷ es) d o f = absurd (cc f)
+compared_kinds nodes ty (joining both) es d o f = absurd (cc o)
+compared_kinds nodes ty (arithmetic op) es d o f = absurd (cc o)
+
+equal_state : (a b : Ty) → is_state a ≡ true → ((is_numeric a && is_numeric b) || (is_state a && is_state b)) ≡ true → is_state b ≡ true
+equal_state types.Status b s k = k
+equal_state (types.Num width lo hi) b s k = absurd (cc s)
+equal_state types.Flag b s k = absurd (cc s)
+equal_state types.Reader b s k = absurd (cc s)
+equal_state types.Writer b s k = absurd (cc s)
+equal_state (types.Slice width) b s k = absurd (cc s)
+equal_state (types.Array width lo hi count) b s k = absurd (cc s)
+equal_state (types.Part p) b s k = absurd (cc s)
+
+no_number_state : (a b : Ty) → is_state a ≡ true → (is_numeric a && is_numeric b) ≡ true → is_state b ≡ true
+no_number_state types.Status b s k = absurd (cc k)
+no_number_state (types.Num width lo hi) b s k = absurd (cc s)
+no_number_state types.Flag b s k = absurd (cc s)
+no_number_state types.Reader b s k = absurd (cc s)
+no_number_state types.Writer b s k = absurd (cc s)
+no_number_state (types.Slice width) b s k = absurd (cc s)
+no_number_state (types.Array width lo hi count) b s k = absurd (cc s)
+no_number_state (types.Part p) b s k = absurd (cc s)
+
+right_state : (sort : Sort) (a b : Ty) → is_state a ≡ true → compares_kinds sort a b ≡ true → is_state b ≡ true
+right_state (ordering equal) a b s k = equal_state a b s k
+right_state (ordering differs) a b s k = equal_state a b s k
+right_state (ordering less) a b s k = no_number_state a b s k
+right_state (ordering at_most) a b s k = no_number_state a b s k
+right_state (ordering at_least) a b s k = no_number_state a b s k
+right_state (ordering greater) a b s k = no_number_state a b s k
+right_state (arithmetic op) a b s k = no_number_state a b s k
+right_state (joining both) a b s k = no_number_state a b s k
+
+either_numeric : (x y z : Bool) → y ≡ false → (x || (y && z)) ≡ true → x ≡ true
+either_numeric true y z h k = refl
+either_numeric false true z h k = absurd (cc h)
+either_numeric false false z h k = absurd (cc k)
+
+both_numeric : (sort : Sort) (a b : Ty) → is_state a ≡ false → compares_kinds sort a b ≡ true → (is_numeric a ≡ true) × (is_numeric b ≡ true)
+both_numeric (ordering equal) a b s k = both_true (is_numeric a) (is_numeric b) (either_numeric (is_numeric a && is_numeric b) (is_state a) (is_state b) s k)
+both_numeric (ordering differs) a b s k = both_true (is_numeric a) (is_numeric b) (either_numeric (is_numeric a && is_numeric b) (is_state a) (is_state b) s k)
+both_numeric (ordering less) a b s k = both_true (is_numeric a) (is_numeric b) k
+both_numeric (ordering at_most) a b s k = both_true (is_numeric a) (is_numeric b) k
+both_numeric (ordering at_least) a b s k = both_true (is_numeric a) (is_numeric b) k
+both_numeric (ordering greater) a b s k = both_true (is_numeric a) (is_numeric b) k
+both_numeric (arithmetic op) a b s k = both_true (is_numeric a) (is_numeric b) k
+both_numeric (joining both) a b s k = both_true (is_numeric a) (is_numeric b) k
+
+-- Of what compares, both are statuses or both are numbers.
+pub both_statuses : (nodes : TypedNodes) (sort : Sort) (a b : ExprId) → is_expr nodes b ≡ true → is_state (type_of_node nodes a.0) ≡ true → compares_kinds sort (type_of_node nodes a.0) (type_of_node nodes b.0) ≡ true → is_status_at nodes b ≡ true
+both_statuses nodes sort a b e s k = rw e (right_state sort (type_of_node nodes a.0) (type_of_node nodes b.0) s k)
+
+pub left_number : (nodes : TypedNodes) (sort : Sort) (a b : ExprId) → is_expr nodes a ≡ true → is_state (type_of_node nodes a.0) ≡ false → compares_kinds sort (type_of_node nodes a.0) (type_of_node nodes b.0) ≡ true → is_number_at nodes a ≡ true
+left_number nodes sort a b e s k = rw e (both_numeric sort (type_of_node nodes a.0) (type_of_node nodes b.0) s k).0
+
+pub right_number : (nodes : TypedNodes) (sort : Sort) (a b : ExprId) → is_expr nodes b ≡ true → is_state (type_of_node nodes a.0) ≡ false → compares_kinds sort (type_of_node nodes a.0) (type_of_node nodes b.0) ≡ true → is_number_at nodes b ≡ true
+right_number nodes sort a b e s k = rw e (both_numeric sort (type_of_node nodes a.0) (type_of_node nodes b.0) s k).1

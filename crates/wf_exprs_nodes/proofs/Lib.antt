@@ -1,0 +1,9 @@
+pub mod ChainLaws
+pub mod ConditionLaws
+pub mod GivenLaws
+pub mod ItemLaws
+pub mod KindLaws
+pub mod Numbered
+pub mod OperandLaws
+pub mod ReadLaws
+pub mod SliceLaws

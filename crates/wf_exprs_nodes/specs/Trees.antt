@@ -1,0 +1,143 @@
+-- The trees of nodes, and what becomes of them in C.
+use Rattle.std.specs.Prelude.{◌≡◌, ◌&&◌, ℕ, Bool, true, false, if◌then◌else◌, List, [], ◌∷◌, ◌++◌, nat_lt, nat_eq, Option, None, Some, ⊤}
+use Rattle.wf_base.specs.declared.marks.Mark.TheVariants.{Pure}
+use Rattle.wf_base.specs.declared.base_methods.BaseSig.{BaseSig}
+use Rattle.wf_base.specs.declared.base_methods.Gives.{Gives}
+use Rattle.wf_base.specs.declared.base_methods.Gives.TheVariants as gives
+use Rattle.wf_base.specs.BaseTable.{row_of}
+use Rattle.wf_ast.specs.WellTyped.{same_mark}
+use Rattle.wf_ast.specs.declared.types.Ty.{Ty}
+use Rattle.wf_ast.specs.declared.types.Ty.TheVariants as types
+use Rattle.wf_ast.specs.declared.numbers.ExprId.{ExprId}
+use Rattle.wf_ast.specs.declared.typed_nodes.TypedNodes.{TypedNodes}
+use Rattle.wf_ast.specs.TypedTree.{Arith, plus, times, bits_and, bits_or, bits_xor, Order, equal, NumTree, SliceTree, StatusTree, CondTree, ValueTree, numeric, logical, state}
+use Rattle.wf_ast.specs.TypedTrees.{Sort, arithmetic, ordering, joining, num_in, slice_in, cond_in, status_in, tree_of}
+use Rattle.c_text.specs.declared.ids.CExprId.{CExprId}
+use Rattle.c_text.specs.CNodes.{Nodes}
+use Rattle.c_text.specs.CTree.{ExprTree, cast, Operands, no_operand, operand}
+use Rattle.wf_exprs.specs.Names.{Names}
+use Rattle.wf_exprs.specs.Exprs.{Rated, rated, calculated, place_code, peeked, raised, lowered, lowered_expr, lowered_cond, lowered_status}
+use Rattle.wf_exprs.specs.Grown.{HasExpr}
+use Rattle.wf_exprs.specs.Making.{linked_by, is_number_at}
+use Rattle.wf_exprs.specs.Words.{num, two, uint_of}
+use Rattle.c_text.specs.declared.kinds.COp.TheVariants.{Add}
+
+-- The trees of a node.
+abbrev pub node_number : TypedNodes → ExprId → NumTree
+node_number nodes e = num_in (tree_of nodes e)
+
+abbrev pub node_slice : TypedNodes → ExprId → SliceTree
+node_slice nodes e = slice_in (tree_of nodes e)
+
+abbrev pub node_cond : TypedNodes → ExprId → CondTree
+node_cond nodes e = cond_in (tree_of nodes e)
+
+abbrev pub node_status : TypedNodes → ExprId → StatusTree
+node_status nodes e = status_in (tree_of nodes e)
+
+-- Kinds of operators.
+abbrev pub is_arithmetic : Sort → Bool
+is_arithmetic (arithmetic op) = true
+is_arithmetic sort = false
+
+abbrev pub is_joining : Sort → Bool
+is_joining (joining both) = true
+is_joining sort = false
+
+abbrev pub is_ordering : Sort → Bool
+is_ordering (ordering op) = true
+is_ordering sort = false
+
+abbrev pub order_in : Sort → Order
+order_in (ordering op) = op
+order_in sort = equal
+
+abbrev pub is_equal : Order → Bool
+is_equal equal = true
+is_equal op = false
+
+-- What is a single value in C.
+abbrev pub is_single : Ty → Bool
+is_single (types.Num width lo hi) = true
+is_single types.Flag = true
+is_single types.Status = true
+is_single ty = false
+
+-- The operators that repeat in C: a chain of them is one operation.
+abbrev pub repeats_arith : Arith → Bool
+repeats_arith plus = true
+repeats_arith times = true
+repeats_arith bits_and = true
+repeats_arith bits_or = true
+repeats_arith bits_xor = true
+repeats_arith op = false
+
+abbrev pub repeats : Sort → Bool
+repeats (arithmetic op) = repeats_arith op
+repeats (joining both) = true
+repeats (ordering op) = false
+
+-- A chain on from what stands left of it, operand by operand.
+abbrev pub chain_on : Names → Sort → (bits : ℕ) → Rated → List NumTree → Rated
+chain_on names sort bits left [] = left
+chain_on names sort bits left (t ∷ ts) = chain_on names sort bits (rated (linked_by sort bits left (lowered names t)) (calculated bits)) ts
+
+-- The operands of one operation behind the second.
+abbrev pub numbers_behind : Names → List NumTree → Operands
+numbers_behind names [] = no_operand
+numbers_behind names (t ∷ ts) = operand (lowered_expr names t) (numbers_behind names ts)
+
+abbrev pub conditions_behind : Names → List CondTree → Operands
+conditions_behind names [] = no_operand
+conditions_behind names (t ∷ ts) = operand (lowered_cond names t) (conditions_behind names ts)
+
+-- The unit has these operands.
+abbrev pub HasOperands : Nodes → List CExprId → Operands → Type 0
+HasOperands nodes [] no_operand = ⊤
+HasOperands nodes (e ∷ es) (operand t ts) = HasExpr nodes e.0 t × HasOperands nodes es ts
+HasOperands nodes [] (operand t ts) = ⊥
+HasOperands nodes (e ∷ es) no_operand = ⊥
+
+-- The end of a part stands in front of it, and is a number.
+abbrev pub end_fits : TypedNodes → (e : ExprId) → Option ExprId → Bool
+end_fits nodes e None = true
+end_fits nodes e (Some i) = nat_lt i.0 e.0 && is_number_at nodes i
+
+-- One more operand, which the unit has.
+pub record Pushed (old new : List CExprId) (nodes : Nodes) (tree : ExprTree) : Type 0 where
+  pub it : CExprId
+  pub grown : new ≡ old ++ it ∷ []
+  pub is : HasExpr nodes it.0 tree
+
+-- Parts of what a reader is asked for: the place of the next byte but k, a byte in the type of a width, and the third and
+-- the fourth byte of a number.
+abbrev pub place_behind : Names → ℕ → (k : ℕ) → ExprTree
+place_behind names a k = if nat_eq k 0 then place_code names a else two Add (place_code names a) (num k)
+
+abbrev pub widened : (bits : ℕ) → ExprTree → ExprTree
+widened bits e = if nat_eq bits 32 then cast (uint_of 32) e else e
+
+abbrev pub higher_bytes : Names → ℕ → Operands
+higher_bytes names a = operand (raised 32 2 (peeked names a 2)) (operand (raised 32 3 (peeked names a 3)) no_operand)
+
+-- What an expression that is a single value is in C.
+abbrev pub lowered_value : Names → ValueTree → ExprTree
+lowered_value names (numeric t) = lowered_expr names t
+lowered_value names (logical t) = lowered_cond names t
+lowered_value names (state t) = lowered_status names t
+lowered_value names t = lowered_expr names (num_in t)
+
+-- The method answers a truth value.
+abbrev pub gives_flag : Gives → Bool
+gives_flag gives.Flag = true
+gives_flag answer = false
+
+abbrev pub answers_truth : BaseSig → Bool
+answers_truth sig = gives_flag (row_of sig).gives && same_mark (row_of sig).mark Pure
+
+abbrev pub is_num : Gives → Bool
+is_num (gives.Num width) = true
+is_num answer = false
+
+abbrev pub answers_number : BaseSig → Bool
+answers_number sig = is_num (row_of sig).gives && same_mark (row_of sig).mark Pure

@@ -1,0 +1,376 @@
+// Conditions. The recursion goes as deep as conditions stand inside one another; the operands of a chain stand side by side.
+
+ghost use Rattle.std.specs.Prelude.{◌≡◌, ◌<◌, ◌∷◌, [], true, false, nat_lt, length, map, drop, IsTrue, IfOk, if◌then◌else◌};
+ghost use Rattle.std.specs.List.{list_all};
+ghost use Rattle.wf_base.specs.BaseTable.{row_of};
+ghost use Rattle.wf_ast.specs.TypedTree.{closed, has_category, negation};
+ghost use Rattle.wf_ast.specs.TypedTrees.{answer_of, chain_of, cond_in, io_in, named, place_of_node, signs_of_node, sort_of, tree_of, type_of_node};
+ghost use Rattle.wf_ast.specs.TypedInvariant.{chain_fits, compares_kinds, has_kind, is_expr, is_io, is_state, is_tree_of};
+ghost use Rattle.c_text.specs.CNodes.{expr_of};
+ghost use Rattle.c_text.specs.CTree as c;
+ghost use Rattle.c_text.specs.declared.kinds.COp.TheVariants.{Ne};
+ghost use Rattle.c_text.specs.declared.kinds.CUnary.TheVariants.{Not};
+ghost use Rattle.wf_exprs.specs.Exprs.{category_code, compared as compared_code, io_code, lowered_cond, lowered_expr, lowered_status, same_code, statuses_compared as statuses_compared_code};
+ghost use Rattle.wf_exprs.specs.Grown.{Grows, HasExpr};
+ghost use Rattle.wf_exprs.specs.Making.{is_condition_at, is_number_at, is_status_at};
+ghost use Rattle.wf_exprs.specs.Scopes.{path_of};
+ghost use Rattle.wf_exprs.specs.Words.{num, two as two_trees};
+ghost use Rattle.wf_exprs_nodes.specs.Trees.{HasOperands, Pushed, answers_truth, conditions_behind, is_equal, is_joining, is_ordering, node_cond, node_number, node_status, order_in};
+
+use crate::asking::io_arg;
+use crate::chains::{joins, operation};
+use crate::numbers::number;
+use crate::statuses::{is_constant, is_of_category, status};
+use c_text::{CExprId, CList, COp, Unit};
+use std::alloc::Global;
+use wf_ast::{Expr, ExprId, Op, Ty, Typed};
+use wf_base::BaseSig;
+use wf_exprs::nodes::{is_held, is_literal, negated, two};
+use wf_exprs::rated::op_of;
+use wf_exprs::{Path, Scope};
+use wf_text::{Category, NoMemory};
+
+/// A condition.
+#[cycle(conditions)]
+pub fn condition(scope: &Scope, u: &mut Unit, e: ExprId) -> Result<CExprId, NoMemory>
+    requires { IsTrue (is_condition_at scope.now.nodes e) }
+    ensures grows { Grows u.old u.new }
+    ensures made { IfOk result (λ it. HasExpr u.new it.0 (lowered_cond scope.now.names (node_cond scope.now.nodes e))) }
+{
+    let t = scope.typed();
+    let expr = t.expr(e);
+    match t.constant(e) {
+        Some(_) => unreachable!(),
+        None => match expr {
+            Expr::Truth(b) => truth(u, *b),
+            Expr::Local(x) => held_flag(scope, u, e, Path::Local(x.0)),
+            Expr::Field(x) => held_flag(scope, u, e, Path::Field(x.0)),
+            Expr::Arg(x) => held_flag(scope, u, e, Path::Arg(x.0)),
+            Expr::Chain { op, parts } => chain(scope, u, e, *op, parts.as_slice()),
+            Expr::Not(of) => opposite(scope, u, e, *of),
+            Expr::Base { on, sig } => answer(scope, u, e, *on, *sig),
+            Expr::Number(_) | Expr::Const(_) | Expr::Status(_) => unreachable!(),
+            Expr::Index { .. } | Expr::Cut { .. } | Expr::Convert { .. } => unreachable!(),
+        },
+    }
+}
+
+fn truth(u: &mut Unit, b: bool) -> Result<CExprId, NoMemory>
+    ensures grows { Grows u.old u.new }
+    ensures made { IfOk result (λ it. HasExpr u.new it.0 (num (if b then 1 else 0))) }
+{
+    wf_exprs::nodes::number(u, if b { 1 } else { 0 })
+}
+
+// The truth value in a variable.
+fn held_flag(scope: &Scope, u: &mut Unit, e: ExprId, path: Path) -> Result<CExprId, NoMemory>
+    requires node { IsTrue (is_condition_at scope.now.nodes e) }
+    requires tree { tree_of scope.now.nodes e ≡ named (place_of_node scope.now.nodes e.0) (type_of_node scope.now.nodes e.0) (path_of path) }
+    ensures grows { Grows u.old u.new }
+    ensures made { IfOk result (λ it. HasExpr u.new it.0 (lowered_cond scope.now.names (node_cond scope.now.nodes e))) }
+{
+    scope.path(u, path)
+}
+
+#[cycle(conditions)]
+fn opposite(scope: &Scope, u: &mut Unit, e: ExprId, of: ExprId) -> Result<CExprId, NoMemory>
+    requires tree { node_cond scope.now.nodes e ≡ negation (place_of_node scope.now.nodes e.0) (node_cond scope.now.nodes of) }
+    requires of { IsTrue (is_condition_at scope.now.nodes of) }
+    requires below { of.0 < e.0 }
+    ensures grows { Grows u.old u.new }
+    ensures made { IfOk result (λ it. HasExpr u.new it.0 (lowered_cond scope.now.names (node_cond scope.now.nodes e))) }
+{
+    let of = condition(scope, u, of)?;
+    negated(u, of)
+}
+
+// A chain of conditions, or a comparison.
+#[cycle(conditions)]
+fn chain(
+    scope: &Scope,
+    u: &mut Unit,
+    e: ExprId,
+    op: Op,
+    parts: &[ExprId],
+) -> Result<CExprId, NoMemory>
+    requires node { IsTrue (is_condition_at scope.now.nodes e) }
+    requires tree { tree_of scope.now.nodes e ≡ chain_of (place_of_node scope.now.nodes e.0) (signs_of_node scope.now.nodes e.0) (type_of_node scope.now.nodes e.0) (sort_of op) (map (tree_of scope.now.nodes) parts.now) }
+    requires fits { IsTrue (chain_fits scope.now.nodes (sort_of op) parts.now (type_of_node scope.now.nodes e.0)) }
+    requires below { IsTrue (list_all (λ p. nat_lt p.0 e.0) parts.now) }
+    requires trees { IsTrue (list_all (λ p. is_tree_of (type_of_node scope.now.nodes p.0) (tree_of scope.now.nodes p)) parts.now) }
+    ensures grows { Grows u.old u.new }
+    ensures made { IfOk result (λ it. HasExpr u.new it.0 (lowered_cond scope.now.names (node_cond scope.now.nodes e))) }
+{
+    if joins(op) {
+        junction(scope, u, e, op, parts)
+    } else {
+        comparison(scope, u, e, op, parts)
+    }
+}
+
+// `and` and `or`: one operation of C.
+#[cycle(conditions)]
+fn junction(
+    scope: &Scope,
+    u: &mut Unit,
+    e: ExprId,
+    op: Op,
+    parts: &[ExprId],
+) -> Result<CExprId, NoMemory>
+    requires tree { tree_of scope.now.nodes e ≡ chain_of (place_of_node scope.now.nodes e.0) (signs_of_node scope.now.nodes e.0) (type_of_node scope.now.nodes e.0) (sort_of op) (map (tree_of scope.now.nodes) parts.now) }
+    requires joining { IsTrue (is_joining (sort_of op)) }
+    requires below { IsTrue (list_all (λ p. nat_lt p.0 e.0) parts.now) }
+    requires conditions { IsTrue (list_all (is_condition_at scope.now.nodes) parts.now) }
+    requires some { 1 < length parts.now }
+    ensures grows { Grows u.old u.new }
+    ensures made { IfOk result (λ it. HasExpr u.new it.0 (lowered_cond scope.now.names (node_cond scope.now.nodes e))) }
+{
+    let first = condition(scope, u, parts[0])?;
+    let second = condition(scope, u, parts[1])?;
+    let others = operands(scope, u, e, parts)?;
+    operation(u, op, first, second, others)
+}
+
+// The operands behind the second.
+#[cycle(conditions)]
+fn operands(
+    scope: &Scope,
+    u: &mut Unit,
+    e: ExprId,
+    parts: &[ExprId],
+) -> Result<CList<CExprId>, NoMemory>
+    requires below { IsTrue (list_all (λ p. nat_lt p.0 e.0) parts.now) }
+    requires conditions { IsTrue (list_all (is_condition_at scope.now.nodes) parts.now) }
+    ensures grows { Grows u.old u.new }
+    ensures made { IfOk result (λ list. HasOperands u.new list (conditions_behind scope.now.names (map (node_cond scope.now.nodes) (drop 2 parts.now)))) }
+{
+    let mut others = CList::new(scope.alloc());
+    for i in 2..parts.len() {
+        operands_push(scope, u, e, parts[i], &mut others)?;
+    }
+    Ok(others)
+}
+
+#[cycle(conditions)]
+fn operands_push(
+    scope: &Scope,
+    u: &mut Unit,
+    e: ExprId,
+    part: ExprId,
+    others: &mut CList<CExprId>,
+) -> Result<(), NoMemory>
+    requires below { part.0 < e.0 }
+    requires part { IsTrue (is_condition_at scope.now.nodes part) }
+    ensures grows { Grows u.old u.new }
+    ensures pushed { IfOk result (λ _. Pushed others.old others.new u.new (lowered_cond scope.now.names (node_cond scope.now.nodes part))) }
+{
+    let operand = condition(scope, u, part)?;
+    others.push(operand)
+}
+
+// A comparison of two numbers, or of two statuses.
+fn comparison(
+    scope: &Scope,
+    u: &mut Unit,
+    e: ExprId,
+    op: Op,
+    parts: &[ExprId],
+) -> Result<CExprId, NoMemory>
+    requires tree { tree_of scope.now.nodes e ≡ chain_of (place_of_node scope.now.nodes e.0) (signs_of_node scope.now.nodes e.0) (type_of_node scope.now.nodes e.0) (sort_of op) (map (tree_of scope.now.nodes) parts.now) }
+    requires ordering { IsTrue (is_ordering (sort_of op)) }
+    requires fits { IsTrue (chain_fits scope.now.nodes (sort_of op) parts.now (type_of_node scope.now.nodes e.0)) }
+    requires there { IsTrue (list_all (is_expr scope.now.nodes) parts.now) }
+    requires trees { IsTrue (list_all (λ p. is_tree_of (type_of_node scope.now.nodes p.0) (tree_of scope.now.nodes p)) parts.now) }
+    ensures grows { Grows u.old u.new }
+    ensures made { IfOk result (λ it. HasExpr u.new it.0 (lowered_cond scope.now.names (node_cond scope.now.nodes e))) }
+{
+    match parts {
+        [a, b] => comparison_of(scope, u, e, op, *a, *b),
+        _ => unreachable!(),
+    }
+}
+
+fn comparison_of(
+    scope: &Scope,
+    u: &mut Unit,
+    e: ExprId,
+    op: Op,
+    a: ExprId,
+    b: ExprId,
+) -> Result<CExprId, NoMemory>
+    requires tree { tree_of scope.now.nodes e ≡ chain_of (place_of_node scope.now.nodes e.0) (signs_of_node scope.now.nodes e.0) (type_of_node scope.now.nodes e.0) (sort_of op) (tree_of scope.now.nodes a ∷ tree_of scope.now.nodes b ∷ []) }
+    requires ordering { IsTrue (is_ordering (sort_of op)) }
+    requires kinds { IsTrue (compares_kinds (sort_of op) (type_of_node scope.now.nodes a.0) (type_of_node scope.now.nodes b.0)) }
+    requires left { IsTrue (is_expr scope.now.nodes a) }
+    requires right { IsTrue (is_expr scope.now.nodes b) }
+    requires left_tree { IsTrue (is_tree_of (type_of_node scope.now.nodes a.0) (tree_of scope.now.nodes a)) }
+    ensures grows { Grows u.old u.new }
+    ensures made { IfOk result (λ it. HasExpr u.new it.0 (lowered_cond scope.now.names (node_cond scope.now.nodes e))) }
+{
+    if has_status(scope.typed(), a) {
+        statuses_compared(scope, u, op, a, b)
+    } else {
+        numbers_compared(scope, u, op, a, b)
+    }
+}
+
+fn has_status(t: &Typed, a: ExprId) -> bool
+    requires { IsTrue (is_expr t.now a) }
+    ensures { result ≡ is_state (type_of_node t.now a.0) }
+{
+    match t.type_of(a) {
+        Ty::Status => true,
+        Ty::Num { .. } | Ty::Flag | Ty::Reader | Ty::Writer => false,
+        Ty::Slice(_) | Ty::Array { .. } | Ty::Part(_) => false,
+    }
+}
+
+fn numbers_compared(
+    scope: &Scope,
+    u: &mut Unit,
+    op: Op,
+    a: ExprId,
+    b: ExprId,
+) -> Result<CExprId, NoMemory>
+    requires ordering { IsTrue (is_ordering (sort_of op)) }
+    requires left { IsTrue (is_number_at scope.now.nodes a) }
+    requires right { IsTrue (is_number_at scope.now.nodes b) }
+    ensures grows { Grows u.old u.new }
+    ensures made { IfOk result (λ it. HasExpr u.new it.0 (compared_code (order_in (sort_of op)) (lowered_expr scope.now.names (node_number scope.now.nodes a)) (lowered_expr scope.now.names (node_number scope.now.nodes b)))) }
+{
+    let left = number(scope, u, a)?;
+    let right = number(scope, u, b)?;
+    compared(scope.alloc(), u, op, left.code, right.code)
+}
+
+fn compared(
+    alloc: Global,
+    u: &mut Unit,
+    op: Op,
+    a: CExprId,
+    b: CExprId,
+) -> Result<CExprId, NoMemory>
+    requires ordering { IsTrue (is_ordering (sort_of op)) }
+    requires left { a.0 < length u.old.exprs }
+    requires right { b.0 < length u.old.exprs }
+    ensures grows { Grows u.old u.new }
+    ensures made { IfOk result (λ it. HasExpr u.new it.0 (compared_code (order_in (sort_of op)) (expr_of u.old a.0) (expr_of u.old b.0))) }
+{
+    if asks_same(op) && !is_literal(u, a) {
+        let fixed = is_literal(u, b);
+        same(alloc, u, a, b, fixed)
+    } else {
+        two(alloc, u, op_of(op), a, b)
+    }
+}
+
+fn asks_same(op: Op) -> bool
+    requires { IsTrue (is_ordering (sort_of op)) }
+    ensures { result ≡ is_equal (order_in (sort_of op)) }
+{
+    match op {
+        Op::Same => true,
+        Op::Differs => false,
+        Op::Less => false,
+        Op::LessOrSame => false,
+        Op::Greater => false,
+        Op::GreaterOrSame => false,
+        _ => unreachable!(),
+    }
+}
+
+// `==` of what is no constant with what is one, where that is `fixed`.
+fn same(
+    alloc: Global,
+    u: &mut Unit,
+    a: CExprId,
+    b: CExprId,
+    fixed: bool,
+) -> Result<CExprId, NoMemory>
+    requires left { a.0 < length u.old.exprs }
+    requires right { b.0 < length u.old.exprs }
+    ensures grows { Grows u.old u.new }
+    ensures made { IfOk result (λ it. HasExpr u.new it.0 (same_code (expr_of u.old a.0) (expr_of u.old b.0) fixed)) }
+{
+    if fixed {
+        two(alloc, u, COp::Eq, b, a)
+    } else if is_held(u, a) {
+        not_different(alloc, u, a, b)
+    } else {
+        two(alloc, u, COp::Eq, a, b)
+    }
+}
+
+fn not_different(alloc: Global, u: &mut Unit, a: CExprId, b: CExprId) -> Result<CExprId, NoMemory>
+    requires left { a.0 < length u.old.exprs }
+    requires right { b.0 < length u.old.exprs }
+    ensures grows { Grows u.old u.new }
+    ensures made { IfOk result (λ it. HasExpr u.new it.0 (c.unary Not (two_trees Ne (expr_of u.old a.0) (expr_of u.old b.0)))) }
+{
+    let differs = two(alloc, u, COp::Ne, a, b)?;
+    negated(u, differs)
+}
+
+fn statuses_compared(
+    scope: &Scope,
+    u: &mut Unit,
+    op: Op,
+    a: ExprId,
+    b: ExprId,
+) -> Result<CExprId, NoMemory>
+    requires ordering { IsTrue (is_ordering (sort_of op)) }
+    requires left { IsTrue (is_status_at scope.now.nodes a) }
+    requires right { IsTrue (is_status_at scope.now.nodes b) }
+    ensures grows { Grows u.old u.new }
+    ensures made { IfOk result (λ it. HasExpr u.new it.0 (statuses_compared_code (is_equal (order_in (sort_of op))) scope.now.names (node_status scope.now.nodes a) (node_status scope.now.nodes b))) }
+{
+    let left = status(scope, u, a)?;
+    let right = status(scope, u, b)?;
+    if !asks_same(op) {
+        two(scope.alloc(), u, COp::Ne, left, right)
+    } else if is_constant(scope.typed(), a) {
+        two(scope.alloc(), u, COp::Eq, left, right)
+    } else {
+        let fixed = is_constant(scope.typed(), b);
+        same(scope.alloc(), u, left, right, fixed)
+    }
+}
+
+// What a base method answers.
+#[tactic(auto, unfolding(c_text::specs::CSpelling::is_reserved))]
+fn answer(
+    scope: &Scope,
+    u: &mut Unit,
+    e: ExprId,
+    on: ExprId,
+    sig: BaseSig,
+) -> Result<CExprId, NoMemory>
+    requires tree { tree_of scope.now.nodes e ≡ answer_of (place_of_node scope.now.nodes e.0) sig (tree_of scope.now.nodes on) }
+    requires kind { IsTrue (has_kind (row_of sig).on (type_of_node scope.now.nodes on.0)) }
+    requires truth { IsTrue (answers_truth sig) }
+    requires on { IsTrue (is_expr scope.now.nodes on) }
+    ensures grows { Grows u.old u.new }
+    ensures made { IfOk result (λ it. HasExpr u.new it.0 (lowered_cond scope.now.names (node_cond scope.now.nodes e))) }
+{
+    match sig {
+        BaseSig::ReaderIsClosed => { scope.buffer_member(u, io_arg(scope.typed(), on), b"closed") }
+        BaseSig::IsOk => is_of(scope, u, on, Category::Fine),
+        BaseSig::IsNote => is_of(scope, u, on, Category::Note),
+        BaseSig::IsSuspension => is_of(scope, u, on, Category::Suspension),
+        BaseSig::IsError => is_of(scope, u, on, Category::Fault),
+        BaseSig::SliceLength(_) | BaseSig::ArrayLength(_) | BaseSig::Peek(_) => unreachable!(),
+        BaseSig::ReaderLength | BaseSig::ReaderPosition | BaseSig::Read(_) => unreachable!(),
+        BaseSig::WriterLength | BaseSig::WriterPosition | BaseSig::Skip => unreachable!(),
+        BaseSig::SkipFast | BaseSig::Write | BaseSig::WriteFast => unreachable!(),
+        BaseSig::WriterCopy | BaseSig::SliceCopy(_) => unreachable!(),
+    }
+}
+
+fn is_of(scope: &Scope, u: &mut Unit, on: ExprId, category: Category) -> Result<CExprId, NoMemory>
+    requires { IsTrue (is_status_at scope.now.nodes on) }
+    ensures grows { Grows u.old u.new }
+    ensures made { IfOk result (λ it. HasExpr u.new it.0 (category_code category (lowered_status scope.now.names (node_status scope.now.nodes on)))) }
+{
+    let it = status(scope, u, on)?;
+    is_of_category(scope.alloc(), u, category, it)
+}

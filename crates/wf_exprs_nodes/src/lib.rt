@@ -1,0 +1,17 @@
+// The nodes of expressions: what makes of each number, truth value, status and slice of the source its expression of C in a unit.
+#![tactic(auto)]
+
+pub mod asking;
+pub mod chains;
+pub mod conditions;
+pub mod helpers;
+pub mod numbers;
+pub mod parts;
+pub mod reads;
+pub mod statuses;
+pub mod values;
+
+pub use conditions::condition;
+pub use numbers::{given, lower_slice, number};
+pub use statuses::status;
+pub use values::lower_expr;
