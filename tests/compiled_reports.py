@@ -26,8 +26,8 @@ from second_opinion.trees import BaseType, SliceType
 
 ROOT = pathlib.Path(__file__).resolve().parent.parent
 SANITIZERS = ["-fsanitize=address,undefined", "-fno-sanitize-recover=all"]
-# A private method that nothing calls, a comparison that the operands' types decide, a variable compared with itself.
-ALLOWED = ["-Wno-unused-function", "-Wno-type-limits", "-Wno-tautological-compare", "-Wno-tautological-constant-out-of-range-compare"]
+# A private method that nothing calls, a comparison that the operands' types decide, a variable compared with itself or assigned to itself.
+ALLOWED = ["-Wno-unused-function", "-Wno-type-limits", "-Wno-tautological-compare", "-Wno-tautological-constant-out-of-range-compare", "-Wno-self-assign"]
 STRICT = ["-std=c99", "-Wall", "-Wextra", "-Wpedantic", "-Werror", *ALLOWED]
 BUILDS = {"gcc": [["gcc", "-O0", *SANITIZERS], ["gcc", "-O3", *SANITIZERS]], "clang": [["clang", "-O0", *SANITIZERS], ["clang", "-O3", *SANITIZERS]],
           "tcc": [["tcc"]]}

@@ -55,6 +55,10 @@ pub e_name : (name : List ℕ) → list_all is_word_byte name ≡ true → IsNam
 unfolding is_reserved
 e_name name h = ap (λ x. x && true) h
 
+pub b_name : (name : List ℕ) → list_all is_word_byte name ≡ true → IsName (codes "b_" ++ name)
+unfolding is_reserved
+b_name name h = ap (λ x. x && true) h
+
 pub f_name : (name : List ℕ) → list_all is_word_byte name ≡ true → IsName (codes "f_" ++ name)
 unfolding is_reserved
 f_name name h = ap (λ x. x && true) h

@@ -16,8 +16,8 @@ use Rattle.c_text.specs.declared.kinds.CUnary.TheVariants.{Not}
 use Rattle.c_text.specs.CSpelling.{op_bytes}
 use Rattle.c_text.specs.CTree.{ExprTree, variable, member, operation, unary, cast, choice, called, Operands, no_operand, operand}
 use Rattle.c_text.specs.CTree as c
-use Rattle.wf_exprs.specs.Names.{Names, local_name, local_pointer, local_length, arg_name, arg_pointer, arg_length, io_place, io_end, field_name, status_name}
-use Rattle.wf_exprs.specs.Words.{literal, num, uint_of, two, of_self, byte_at, args}
+use Rattle.wf_exprs.specs.Names.{Names, local_name, local_pointer, local_length, arg_name, arg_pointer, arg_length, io_place, io_end, io_bytes, field_name, status_name}
+use Rattle.wf_exprs.specs.Words.{literal, num, uint_of, two, of_self, args}
 
 -- The type in which C calculates with numbers of so many bits: small ones are promoted to `int`.
 abbrev pub calculated : (bits : ℕ) → CTy
@@ -196,12 +196,15 @@ place_code names a = variable (io_place names a)
 abbrev pub end_code : Names → ℕ → ExprTree
 end_code names a = variable (io_end names a)
 
+abbrev pub bytes_code : Names → ℕ → ExprTree
+bytes_code names a = variable (io_bytes names a)
+
 abbrev pub there : Names → ℕ → ExprTree
 there names a = two Sub (end_code names a) (place_code names a)
 
 -- The next byte but k, moved up by so many bits.
 abbrev pub peeked : Names → ℕ → (k : ℕ) → ExprTree
-peeked names a k = byte_at (io_code names a) (if nat_eq k 0 then place_code names a else two Add (place_code names a) (num k))
+peeked names a k = c.element (bytes_code names a) (if nat_eq k 0 then place_code names a else two Add (place_code names a) (num k))
 
 abbrev pub raised : (bits k : ℕ) → ExprTree → ExprTree
 raised bits k e = two Shl (if nat_eq bits 32 then cast (uint_of 32) e else e) (num (8 * k))

@@ -1,6 +1,6 @@
 -- The names of a C text for a package. Each begins with a word of its own and keeps the source's name whole, so no two of
 -- them meet: `v_c` is a local, `a_src` an argument, `f_val` a field, `p_src` and `e_src` the place in a buffer and its
--- end, `vp_t` and `vl_t` a slice's pointer and length. No name of C or of its headers is spelt so.
+-- end, `b_src` the pointer to its bytes, `vp_t` and `vl_t` a slice's pointer and length. No name of C or of its headers is spelt so.
 use Rattle.std.specs.Prelude.{ℕ, List, [], ◌++◌, map, unwrap_or, option_map, slice_get, codes, decimal}
 use Rattle.wf_ast.specs.TypedPackage.{PackageTree, MethodTree}
 
@@ -48,6 +48,10 @@ io_place names n = codes "p_" ++ named names.args n
 
 abbrev pub io_end : Names → ℕ → List ℕ
 io_end names n = codes "e_" ++ named names.args n
+
+-- The pointer to a reader's or writer's bytes. It never changes in a call.
+abbrev pub io_bytes : Names → ℕ → List ℕ
+io_bytes names n = codes "b_" ++ named names.args n
 
 -- Fields of a struct: those of the source, and what a coroutine keeps: the number of the point where it goes on, each
 -- local, what a started statement has, and how many bytes that is.

@@ -5,7 +5,7 @@ use Rattle.c_text.specs.declared.kinds.CNumber.TheVariants.{Int, Unsigned, Long}
 use Rattle.c_text.specs.declared.kinds.COp.{COp}
 use Rattle.c_text.specs.declared.kinds.CUint.{CUint}
 use Rattle.c_text.specs.declared.kinds.CUint.TheVariants.{U8, U16, U32, U64}
-use Rattle.c_text.specs.CTree.{TypeTree, uint, ExprTree, number, variable, member, element, operation, no_operand, Args, no_arg, expr_arg}
+use Rattle.c_text.specs.CTree.{TypeTree, uint, ExprTree, number, variable, member, operation, no_operand, Args, no_arg, expr_arg}
 
 -- A number as C spells it: of the narrowest type that holds it.
 abbrev pub literal : ℕ → CNumber
@@ -29,10 +29,6 @@ self = variable (codes "self")
 
 abbrev pub of_self : List ℕ → ExprTree
 of_self name = member self name
-
--- `b->ptr[i]`
-abbrev pub byte_at : (buffer index : ExprTree) → ExprTree
-byte_at buffer index = element (member buffer (codes "ptr")) index
 
 -- The arguments of a call.
 abbrev pub args : List ExprTree → Args

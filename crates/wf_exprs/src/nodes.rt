@@ -11,7 +11,7 @@ ghost use Rattle.c_text.specs.CTree as c;
 ghost use Rattle.c_text.specs.declared.kinds.CUnary.TheVariants as unaries;
 ghost use Rattle.wf_exprs.specs.Exprs.{is_held as is_held_tree};
 ghost use Rattle.wf_exprs.specs.Grown.{Grows, HasExpr};
-ghost use Rattle.wf_exprs.specs.Words.{args, byte_at as byte_at_tree, literal as literal_of, num, of_self as of_self_tree, self, two as two_trees, uint_of as type_of_bits, width_of};
+ghost use Rattle.wf_exprs.specs.Words.{args, literal as literal_of, num, of_self as of_self_tree, self, two as two_trees, uint_of as type_of_bits, width_of};
 
 use crate::names::{put_name, put_spelt};
 use c_text::{
@@ -131,19 +131,6 @@ pub fn element(u: &mut Unit, of: CExprId, at: CExprId) -> Result<CExprId, NoMemo
     ensures grows { Grows u.old u.new }
     ensures made { IfOk result (λ it. HasExpr u.new it.0 ((c.element (expr_of u.old of.0) (expr_of u.old at.0)))) }
 {
-    put(u, CExpr::Index { of, at })
-}
-
-/// `buffer->ptr[at]`
-#[tactic(auto, unfolding(c_text::specs::CSpelling::is_reserved))]
-pub fn byte_at(u: &mut Unit, buffer: CExprId, at: CExprId) -> Result<CExprId, NoMemory>
-    requires buffer_there { buffer.0 < length u.old.exprs }
-    requires pointer { is_literal_tree (expr_of u.old buffer.0) ≡ false }
-    requires at_there { at.0 < length u.old.exprs }
-    ensures grows { Grows u.old u.new }
-    ensures made { IfOk result (λ it. HasExpr u.new it.0 ((byte_at_tree (expr_of u.old buffer.0) (expr_of u.old at.0)))) }
-{
-    let of = member(u, buffer, b"ptr")?;
     put(u, CExpr::Index { of, at })
 }
 

@@ -7,7 +7,7 @@ ghost use Rattle.c_text.specs.CGrammar.{IsName};
 ghost use Rattle.c_text.specs.CNodes.{expr_of};
 ghost use Rattle.c_text.specs.CSpelling.{is_word_byte};
 ghost use Rattle.c_text.specs.CTree as c;
-ghost use Rattle.wf_exprs.specs.Exprs.{end_code, io_code, path_code, place_code};
+ghost use Rattle.wf_exprs.specs.Exprs.{bytes_code, end_code, io_code, path_code, place_code};
 ghost use Rattle.wf_exprs.specs.Grown.{Grows, HasExpr, HasNamed};
 ghost use Rattle.wf_exprs.specs.Names.{arg_length, arg_name, arg_pointer, field_name as name_of_field, local_length, local_name as name_of_local, local_pointer, named as named_in};
 ghost use Rattle.wf_exprs.specs.Scopes.{Scoped, are_named, names_in, path_of};
@@ -159,6 +159,14 @@ impl<'a> Scope<'a> {
         ensures made { IfOk result (λ it. HasExpr u.new it.0 (end_code self.now.names n)) }
     {
         spelt_variable(self.alloc, u, b"e_", named(self.t, self.args, n))
+    }
+
+    /// The pointer to a reader's or a writer's bytes.
+    pub fn bytes(&self, u: &mut Unit, n: u32) -> Result<CExprId, NoMemory>
+        ensures grows { Grows u.old u.new }
+        ensures made { IfOk result (λ it. HasExpr u.new it.0 (bytes_code self.now.names n)) }
+    {
+        spelt_variable(self.alloc, u, b"b_", named(self.t, self.args, n))
     }
 
     /// The name in C of a field of the source.

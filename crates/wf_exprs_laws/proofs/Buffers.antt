@@ -19,12 +19,12 @@ use Rattle.wf_ast.specs.TypedTree.{Question, reader_length, reader_position, pee
 use Rattle.wf_ast.specs.Value.{State, told, io_buffer}
 use Rattle.wf_ast.specs.WellTyped.{is_reader, is_writer, question_width}
 use Rattle.c_text.specs.declared.kinds.COp.TheVariants.{Add, Sub, Shl}
-use Rattle.c_text.specs.CTree.{ExprTree, member, operation, cast, no_operand, operand}
+use Rattle.c_text.specs.CTree.{ExprTree, member, element, operation, cast, no_operand, operand}
 use Rattle.c_meaning.specs.CValues.{common}
 use Rattle.c_meaning.specs.CExprs.{Surroundings}
 use Rattle.wf_exprs.specs.Names.{Names}
-use Rattle.wf_exprs.specs.Words.{literal, num, uint_of, two, byte_at}
-use Rattle.wf_exprs.specs.Exprs.{calculated, rank, Rated, rated, literal_type, io_code, place_code, end_code, there, peeked, raised, peek_code, position_code, chained, asked_code}
+use Rattle.wf_exprs.specs.Words.{literal, num, uint_of, two}
+use Rattle.wf_exprs.specs.Exprs.{calculated, rank, Rated, rated, literal_type, io_code, place_code, end_code, bytes_code, there, peeked, raised, peek_code, position_code, chained, asked_code}
 use Rattle.wf_exprs_laws.specs.ExprLaw.{IsSum, DeclaresQuestion, GivesNumber, BufferStands}
 use Rattle.wf_exprs_laws.proofs.CNumbers.{limit-left, limit-right}
 use Rattle.wf_exprs_laws.proofs.Operands.{the-number, IsNumber, literal-number, cast-number, chained-number, calculated-number}
@@ -118,14 +118,14 @@ module _ (names : Names) (x : Surroundings) (a : ℕ) (b : Buffer) (lawful : IsL
   byte-small : (k : ℕ) → k < length b.cells → byte_of b k < 2 ^ 8
   byte-small k h = lawful.bytes k 0 h
 
-  byte-number : (index : ExprTree) (k : ℕ) → IsNumber x index U64 k → k < length b.cells → IsNumber x (byte_at (io_code names a) index) Int (byte_of b k)
+  byte-number : (index : ExprTree) (k : ℕ) → IsNumber x index U64 k → k < length b.cells → IsNumber x (element (bytes_code names a) index) Int (byte_of b k)
   byte-number index k h lt =
-      element-number x (member (io_code names a) (codes "ptr")) index 8 refl bs.at U64 k (byte_of b k) bs.bytes h (bs.each k (byte_of b k) (slice_get-get_or b.cells k 0 lt)) (byte-small k lt)
+      element-number x (bytes_code names a) index 8 refl bs.at U64 k (byte_of b k) bs.bytes h (bs.each k (byte_of b k) (slice_get-get_or b.cells k 0 lt)) (byte-small k lt)
 
-  first-number : b.ri < length b.cells → IsNumber x (byte_at (io_code names a) (place_code names a)) Int (byte_of b b.ri)
+  first-number : b.ri < length b.cells → IsNumber x (element (bytes_code names a) (place_code names a)) Int (byte_of b b.ri)
   first-number lt = byte-number (place_code names a) b.ri place-number lt
 
-  later-number : (k : ℕ) → b.ri + k < length b.cells → IsNumber x (byte_at (io_code names a) (two Add (place_code names a) (num k))) Int (byte_of b (b.ri + k))
+  later-number : (k : ℕ) → b.ri + k < length b.cells → IsNumber x (element (bytes_code names a) (two Add (place_code names a) (num k))) Int (byte_of b (b.ri + k))
   later-number k lt =
       let few : b.ri + k < 2 ^ 64 = omega (arith, lt, lawful.size) in
       byte-number (two Add (place_code names a) (num k)) (b.ri + k)

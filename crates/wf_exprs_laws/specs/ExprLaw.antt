@@ -26,7 +26,7 @@ use Rattle.c_meaning.specs.CExprs.{Surroundings, cell_type}
 use Rattle.c_meaning.specs.CExprs as c
 use Rattle.wf_exprs.specs.Names.{Names, names_of}
 use Rattle.wf_exprs.specs.Words.{uint_of}
-use Rattle.wf_exprs.specs.Exprs.{calculated, saturated, path_code, path_pair, io_code, place_code, end_code, lowered, given, lowered_slice, lowered_status, lowered_cond, status_constant}
+use Rattle.wf_exprs.specs.Exprs.{calculated, saturated, path_code, path_pair, io_code, place_code, end_code, bytes_code, lowered, given, lowered_slice, lowered_status, lowered_cond, status_constant}
 
 -- An expression of C is a number of a type.
 pub record GivesNumber (x : Surroundings) (e : ExprTree) (ty : CTy) (n : ℕ) : Type 0 where
@@ -105,14 +105,15 @@ abbrev pub end_of : Ty → Buffer → ℕ
 end_of types.Writer b = if b.closed then b.wi else capacity b
 end_of ty b = b.wi
 
--- An io argument stands for its buffer. What the body has moved stands in its locals, and not yet in the buffer's struct.
+-- An io argument stands for its buffer. What the body has moved stands in its locals, and not yet in the buffer's struct. So
+-- does the pointer to the bytes, which the body reads once.
 pub record BufferStands (names : Names) (x : Surroundings) (a : ℕ) (ty : Ty) (b : Buffer) : Type 0 where
   pub place : GivesNumber x (place_code names a) U64 (place_of ty b)
   pub end : GivesNumber x (end_code names a) U64 (end_of ty b)
   pub position : GivesNumber x (member (io_code names a) (codes "pos")) U64 b.pos
   pub closed : GivesNumber x (member (io_code names a) (codes "closed")) Int (if b.closed then 1 else 0)
   pub at : Value
-  pub bytes : GivesPointer x (member (io_code names a) (codes "ptr")) 8 at
+  pub bytes : GivesPointer x (bytes_code names a) 8 at
   pub each : (k n : ℕ) → slice_get b.cells k ≡ Some n → cell_behind x.memory at k ≡ Some (numeric (number Int n))
 
 -- A status but ok stands for its text, which tells its category.

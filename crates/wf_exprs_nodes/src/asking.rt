@@ -17,7 +17,7 @@ use crate::chains::operation;
 use c_text::{CExprId, CList, COp, Unit};
 use wf_ast::{ArgId, Expr, ExprId, Op, Ty, Typed};
 use wf_base::{PeekForm, Width};
-use wf_exprs::nodes::{byte_at, cast, number, two};
+use wf_exprs::nodes::{cast, element, number, two};
 use wf_exprs::rated::saturated;
 use wf_exprs::{Rated, Scope};
 use wf_num::CTy;
@@ -105,9 +105,9 @@ pub fn peeked(scope: &Scope, u: &mut Unit, a: u32, k: u32) -> Result<CExprId, No
     ensures grows { Grows u.old u.new }
     ensures made { IfOk result (λ it. HasExpr u.new it.0 (peeked_code scope.now.names a k)) }
 {
-    let buffer = scope.arg(u, a)?;
+    let bytes = scope.bytes(u, a)?;
     let place = place_behind(scope, u, a, k)?;
-    byte_at(u, buffer, place)
+    element(u, bytes, place)
 }
 
 // A byte as a number of this width: C shifts what is calculated in `int` to at most 16 bits.

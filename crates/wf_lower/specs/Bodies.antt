@@ -15,9 +15,9 @@ use Rattle.c_text.specs.declared.kinds.COp.TheVariants.{Lt, Gt, Eq, Ne, Both, Ei
 use Rattle.c_text.specs.declared.kinds.CUint.TheVariants.{U8, U16, U64}
 use Rattle.c_text.specs.declared.kinds.CUnary.TheVariants.{Not}
 use Rattle.c_text.specs.declared.kinds.Linkage.TheVariants.{External, Static}
-use Rattle.c_text.specs.CTree.{TypeTree, uint, size, boolean, uint_pointer, struct_pointer, text, ExprTree, variable, element, unary, Code, finish, empty, assign, call, select, leave, case_label, ParamTree, LocalTree, ItemTree, function_item}
+use Rattle.c_text.specs.CTree.{TypeTree, uint, size, boolean, uint_pointer, struct_pointer, text, ExprTree, variable, member, element, unary, Code, finish, empty, assign, call, select, leave, case_label, ParamTree, LocalTree, ItemTree, function_item}
 use Rattle.c_meaning.specs.UnitForm.{args_params, answer_type}
-use Rattle.wf_exprs.specs.Names.{io_place, io_end, point_field, struct_type, entry_name, body_name}
+use Rattle.wf_exprs.specs.Names.{io_place, io_end, io_bytes, point_field, struct_type, entry_name, body_name}
 use Rattle.wf_exprs.specs.Words.{width_of, num, two, self, of_self, args}
 use Rattle.wf_exprs.specs.Exprs.{chained, status_constant, io_code}
 use Rattle.wf_exprs.specs.Reads.{code_reads}
@@ -38,7 +38,7 @@ abbrev pub result_of : MethodTree → Option TypeTree
 result_of m = answer_type (answers_of m.mark m.gives)
 
 -- The locals of a body: the places and ends of its readers and writers, the source's locals, zero, false, ok or empty, and
--- what else the code uses.
+-- where the code uses them the pointers to the bytes of readers and writers, and what else it uses.
 abbrev pub io_locals : Form → (n : ℕ) → List Variable → List LocalTree
 io_locals f n [] = []
 io_locals f n (x ∷ xs) =
@@ -65,6 +65,12 @@ resume_of m = declared (uint U16) (codes "resume") (of_self (point_field m.name)
 abbrev pub further_locals : List LocalTree
 further_locals =
     declared text (codes "status") (num 0) ∷ declared (uint U64) (codes "got") (num 0) ∷ declared size (codes "size") (num 0) ∷ declared (uint U64) (codes "held") (num 0) ∷ declared (uint U8) (codes "count") (num 0) ∷ []
+
+abbrev pub bytes_locals : Form → (n : ℕ) → List Variable → List LocalTree
+bytes_locals f n [] = []
+bytes_locals f n (x ∷ xs) =
+    if is_io x.ty then declared (uint_pointer U8) (io_bytes f.names n) (member (io_code f.names n) (codes "ptr")) ∷ bytes_locals f (suc n) xs
+    else bytes_locals f (suc n) xs
 
 abbrev pub only_read : Code → List LocalTree → List LocalTree
 only_read code [] = []
@@ -97,7 +103,8 @@ abbrev pub own_names : Form → List (List ℕ)
 own_names f = map (λ x. x.name) (params_of f.within f.method) ++ map (λ x. x.name) (fixed_locals f)
 
 abbrev pub body_locals : Form → List LocalTree
-body_locals f = fixed_locals f ++ (only_read (body_code f) further_locals ++ (if is_coroutine f.method.mark then resume_of f.method ∷ [] else []))
+body_locals f =
+    fixed_locals f ++ (only_read (body_code f) (bytes_locals f 0 f.method.args) ++ (only_read (body_code f) further_locals ++ (if is_coroutine f.method.mark then resume_of f.method ∷ [] else [])))
 
 abbrev pub body_function : Form → ItemTree
 body_function f =

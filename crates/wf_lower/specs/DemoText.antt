@@ -5,7 +5,7 @@ use Rattle.c_text.specs.declared.kinds.COp.TheVariants.{Add, Sub, Mul, Lt, Gt, G
 use Rattle.c_text.specs.declared.kinds.CUint.TheVariants.{U8, U16, U32}
 use Rattle.c_text.specs.declared.kinds.CUnary.TheVariants.{Not}
 use Rattle.c_text.specs.declared.kinds.Linkage.TheVariants.{External, Static}
-use Rattle.c_text.specs.CTree.{uint, size, text, element, unary, no_arg, expr_arg, sizeof_arg, Code, empty, assign, call, repeat, select, leave, case_label, ParamTree, ItemTree, function_item}
+use Rattle.c_text.specs.CTree.{uint, size, uint_pointer, text, element, unary, no_arg, expr_arg, sizeof_arg, Code, empty, assign, call, repeat, select, leave, case_label, ParamTree, ItemTree, function_item}
 use Rattle.c_meaning.specs.TextWords.{v, n, m, o, block, when, when_or, goto, label, pointer_to, field, parameter, local, struct, string, io_buffer_item}
 
 -- typedef struct { uint8_t life; uint32_t active; uint32_t f_val; uint16_t r_parse; uint8_t s_parse__c; } wuffs_demo__parser;
@@ -65,6 +65,7 @@ put_place = assign (m (v "a_src") "ri") (v "p_src")
 --   size_t p_src = a_src->ri;
 --   size_t e_src = a_src->wi;
 --   uint8_t v_c = 0;
+--   uint8_t* b_src = a_src->ptr;
 --   uint16_t resume = self->r_parse;
 --   self->r_parse = 0;
 --   if (resume) { v_c = self->s_parse__c; }
@@ -78,7 +79,7 @@ put_place = assign (m (v "a_src") "ri") (v "p_src")
 --         a_src->ri = p_src;
 --         return status_1;
 --       }
---       v_c = a_src->ptr[p_src];
+--       v_c = b_src[p_src];
 --       p_src = (p_src + 1);
 --       if ((0 == v_c)) { a_src->ri = p_src; return 0; }
 --       if (((v_c < 48) || (57 < v_c))) { a_src->ri = p_src; return status_10; }
@@ -95,7 +96,7 @@ put_place = assign (m (v "a_src") "ri") (v "p_src")
 --   return 0;
 -- }
 abbrev parse_body : ItemTree
-parse_body = function_item Static (Some text) (codes "body_parser__parse") (self ∷ src ∷ []) (local size "p_src" (Some (m (v "a_src") "ri")) ∷ local size "e_src" (Some (m (v "a_src") "wi")) ∷ local (uint U8) "v_c" (Some (n 0)) ∷ local (uint U16) "resume" (Some (m (v "self") "r_parse")) ∷ []) (block (
+parse_body = function_item Static (Some text) (codes "body_parser__parse") (self ∷ src ∷ []) (local size "p_src" (Some (m (v "a_src") "ri")) ∷ local size "e_src" (Some (m (v "a_src") "wi")) ∷ local (uint U8) "v_c" (Some (n 0)) ∷ local (uint_pointer U8) "b_src" (Some (m (v "a_src") "ptr")) ∷ local (uint U16) "resume" (Some (m (v "self") "r_parse")) ∷ []) (block (
     assign (m (v "self") "r_parse") (n 0) ∷
     when (v "resume") (assign (v "v_c") (m (v "self") "s_parse__c") ∷ []) ∷
     select (v "resume") (block (
@@ -108,7 +109,7 @@ parse_body = function_item Static (Some text) (codes "body_parser__parse") (self
     assign (m (v "self") "r_parse") (n 1) ∷
     put_place ∷
     leave (Some (v "status_1")) ∷ []) ∷
-    assign (v "v_c") (element (m (v "a_src") "ptr") (v "p_src")) ∷
+    assign (v "v_c") (element (v "b_src") (v "p_src")) ∷
     assign (v "p_src") (o Add (v "p_src") (n 1)) ∷
     when (o Eq (n 0) (v "v_c")) (put_place ∷ leave (Some (n 0)) ∷ []) ∷
     when (o Either (o Lt (v "v_c") (n 48)) (o Lt (n 57) (v "v_c"))) (put_place ∷ leave (Some (v "status_10")) ∷ []) ∷

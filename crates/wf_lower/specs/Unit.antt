@@ -18,7 +18,7 @@ use Rattle.wf_exprs.specs.Words.{literal, width_of, num, self, of_self, args}
 use Rattle.wf_exprs.specs.Exprs.{status_constant}
 use Rattle.wf_exprs.specs.Reads.{code_reads}
 use Rattle.wf_exprs.specs.Helpers.{all_saturating}
-use Rattle.wf_lower_stmts.specs.Forms.{is_kept, keeps_started, when}
+use Rattle.wf_lower_stmts.specs.Forms.{is_kept, holds_something, counts_bytes, keeps, when}
 use Rattle.wf_lower.specs.Bodies.{functions_of}
 
 abbrev field : TypeTree → List ℕ → FieldTree
@@ -57,7 +57,8 @@ kept_fields method [] = []
 kept_fields method (x ∷ xs) = if is_kept x.ty then field (kept_type x.ty) (saved_field method x.name) ∷ kept_fields method xs else kept_fields method xs
 
 abbrev pub started_fields : MethodTree → List FieldTree
-started_fields m = if keeps_started m.body then field (uint U64) (held_field m.name) ∷ field (uint U8) (count_field m.name) ∷ [] else []
+started_fields m =
+    (if keeps holds_something m.body then field (uint U64) (held_field m.name) ∷ [] else []) ++ (if keeps counts_bytes m.body then field (uint U8) (count_field m.name) ∷ [] else [])
 
 abbrev pub coroutine_fields : MethodTree → List FieldTree
 coroutine_fields m = if is_coroutine m.mark then field (uint U16) (point_field m.name) ∷ kept_fields m.name m.locals ++ started_fields m else []

@@ -1,6 +1,6 @@
 -- How many brackets the statements of a text open.
 use Rattle.std.proofs.Common.{◌≡◌, ℕ, zero, suc, ◌+◌, ◌-◌, ◌*◌, ◌/◌, ◌≤◌, Bool, true, false, ◌&&◌, List, [], ◌∷◌, ◌++◌, Option, Some, None, arith}
-use Rattle.std.specs.Prelude.{if◌then◌else◌, nat_eq, nat_le, slice_get, codes}
+use Rattle.std.specs.Prelude.{nat_eq, nat_le, slice_get, codes}
 use Rattle.std.specs.List.{list_all}
 use Rattle.wf_base.specs.declared.base_methods.ReadForm.{ReadForm}
 use Rattle.wf_base.specs.declared.base_methods.ReadForm.TheVariants.{ReadU8, ReadU16Be, ReadU16Le, ReadU32Be, ReadU32Le, ReadU64Be, ReadU64Le}
@@ -10,7 +10,7 @@ use Rattle.wf_base.specs.declared.marks.Mark.TheVariants.{Pure, Impure, Coroutin
 use Rattle.wf_ast.specs.declared.types.Ty.{Ty}
 use Rattle.wf_ast.specs.declared.types.Ty.TheVariants as types
 use Rattle.wf_ast.specs.TypedPackage.{Variable, MethodTree}
-use Rattle.wf_ast.specs.TypedTree.{local, field, arg, ValueTree, numeric, logical, state, elements, io, lost, StatusTree, status, held, no_status, Target, to_number, to_element, to_flag, to_status, to_slice, to_nothing, Awaited, take_number, skip, write, Written, skip_fast, write_fast, copy_to_writer, copy_to_slice, Called, own, sub, Simple, assign, await, perform, invoke, break_from, continue_in, give_back, yield, claim, Site, Block, end, plain, choose, loop}
+use Rattle.wf_ast.specs.TypedTree.{local, field, arg, NumTree, number, read, element, link, convert, length_of, asked, ValueTree, numeric, logical, state, elements, io, lost, StatusTree, status, held, no_status, Target, to_number, to_element, to_flag, to_status, to_slice, to_nothing, Awaited, take_number, skip, write, Written, skip_fast, write_fast, copy_to_writer, copy_to_slice, Called, own, sub, Simple, assign, await, perform, invoke, break_from, continue_in, give_back, yield, claim, Site, Block, end, plain, choose, loop}
 use Rattle.wf_ast.specs.WellTyped.{is_coroutine, breaks, number_of}
 use Rattle.wf_ast.proofs.Arena.{both_true}
 use Rattle.wf_meaning.specs.Entry.{short_read, short_write, cannot_suspend}
@@ -19,14 +19,14 @@ use Rattle.c_text.specs.declared.kinds.COp.TheVariants.{Add, Sub, Mul, Shl, Lt, 
 use Rattle.c_text.specs.declared.kinds.CUnary.TheVariants.{Address}
 use Rattle.c_text.specs.declared.kinds.CNumber.TheVariants.{Int}
 use Rattle.c_text.specs.declared.kinds.Otherwise.TheVariants as else_is
-use Rattle.c_text.specs.CTree.{ExprTree, variable, Args, Code, finish, empty, leave, case_label, name_label, select}
+use Rattle.c_text.specs.CTree.{ExprTree, Code, finish, empty, leave, case_label, name_label}
 use Rattle.c_text.specs.CTree as c
 use Rattle.wf_exprs.specs.Names.{Names, again_label, behind_label}
 use Rattle.wf_exprs.specs.Words.{num, two, args}
 use Rattle.wf_exprs.specs.Exprs.{Pair, given, lowered_slice, lowered_status, lowered_cond, status_constant, begins_with, io_code, place_code, end_code, there}
-use Rattle.wf_lower_stmts.specs.Forms.{Form, status_local, held_local, size_local, count_local, is_io, is_kept, keeps_started, place_in, end_of, when, put, get, save_locals, restore_locals, save_started, restore_started, give, suspend, resume_here}
+use Rattle.wf_lower_stmts.specs.Forms.{Form, status_local, held_local, size_local, count_local, is_io, is_kept, stays, holds_something, counts_bytes, keeps, place_in, end_of, when, put, get, save_locals, restore_locals, save_count, restore_count, save_started, restore_started, give, suspend, resume_here}
 use Rattle.wf_lower_stmts.specs.Lower.{lower, continues, again_here, other_kind, ending, ending_of, has_result, tail_of, top}
-use Rattle.wf_lower_stmts.specs.Statements.{next_byte, step_on, is_big_endian, with_byte, slice_bits, bytes_for, answer_local, is_wanted, put_into, set_slice, set_value, take_byte, take_bytes, begun_call, awoken_call, lower_written, value_codes, values_codes, receiver_code, is_passed, call_into, hand_on, put_result, handed_call, plain_call, give_status, give_value, begun, awoken, lower_point, lower_plain, lower_simple}
+use Rattle.wf_lower_stmts.specs.Statements.{next_byte, step_on, is_big_endian, with_byte, slice_bits, bytes_for, answer_local, is_wanted, put_into, set_slice, set_value, take_byte, take_bytes, written_byte, begun_call, awoken_call, lower_written, value_codes, values_codes, receiver_code, is_passed, call_into, hand_on, put_result, handed_call, plain_call, give_status, give_value, begun, awoken, lower_point, lower_plain, lower_simple}
 use Rattle.wf_lower_laws.specs.BracketLaw.{num_within, slice_within, cond_within, value_within, target_within, awaited_within, written_within, simple_within, is_chained, block_within}
 use Rattle.wf_lower_laws.proofs.OpenBrackets.{ExprOpens, ArgsOpen, ValueOpens, CodeOpens}
 use Rattle.wf_lower_laws.proofs.ExprBrackets.{ExprBy, by_more, by_if, by_two, by_unary, by_cast, by_element, by_choice, by_num, by_path, by_constant, by_status, by_begins, at_least_one, PairBy, num_by, slice_by, given_by, cond_by}
@@ -126,12 +126,18 @@ restores_by k method (x ∷ xs) rest h =
 
 saves_started_by : (k : ℕ) (it : MethodTree) (rest : Code) → CodeBy k rest → CodeBy k (save_started it rest)
 saves_started_by k it rest h =
-    code_if k (keeps_started it.body) _ _ (code_assign k _ _ _ (easy k _ (λ m. tt {0})) (easy k _ (λ m. tt {0})) (code_assign k _ _ _ (easy k _ (λ m. tt {0})) (easy k _ (λ m. tt {0})) h)) h
+    code_if k (keeps holds_something it.body) _ _ (code_assign k _ _ _ (easy k _ (λ m. tt {0})) (easy k _ (λ m. tt {0})) saved) saved
+  where
+    saved : CodeBy k (save_count it rest)
+    saved = code_if k (keeps counts_bytes it.body) _ _ (code_assign k _ _ _ (easy k _ (λ m. tt {0})) (easy k _ (λ m. tt {0})) h) h
 
 pub restores_all_by : (k : ℕ) (it : MethodTree) (rest : Code) → CodeBy k rest → CodeBy k (restore_locals it.name it.locals (restore_started it rest))
 restores_all_by k it rest h =
     restores_by k it.name it.locals _
-    (code_if k (keeps_started it.body) _ _ (code_assign k _ _ _ (easy k _ (λ m. tt {0})) (easy k _ (λ m. tt {0})) (code_assign k _ _ _ (easy k _ (λ m. tt {0})) (easy k _ (λ m. tt {0})) h)) h)
+    (code_if k (keeps holds_something it.body) _ _ (code_assign k _ _ _ (easy k _ (λ m. tt {0})) (easy k _ (λ m. tt {0})) restored) restored)
+  where
+    restored : CodeBy k (restore_count it rest)
+    restored = code_if k (keeps counts_bytes it.body) _ _ (code_assign k _ _ _ (easy k _ (λ m. tt {0})) (easy k _ (λ m. tt {0})) h) h
 
 pub gives_by : (k : ℕ) (f : Form) (v : Option ExprTree) (rest : Code) → OptionBy k v → CodeBy k rest → CodeBy k (give f v rest)
 gives_by k f v rest h i = puts_by k f.names (λ n. true) 0 f.method.args (leave v rest) (code_leave k v rest h i)
@@ -222,7 +228,7 @@ module _ (d : ℕ) where
   begun_calls_by names (take_number ReadU64Be) rest w i = held_by rest i
   begun_calls_by names (take_number ReadU64Le) rest w i = held_by rest i
   begun_calls_by names (skip n) rest w i = code_assign k_max _ _ _ (easy k_max _ (λ m. tt {0})) (deep _ (given_by names d n w)) i
-  begun_calls_by names (write b) rest w i = code_assign k_max _ _ _ (easy k_max _ (λ m. tt {0})) (deep _ (given_by names d b w)) i
+  begun_calls_by names (write b) rest w i = code_if k_max (stays b) _ _ i (code_assign k_max _ _ _ (easy k_max _ (λ m. tt {0})) (deep _ (given_by names d b w)) i)
 
   taken_by : (f : Form) (j : ℕ) (t : Target) (a : ℕ) (form : ReadForm) (n : ℕ) (rest : Code) → target_within d t ≡ true → CodeBy k_max rest
       → CodeBy k_max (take_bytes f.names a form (bytes_of (read_width form)) (when (two Lt count_local (num (bytes_of (read_width form)))) (suspend f j (status_constant n) finish) (put_into f.names t held_local rest)))
@@ -236,6 +242,24 @@ module _ (d : ℕ) where
 
   there_by : (k : ℕ) (names : Names) (a : ℕ) → 1 ≤ k → ExprBy k (there names a)
   there_by k names a l = by_two 0 k Sub _ _ l (easy 0 _ (λ m. tt {0})) (easy 0 _ (λ m. tt {0}))
+
+  stays_by : (k : ℕ) (names : Names) (b : NumTree) → stays b ≡ true → ExprBy k (given names b)
+  stays_by k names (number at n) h = by_num k n
+  stays_by k names (read at of (local n)) h = easy k _ (λ m. tt {0})
+  stays_by k names (read at of (field n)) h = absurd (cc h)
+  stays_by k names (read at of (arg n)) h = absurd (cc h)
+  stays_by k names (convert at sign bits a) h = stays_by k names a h
+  stays_by k names (element at of cells index) h = absurd (cc h)
+  stays_by k names (link at sign op bits joined a b) h = absurd (cc h)
+  stays_by k names (length_of at cells) h = absurd (cc h)
+  stays_by k names (asked at question a) h = absurd (cc h)
+
+  written_by : (k : ℕ) (names : Names) (b : NumTree) → ExprBy k (written_byte names b)
+  written_by k names b = by (stays b) refl
+    where
+      by : (test : Bool) → stays b ≡ test → ExprBy k (if test then given names b else held_local)
+      by true e = stays_by k names b e
+      by false e = easy k held_local (λ m. tt {0})
 
   awoken_calls_by : (f : Form) (j : ℕ) (t : Target) (a : ℕ) (call : Awaited) (rest : Code) → target_within d t ≡ true → CodeBy k_max rest → CodeBy k_max (awoken_call f j t a call rest)
   awoken_calls_by f j t a (take_number ReadU8) rest w i =
@@ -254,7 +278,7 @@ module _ (d : ℕ) where
       (step_by f.names a held_local rest (easy (e_max + 1) _ (λ m. tt {0})) i)
   awoken_calls_by f j t a (write b) rest w i =
       code_when 1 k_max _ _ _ (omega arith) (used_by 1 f.names a (omega arith)) (suspends_by 1 f j _ finish (by_constant f.names 1 short_write) (code_finish 1))
-      (code_assign k_max _ _ _ (by_more 1 k_max _ (omega arith) (next_by f.names a)) (easy k_max held_local (λ m. tt {0})) (step_by f.names a (num 1) rest (by_num (e_max + 1) 1) i))
+      (code_assign k_max _ _ _ (by_more 1 k_max _ (omega arith) (next_by f.names a)) (written_by k_max f.names b) (step_by f.names a (num 1) rest (by_num (e_max + 1) 1) i))
 
   size_by : (one other : ExprTree) (rest : Code) → ExprBy (e_max + 1) one → ExprBy (e_max + 1) other → CodeBy k_max rest
       → CodeBy k_max (c.assign size_local one (when (two Gt size_local other) (c.assign size_local other finish) rest))

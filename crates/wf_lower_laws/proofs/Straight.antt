@@ -1,7 +1,7 @@
 -- What a statement that is no jump is lowered to: statements in front of the code that follows it, with no loop, no label and no
 -- `goto` among them, but for the `case` of a point.
 use Rattle.std.proofs.Common.{◌≡◌, ℕ, zero, suc, Bool, true, false, List, [], ◌∷◌, Option, Some, None}
-use Rattle.std.specs.Prelude.{if◌then◌else◌, slice_get}
+use Rattle.std.specs.Prelude.{slice_get}
 use Rattle.wf_base.specs.declared.base_methods.ReadForm.{ReadForm}
 use Rattle.wf_base.specs.declared.base_methods.ReadForm.TheVariants.{ReadU8, ReadU16Be, ReadU16Le, ReadU32Be, ReadU32Le, ReadU64Be, ReadU64Le}
 use Rattle.wf_base.specs.BaseTable.{bytes_of, read_width}
@@ -14,7 +14,7 @@ use Rattle.c_text.specs.CTree as c
 use Rattle.wf_exprs.specs.Names.{Names, point_field}
 use Rattle.wf_exprs.specs.Words.{num, of_self}
 use Rattle.wf_exprs.specs.Exprs.{Pair, given, lowered_slice, lowered_status, lowered_cond, status_constant}
-use Rattle.wf_lower_stmts.specs.Forms.{Form, status_local, size_local, is_io, is_kept, keeps_started, when, put, get, save_locals, restore_locals, save_started, restore_started, give, suspend}
+use Rattle.wf_lower_stmts.specs.Forms.{Form, status_local, size_local, is_io, is_kept, stays, holds_something, counts_bytes, keeps, when, put, get, save_locals, restore_locals, save_count, restore_count, save_started, restore_started, give, suspend}
 use Rattle.wf_lower_stmts.specs.Lower.{ending, ending_of, has_result, tail_of, top}
 use Rattle.wf_lower_stmts.specs.Statements.{next_byte, step_on, answer_local, put_into, set_slice, set_value, take_bytes, begun_call, awoken_call, lower_written, is_passed, call_into, hand_on, put_result, handed_call, plain_call, give_status, give_value, begun, awoken, lower_plain}
 
@@ -55,10 +55,16 @@ restores method [] rest = over
 restores method (x ∷ xs) rest = ifs (is_kept x.ty) _ _ rest (assigned _ _ _ (restores method xs rest)) (restores method xs rest)
 
 saves_started : (it : MethodTree) (rest : Code) → Straight rest (save_started it rest)
-saves_started it rest = ifs (keeps_started it.body) _ _ rest (assigned _ _ _ (assigned _ _ _ over)) over
+saves_started it rest = ifs (keeps holds_something it.body) _ _ rest (assigned _ _ _ saved) saved
+  where
+    saved : Straight rest (save_count it rest)
+    saved = ifs (keeps counts_bytes it.body) _ _ rest (assigned _ _ _ over) over
 
 pub restores_started : (it : MethodTree) (rest : Code) → Straight rest (restore_started it rest)
-restores_started it rest = ifs (keeps_started it.body) _ _ rest (assigned _ _ _ (assigned _ _ _ over)) over
+restores_started it rest = ifs (keeps holds_something it.body) _ _ rest (assigned _ _ _ restored) restored
+  where
+    restored : Straight rest (restore_count it rest)
+    restored = ifs (keeps counts_bytes it.body) _ _ rest (assigned _ _ _ over) over
 
 pub gives : (f : Form) (v : Option ExprTree) (rest : Code) → Straight rest (give f v rest)
 gives f v rest = follows _ (leave v rest) rest (puts f.names (λ n. true) 0 f.method.args (leave v rest)) (leaving v rest over)
@@ -107,7 +113,7 @@ begun_calls names (take_number ReadU32Le) rest = assigned _ _ _ (assigned _ _ _ 
 begun_calls names (take_number ReadU64Be) rest = assigned _ _ _ (assigned _ _ _ over)
 begun_calls names (take_number ReadU64Le) rest = assigned _ _ _ (assigned _ _ _ over)
 begun_calls names (skip e) rest = assigned _ _ _ over
-begun_calls names (write e) rest = assigned _ _ _ over
+begun_calls names (write e) rest = ifs (stays e) _ _ rest over (assigned _ _ _ over)
 
 taken : (f : Form) (j : ℕ) (t : Target) (a : ℕ) (form : ReadForm) (test status_code value : ExprTree) (rest : Code)
     → Straight rest (take_bytes f.names a form (bytes_of (read_width form)) (when test (suspend f j status_code finish) (put_into f.names t value rest)))

@@ -1,3 +1,11 @@
+pub mod AlikeLaws
+pub mod FrontLaws
+pub mod HereLaws
+pub mod PlaceLaws
+pub mod PointerLaws
+pub mod StandLaws
+pub mod TargetLaws
+pub mod WordLaws
 pub mod Cases
 pub mod Labels
 pub mod LoopLabels

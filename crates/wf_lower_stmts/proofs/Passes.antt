@@ -15,9 +15,9 @@ use Rattle.c_meaning.specs.CStep.{Continuation, behind, Place, Label, find, firs
 use Rattle.wf_exprs.specs.Names.{Names, point_field}
 use Rattle.wf_exprs.specs.Words.{num, two, of_self, args}
 use Rattle.wf_exprs.specs.Exprs.{Pair, given, lowered_slice, lowered_status, lowered_cond, status_constant, begins_with}
-use Rattle.wf_lower_stmts.specs.Forms.{Form, status_local, size_local, held_local, count_local, is_io, is_kept, keeps_started, when, put, get, save_locals, save_started, give, suspend}
+use Rattle.wf_lower_stmts.specs.Forms.{Form, status_local, size_local, held_local, count_local, is_io, is_kept, stays, holds_something, counts_bytes, keeps, when, put, get, save_locals, save_count, save_started, give, suspend}
 use Rattle.wf_lower_stmts.specs.Lower.{ending, ending_of, has_result, tail_of, top}
-use Rattle.wf_lower_stmts.specs.Statements.{next_byte, step_on, callee_name, receiver_code, values_codes, answer_local, is_wanted, is_suspension, put_into, set_slice, set_value, take_bytes, begun_call, awoken_call, lower_written, is_passed, call_into, hand_on, put_result, handed_call, plain_call, give_status, give_value, begun, awoken, lower_plain}
+use Rattle.wf_lower_stmts.specs.Statements.{next_byte, step_on, callee_name, receiver_code, values_codes, answer_local, is_wanted, is_suspension, put_into, set_slice, set_value, take_bytes, written_byte, begun_call, awoken_call, lower_written, is_passed, call_into, hand_on, put_result, handed_call, plain_call, give_status, give_value, begun, awoken, lower_plain}
 
 over : (p q : Option Place) → p ≡ None → first_of p q ≡ q
 over None q e = refl
@@ -47,7 +47,8 @@ module _ (l : Label) where
   saves method (x ∷ xs) rest k = ifs (is_kept x.ty) _ _ rest (saves method xs rest) (saves method xs rest) k
 
   started : (it : MethodTree) (rest : Code) → Passes (save_started it rest) rest
-  started it rest k = ifs (keeps_started it.body) _ _ rest (λ k. refl) (λ k. refl) k
+  started it rest k =
+      ifs (keeps holds_something it.body) _ _ (save_count it rest) (λ k. refl) (λ k. refl) k ∙ ifs (keeps counts_bytes it.body) _ _ rest (λ k. refl) (λ k. refl) k
 
   pub gives : (f : Form) (v : Option ExprTree) (rest : Code) → Passes (give f v rest) rest
   gives f v rest k = puts f.names (λ n. true) 0 f.method.args (leave v rest) k
@@ -96,7 +97,7 @@ module _ (l : Label) where
   begun_calls names (take_number ReadU64Be) rest k = refl
   begun_calls names (take_number ReadU64Le) rest k = refl
   begun_calls names (skip e) rest k = refl
-  begun_calls names (write e) rest k = refl
+  begun_calls names (write e) rest k = ifs (stays e) _ _ rest (λ k. refl) (λ k. refl) k
 
   waits : (f : Form) (j n : ℕ) (rest : Code) (k k1 : Continuation)
       → first_of (find l (suspend f j (status_constant n) finish) k1) (find l rest k) ≡ find l rest k
@@ -120,7 +121,7 @@ module _ (l : Label) where
   awoken_calls f j t a (take_number ReadU64Le) rest k = taken f j t a ReadU64Le rest k
   awoken_calls f j t a (skip e) rest k = waits f j short_read (step_on f.names a held_local rest) k (behind finish (step_on f.names a held_local rest) k)
   awoken_calls f j t a (write e) rest k =
-      waits f j short_write (c.assign (next_byte f.names a) held_local (step_on f.names a (num 1) rest)) k (behind finish (c.assign (next_byte f.names a) held_local (step_on f.names a (num 1) rest)) k)
+      waits f j short_write (c.assign (next_byte f.names a) (written_byte f.names e) (step_on f.names a (num 1) rest)) k (behind finish (c.assign (next_byte f.names a) (written_byte f.names e) (step_on f.names a (num 1) rest)) k)
 
   writtens : (names : Names) (t : Target) (w : Written) (rest : Code) → Passes (lower_written names t w rest) rest
   writtens names t (skip_fast a e g) rest k = refl

@@ -1,9 +1,9 @@
 -- The recurring blocks of a method's body in C. Each takes the code that follows it.
-use Rattle.std.specs.Prelude.{ℕ, suc, Bool, true, false, ◌||◌, if◌then◌else◌, List, [], ◌∷◌, ◌++◌, Option, Some, codes}
+use Rattle.std.specs.Prelude.{ℕ, suc, Bool, true, false, ◌||◌, if◌then◌else◌, List, [], ◌∷◌, ◌++◌, Option, Some, codes, not}
 use Rattle.wf_base.specs.declared.base_methods.ReadForm.TheVariants.{ReadU8}
 use Rattle.wf_ast.specs.declared.types.Ty.{Ty}
 use Rattle.wf_ast.specs.declared.types.Ty.TheVariants as types
-use Rattle.wf_ast.specs.TypedTree.{Awaited, take_number, Simple, await, Block, end, plain, choose, loop}
+use Rattle.wf_ast.specs.TypedTree.{local, NumTree, number, read, convert, Awaited, take_number, skip, write, Simple, await, Block, end, plain, choose, loop}
 use Rattle.wf_ast.specs.TypedPackage.{Variable, MethodTree, PackageTree}
 use Rattle.c_text.specs.declared.kinds.CNumber.TheVariants.{Int}
 use Rattle.c_text.specs.declared.kinds.Otherwise.TheVariants.{Nothing}
@@ -102,26 +102,54 @@ abbrev pub restore_locals : (method : List ℕ) → List Variable → (rest : Co
 restore_locals method [] rest = rest
 restore_locals method (x ∷ xs) rest = if is_kept x.ty then assign (local_code x) (saved_code method x) (restore_locals method xs rest) else restore_locals method xs rest
 
--- A read of one byte has taken nothing where it suspends; every other base call that suspends has begun something.
-abbrev pub begins_something : Awaited → Bool
-begins_something (take_number ReadU8) = false
-begins_something call = true
+-- A resumed call has this number again: a constant, or a local, which it restores.
+abbrev pub stays : NumTree → Bool
+stays (number at n) = true
+stays (read at of (local n)) = true
+stays (convert at sign bits a) = stays a
+stays t = false
 
-abbrev pub may_begin : Simple → Bool
-may_begin (await at target io_arg call) = begins_something call
-may_begin s = false
+-- What a base call has begun where it suspends. A read of one byte has taken nothing; a read of more has taken some, and
+-- counts them; a skip has taken some, and a write has its byte.
+abbrev pub holds_something : Awaited → Bool
+holds_something (take_number ReadU8) = false
+holds_something (take_number form) = true
+holds_something (skip count) = true
+holds_something (write byte) = not (stays byte)
 
-abbrev pub keeps_started : Block → Bool
-keeps_started end = false
-keeps_started (plain site s rest) = may_begin s || keeps_started rest
-keeps_started (choose site chained c a b rest) = keeps_started a || (keeps_started b || keeps_started rest)
-keeps_started (loop site head body rest) = keeps_started body || keeps_started rest
+abbrev pub counts_bytes : Awaited → Bool
+counts_bytes (take_number ReadU8) = false
+counts_bytes (take_number form) = true
+counts_bytes call = false
+
+abbrev pub awaits : (test : Awaited → Bool) → Simple → Bool
+awaits test (await at target io_arg call) = test call
+awaits test s = false
+
+-- A base call that passes a test stands in the block.
+abbrev pub keeps : (test : Awaited → Bool) → Block → Bool
+keeps test end = false
+keeps test (plain site s rest) = awaits test s || keeps test rest
+keeps test (choose site chained c a b rest) = keeps test a || (keeps test b || keeps test rest)
+keeps test (loop site head body rest) = keeps test body || keeps test rest
+
+abbrev pub save_held : MethodTree → (rest : Code) → Code
+save_held m rest = if keeps holds_something m.body then assign (of_self (held_field m.name)) held_local rest else rest
+
+abbrev pub save_count : MethodTree → (rest : Code) → Code
+save_count m rest = if keeps counts_bytes m.body then assign (of_self (count_field m.name)) count_local rest else rest
 
 abbrev pub save_started : MethodTree → (rest : Code) → Code
-save_started m rest = if keeps_started m.body then assign (of_self (held_field m.name)) held_local (assign (of_self (count_field m.name)) count_local rest) else rest
+save_started m rest = save_held m (save_count m rest)
+
+abbrev pub restore_held : MethodTree → (rest : Code) → Code
+restore_held m rest = if keeps holds_something m.body then assign held_local (of_self (held_field m.name)) rest else rest
+
+abbrev pub restore_count : MethodTree → (rest : Code) → Code
+restore_count m rest = if keeps counts_bytes m.body then assign count_local (of_self (count_field m.name)) rest else rest
 
 abbrev pub restore_started : MethodTree → (rest : Code) → Code
-restore_started m rest = if keeps_started m.body then assign held_local (of_self (held_field m.name)) (assign count_local (of_self (count_field m.name)) rest) else rest
+restore_started m rest = restore_held m (restore_count m rest)
 
 -- The end of a call: the places go back to the buffers, and the function returns. At a suspension it first keeps what it
 -- has, and the number of the point.

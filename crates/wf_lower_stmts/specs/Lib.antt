@@ -1,3 +1,4 @@
+pub mod BodyNodes
 pub mod Forms
 pub mod Laws
 pub mod Lower

@@ -7,19 +7,19 @@ use Rattle.wf_base.specs.declared.base_methods.ReadForm.TheVariants.{ReadU8, Rea
 use Rattle.wf_base.specs.BaseTable.{bytes_of, read_width}
 use Rattle.wf_ast.specs.declared.types.Ty.{Ty}
 use Rattle.wf_ast.specs.declared.types.Ty.TheVariants as types
-use Rattle.wf_ast.specs.TypedTree.{local, SliceTree, slice, array, cut, StatusTree, status, ValueTree, numeric, logical, state, elements, io, lost, Target, to_number, to_element, to_flag, to_status, to_slice, to_nothing, Awaited, take_number, skip, write, Written, skip_fast, write_fast, copy_to_writer, copy_to_slice, Called, own, sub, Simple, assign, await, perform, invoke, break_from, continue_in, give_back, yield}
+use Rattle.wf_ast.specs.TypedTree.{local, NumTree, SliceTree, slice, array, cut, StatusTree, status, ValueTree, numeric, logical, state, elements, io, lost, Target, to_number, to_element, to_flag, to_status, to_slice, to_nothing, Awaited, take_number, skip, write, Written, skip_fast, write_fast, copy_to_writer, copy_to_slice, Called, own, sub, Simple, assign, await, perform, invoke, break_from, continue_in, give_back, yield}
 use Rattle.wf_ast.specs.TypedPackage.{MethodTree, PackageTree}
 use Rattle.wf_ast.specs.WellTyped.{is_coroutine, number_of}
 use Rattle.wf_meaning.specs.Entry.{has_kind, short_read, short_write, cannot_suspend}
 use Rattle.wf_meaning.specs.Remaining.{is_point}
 use Rattle.c_text.specs.declared.kinds.COp.TheVariants.{Add, Sub, Mul, Shl, Lt, Gt, Ge, Eq, Both}
 use Rattle.c_text.specs.declared.kinds.CUnary.TheVariants.{Address}
-use Rattle.c_text.specs.CTree.{ExprTree, variable, member, element, unary, cast, Code, finish, jump, leave}
+use Rattle.c_text.specs.CTree.{ExprTree, variable, element, unary, cast, Code, finish, jump, leave}
 use Rattle.c_text.specs.CTree as c
 use Rattle.wf_exprs.specs.Names.{Names, local_pointer, local_length, field_name, body_name, entry_name, again_label, behind_label}
-use Rattle.wf_exprs.specs.Words.{num, uint_of, two, self, of_self, byte_at, args}
-use Rattle.wf_exprs.specs.Exprs.{Pair, path_code, lowered_expr, lowered_slice, given, lowered_status, lowered_cond, status_constant, begins_with, io_code, place_code, end_code, there}
-use Rattle.wf_lower_stmts.specs.Forms.{Form, status_local, got_local, size_local, held_local, count_local, when, put, get, give, suspend, resume_here}
+use Rattle.wf_exprs.specs.Words.{num, uint_of, two, self, of_self, args}
+use Rattle.wf_exprs.specs.Exprs.{Pair, path_code, lowered_expr, lowered_slice, given, lowered_status, lowered_cond, status_constant, begins_with, io_code, place_code, end_code, bytes_code, there}
+use Rattle.wf_lower_stmts.specs.Forms.{Form, status_local, got_local, size_local, held_local, count_local, stays, when, put, get, give, suspend, resume_here}
 
 -- Targets. What stands in C for one that takes a single value.
 abbrev pub target_code : Names → Target → Option ExprTree
@@ -56,7 +56,7 @@ abbrev pub step_on : Names → (io_arg : ℕ) → (bytes : ExprTree) → (rest :
 step_on names a bytes rest = c.assign (place_code names a) (two Add (place_code names a) bytes) rest
 
 abbrev pub next_byte : Names → (io_arg : ℕ) → ExprTree
-next_byte names a = byte_at (io_code names a) (place_code names a)
+next_byte names a = element (bytes_code names a) (place_code names a)
 
 abbrev pub is_used_up : Names → (io_arg : ℕ) → ExprTree
 is_used_up names a = two Ge (place_code names a) (end_code names a)
@@ -81,11 +81,15 @@ abbrev pub take_bytes : Names → (io_arg : ℕ) → ReadForm → (so_many : ℕ
 take_bytes names a form zero rest = rest
 take_bytes names a form (suc n) rest = take_byte names a form (take_bytes names a form n rest)
 
+-- The byte of a write: the constant or the local itself, else what was kept of it.
+abbrev pub written_byte : Names → NumTree → ExprTree
+written_byte names byte = if stays byte then given names byte else held_local
+
 abbrev pub begun_call : Names → Awaited → (rest : Code) → Code
 begun_call names (take_number ReadU8) rest = rest
 begun_call names (take_number form) rest = c.assign held_local (num 0) (c.assign count_local (num 0) rest)
 begun_call names (skip count) rest = c.assign held_local (given names count) rest
-begun_call names (write byte) rest = c.assign held_local (given names byte) rest
+begun_call names (write byte) rest = if stays byte then rest else c.assign held_local (given names byte) rest
 
 abbrev pub awoken_call : Form → (k : ℕ) → Target → (io_arg : ℕ) → Awaited → (rest : Code) → Code
 awoken_call f k target a (take_number ReadU8) rest =
@@ -101,7 +105,7 @@ awoken_call f k target a (skip count) rest =
     (step_on f.names a held_local rest)
 awoken_call f k target a (write byte) rest =
     when (is_used_up f.names a) (suspend f k (status_constant short_write) finish)
-    (c.assign (next_byte f.names a) held_local (step_on f.names a (num 1) rest))
+    (c.assign (next_byte f.names a) (written_byte f.names byte) (step_on f.names a (num 1) rest))
 
 -- Base calls that don't suspend. Nothing is moved where there is nothing to move, since a pointer may then be null.
 abbrev pub slice_bits : SliceTree → ℕ
@@ -123,7 +127,7 @@ lower_written names target (skip_fast a actual worst_case) rest = step_on names 
 lower_written names target (write_fast a byte) rest = c.assign (next_byte names a) (given names byte) (step_on names a (num 1) rest)
 lower_written names target (copy_to_writer a source) rest =
     least_size (lowered_slice names source).length.code (there names a)
-    (move 8 (two Add (member (io_code names a) (codes "ptr")) (place_code names a)) (lowered_slice names source).pointer
+    (move 8 (two Add (bytes_code names a) (place_code names a)) (lowered_slice names source).pointer
     (step_on names a size_local (put_into names target size_local rest)))
 lower_written names target (copy_to_slice to source) rest =
     least_size (lowered_slice names to).length.code (lowered_slice names source).length.code

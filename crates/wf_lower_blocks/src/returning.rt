@@ -1,0 +1,162 @@
+// Returns. A coroutine can't return a suspension: one that is known is the error at once, and a variable is asked.
+
+ghost use Rattle.std.specs.Prelude.{◌≡◌, ◌<◌, ◌&&◌, false, if◌then◌else◌, length, Some, option_map, IsTrue, IfOk};
+ghost use Rattle.wf_ast.specs.TypedInvariant.{is_expr, is_optional_expr};
+ghost use Rattle.wf_ast.specs.TypedTrees.{tree_of};
+ghost use Rattle.wf_ast.specs.WellTyped.{is_coroutine};
+ghost use Rattle.wf_meaning.specs.Entry.{cannot_suspend};
+ghost use Rattle.c_text.specs.CNodes.{code_of, expr_of};
+ghost use Rattle.c_text.specs.CTree.{finish as finish_code, assign as assign_code};
+ghost use Rattle.wf_exprs.specs.Exprs.{begins_with as begins_with_code, is_constant, lowered_status, status_constant as constant_code};
+ghost use Rattle.wf_exprs.specs.Grown.{Grows, HasCode};
+ghost use Rattle.wf_exprs.specs.Making.{is_status_at};
+ghost use Rattle.wf_exprs_nodes.specs.Trees.{node_status};
+ghost use Rattle.wf_lower_stmts.specs.BodyNodes.{form_in};
+ghost use Rattle.wf_lower_stmts.specs.Forms.{give as give_code, status_local, when as when_code};
+ghost use Rattle.wf_lower_stmts.specs.Statements.{give_status as give_status_code, give_value as give_value_code, is_suspension as is_suspension_of};
+
+use wf_lower_stmts::Body;
+use wf_lower_stmts::code::{assign, finish, when};
+use wf_lower_stmts::keeping::give;
+use c_text::{CExprId, CStmtId, Unit};
+use wf_ast::{Expr, ExprId, Ty};
+use wf_exprs_nodes::statuses::{begins_with, status_constant};
+use wf_exprs_nodes::{condition, given, statuses};
+use wf_exprs::nodes::variable;
+use wf_text::status_text::category;
+use wf_text::{Category, NoMemory, StatusId};
+
+const CANNOT_SUSPEND: u32 = 9;
+
+/// The status that is returned in place of this one.
+fn returned(b: &Body, n: StatusId) -> u32
+    requires known { n.0 < length b.now.nodes.statuses }
+    ensures { result ≡ (if is_coroutine (form_in b.now).method.mark && is_suspension_of (form_in b.now) n.0 then cannot_suspend else n.0) }
+{
+    if b.is_coroutine() && is_suspension(b, n) {
+        CANNOT_SUSPEND
+    } else {
+        n.0
+    }
+}
+
+fn is_suspension(b: &Body, n: StatusId) -> bool
+    requires known { n.0 < length b.now.nodes.statuses }
+    ensures { result ≡ is_suspension_of (form_in b.now) n.0 }
+{
+    matches!(category(b.typed().status_text(n)), Category::Suspension)
+}
+
+/// `status = cannot_suspend;` at the end of a block.
+fn replaced(b: &Body, u: &mut Unit, status: CExprId) -> Result<CStmtId, NoMemory>
+    requires status { expr_of u.old status.0 ≡ status_local }
+    requires there { status.0 < length u.old.exprs }
+    ensures grows { Grows u.old u.new }
+    ensures made { IfOk result (λ code. HasCode u.new code.0 (assign_code status_local (constant_code cannot_suspend) finish_code)) }
+{
+    let end = finish(u)?;
+    let other = status_constant(b.alloc(), u, CANNOT_SUSPEND)?;
+    assign(u, status, other, end)
+}
+
+/// `status = cannot_suspend;` where the status is a suspension.
+fn replace_suspension(
+    b: &Body,
+    u: &mut Unit,
+    status: CExprId,
+    rest: CStmtId,
+) -> Result<CStmtId, NoMemory>
+    requires status { expr_of u.old status.0 ≡ status_local }
+    requires there { status.0 < length u.old.exprs }
+    requires rest { rest.0 < length u.old.stmts }
+    ensures grows { Grows u.old u.new }
+    ensures made { IfOk result (λ code. HasCode u.new code.0 (when_code (begins_with_code 36 status_local) (assign_code status_local (constant_code cannot_suspend) finish_code) (code_of u.old rest.0))) }
+{
+    let body = replaced(b, u, status)?;
+    let test = begins_with(b.alloc(), u, b'$', status)?;
+    when(u, test, body, rest)
+}
+
+/// A coroutine returns a status that stands in a variable.
+fn give_asked(b: &Body, u: &mut Unit, e: ExprId, rest: CStmtId) -> Result<CStmtId, NoMemory>
+    requires node { IsTrue (is_status_at b.now.nodes e) }
+    requires rest { rest.0 < length u.old.stmts }
+    ensures grows { Grows u.old u.new }
+    ensures made { IfOk result (λ code. HasCode u.new code.0 (assign_code status_local (lowered_status (form_in b.now).names (node_status b.now.nodes e)) (when_code (begins_with_code 36 status_local) (assign_code status_local (constant_code cannot_suspend) finish_code) (give_code (form_in b.now) (Some status_local) (code_of u.old rest.0))))) }
+{
+    let status = variable(u, b"status")?;
+    let rest = give(b, u, Some(status), rest)?;
+    let rest = replace_suspension(b, u, status, rest)?;
+    let value = statuses::status(b.scope(), u, e)?;
+    assign(u, status, value, rest)
+}
+
+fn give_variable(b: &Body, u: &mut Unit, e: ExprId, rest: CStmtId) -> Result<CStmtId, NoMemory>
+    requires node { IsTrue (is_status_at b.now.nodes e) }
+    requires variable { is_constant (node_status b.now.nodes e) ≡ false }
+    requires rest { rest.0 < length u.old.stmts }
+    ensures grows { Grows u.old u.new }
+    ensures made { IfOk result (λ code. HasCode u.new code.0 (give_status_code (form_in b.now) (node_status b.now.nodes e) (code_of u.old rest.0))) }
+{
+    if b.is_coroutine() {
+        give_asked(b, u, e, rest)
+    } else {
+        let value = statuses::status(b.scope(), u, e)?;
+        give(b, u, Some(value), rest)
+    }
+}
+
+/// A status is returned.
+fn give_status(b: &Body, u: &mut Unit, e: ExprId, rest: CStmtId) -> Result<CStmtId, NoMemory>
+    requires node { IsTrue (is_status_at b.now.nodes e) }
+    requires rest { rest.0 < length u.old.stmts }
+    ensures grows { Grows u.old u.new }
+    ensures made { IfOk result (λ code. HasCode u.new code.0 (give_status_code (form_in b.now) (node_status b.now.nodes e) (code_of u.old rest.0))) }
+{
+    match b.typed().expr(e) {
+        Expr::Status(n) => {
+            let value = status_constant(b.alloc(), u, returned(b, *n))?;
+            give(b, u, Some(value), rest)
+        }
+        _ => give_variable(b, u, e, rest),
+    }
+}
+
+/// A value of any kind is returned.
+fn give_some(b: &Body, u: &mut Unit, e: ExprId, rest: CStmtId) -> Result<CStmtId, NoMemory>
+    requires node { IsTrue (is_expr b.now.nodes e) }
+    requires rest { rest.0 < length u.old.stmts }
+    ensures grows { Grows u.old u.new }
+    ensures made { IfOk result (λ code. HasCode u.new code.0 (give_value_code (form_in b.now) (Some (tree_of b.now.nodes e)) (code_of u.old rest.0))) }
+{
+    match b.typed().type_of(e) {
+        Ty::Num { .. } => {
+            let value = given(b.scope(), u, e)?;
+            give(b, u, Some(value), rest)
+        }
+        Ty::Flag => {
+            let value = condition(b.scope(), u, e)?;
+            give(b, u, Some(value), rest)
+        }
+        Ty::Status => give_status(b, u, e, rest),
+        Ty::Slice(_) | Ty::Array { .. } | Ty::Reader | Ty::Writer | Ty::Part(_) => Ok(rest),
+    }
+}
+
+/// The function returns what is given, or nothing.
+pub fn give_value(
+    b: &Body,
+    u: &mut Unit,
+    value: Option<ExprId>,
+    rest: CStmtId,
+) -> Result<CStmtId, NoMemory>
+    requires value { IsTrue (is_optional_expr b.now.nodes value) }
+    requires rest { rest.0 < length u.old.stmts }
+    ensures grows { Grows u.old u.new }
+    ensures made { IfOk result (λ code. HasCode u.new code.0 (give_value_code (form_in b.now) (option_map (tree_of b.now.nodes) value) (code_of u.old rest.0))) }
+{
+    match value {
+        Some(e) => give_some(b, u, e, rest),
+        None => give(b, u, None, rest),
+    }
+}

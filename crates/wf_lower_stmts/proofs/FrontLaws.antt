@@ -1,0 +1,86 @@
+-- What is done for the items of a list from one on is done for that one, and then for the rest.
+use Rattle.std.proofs.Common.{◌≡◌, ℕ, zero, suc, ◌<◌, ◌≤◌, ◌-◌, Bool, List, [], ◌∷◌, drop, take, length, refl, sym, ap, ◌∙◌, subst, arith}
+use Rattle.wf_ast.specs.TypedPackage.{Variable}
+use Rattle.c_text.specs.CNodes.{Nodes, code_of}
+use Rattle.c_text.specs.CTree.{Code}
+use Rattle.wf_exprs.specs.Names.{Names}
+use Rattle.wf_exprs.specs.Grown.{HasCode}
+use Rattle.wf_lower_stmts.specs.Forms.{put, get, save_locals, restore_locals}
+
+module _ (names : Names) (picks : ℕ → Bool) (rest : Code) where
+  pub put_front : (m k : ℕ) (xs : List Variable) → k < length xs → put names picks m (drop k xs) rest ≡ put names picks m (take 1 (drop k xs)) (put names picks (suc m) (drop (suc k) xs) rest)
+  put_front m k [] h = absurd (omega (arith, h))
+  put_front m zero (x ∷ xs) h = refl
+  put_front m (suc k) (x ∷ xs) h = put_front m k xs (omega (arith, h))
+
+  pub get_front : (m k : ℕ) (xs : List Variable) → k < length xs → get names picks m (drop k xs) rest ≡ get names picks m (take 1 (drop k xs)) (get names picks (suc m) (drop (suc k) xs) rest)
+  get_front m k [] h = absurd (omega (arith, h))
+  get_front m zero (x ∷ xs) h = refl
+  get_front m (suc k) (x ∷ xs) h = get_front m k xs (omega (arith, h))
+
+module _ (method : List ℕ) (rest : Code) where
+  pub save_front : (k : ℕ) (xs : List Variable) → k < length xs → save_locals method (drop k xs) rest ≡ save_locals method (take 1 (drop k xs)) (save_locals method (drop (suc k) xs) rest)
+  save_front k [] h = absurd (omega (arith, h))
+  save_front zero (x ∷ xs) h = refl
+  save_front (suc k) (x ∷ xs) h = save_front k xs (omega (arith, h))
+
+  pub restore_front : (k : ℕ) (xs : List Variable) → k < length xs → restore_locals method (drop k xs) rest ≡ restore_locals method (take 1 (drop k xs)) (restore_locals method (drop (suc k) xs) rest)
+  restore_front k [] h = absurd (omega (arith, h))
+  restore_front zero (x ∷ xs) h = refl
+  restore_front (suc k) (x ∷ xs) h = restore_front k xs (omega (arith, h))
+
+-- Nothing is left to be done behind the end of a list.
+module _ (names : Names) (picks : ℕ → Bool) (rest : Code) where
+  pub put_none : (m k : ℕ) (xs : List Variable) → length xs ≤ k → put names picks m (drop k xs) rest ≡ rest
+  put_none m zero [] h = refl
+  put_none m (suc k) [] h = refl
+  put_none m zero (x ∷ xs) h = absurd (omega (arith, h))
+  put_none m (suc k) (x ∷ xs) h = put_none m k xs (omega (arith, h))
+
+  pub get_none : (m k : ℕ) (xs : List Variable) → length xs ≤ k → get names picks m (drop k xs) rest ≡ rest
+  get_none m zero [] h = refl
+  get_none m (suc k) [] h = refl
+  get_none m zero (x ∷ xs) h = absurd (omega (arith, h))
+  get_none m (suc k) (x ∷ xs) h = get_none m k xs (omega (arith, h))
+
+  pub put_step : {a b : Nodes} {code it : ℕ} (xs : List Variable) (left i : ℕ) → suc i ≡ left → left ≤ length xs → HasCode a code (put names picks left (drop left xs) rest)
+      → HasCode b it (put names picks i (take 1 (drop i xs)) (code_of a code)) → HasCode b it (put names picks i (drop i xs) rest)
+  put_step {a = a} {code = code} xs left i e h so one =
+      let P : ℕ → Type 0 = λ n. HasCode a code (put names picks n (drop n xs) rest) in
+      let next = subst P (sym e) so in
+      record { there = one.there; is = one.is ∙ ap (put names picks i (take 1 (drop i xs))) next.is ∙ sym (put_front names picks rest i i xs (omega (arith, e, h))) }
+
+  pub get_step : {a b : Nodes} {code it : ℕ} (xs : List Variable) (left i : ℕ) → suc i ≡ left → left ≤ length xs → HasCode a code (get names picks left (drop left xs) rest)
+      → HasCode b it (get names picks i (take 1 (drop i xs)) (code_of a code)) → HasCode b it (get names picks i (drop i xs) rest)
+  get_step {a = a} {code = code} xs left i e h so one =
+      let P : ℕ → Type 0 = λ n. HasCode a code (get names picks n (drop n xs) rest) in
+      let next = subst P (sym e) so in
+      record { there = one.there; is = one.is ∙ ap (get names picks i (take 1 (drop i xs))) next.is ∙ sym (get_front names picks rest i i xs (omega (arith, e, h))) }
+
+module _ (method : List ℕ) (rest : Code) where
+  pub save_none : (k : ℕ) (xs : List Variable) → length xs ≤ k → save_locals method (drop k xs) rest ≡ rest
+  save_none zero [] h = refl
+  save_none (suc k) [] h = refl
+  save_none zero (x ∷ xs) h = absurd (omega (arith, h))
+  save_none (suc k) (x ∷ xs) h = save_none k xs (omega (arith, h))
+
+  pub restore_none : (k : ℕ) (xs : List Variable) → length xs ≤ k → restore_locals method (drop k xs) rest ≡ rest
+  restore_none zero [] h = refl
+  restore_none (suc k) [] h = refl
+  restore_none zero (x ∷ xs) h = absurd (omega (arith, h))
+  restore_none (suc k) (x ∷ xs) h = restore_none k xs (omega (arith, h))
+
+  pub save_step : {a b : Nodes} {code it : ℕ} (xs : List Variable) (left i : ℕ) → suc i ≡ left → left ≤ length xs → HasCode a code (save_locals method (drop left xs) rest)
+      → HasCode b it (save_locals method (take 1 (drop i xs)) (code_of a code)) → HasCode b it (save_locals method (drop i xs) rest)
+  save_step {a = a} {code = code} xs left i e h so one =
+      let P : ℕ → Type 0 = λ n. HasCode a code (save_locals method (drop n xs) rest) in
+      let next = subst P (sym e) so in
+      record { there = one.there; is = one.is ∙ ap (save_locals method (take 1 (drop i xs))) next.is ∙ sym (save_front method rest i xs (omega (arith, e, h))) }
+
+
+  pub restore_step : {a b : Nodes} {code it : ℕ} (xs : List Variable) (left i : ℕ) → suc i ≡ left → left ≤ length xs → HasCode a code (restore_locals method (drop left xs) rest)
+      → HasCode b it (restore_locals method (take 1 (drop i xs)) (code_of a code)) → HasCode b it (restore_locals method (drop i xs) rest)
+  restore_step {a = a} {code = code} xs left i e h so one =
+      let P : ℕ → Type 0 = λ n. HasCode a code (restore_locals method (drop n xs) rest) in
+      let next = subst P (sym e) so in
+      record { there = one.there; is = one.is ∙ ap (restore_locals method (take 1 (drop i xs))) next.is ∙ sym (restore_front method rest i xs (omega (arith, e, h))) }

@@ -1,0 +1,89 @@
+-- What is done for the one item at a place of a list.
+use Rattle.std.proofs.Common.{◌≡◌, ◌<◌, ℕ, zero, suc, length, subst, Result, IfOk, Bool, true, false, ◌&&◌, if◌then◌else◌, List, [], ◌∷◌, drop, take, map, Option, Some, None, refl, sym, ap, ◌∙◌, codes, ◌++◌}
+use Rattle.std.specs.Prelude.{slice_get, option_map}
+use Rattle.std.proofs.lemmas.Option.{same_Some}
+use Rattle.wf_ast.specs.declared.declarations.Var.{Var}
+use Rattle.wf_ast.specs.declared.types.Ty.{Ty}
+use Rattle.wf_ast.specs.declared.typed_nodes.TypedNodes.{TypedNodes}
+use Rattle.wf_ast.specs.TypedPackage.{variable_of}
+use Rattle.wf_ast.specs.TypedTrees.{text_of}
+use Rattle.wf_text.specs.declared.faults.NoMemory.{NoMemory}
+use Rattle.c_text.specs.declared.ids.CStmtId.{CStmtId}
+use Rattle.c_text.specs.CNodes.{Nodes, code_of}
+use Rattle.c_text.specs.CTree.{Code, assign}
+use Rattle.wf_exprs.specs.Grown.{HasCode}
+use Rattle.wf_exprs.specs.Names.{Names}
+use Rattle.wf_exprs.specs.Exprs.{io_code, place_code, end_code}
+use Rattle.wf_lower_stmts.specs.BodyNodes.{save_one, restore_one}
+use Rattle.wf_lower_stmts.specs.Forms.{put, get, save_locals, restore_locals, is_io, is_kept, place_in, end_of}
+
+-- The same code in other words.
+pub retell_code : (nodes : Nodes) (x y : Code) (r : Result CStmtId NoMemory) → x ≡ y → IfOk r (λ it. HasCode nodes it.0 x) → IfOk r (λ it. HasCode nodes it.0 y)
+retell_code nodes x y r e h = let P : Code → Type 0 = λ z. IfOk r (λ it. HasCode nodes it.0 z) in subst P e h
+
+pub code_here : (nodes : Nodes) (code : Code) (s : ℕ) → s < length nodes.stmts → code ≡ code_of nodes s → HasCode nodes s code
+code_here nodes code s h e = record { there = h; is = sym e }
+
+abbrev put_code : Names → (n : ℕ) → Ty → (rest : Code) → Code
+put_code names n ty rest = assign (place_in (io_code names n) ty) (place_code names n) rest
+
+abbrev get_code : Names → (n : ℕ) → Ty → (rest : Code) → Code
+get_code names n ty rest = assign (place_code names n) (place_in (io_code names n) ty) (assign (end_code names n) (end_of (io_code names n) ty) rest)
+
+-- A code for the item, or none.
+choose_both : {X : Type 0} (a b c : Bool) (x y : X) → (a && b) ≡ c → (if a then (if b then x else y) else y) ≡ (if c then x else y)
+choose_both true b c x y h = rw h refl
+choose_both false b true x y h = absurd (cc h)
+choose_both false b false x y h = refl
+
+module _ (nodes : TypedNodes) (names : Names) (picks : ℕ → Bool) (rest : Code) (n : ℕ) where
+  put_here : (k : ℕ) (xs : List Var) (ty : Ty) → option_map (λ x. x.ty) (slice_get xs k) ≡ Some ty
+      → put names picks n (take 1 (drop k (map (variable_of nodes) xs))) rest ≡ (if is_io ty then (if picks n then put_code names n ty rest else rest) else rest)
+  put_here k [] ty h = absurd (cc h)
+  put_here zero (x ∷ xs) ty h = ap (λ t. if is_io t then (if picks n then put_code names n t rest else rest) else rest) (same_Some x.ty ty h)
+  put_here (suc k) (x ∷ xs) ty h = put_here k xs ty h
+
+  get_here : (k : ℕ) (xs : List Var) (ty : Ty) → option_map (λ x. x.ty) (slice_get xs k) ≡ Some ty
+      → get names picks n (take 1 (drop k (map (variable_of nodes) xs))) rest ≡ (if is_io ty then (if picks n then get_code names n ty rest else rest) else rest)
+  get_here k [] ty h = absurd (cc h)
+  get_here zero (x ∷ xs) ty h = ap (λ t. if is_io t then (if picks n then get_code names n t rest else rest) else rest) (same_Some x.ty ty h)
+  get_here (suc k) (x ∷ xs) ty h = get_here k xs ty h
+
+  pub put_done : (k : ℕ) (xs : List Var) (ty : Ty) (c : Bool) → option_map (λ x. x.ty) (slice_get xs k) ≡ Some ty → (is_io ty && picks n) ≡ c
+      → put names picks n (take 1 (drop k (map (variable_of nodes) xs))) rest ≡ (if c then put_code names n ty rest else rest)
+  put_done k xs ty c h same = put_here k xs ty h ∙ choose_both (is_io ty) (picks n) c (put_code names n ty rest) rest same
+
+  pub get_done : (k : ℕ) (xs : List Var) (ty : Ty) (c : Bool) → option_map (λ x. x.ty) (slice_get xs k) ≡ Some ty → (is_io ty && picks n) ≡ c
+      → get names picks n (take 1 (drop k (map (variable_of nodes) xs))) rest ≡ (if c then get_code names n ty rest else rest)
+  get_done k xs ty c h same = get_here k xs ty h ∙ choose_both (is_io ty) (picks n) c (get_code names n ty rest) rest same
+
+module _ (nodes : TypedNodes) (method : List ℕ) (rest : Code) where
+  pub saved_here : (k : ℕ) (xs : List Var) (ty : Ty) (name : List ℕ) → option_map (λ x. x.ty) (slice_get xs k) ≡ Some ty → option_map (λ x. text_of nodes x.name) (slice_get xs k) ≡ Some name → is_kept ty ≡ true
+      → save_locals method (take 1 (drop k (map (variable_of nodes) xs))) rest ≡ save_one method name rest
+  saved_here k [] ty name h is kept = absurd (cc h)
+  saved_here zero (x ∷ xs) ty name h is kept =
+      let t = same_Some x.ty ty h in
+      let e = same_Some (text_of nodes x.name) name is in
+      ap (λ b. if b then save_one method (text_of nodes x.name) rest else rest) (ap is_kept t ∙ kept) ∙ ap (λ l. save_one method l rest) e
+  saved_here (suc k) (x ∷ xs) ty name h is kept = saved_here k xs ty name h is kept
+
+  pub unsaved_here : (k : ℕ) (xs : List Var) (ty : Ty) → option_map (λ x. x.ty) (slice_get xs k) ≡ Some ty → is_kept ty ≡ false
+      → save_locals method (take 1 (drop k (map (variable_of nodes) xs))) rest ≡ rest
+  unsaved_here k [] ty h kept = absurd (cc h)
+  unsaved_here zero (x ∷ xs) ty h kept = ap (λ b. if b then save_one method (text_of nodes x.name) rest else rest) (ap is_kept (same_Some x.ty ty h) ∙ kept)
+  unsaved_here (suc k) (x ∷ xs) ty h kept = unsaved_here k xs ty h kept
+
+  pub restored_here : (k : ℕ) (xs : List Var) (ty : Ty) (name : List ℕ) → option_map (λ x. x.ty) (slice_get xs k) ≡ Some ty → option_map (λ x. text_of nodes x.name) (slice_get xs k) ≡ Some name → is_kept ty ≡ true
+      → restore_locals method (take 1 (drop k (map (variable_of nodes) xs))) rest ≡ restore_one method name rest
+  restored_here k [] ty name h is kept = absurd (cc h)
+  restored_here zero (x ∷ xs) ty name h is kept =
+      let t = same_Some x.ty ty h in
+      let e = same_Some (text_of nodes x.name) name is in
+      ap (λ b. if b then restore_one method (text_of nodes x.name) rest else rest) (ap is_kept t ∙ kept) ∙ ap (λ l. restore_one method l rest) e
+  restored_here (suc k) (x ∷ xs) ty name h is kept = restored_here k xs ty name h is kept
+
+  pub unrestored_here : (k : ℕ) (xs : List Var) (ty : Ty) → option_map (λ x. x.ty) (slice_get xs k) ≡ Some ty → is_kept ty ≡ false
+      → restore_locals method (take 1 (drop k (map (variable_of nodes) xs))) rest ≡ rest
+  unrestored_here k [] ty h kept = absurd (cc h)
+  unrestored_here zero (x ∷ xs) ty h kept = ap (λ b. if b then restore_one method (text_of nodes x.name) rest else rest) (ap is_kept (same_Some x.ty ty h) ∙ kept)
+  unrestored_here (suc k) (x ∷ xs) ty h kept = unrestored_here k xs ty h kept

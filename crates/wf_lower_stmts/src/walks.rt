@@ -1,0 +1,271 @@
+// What stands in a block: jumps of a loop, and statements that begin something before they suspend.
+
+ghost use Rattle.std.specs.Prelude.{◌≡◌, ◌<◌, ◌&&◌, length, nat_lt, IsTrue};
+ghost use Rattle.std.specs.List.{list_all};
+ghost use Rattle.wf_ast.specs.TypedInvariant.{IsTyped, block_below, is_expr, optional_block_below, stmt_below};
+ghost use Rattle.wf_ast.specs.TypedTree.{break_from, continue_in};
+ghost use Rattle.wf_ast.specs.TypedTrees.{block_of};
+ghost use Rattle.wf_ast.specs.WellTyped.{breaks as breaks_in};
+ghost use Rattle.wf_exprs.specs.Making.{is_number_at};
+ghost use Rattle.wf_exprs_nodes.specs.Trees.{node_number};
+ghost use Rattle.wf_lower_stmts.specs.BodyNodes.{base_counts, base_holds, base_sought, call_sought, is_sought, stands, stands_among, stands_at, stands_in_arms, stands_in_else, stands_in_if as among_if, stands_of};
+ghost use Rattle.wf_lower_stmts.specs.Forms.{counts_bytes, holds_something, keeps, stays as stays_number};
+ghost use Rattle.wf_lower_stmts.specs.Lower.{continues as continues_in};
+
+use wf_ast::{Arm, Block, Callee, Expr, ExprId, Stmt, StmtId, Ty, Typed};
+use wf_base::{BaseSig, ReadForm};
+
+/// What is looked for.
+#[derive(Clone, Copy)]
+pub enum Sought {
+    /// A `break` of this loop.
+    Break(StmtId),
+    /// A `continue` of this loop.
+    Continue(StmtId),
+    /// A base call that has something to keep where it suspends.
+    Held,
+    /// A base call that has counted bytes then.
+    Counted,
+}
+
+/// Whether a `break` of the loop stands in the block.
+pub fn breaks(t: &Typed, w: StmtId, body: &Block) -> bool
+    requires typed { IsTyped t.now }
+    requires known { IsTrue (block_below (length t.now.stmts) body.now) }
+    ensures { result ≡ breaks_in w.0 (block_of t.now body.now) }
+{
+    stands_in_body(t, Sought::Break(w), body)
+}
+
+/// Whether a `continue` of the loop stands in the block.
+pub fn continues(t: &Typed, w: StmtId, body: &Block) -> bool
+    requires typed { IsTyped t.now }
+    requires known { IsTrue (block_below (length t.now.stmts) body.now) }
+    ensures { result ≡ continues_in w.0 (block_of t.now body.now) }
+{
+    stands_in_body(t, Sought::Continue(w), body)
+}
+
+/// Whether a statement of the block has something to keep where it suspends.
+pub fn keeps_held(t: &Typed, body: &Block) -> bool
+    requires typed { IsTyped t.now }
+    requires known { IsTrue (block_below (length t.now.stmts) body.now) }
+    ensures { result ≡ keeps holds_something (block_of t.now body.now) }
+{
+    stands_in_body(t, Sought::Held, body)
+}
+
+/// Whether a statement of the block has counted bytes where it suspends.
+pub fn keeps_count(t: &Typed, body: &Block) -> bool
+    requires typed { IsTyped t.now }
+    requires known { IsTrue (block_below (length t.now.stmts) body.now) }
+    ensures { result ≡ keeps counts_bytes (block_of t.now body.now) }
+{
+    stands_in_body(t, Sought::Counted, body)
+}
+
+// Whether what is looked for stands in a whole body.
+fn stands_in_body(t: &Typed, sought: Sought, body: &Block) -> bool
+    requires typed { IsTyped t.now }
+    requires known { IsTrue (block_below (length t.now.stmts) body.now) }
+    ensures { result ≡ stands (is_sought sought) (block_of t.now body.now) }
+{
+    found_among(t, sought, body.items.as_slice())
+}
+
+// Whether it stands in one of these statements.
+fn found_among(t: &Typed, sought: Sought, items: &[StmtId]) -> bool
+    requires typed { IsTyped t.now }
+    requires known { IsTrue (list_all (λ s. nat_lt s.0 (length t.now.stmts)) items.now) }
+    ensures { result ≡ stands_among (stands_at t.now (is_sought sought)) items.now }
+{
+    for s in items {
+        if found_at(t, sought, *s) {
+            return true;
+        }
+    }
+    false
+}
+
+// A statement's node, with what it says of what stands in it.
+fn node(t: &Typed, sought: Sought, s: StmtId) -> &Stmt
+    requires typed { IsTyped t.now }
+    requires known { s.0 < length t.now.stmts }
+    ensures stands { stands_at t.now (is_sought sought) s ≡ stands_of t.now (stands_at t.now (is_sought sought)) sought result.now }
+    ensures below { IsTrue (stmt_below t.now s.0 result.now) }
+{
+    t.stmt(s)
+}
+
+// Whether a statement is what is looked for, or has it in one of its blocks.
+#[cycle(standing)]
+fn found_at(t: &Typed, sought: Sought, s: StmtId) -> bool
+    requires typed { IsTyped t.now }
+    requires known { s.0 < length t.now.stmts }
+    ensures { result ≡ stands_at t.now (is_sought sought) s }
+{
+    match node(t, sought, s) {
+        Stmt::If { arms, otherwise } => found_in_if(t, sought, s, arms.as_slice(), otherwise),
+        Stmt::While { head: _, body } => found_in(t, sought, s, body),
+        Stmt::Break(w) => is_break(sought, *w),
+        Stmt::Continue(w) => is_continue(sought, *w),
+        Stmt::Call { callee, args, .. } => is_sought_call(t, sought, *callee, args.as_slice()),
+        Stmt::Assign { .. } | Stmt::Return(_) | Stmt::Yield(_) | Stmt::Assert { .. } => false,
+    }
+}
+
+// Whether it stands in a block inside the statement `s`.
+#[cycle(standing)]
+fn found_in(t: &Typed, sought: Sought, s: StmtId, block: &Block) -> bool
+    requires typed { IsTyped t.now }
+    requires known { s.0 < length t.now.stmts }
+    requires below { IsTrue (block_below s.0 block.now) }
+    ensures { result ≡ stands_among (stands_at t.now (is_sought sought)) block.now.items }
+{
+    for inner in block.items.as_slice() {
+        if found_at(t, sought, *inner) {
+            return true;
+        }
+    }
+    false
+}
+
+// Whether it stands in an `if`, which is the statement `s`. One without an arm stands for no statement.
+#[cycle(standing)]
+fn found_in_if(
+    t: &Typed,
+    sought: Sought,
+    s: StmtId,
+    arms: &[Arm],
+    otherwise: &Option<Block>,
+) -> bool
+    requires typed { IsTyped t.now }
+    requires known { s.0 < length t.now.stmts }
+    requires arms { IsTrue (list_all (λ a. is_expr t.now a.cond && block_below s.0 a.body) arms.now) }
+    requires otherwise { IsTrue (optional_block_below s.0 otherwise.now) }
+    ensures { result ≡ among_if (stands_at t.now (is_sought sought)) arms.now otherwise.now }
+{
+    if arms.is_empty() {
+        return false;
+    }
+    found_in_arms(t, sought, s, arms) || found_in_else(t, sought, s, otherwise)
+}
+
+#[cycle(standing)]
+fn found_in_arms(t: &Typed, sought: Sought, s: StmtId, arms: &[Arm]) -> bool
+    requires typed { IsTyped t.now }
+    requires known { s.0 < length t.now.stmts }
+    requires below { IsTrue (list_all (λ a. is_expr t.now a.cond && block_below s.0 a.body) arms.now) }
+    ensures { result ≡ stands_in_arms (stands_at t.now (is_sought sought)) arms.now }
+{
+    for arm in arms {
+        if found_in(t, sought, s, &arm.body) {
+            return true;
+        }
+    }
+    false
+}
+
+#[cycle(standing)]
+fn found_in_else(t: &Typed, sought: Sought, s: StmtId, otherwise: &Option<Block>) -> bool
+    requires typed { IsTyped t.now }
+    requires known { s.0 < length t.now.stmts }
+    requires below { IsTrue (optional_block_below s.0 otherwise.now) }
+    ensures { result ≡ stands_in_else (stands_at t.now (is_sought sought)) otherwise.now }
+{
+    match otherwise {
+        Some(block) => found_in(t, sought, s, block),
+        None => false,
+    }
+}
+
+fn is_break(sought: Sought, w: StmtId) -> bool
+    ensures { result ≡ is_sought sought (break_from w.0) }
+{
+    match sought {
+        Sought::Break(v) => v.0 == w.0,
+        Sought::Continue(_) => false,
+        Sought::Held | Sought::Counted => false,
+    }
+}
+
+fn is_continue(sought: Sought, w: StmtId) -> bool
+    ensures { result ≡ is_sought sought (continue_in w.0) }
+{
+    match sought {
+        Sought::Continue(v) => v.0 == w.0,
+        Sought::Break(_) => false,
+        Sought::Held | Sought::Counted => false,
+    }
+}
+
+// Whether a call is what is looked for.
+fn is_sought_call(t: &Typed, sought: Sought, callee: Callee, args: &[ExprId]) -> bool
+    requires args { IsTrue (list_all (is_expr t.now) args.now) }
+    ensures { result ≡ call_sought t.now sought callee args.now }
+{
+    match callee {
+        Callee::Base { on: _, sig } => is_sought_base(t, sought, sig, args),
+        Callee::Own(_) | Callee::Sub { .. } => false,
+    }
+}
+
+fn is_sought_base(t: &Typed, sought: Sought, sig: BaseSig, args: &[ExprId]) -> bool
+    requires args { IsTrue (list_all (is_expr t.now) args.now) }
+    ensures { result ≡ base_sought t.now sought sig args.now }
+{
+    match sought {
+        Sought::Held => holds(t, sig, args),
+        Sought::Counted => counts(sig, args.len()),
+        Sought::Break(_) | Sought::Continue(_) => false,
+    }
+}
+
+// Whether a base call has something to keep where it suspends.
+fn holds(t: &Typed, sig: BaseSig, args: &[ExprId]) -> bool
+    requires args { IsTrue (list_all (is_expr t.now) args.now) }
+    ensures { result ≡ base_holds t.now sig args.now }
+{
+    match sig {
+        BaseSig::Read(ReadForm::ReadU8) => false,
+        BaseSig::Read(_) => args.is_empty(),
+        BaseSig::Skip => args.len() == 1,
+        BaseSig::Write => args.len() == 1 && !stays(t, args[0]),
+        _ => false,
+    }
+}
+
+// Whether it has counted bytes then.
+fn counts(sig: BaseSig, args: usize) -> bool
+    ensures { result ≡ base_counts sig args }
+{
+    match sig {
+        BaseSig::Read(ReadForm::ReadU8) => false,
+        BaseSig::Read(_) => args == 0,
+        _ => false,
+    }
+}
+
+/// Whether a resumed call has a number again: a constant, or a local, which it restores. What is no number stands for a local.
+pub fn stays(t: &Typed, e: ExprId) -> bool
+    requires node { IsTrue (is_expr t.now e) }
+    ensures { result ≡ stays_number (node_number t.now e) }
+{
+    match t.type_of(e) {
+        Ty::Num { .. } => number_stays(t, e),
+        Ty::Flag | Ty::Status | Ty::Reader | Ty::Writer => true,
+        Ty::Slice(_) | Ty::Array { .. } | Ty::Part(_) => true,
+    }
+}
+
+fn number_stays(t: &Typed, e: ExprId) -> bool
+    requires number { IsTrue (is_number_at t.now e) }
+    ensures { result ≡ stays_number (node_number t.now e) }
+{
+    match (t.constant(e), t.expr(e)) {
+        (Some(_), _) => true,
+        (None, Expr::Convert { of, .. }) => number_stays(t, *of),
+        (None, Expr::Local(_)) => true,
+        _ => false,
+    }
+}
