@@ -1,9 +1,11 @@
 pub mod AlikeLaws
+pub mod BodyLaws
 pub mod FrontLaws
 pub mod HereLaws
 pub mod PlaceLaws
 pub mod PointerLaws
 pub mod StandLaws
+pub mod StayLaws
 pub mod TargetLaws
 pub mod WordLaws
 pub mod Cases

@@ -44,6 +44,7 @@ impl<'a> Model for Body<'a> {
 impl<'a> Body<'a> {
     /// The body of the method with this number.
     pub fn new(alloc: Global, t: &'a Typed, points: &'a Points, m: MethodId) -> Body<'a>
+        requires typed { IsTyped t.now }
         requires known { m.0 < length t.now.methods }
         requires words { HasWords t.now }
         requires small { AreSmall points.now.numbers }

@@ -7,12 +7,12 @@ ghost use Rattle.wf_ast.specs.declared.typed_nodes.TypedNodes.{TypedNodes};
 ghost use Rattle.wf_ast.specs.TypedTrees.{named, optional_target, target_of as target_tree, tree_of};
 ghost use Rattle.c_text.specs.CNodes.{code_of, expr_of};
 ghost use Rattle.c_text.specs.CTree as c;
-ghost use Rattle.wf_exprs.specs.Exprs.{lowered_expr, lowered_slice};
+ghost use Rattle.wf_exprs.specs.Exprs.{given as given_code, lowered_cond, lowered_expr, lowered_slice, lowered_status};
 ghost use Rattle.wf_exprs.specs.Grown.{Grows, HasCode, HasExpr};
-ghost use Rattle.wf_exprs.specs.Making.{HasPairAt, is_number_at, is_slice_at, pair_in};
+ghost use Rattle.wf_exprs.specs.Making.{HasPairAt, is_condition_at, is_number_at, is_slice_at, is_status_at, pair_in};
 ghost use Rattle.wf_exprs.specs.Names.{local_length, local_pointer};
 ghost use Rattle.wf_exprs.specs.Scopes.{path_of};
-ghost use Rattle.wf_exprs_nodes.specs.Trees.{node_number, node_slice};
+ghost use Rattle.wf_exprs_nodes.specs.Trees.{node_cond, node_number, node_slice, node_status};
 ghost use Rattle.wf_lower_stmts.specs.declared.targets.Target.TheVariants as targets;
 ghost use Rattle.wf_lower_stmts.specs.BodyNodes.{AreAlike, form_in, is_target, set_local, target_in};
 ghost use Rattle.wf_lower_stmts.specs.Forms.{size_local};
@@ -20,6 +20,7 @@ ghost use Rattle.wf_lower_stmts.specs.Statements.{is_wanted as is_wanted_target,
 
 use crate::body::Body;
 use crate::code::assign;
+use crate::walks::type_at;
 use c_text::{CExprId, CStmtId, Unit};
 use wf_ast::{Expr, ExprId, Ty};
 use wf_exprs::nodes::{element, variable};
@@ -253,6 +254,86 @@ fn set_slice(
     }
 }
 
+/// A number goes to a target.
+fn set_number(
+    b: &Body,
+    u: &mut Unit,
+    target: Target,
+    value: ExprId,
+    rest: CStmtId,
+) -> Result<CStmtId, NoMemory>
+    requires target { is_target b.now.nodes target ≡ true }
+    requires value { IsTrue (is_number_at b.now.nodes value) }
+    requires rest { rest.0 < length u.old.stmts }
+    ensures grows { Grows u.old u.new }
+    ensures made { IfOk result (λ it. HasCode u.new it.0 (put_into_code (form_in b.now).names (target_in b.now.nodes target) (given_code (form_in b.now).names (node_number b.now.nodes value)) (code_of u.old rest.0))) }
+{
+    let given = given(b.scope(), u, value)?;
+    put_into(b, u, target, given, rest)
+}
+
+/// A condition goes to a target.
+fn set_flag(
+    b: &Body,
+    u: &mut Unit,
+    target: Target,
+    value: ExprId,
+    rest: CStmtId,
+) -> Result<CStmtId, NoMemory>
+    requires target { is_target b.now.nodes target ≡ true }
+    requires value { IsTrue (is_condition_at b.now.nodes value) }
+    requires rest { rest.0 < length u.old.stmts }
+    ensures grows { Grows u.old u.new }
+    ensures made { IfOk result (λ it. HasCode u.new it.0 (put_into_code (form_in b.now).names (target_in b.now.nodes target) (lowered_cond (form_in b.now).names (node_cond b.now.nodes value)) (code_of u.old rest.0))) }
+{
+    let given = condition(b.scope(), u, value)?;
+    put_into(b, u, target, given, rest)
+}
+
+/// A status goes to a target.
+fn set_status(
+    b: &Body,
+    u: &mut Unit,
+    target: Target,
+    value: ExprId,
+    rest: CStmtId,
+) -> Result<CStmtId, NoMemory>
+    requires target { is_target b.now.nodes target ≡ true }
+    requires value { IsTrue (is_status_at b.now.nodes value) }
+    requires rest { rest.0 < length u.old.stmts }
+    ensures grows { Grows u.old u.new }
+    ensures made { IfOk result (λ it. HasCode u.new it.0 (put_into_code (form_in b.now).names (target_in b.now.nodes target) (lowered_status (form_in b.now).names (node_status b.now.nodes value)) (code_of u.old rest.0))) }
+{
+    let given = status(b.scope(), u, value)?;
+    put_into(b, u, target, given, rest)
+}
+
+/// A value of any kind goes to a target.
+fn set_any(
+    b: &Body,
+    u: &mut Unit,
+    target: Target,
+    value: ExprId,
+    rest: CStmtId,
+) -> Result<CStmtId, NoMemory>
+    requires target { is_target b.now.nodes target ≡ true }
+    requires value { IsTrue (is_expr b.now.nodes value) }
+    requires rest { rest.0 < length u.old.stmts }
+    ensures grows { Grows u.old u.new }
+    ensures made { IfOk result (λ it. HasCode u.new it.0 (set_value_code (form_in b.now).names (target_in b.now.nodes target) (tree_of b.now.nodes value) (code_of u.old rest.0))) }
+{
+    match type_at(b.typed(), value) {
+        Ty::Num { .. } => set_number(b, u, target, value, rest),
+        Ty::Flag => set_flag(b, u, target, value, rest),
+        Ty::Status => set_status(b, u, target, value, rest),
+        Ty::Slice(_) => set_slice(b, u, target, value, rest),
+        Ty::Array { .. } => set_slice(b, u, target, value, rest),
+        Ty::Reader => Ok(rest),
+        Ty::Writer => Ok(rest),
+        Ty::Part(_) => Ok(rest),
+    }
+}
+
 /// `target = value;` for a value of any kind.
 pub fn set_value(
     b: &Body,
@@ -267,24 +348,5 @@ pub fn set_value(
     ensures grows { Grows u.old u.new }
     ensures made { IfOk result (λ it. HasCode u.new it.0 (set_value_code (form_in b.now).names (target_tree (tree_of b.now.nodes target)) (tree_of b.now.nodes value) (code_of u.old rest.0))) }
 {
-    let target = target_at(b, target);
-    match b.typed().type_of(value) {
-        Ty::Num { .. } => {
-            let given = given(b.scope(), u, value)?;
-            put_into(b, u, target, given, rest)
-        }
-        Ty::Flag => {
-            let given = condition(b.scope(), u, value)?;
-            put_into(b, u, target, given, rest)
-        }
-        Ty::Status => {
-            let given = status(b.scope(), u, value)?;
-            put_into(b, u, target, given, rest)
-        }
-        Ty::Slice(_) => set_slice(b, u, target, value, rest),
-        Ty::Array { .. } => set_slice(b, u, target, value, rest),
-        Ty::Reader => Ok(rest),
-        Ty::Writer => Ok(rest),
-        Ty::Part(_) => Ok(rest),
-    }
+    set_any(b, u, target_at(b, target), value, rest)
 }

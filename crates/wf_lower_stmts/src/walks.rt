@@ -1,10 +1,10 @@
 // What stands in a block: jumps of a loop, and statements that begin something before they suspend.
 
-ghost use Rattle.std.specs.Prelude.{◌≡◌, ◌<◌, ◌&&◌, length, nat_lt, IsTrue};
+ghost use Rattle.std.specs.Prelude.{◌≡◌, ◌<◌, ◌&&◌, true, length, nat_lt, IsTrue};
 ghost use Rattle.std.specs.List.{list_all};
-ghost use Rattle.wf_ast.specs.TypedInvariant.{IsTyped, block_below, is_expr, optional_block_below, stmt_below};
+ghost use Rattle.wf_ast.specs.TypedInvariant.{IsTyped, block_below, is_expr, is_tree_of, optional_block_below, stmt_below};
 ghost use Rattle.wf_ast.specs.TypedTree.{break_from, continue_in};
-ghost use Rattle.wf_ast.specs.TypedTrees.{block_of};
+ghost use Rattle.wf_ast.specs.TypedTrees.{block_of, tree_of, type_of_node};
 ghost use Rattle.wf_ast.specs.WellTyped.{breaks as breaks_in};
 ghost use Rattle.wf_exprs.specs.Making.{is_number_at};
 ghost use Rattle.wf_exprs_nodes.specs.Trees.{node_number};
@@ -246,12 +246,22 @@ fn counts(sig: BaseSig, args: usize) -> bool
     }
 }
 
+/// The type of an expression. Its tree is of the kind of that type.
+pub fn type_at(t: &Typed, e: ExprId) -> Ty
+    requires node { IsTrue (is_expr t.now e) }
+    ensures is { result ≡ type_of_node t.now e.0 }
+    ensures kind { is_tree_of result (tree_of t.now e) ≡ true }
+{
+    let _expr = t.expr(e);
+    t.type_of(e)
+}
+
 /// Whether a resumed call has a number again: a constant, or a local, which it restores. What is no number stands for a local.
 pub fn stays(t: &Typed, e: ExprId) -> bool
     requires node { IsTrue (is_expr t.now e) }
     ensures { result ≡ stays_number (node_number t.now e) }
 {
-    match t.type_of(e) {
+    match type_at(t, e) {
         Ty::Num { .. } => number_stays(t, e),
         Ty::Flag | Ty::Status | Ty::Reader | Ty::Writer => true,
         Ty::Slice(_) | Ty::Array { .. } | Ty::Part(_) => true,
@@ -262,10 +272,17 @@ fn number_stays(t: &Typed, e: ExprId) -> bool
     requires number { IsTrue (is_number_at t.now e) }
     ensures { result ≡ stays_number (node_number t.now e) }
 {
-    match (t.constant(e), t.expr(e)) {
-        (Some(_), _) => true,
-        (None, Expr::Convert { of, .. }) => number_stays(t, *of),
-        (None, Expr::Local(_)) => true,
-        _ => false,
+    let expr = t.expr(e);
+    match t.constant(e) {
+        Some(_) => true,
+        None => match expr {
+            Expr::Convert { of, .. } => number_stays(t, *of),
+            Expr::Local(_) => true,
+            Expr::Number(_) | Expr::Const(_) | Expr::Status(_) => false,
+            Expr::Truth(_) | Expr::Field(_) | Expr::Arg(_) => false,
+            Expr::Index { .. } | Expr::Cut { .. } => false,
+            Expr::Chain { .. } => false,
+            Expr::Not(_) | Expr::Base { .. } => false,
+        },
     }
 }
