@@ -77,7 +77,6 @@ module _ (method : List ℕ) (rest : Code) where
       let next = subst P (sym e) so in
       record { there = one.there; is = one.is ∙ ap (save_locals method (take 1 (drop i xs))) next.is ∙ sym (save_front method rest i xs (omega (arith, e, h))) }
 
-
   pub restore_step : {a b : Nodes} {code it : ℕ} (xs : List Variable) (left i : ℕ) → suc i ≡ left → left ≤ length xs → HasCode a code (restore_locals method (drop left xs) rest)
       → HasCode b it (restore_locals method (take 1 (drop i xs)) (code_of a code)) → HasCode b it (restore_locals method (drop i xs) rest)
   restore_step {a = a} {code = code} xs left i e h so one =

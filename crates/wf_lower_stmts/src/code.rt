@@ -71,11 +71,7 @@ pub fn jump(u: &mut Unit, label: CNameId, rest: CStmtId) -> Result<CStmtId, NoMe
 }
 
 /// `return;` or `return value;`
-pub fn leave(
-    u: &mut Unit,
-    value: Option<CExprId>,
-    rest: CStmtId,
-) -> Result<CStmtId, NoMemory>
+pub fn leave(u: &mut Unit, value: Option<CExprId>, rest: CStmtId) -> Result<CStmtId, NoMemory>
     requires value { IfSome value (λ e. e.0 < length u.old.exprs) }
     requires rest { rest.0 < length u.old.stmts }
     ensures grows { Grows u.old u.new }
@@ -85,12 +81,7 @@ pub fn leave(
 }
 
 /// `if (test) { body }`
-pub fn when(
-    u: &mut Unit,
-    test: CExprId,
-    body: CStmtId,
-    rest: CStmtId,
-) -> Result<CStmtId, NoMemory>
+pub fn when(u: &mut Unit, test: CExprId, body: CStmtId, rest: CStmtId) -> Result<CStmtId, NoMemory>
     requires test { test.0 < length u.old.exprs }
     requires body { body.0 < length u.old.stmts }
     requires rest { rest.0 < length u.old.stmts }

@@ -56,12 +56,7 @@ fn save_local(b: &Body, u: &mut Unit, name: &[u8], rest: CStmtId) -> Result<CStm
     assign(u, field, local, rest)
 }
 
-fn restore_local(
-    b: &Body,
-    u: &mut Unit,
-    name: &[u8],
-    rest: CStmtId,
-) -> Result<CStmtId, NoMemory>
+fn restore_local(b: &Body, u: &mut Unit, name: &[u8], rest: CStmtId) -> Result<CStmtId, NoMemory>
     requires word { list_all is_word_byte name.now ≡ true }
     requires rest { rest.0 < length u.old.stmts }
     ensures grows { Grows u.old u.new }

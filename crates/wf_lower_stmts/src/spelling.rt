@@ -96,12 +96,7 @@ fn struct_text(alloc: Global, t: &Typed, s: StructId) -> Result<Vec<u8>, NoMemor
 }
 
 /// The type of a struct.
-pub fn struct_type(
-    alloc: Global,
-    t: &Typed,
-    u: &mut Unit,
-    s: StructId,
-) -> Result<CNameId, NoMemory>
+pub fn struct_type(alloc: Global, t: &Typed, u: &mut Unit, s: StructId) -> Result<CNameId, NoMemory>
     requires known { s.0 < length t.now.structs }
     requires words { HasWords t.now }
     ensures grows { Grows u.old u.new }
@@ -128,12 +123,7 @@ pub fn initialize_name(
 }
 
 /// A method as its callers outside see it.
-pub fn entry_name(
-    alloc: Global,
-    t: &Typed,
-    u: &mut Unit,
-    m: &Method,
-) -> Result<CNameId, NoMemory>
+pub fn entry_name(alloc: Global, t: &Typed, u: &mut Unit, m: &Method) -> Result<CNameId, NoMemory>
     requires words { HasWords t.now }
     requires spelt { is_spelt_method t.now m.now ≡ true }
     ensures grows { Grows u.old u.new }
@@ -145,18 +135,19 @@ pub fn entry_name(
 }
 
 /// The body of a method.
-pub fn body_name(
-    alloc: Global,
-    t: &Typed,
-    u: &mut Unit,
-    m: &Method,
-) -> Result<CNameId, NoMemory>
+pub fn body_name(alloc: Global, t: &Typed, u: &mut Unit, m: &Method) -> Result<CNameId, NoMemory>
     requires words { HasWords t.now }
     requires spelt { is_spelt_method t.now m.now ≡ true }
     ensures grows { Grows u.old u.new }
     ensures made { IfOk result (λ n. HasNamed u.new n.0 (body_name_of t.now m.now)) }
 {
-    let text = joined(alloc, b"body_", struct_called(t, m.of), b"__", t.text(m.name))?;
+    let text = joined(
+        alloc,
+        b"body_",
+        struct_called(t, m.of),
+        b"__",
+        t.text(m.name),
+    )?;
     put_name(u, text.as_slice())
 }
 

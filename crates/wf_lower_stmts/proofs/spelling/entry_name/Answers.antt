@@ -27,6 +27,6 @@ returns-clause-made c =
     let of = c.as_slice.ensures.value ∙ c.in_ok-of.ensures.is in
     let named = ap (λ o. unwrap_or o []) c.text.ensures in
     let whole = c.as_slice-2.ensures.value ∙ c.in_ok-text.ensures ∙ entry_is c.args.t.now c.args.m.now.of.0 c.as_slice.result.now c.text.result.now of
-        ∙ ap (λ x. struct_type p c.args.m.now.of.0 ++ (codes "__" ++ x)) (sym named) in
+    ∙ ap (λ x. struct_type p c.args.m.now.of.0 ++ (codes "__" ++ x)) (sym named) in
     let P : List ℕ → Type 0 = λ z. IfOk c.put_name.result (λ n. HasNamed c.put_name.new.u n.0 z) in
     subst P whole c.put_name.ensures.made

@@ -10,5 +10,5 @@ returns-clause-kind c =
     let e = c.args.e in
     let ty = type_of_node nodes e.0 in
     let kind : is_tree_of ty (made_or_number (tree_of nodes) (place_of_node nodes e.0) (signs_of_node nodes e.0) ty (constant_of_node nodes e.0) c.expr-expr.result.now) ≡ true =
-        made_or_number_kind nodes (tree_of nodes) (place_of_node nodes e.0) (signs_of_node nodes e.0) ty (constant_of_node nodes e.0) c.expr-expr.result.now c.expr-expr.ensures.kinds in
+    made_or_number_kind nodes (tree_of nodes) (place_of_node nodes e.0) (signs_of_node nodes e.0) ty (constant_of_node nodes e.0) c.expr-expr.result.now c.expr-expr.ensures.kinds in
     rw (c.type_of.ensures, c.expr-expr.ensures.made) kind
