@@ -1,6 +1,6 @@
 -- How many brackets an expression opens: no more than five for each that stands inside another.
 use Rattle.std.proofs.Common.{◌≡◌, ℕ, ◌+◌, ◌-◌, ◌*◌, ◌≤◌, Bool, true, false, ◌&&◌, ◌||◌, List, Option, Some, None, nat_eq, refl, sym, subst, arith}
-use Rattle.std.specs.Prelude.{nat_le, nat_lt}
+use Rattle.std.specs.Prelude.{if◌then◌else◌, nat_le, nat_lt}
 use Rattle.std.proofs.lemmas.Bool.Decides.{nat_tests}
 use Rattle.std.proofs.lemmas.Slice.Eq.{bytes_eq-Decides}
 use Rattle.wf_text.specs.declared.place.Place.{Place}
@@ -17,7 +17,7 @@ use Rattle.c_text.specs.declared.kinds.COp.TheVariants.{Add, Sub, Mul, Div, Rem,
 use Rattle.c_text.specs.declared.kinds.CUnary.{CUnary}
 use Rattle.c_text.specs.declared.kinds.CUnary.TheVariants.{Not}
 use Rattle.c_text.specs.CSpelling.{op_bytes}
-use Rattle.c_text.specs.CTree.{TypeTree, ExprTree, variable, member, operation, unary, cast, choice, called, Operands, no_operand, operand}
+use Rattle.c_text.specs.CTree.{TypeTree, ExprTree, variable, member, operation, unary, cast, choice, called, Operands, no_operand, operand, Args, no_arg, expr_arg}
 use Rattle.c_text.specs.CTree as c
 use Rattle.wf_exprs.specs.Names.{Names}
 use Rattle.wf_exprs.specs.Words.{num, uint_of, two}
