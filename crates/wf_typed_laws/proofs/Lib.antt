@@ -1,7 +1,10 @@
-pub mod ListLemmas
-pub mod TokenNames
+pub mod ApartNames
 pub mod DeclNames
-pub mod ReadNames
 pub mod KeptNames
-pub mod TypedNames
+pub mod ListLemmas
 pub mod NodeNames
+pub mod Owners
+pub mod ReadNames
+pub mod StatusTexts
+pub mod TokenNames
+pub mod TypedNames

@@ -1,7 +1,7 @@
--- The names that the declarations of a package that is read declare are spelt as names.
-use Rattle.std.proofs.Common.{◌≡◌, ◌+◌, ◌-◌, ◌⊎◌, inl, inr, ℕ, Some, List, [], ◌∷◌, ◌++◌, length, slice_get, sym, ◌∙◌, ap, subst, append_assoc, append-nil}
+-- The names that the declarations of a package that is read declare are spelt as names, and the texts of statuses as texts.
+use Rattle.std.proofs.Common.{◌≡◌, ◌+◌, ◌-◌, ◌⊎◌, inl, inr, ℕ, true, Some, List, [], ◌∷◌, ◌++◌, length, take, drop, slice_get, refl, sym, ◌∙◌, ap, subst, append_assoc, append-nil, length-append, arith}
 use Rattle.std.specs.Bool.{⊤}
-use Rattle.std.specs.List.{AllByRecursion}
+use Rattle.std.specs.List.{AllByRecursion, list_all}
 use Rattle.wf_ast.specs.ParsedParts.{Parsed}
 use Rattle.wf_ast.specs.ParsedTree.{DeclTree}
 use Rattle.wf_parse_grammar.specs.declared.tokens.Kind.{Kind}
@@ -16,9 +16,10 @@ use Rattle.wf_tokens.specs.declared.symbols.Comparison.{Comparison}
 use Rattle.wf_tokens.specs.declared.symbols.Comparison.TheVariants as comparisons
 use Rattle.wf_tokens.specs.declared.symbols.Operator.{Operator}
 use Rattle.wf_tokens.specs.declared.symbols.Operator.TheVariants as operators
-use Rattle.wf_tokens.specs.Pieces.{IsPiece, IsName}
+use Rattle.wf_tokens.specs.Pieces.{IsPiece, IsName, IsText}
+use Rattle.wf_tokens.specs.Runs.{is_text_byte}
 use Rattle.wf_tokens.specs.Spelling.{State, Item, Reads, ReadsPiece, MakesSemicolon, ReadsAll, start}
-use Rattle.wf_parse.specs.Kinds.{KindIs, word_kind, comparison_kind, operator_kind, symbol_kind}
+use Rattle.wf_parse.specs.Kinds.{KindIs, unquoted, word_kind, comparison_kind, operator_kind, symbol_kind}
 use Rattle.wf_parse.specs.Lexing.{TokensAre}
 use Rattle.wf_parse.specs.Parsing.{ReadsFiles, IsParsed, decls_of}
 use Rattle.wf_parse.proofs.Lexed.{tokens_stay}
@@ -34,9 +35,15 @@ pub record IsSpelt (texts : List (List ℕ)) (n : ℕ) : Type 0 where
   pub there : slice_get texts n ≡ Some text
   pub spelt : IsName text
 
-module _ (Good : ℕ → Type 0) where
+-- The text with this number may stand between quotes.
+pub record IsQuoted (texts : List (List ℕ)) (n : ℕ) : Type 0 where
+  pub text : List ℕ
+  pub there : slice_get texts n ≡ Some text
+  pub plain : list_all is_text_byte text ≡ true
+
+module _ (Good Fine : ℕ → Type 0) where
   -- Words and symbols bring no name.
-  word-good : (word : Word) → KindIsGood Good (word_kind word)
+  word-good : (word : Word) → KindIsGood Good Fine (word_kind word)
   word-good words.And = tt
   word-good words.Args = tt
   word-good words.Array = tt
@@ -71,7 +78,7 @@ module _ (Good : ℕ → Type 0) where
   word-good words.While = tt
   word-good words.Yield = tt
 
-  comparison-good : (comparison : Comparison) → KindIsGood Good (comparison_kind comparison)
+  comparison-good : (comparison : Comparison) → KindIsGood Good Fine (comparison_kind comparison)
   comparison-good comparisons.Equal = tt
   comparison-good comparisons.NotEqual = tt
   comparison-good comparisons.Less = tt
@@ -79,7 +86,7 @@ module _ (Good : ℕ → Type 0) where
   comparison-good comparisons.Greater = tt
   comparison-good comparisons.GreaterOrEqual = tt
 
-  operator-good : (operator : Operator) → KindIsGood Good (operator_kind operator)
+  operator-good : (operator : Operator) → KindIsGood Good Fine (operator_kind operator)
   operator-good operators.Add = tt
   operator-good operators.Sub = tt
   operator-good operators.Mul = tt
@@ -97,7 +104,7 @@ module _ (Good : ℕ → Type 0) where
   operator-good operators.SatAdd = tt
   operator-good operators.SatSub = tt
 
-  symbol-good : (symbol : Symbol) → KindIsGood Good (symbol_kind symbol)
+  symbol-good : (symbol : Symbol) → KindIsGood Good Fine (symbol_kind symbol)
   symbol-good symbols.OpenParen = tt
   symbol-good symbols.CloseParen = tt
   symbol-good symbols.OpenBracket = tt
@@ -118,15 +125,16 @@ module _ (Good : ℕ → Type 0) where
   symbol-good (symbols.Operator operator) = operator-good operator
   symbol-good (symbols.Assign operator) = tt
 
--- What is spelt where a name stands.
+-- What is spelt where a name or a text stands.
 abbrev IsNamed : TokenKind → List ℕ → Type 0
 IsNamed spelt.Name text = IsName text
+IsNamed spelt.Text text = IsText text
 IsNamed kind text = ⊤
 
 piece-named : (kind : TokenKind) (text rest : List ℕ) → IsPiece kind text rest → IsNamed kind text
 piece-named spelt.Name text rest p = p.spells
 piece-named (spelt.Number value) text rest p = tt
-piece-named spelt.Text text rest p = tt
+piece-named spelt.Text text rest p = p
 piece-named (spelt.Keyword word) text rest p = tt
 piece-named (spelt.Symbol symbol) text rest p = tt
 
@@ -140,16 +148,29 @@ read-named old item new r = by_case r.1
         let P : TokenKind → Type 0 = λ kind. IsNamed kind item.text in
         subst P (sym semicolon) tt
 
-kind-spelt : (texts : List (List ℕ)) (kind : TokenKind) (text : List ℕ) (k : Kind) → IsNamed kind text → KindIs texts kind text k → KindIsGood (IsSpelt texts) k
+-- Between its quotes a text has what it is spelt with.
+front-of : (inner rest : List ℕ) (n : ℕ) → n ≡ length inner → take n (inner ++ rest) ≡ inner
+front-of [] rest n e = ap (λ (k : ℕ). take k rest) e
+front-of (b ∷ inner) rest n e = ap (λ (k : ℕ). take k (b ∷ (inner ++ rest))) e ∙ ap (λ xs. b ∷ xs) (front-of inner rest (length inner) refl)
+
+inner-unquoted : (text : List ℕ) (t : IsText text) → unquoted text ≡ t.inner
+inner-unquoted text t =
+    let long : length (t.inner ++ 34 ∷ []) ≡ length t.inner + 1 = length-append t.inner (34 ∷ []) in
+    let count : length (34 ∷ (t.inner ++ 34 ∷ [])) - 2 ≡ length t.inner = omega (arith, long) in
+    ap unquoted t.quoted ∙ front-of t.inner (34 ∷ []) (length (34 ∷ (t.inner ++ 34 ∷ [])) - 2) count
+
+kind-spelt : (texts : List (List ℕ)) (kind : TokenKind) (text : List ℕ) (k : Kind) → IsNamed kind text → KindIs texts kind text k → KindIsGood (IsSpelt texts) (IsQuoted texts) k
 kind-spelt texts spelt.Name text k named is =
     let there : IsSpelt texts is.0.0 = record { text = text; there = is.2; spelt = named } in
-    subst (KindIsGood (IsSpelt texts)) (sym is.1) there
-kind-spelt texts (spelt.Number value) text k named is = subst (KindIsGood (IsSpelt texts)) (sym is) tt
-kind-spelt texts spelt.Text text k named is = subst (KindIsGood (IsSpelt texts)) (sym is.1) tt
-kind-spelt texts (spelt.Keyword word) text k named is = subst (KindIsGood (IsSpelt texts)) (sym is) (word-good (IsSpelt texts) word)
-kind-spelt texts (spelt.Symbol symbol) text k named is = subst (KindIsGood (IsSpelt texts)) (sym is) (symbol-good (IsSpelt texts) symbol)
+    subst (KindIsGood (IsSpelt texts) (IsQuoted texts)) (sym is.1) there
+kind-spelt texts (spelt.Number value) text k named is = subst (KindIsGood (IsSpelt texts) (IsQuoted texts)) (sym is) tt
+kind-spelt texts spelt.Text text k named is =
+    let there : IsQuoted texts is.0.0 = record { text = unquoted text; there = is.2; plain = ap (list_all is_text_byte) (inner-unquoted text named) ∙ named.plain } in
+    subst (KindIsGood (IsSpelt texts) (IsQuoted texts)) (sym is.1) there
+kind-spelt texts (spelt.Keyword word) text k named is = subst (KindIsGood (IsSpelt texts) (IsQuoted texts)) (sym is) (word-good (IsSpelt texts) (IsQuoted texts) word)
+kind-spelt texts (spelt.Symbol symbol) text k named is = subst (KindIsGood (IsSpelt texts) (IsQuoted texts)) (sym is) (symbol-good (IsSpelt texts) (IsQuoted texts) symbol)
 
-tokens-spelt : (texts : List (List ℕ)) (old : State) (items : List Item) (new : State) (tokens : List Token) → ReadsAll old items new → TokensAre texts items tokens → AreGood (IsSpelt texts) tokens
+tokens-spelt : (texts : List (List ℕ)) (old : State) (items : List Item) (new : State) (tokens : List Token) → ReadsAll old items new → TokensAre texts items tokens → AreGood (IsSpelt texts) (IsQuoted texts) tokens
 tokens-spelt texts old [] new [] r a = tt
 tokens-spelt texts old [] new (t ∷ ts) r a = absurd a
 tokens-spelt texts old (item ∷ items) new [] r a = absurd a
@@ -173,7 +194,7 @@ files-grow number most known (bytes ∷ files) texts trees r =
     (one.0 ++ others.0, others.1 ∙ ap (λ (xs : List (List ℕ)). xs ++ others.0) (here.texts_are ∙ one.1) ∙ append_assoc known one.0 others.0)
 
 abbrev AreSpelt : List (List ℕ) → List DeclTree → Type 0
-AreSpelt texts trees = AllByRecursion (DeclIsGood (IsSpelt texts)) trees
+AreSpelt texts trees = AllByRecursion (DeclIsGood (IsSpelt texts) (IsQuoted texts)) trees
 
 files-spelt : (number most : ℕ) (known : List (List ℕ)) (files : List (List ℕ)) (texts : List (List ℕ)) (trees : List DeclTree) → ReadsFiles number most known files texts trees → AreSpelt texts trees
 files-spelt number most known [] texts trees r = subst (AreSpelt texts) (sym r.1) tt
@@ -184,9 +205,9 @@ files-spelt number most known (bytes ∷ files) texts trees r =
     let P : List (List ℕ) → Type 0 = λ xs. TokensAre xs here.items r.1 in
     let stay : TokensAre texts here.items r.1 = subst P (sym grown.1) (tokens_stay r.0 grown.0 here.items r.1 here.tokens_are) in
     let tokens = tokens-spelt texts (start number bytes) here.items here.spelt.last r.1 here.spelt.reads stay in
-    let own : AreSpelt texts r.2 = subst (AreSpelt texts) (sym accepted.means) (file-good (IsSpelt texts) accepted.file (subst (AreGood (IsSpelt texts)) accepted.text tokens)) in
+    let own : AreSpelt texts r.2 = subst (AreSpelt texts) (sym accepted.means) (file-good (IsSpelt texts) (IsQuoted texts) accepted.file (subst (AreGood (IsSpelt texts) (IsQuoted texts)) accepted.text tokens)) in
     let others = files-spelt (number + 1) (most - length r.1) r.0 files texts r.3 r.5 in
-    subst (AreSpelt texts) (sym r.6) (all-append (DeclIsGood (IsSpelt texts)) r.2 r.3 own others)
+    subst (AreSpelt texts) (sym r.6) (all-append (DeclIsGood (IsSpelt texts) (IsQuoted texts)) r.2 r.3 own others)
 
-pub names-spelt : (name : List ℕ) (files : List (List ℕ)) (read : Parsed) → IsParsed name files read → AllByRecursion (DeclIsGood (IsSpelt read.texts)) (decls_of read)
+pub names-spelt : (name : List ℕ) (files : List (List ℕ)) (read : Parsed) → IsParsed name files read → AllByRecursion (DeclIsGood (IsSpelt read.texts) (IsQuoted read.texts)) (decls_of read)
 names-spelt name files read is = files-spelt 0 262144 [] files read.texts (decls_of read) is.read

@@ -21,10 +21,10 @@ use Rattle.wf_typed_tree.specs.ElaboratedStmts.{count_block}
 use Rattle.wf_typed_laws.specs.PlainNames.{IsPlain, ArePlain, HasPlainFields, HasPlainVariables, HasPlainNames, ReadNamesArePlain}
 use Rattle.wf_typed_laws.proofs.ListLemmas.{all-both}
 use Rattle.wf_typed_laws.proofs.DeclNames.{DeclIsGood}
-use Rattle.wf_typed_laws.proofs.ReadNames.{IsSpelt, names-spelt}
+use Rattle.wf_typed_laws.proofs.ReadNames.{IsQuoted, IsSpelt, names-spelt}
 use Rattle.wf_typed_laws.proofs.KeptNames.{VariablesHave, StructureHas, MethodHas, free-structs, free-methods}
 
-abbrev NameIsSpelt : List (List ℕ) → Name → Type 0
+abbrev pub NameIsSpelt : List (List ℕ) → Name → Type 0
 NameIsSpelt texts name = IsSpelt texts name.text.0
 
 abbrev NameIsFree : Declared → Name → Type 0
@@ -34,14 +34,14 @@ abbrev NameIsPlain : Declared → Name → Type 0
 NameIsPlain d name = IsPlain (text_of d name.text.0)
 
 -- What is read, by structs and by methods.
-spelt-structs : (texts : List (List ℕ)) (decls : List DeclTree) → AllByRecursion (DeclIsGood (IsSpelt texts)) decls → AllByRecursion (StructureHas (NameIsSpelt texts)) (structs_of decls)
+pub spelt-structs : (texts : List (List ℕ)) (decls : List DeclTree) → AllByRecursion (DeclIsGood (IsSpelt texts) (IsQuoted texts)) decls → AllByRecursion (StructureHas (NameIsSpelt texts)) (structs_of decls)
 spelt-structs texts [] a = tt
 spelt-structs texts (parsed.status public text at ∷ decls) a = spelt-structs texts decls a.1
 spelt-structs texts (parsed.constant public name of value at ∷ decls) a = spelt-structs texts decls a.1
 spelt-structs texts (parsed.structure public name mark fields at ∷ decls) a = ((a.0.0, a.0.1), spelt-structs texts decls a.1)
 spelt-structs texts (parsed.method public owner name mark args result body at ∷ decls) a = spelt-structs texts decls a.1
 
-spelt-methods : (texts : List (List ℕ)) (decls : List DeclTree) → AllByRecursion (DeclIsGood (IsSpelt texts)) decls → AllByRecursion (MethodHas (NameIsSpelt texts)) (methods_of decls)
+pub spelt-methods : (texts : List (List ℕ)) (decls : List DeclTree) → AllByRecursion (DeclIsGood (IsSpelt texts) (IsQuoted texts)) decls → AllByRecursion (MethodHas (NameIsSpelt texts)) (methods_of decls)
 spelt-methods texts [] a = tt
 spelt-methods texts (parsed.status public text at ∷ decls) a = spelt-methods texts decls a.1
 spelt-methods texts (parsed.constant public name of value at ∷ decls) a = spelt-methods texts decls a.1
@@ -90,7 +90,7 @@ module _ (d : Declared) where
         let k = standing_at d (method_scope d m) in
         (record { name = a.0.0; args = typed-variables roles.Arg k refl (variables args) a.0.1; locals = typed-variables roles.Local k refl (locals_of body) a.0.2 }, methods-plain (n + count_block (method_in d mark m).body) decls a.1)
 
-plain-names : (name : List ℕ) (texts : List (List ℕ)) (decls : List DeclTree) (order : List ℕ) → AllByRecursion (DeclIsGood (IsSpelt texts)) decls
+plain-names : (name : List ℕ) (texts : List (List ℕ)) (decls : List DeclTree) (order : List ℕ) → AllByRecursion (DeclIsGood (IsSpelt texts) (IsQuoted texts)) decls
     → ((refusal : Refusal) → Breaks (declared texts decls) refusal → ⊥) → HasPlainNames (typed_package (resolved_package name texts decls order))
 unfolding typed_package
 plain-names name texts decls order spelt kept =

@@ -1,1 +1,4 @@
+pub mod Owners
 pub mod PlainNames
+pub mod StatusTexts
+pub mod ApartNames

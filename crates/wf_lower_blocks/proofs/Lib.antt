@@ -1,2 +1,0 @@
-pub mod AlikeLaws
-pub mod NodeLaws
