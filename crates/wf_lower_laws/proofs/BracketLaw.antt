@@ -24,7 +24,7 @@ use Rattle.wf_exprs.specs.Helpers.{saturating, saturating_value}
 use Rattle.wf_exprs.specs.Exprs.{chained}
 use Rattle.wf_lower_stmts.specs.Forms.{Form, form_of, resume_local, status_local, is_io, when_some}
 use Rattle.wf_lower_stmts.specs.Lower.{ending, tail_of, top}
-use Rattle.wf_lower.specs.Bodies.{params_of, io_locals, local_of, locals_of, further_locals, resume_of, only_read, touched, resumed, statements_of, body_code, fixed_locals, own_names, body_locals, body_function, refuse, refused_with, wrong_number, wrong_arg, wrong_args, either_of, when_any, when_disabled, when_other, disable_if_marked, table, settle_if_coroutine, answer_locals, answer_in, answered, handed, entry_code, entry_function}
+use Rattle.wf_lower.specs.Bodies.{params_of, io_locals, bytes_locals, local_of, locals_of, further_locals, resume_of, only_read, touched, resumed, statements_of, body_code, fixed_locals, own_names, body_locals, body_function, refuse, refused_with, wrong_number, wrong_arg, wrong_args, either_of, when_any, when_disabled, when_other, disable_if_marked, table, settle_if_coroutine, answer_locals, answer_in, answered, handed, entry_code, entry_function}
 use Rattle.wf_lower.specs.Unit.{initialize_part, initialize_parts, initialize_code, initialize_function, lowered_unit}
 use Rattle.wf_lower_laws.specs.BracketLaw.{block_within, TextsAreShallow}
 use Rattle.wf_lower_laws.proofs.OpenBrackets.{LocalsOpen, ItemOpens, unit_shallow}
@@ -79,6 +79,11 @@ io_open f n [] = tt
 io_open f n (x ∷ xs) =
     locals_if (is_io x.ty) _ (io_locals f (suc n) xs) ((place_by 1 f.names n x.ty).by 1 (omega arith), ((end_by 1 f.names n x.ty (omega arith)).by 1 (omega arith), io_open f (suc n) xs)) (io_open f (suc n) xs)
 
+bytes_open : (f : Form) (n : ℕ) (xs : List Variable) → LocalsOpen (bytes_locals f n xs)
+bytes_open f n [] = tt
+bytes_open f n (x ∷ xs) =
+    locals_if (is_io x.ty) _ (bytes_locals f (suc n) xs) (tt, bytes_open f (suc n) xs) (bytes_open f (suc n) xs)
+
 local_open : (name : List ℕ) (ty : Ty) → LocalsOpen (local_of (record { name = name; ty = ty }))
 local_open name (types.Num width lo hi) = (tt, tt)
 local_open name types.Flag = (tt, tt)
@@ -100,8 +105,9 @@ read_open code (l ∷ ls) h = locals_if (code_reads l.name code) (l ∷ only_rea
 body_locals_open : (f : Form) → LocalsOpen (body_locals f)
 body_locals_open f =
     locals_both (fixed_locals f) _ (locals_both (io_locals f 0 f.method.args) (locals_of f.method.locals) (io_open f 0 f.method.args) (all_open f.method.locals))
+    (locals_both (only_read (body_code f) (bytes_locals f 0 f.method.args)) _ (read_open (body_code f) (bytes_locals f 0 f.method.args) (bytes_open f 0 f.method.args))
     (locals_both (only_read (body_code f) further_locals) _ (read_open (body_code f) further_locals (tt, (tt, (tt, (tt, (tt, tt))))))
-    (locals_if (is_coroutine f.method.mark) (resume_of f.method ∷ []) [] (tt, tt) tt))
+    (locals_if (is_coroutine f.method.mark) (resume_of f.method ∷ []) [] (tt, tt) tt)))
 
 body_opens : (p : PackageTree) (m : MethodTree) → block_within 49 m.body ≡ true → ItemOpens (body_function (form_of p m))
 body_opens p m h =

@@ -1,6 +1,6 @@
 -- How many brackets the statements of a text open.
-use Rattle.std.proofs.Common.{◌≡◌, ℕ, zero, suc, ◌+◌, ◌-◌, ◌*◌, ◌/◌, ◌≤◌, Bool, true, false, ◌&&◌, List, [], ◌∷◌, ◌++◌, Option, Some, None, arith}
-use Rattle.std.specs.Prelude.{nat_eq, nat_le, slice_get, codes}
+use Rattle.std.proofs.Common.{◌≡◌, ℕ, zero, suc, ◌+◌, ◌-◌, ◌*◌, ◌/◌, ◌≤◌, Bool, true, false, ◌&&◌, List, [], ◌∷◌, ◌++◌, Option, Some, None, refl, arith}
+use Rattle.std.specs.Prelude.{if◌then◌else◌, nat_eq, nat_le, slice_get, codes}
 use Rattle.std.specs.List.{list_all}
 use Rattle.wf_base.specs.declared.base_methods.ReadForm.{ReadForm}
 use Rattle.wf_base.specs.declared.base_methods.ReadForm.TheVariants.{ReadU8, ReadU16Be, ReadU16Le, ReadU32Be, ReadU32Le, ReadU64Be, ReadU64Le}
@@ -19,7 +19,7 @@ use Rattle.c_text.specs.declared.kinds.COp.TheVariants.{Add, Sub, Mul, Shl, Lt, 
 use Rattle.c_text.specs.declared.kinds.CUnary.TheVariants.{Address}
 use Rattle.c_text.specs.declared.kinds.CNumber.TheVariants.{Int}
 use Rattle.c_text.specs.declared.kinds.Otherwise.TheVariants as else_is
-use Rattle.c_text.specs.CTree.{ExprTree, Code, finish, empty, leave, case_label, name_label}
+use Rattle.c_text.specs.CTree.{ExprTree, variable, Args, Code, finish, empty, leave, case_label, name_label, select}
 use Rattle.c_text.specs.CTree as c
 use Rattle.wf_exprs.specs.Names.{Names, again_label, behind_label}
 use Rattle.wf_exprs.specs.Words.{num, two, args}

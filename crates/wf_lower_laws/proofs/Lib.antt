@@ -1,6 +1,5 @@
 pub mod Apart
 pub mod Bodies
-pub mod OpenBrackets
 pub mod BracketLaw
 pub mod Cases
 pub mod CodeBrackets
@@ -21,7 +20,10 @@ pub mod Loops
 pub mod NameLaw
 pub mod Names
 pub mod Numbers
+pub mod OpenBrackets
+pub mod Orders
 pub mod OwnNames
 pub mod Straight
+pub mod Surfaces
 pub mod Weights
 pub mod Whiles

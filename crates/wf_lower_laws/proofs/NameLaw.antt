@@ -14,12 +14,12 @@ use Rattle.c_meaning.specs.UnitForm.{is_among, all_distinct, is_library, item_na
 use Rattle.wf_exprs.specs.Names.{named}
 use Rattle.wf_exprs.specs.Helpers.{saturating}
 use Rattle.wf_lower_stmts.specs.Forms.{Form, form_of}
-use Rattle.wf_lower.specs.Bodies.{params_of, io_locals, locals_of, further_locals, resume_of, only_read, body_code, fixed_locals, body_locals, body_function, answer_locals, entry_function}
+use Rattle.wf_lower.specs.Bodies.{params_of, io_locals, bytes_locals, locals_of, further_locals, resume_of, only_read, body_code, fixed_locals, body_locals, body_function, answer_locals, entry_function}
 use Rattle.wf_lower.specs.Unit.{initialize_function, lowered_unit}
 use Rattle.wf_lower_laws.specs.NameLaw.{begins, is_own_name, are_named, OwnNames, TextsNameApart}
 use Rattle.wf_lower_laws.proofs.Names.{both_hold, among_passes, distinct_by, is_item}
 use Rattle.wf_lower_laws.proofs.Items.{Each, each_at, in_unit}
-use Rattle.wf_lower_laws.proofs.OwnNames.{names, args_labels, args_distinct, args_all, labels, From, io_distinct, io_all, locals_distinct, locals_all, read_all, read_distinct, all_both, labels_both, map_both}
+use Rattle.wf_lower_laws.proofs.OwnNames.{names, args_labels, args_distinct, args_all, labels, From, io_distinct, io_all, bytes_distinct, bytes_all, locals_distinct, locals_all, read_all, read_distinct, all_both, labels_both, map_both}
 
 -- ---- tests of names
 
@@ -53,6 +53,7 @@ record Passes (T : List ℕ → Bool) : Type 0 where
   args : (x : List ℕ) → is_word_name x ≡ true → (T (codes "a_" ++ x) ≡ true) × ((T (codes "ap_" ++ x) ≡ true) × (T (codes "al_" ++ x) ≡ true))
   places : (x : List ℕ) → is_word_name x ≡ true → (T (codes "p_" ++ x) ≡ true) × (T (codes "e_" ++ x) ≡ true)
   locals : (x : List ℕ) → is_word_name x ≡ true → (T (codes "v_" ++ x) ≡ true) × ((T (codes "vp_" ++ x) ≡ true) × (T (codes "vl_" ++ x) ≡ true))
+  bytes : (x : List ℕ) → is_word_name x ≡ true → T (codes "b_" ++ x) ≡ true
   further : list_all T (labels further_locals) ≡ true
   resume : T (codes "resume") ≡ true
 
@@ -62,6 +63,7 @@ free_passes all h = record {
   args = λ x w. (free all h (codes "a_" ++ x) refl refl, (free all h (codes "ap_" ++ x) refl refl, free all h (codes "al_" ++ x) refl refl));
   places = λ x w. (free all h (codes "p_" ++ x) refl refl, free all h (codes "e_" ++ x) refl refl);
   locals = λ x w. (free all h (codes "v_" ++ x) refl refl, (free all h (codes "vp_" ++ x) refl refl, free all h (codes "vl_" ++ x) refl refl));
+  bytes = λ x w. free all h (codes "b_" ++ x) refl refl;
   further =
       both_hold (is_free all (codes "status")) _ (free all h (codes "status") refl refl) (both_hold (is_free all (codes "got")) _ (free all h (codes "got") refl refl)
       (both_hold (is_free all (codes "size")) _ (free all h (codes "size") refl refl) (both_hold (is_free all (codes "held")) _ (free all h (codes "held") refl refl) (both_hold (is_free all (codes "count")) true (free all h (codes "count") refl refl) refl))));
@@ -75,6 +77,7 @@ name_passes = record {
   args = λ x w. (rw w refl, (rw w refl, rw w refl));
   places = λ x w. (rw w refl, rw w refl);
   locals = λ x w. (rw w refl, (rw w refl, rw w refl));
+  bytes = λ x w. rw w refl;
   further = refl;
   resume = refl;
 }
@@ -118,6 +121,9 @@ module _ (p : PackageTree) (m : MethodTree) (w : Words m) where
   abbrev var_labels : List (List ℕ)
   var_labels = labels (locals_of m.locals)
 
+  abbrev bytes_labels : List (List ℕ)
+  bytes_labels = labels (only_read (body_code f) (bytes_locals f 0 m.args))
+
   abbrev more_labels : List (List ℕ)
   more_labels = labels (only_read (body_code f) further_locals)
 
@@ -125,12 +131,14 @@ module _ (p : PackageTree) (m : MethodTree) (w : Words m) where
   resume_labels = labels (if is_coroutine m.mark then resume_of m ∷ [] else [])
 
   abbrev behind_labels : List (List ℕ)
-  behind_labels = (io_labels ++ var_labels) ++ (more_labels ++ resume_labels)
+  behind_labels = (io_labels ++ var_labels) ++ (bytes_labels ++ (more_labels ++ resume_labels))
 
   all_labels : labels (body_locals f) ≡ behind_labels
   all_labels =
-      labels_both (fixed_locals f) _ ∙ (ap (λ ls. ls ++ labels (only_read (body_code f) further_locals ++ (if is_coroutine m.mark then resume_of m ∷ [] else []))) (labels_both (io_locals f 0 m.args) (locals_of m.locals))
-      ∙ ap (λ ls. (io_labels ++ var_labels) ++ ls) (labels_both (only_read (body_code f) further_locals) (if is_coroutine m.mark then resume_of m ∷ [] else [])))
+      labels_both (fixed_locals f) _
+      ∙ (ap (λ ls. ls ++ labels (only_read (body_code f) (bytes_locals f 0 m.args) ++ (only_read (body_code f) further_locals ++ (if is_coroutine m.mark then resume_of m ∷ [] else [])))) (labels_both (io_locals f 0 m.args) (locals_of m.locals))
+      ∙ ap (λ ls. (io_labels ++ var_labels) ++ ls) (labels_both (only_read (body_code f) (bytes_locals f 0 m.args)) _
+      ∙ ap (λ ls. bytes_labels ++ ls) (labels_both (only_read (body_code f) further_locals) (if is_coroutine m.mark then resume_of m ∷ [] else []))))
 
   resume_all : (T : List ℕ → Bool) (b : Bool) → T (codes "resume") ≡ true → list_all T (labels (if b then resume_of m ∷ [] else [])) ≡ true
   resume_all T true h = both_hold (T (codes "resume")) true h refl
@@ -142,24 +150,33 @@ module _ (p : PackageTree) (m : MethodTree) (w : Words m) where
 
   behind_all : (T : List ℕ → Bool) → ((x : List ℕ) → is_word_name x ≡ true → (T (codes "p_" ++ x) ≡ true) × (T (codes "e_" ++ x) ≡ true))
       → ((x : List ℕ) → is_word_name x ≡ true → (T (codes "v_" ++ x) ≡ true) × ((T (codes "vp_" ++ x) ≡ true) × (T (codes "vl_" ++ x) ≡ true)))
-      → list_all T (labels further_locals) ≡ true → T (codes "resume") ≡ true → list_all T behind_labels ≡ true
-  behind_all T places locals further resume =
-      all_both T (io_labels ++ var_labels) (more_labels ++ resume_labels)
+      → ((x : List ℕ) → is_word_name x ≡ true → T (codes "b_" ++ x) ≡ true) → list_all T (labels further_locals) ≡ true → T (codes "resume") ≡ true → list_all T behind_labels ≡ true
+  behind_all T places locals bytes further resume =
+      all_both T (io_labels ++ var_labels) (bytes_labels ++ (more_labels ++ resume_labels))
       (all_both T io_labels var_labels (io_all T is_word_name f 0 m.args (from_front p m) w.args_words places) (locals_all T is_word_name m.locals w.locals_words locals))
-      (all_both T more_labels resume_labels (read_all T is_word_name (body_code f) further_locals further) (resume_all T (is_coroutine m.mark) resume))
+      (all_both T bytes_labels (more_labels ++ resume_labels) (read_all T is_word_name (body_code f) (bytes_locals f 0 m.args) (bytes_all T is_word_name f 0 m.args (from_front p m) w.args_words bytes))
+      (all_both T more_labels resume_labels (read_all T is_word_name (body_code f) further_locals further) (resume_all T (is_coroutine m.mark) resume)))
 
   behind_distinct : all_distinct behind_labels ≡ true
   behind_distinct =
       let T : List ℕ → Bool = λ l. begins (codes "p") l || (begins (codes "e") l || begins (codes "v") l) in
       let U : List ℕ → Bool = λ l. not (begins (codes "v") l) in
       let R : List ℕ → Bool = λ l. not (bytes_eq l (codes "resume")) in
-      distinct_by T (io_labels ++ var_labels) (more_labels ++ resume_labels)
+      let B : List ℕ → Bool = λ l. begins (codes "b") l in
+      distinct_by T (io_labels ++ var_labels) (bytes_labels ++ (more_labels ++ resume_labels))
       (all_both T io_labels var_labels (io_all T is_word_name f 0 m.args (from_front p m) w.args_words (λ x _. (refl, refl))) (locals_all T is_word_name m.locals w.locals_words (λ x _. (refl, (refl, refl)))))
-      (all_both (λ l. not (T l)) more_labels resume_labels (read_all (λ l. not (T l)) is_word_name (body_code f) further_locals refl) (resume_all (λ l. not (T l)) (is_coroutine m.mark) refl))
+      (all_both (λ l. not (T l)) bytes_labels (more_labels ++ resume_labels) (bytes_too (λ l. not (T l)) (λ x _. refl))
+      (all_both (λ l. not (T l)) more_labels resume_labels (read_all (λ l. not (T l)) is_word_name (body_code f) further_locals refl) (resume_all (λ l. not (T l)) (is_coroutine m.mark) refl)))
       (distinct_by U io_labels var_labels (io_all U is_word_name f 0 m.args (from_front p m) w.args_words (λ x _. (refl, refl))) (locals_all (λ l. not (U l)) is_word_name m.locals w.locals_words (λ x _. (refl, (refl, refl))))
       (io_distinct f 0 m.args (from_front p m) w.args_apart) (locals_distinct m.locals w.locals_apart))
+      (distinct_by B bytes_labels (more_labels ++ resume_labels) (bytes_too B (λ x _. refl))
+      (all_both (λ l. not (B l)) more_labels resume_labels (read_all (λ l. not (B l)) is_word_name (body_code f) further_locals refl) (resume_all (λ l. not (B l)) (is_coroutine m.mark) refl))
+      (read_distinct (body_code f) (bytes_locals f 0 m.args) (bytes_distinct f 0 m.args (from_front p m) w.args_apart))
       (distinct_by R more_labels resume_labels (read_all R is_word_name (body_code f) further_locals refl) (resume_all (λ l. not (R l)) (is_coroutine m.mark) refl)
-      (read_distinct (body_code f) further_locals refl) (resume_distinct (is_coroutine m.mark)))
+      (read_distinct (body_code f) further_locals refl) (resume_distinct (is_coroutine m.mark))))
+    where
+      bytes_too : (T : List ℕ → Bool) → ((x : List ℕ) → is_word_name x ≡ true → T (codes "b_" ++ x) ≡ true) → list_all T bytes_labels ≡ true
+      bytes_too T h = read_all T is_word_name (body_code f) (bytes_locals f 0 m.args) (bytes_all T is_word_name f 0 m.args (from_front p m) w.args_words h)
 
   -- With the parameters in front, and any names behind that aren't spelt like them.
   with_params : (ls : List (List ℕ)) → list_all (λ l. not (begins (codes "a") l)) ls ≡ true → list_all (λ l. not (bytes_eq l (codes "self"))) ls ≡ true → all_distinct ls ≡ true
@@ -196,10 +213,10 @@ module _ (p : PackageTree) (m : MethodTree) (w : Words m) where
       let S : List (List ℕ) → Type 0 = λ ns. list_all (λ l. not (bytes_eq l (codes "self"))) ns ≡ true in
       let D : List (List ℕ) → Type 0 = λ ns. all_distinct ns ≡ true in
       own all items ls
-      (subst A (sym all_labels) (behind_all (λ l. not (begins (codes "a") l)) (λ x _. (refl, refl)) (λ x _. (refl, (refl, refl))) refl refl))
-      (subst S (sym all_labels) (behind_all (λ l. not (bytes_eq l (codes "self"))) (λ x _. (refl, refl)) (λ x _. (refl, (refl, refl))) refl refl))
+      (subst A (sym all_labels) (behind_all (λ l. not (begins (codes "a") l)) (λ x _. (refl, refl)) (λ x _. (refl, (refl, refl))) (λ x _. refl) refl refl))
+      (subst S (sym all_labels) (behind_all (λ l. not (bytes_eq l (codes "self"))) (λ x _. (refl, refl)) (λ x _. (refl, (refl, refl))) (λ x _. refl) refl refl))
       (subst D (sym all_labels) behind_distinct)
-      (λ T t. let E : List (List ℕ) → Type 0 = λ ns. list_all T ns ≡ true in subst E (sym all_labels) (behind_all T t.places t.locals t.further t.resume))
+      (λ T t. let E : List (List ℕ) → Type 0 = λ ns. list_all T ns ≡ true in subst E (sym all_labels) (behind_all T t.places t.locals t.bytes t.further t.resume))
 
   entry_own : (n : ℕ) (all : List (List ℕ)) → list_all is_item all ≡ true → OwnNames all (entry_function p n m)
   entry_own n all items = by (answers_of m.mark m.gives)

@@ -14,7 +14,7 @@ use Rattle.wf_exprs.specs.Reads.{code_reads}
 use Rattle.wf_lower_stmts.specs.Forms.{Form, is_io}
 use Rattle.wf_lower_laws.proofs.Apart.{neither, not_true}
 use Rattle.wf_exprs.specs.Names.{named}
-use Rattle.wf_lower.specs.Bodies.{io_locals, local_of, locals_of, only_read}
+use Rattle.wf_lower.specs.Bodies.{io_locals, bytes_locals, local_of, locals_of, only_read}
 use Rattle.wf_lower_laws.proofs.Names.{either_true, both_hold, Owned, owned_none, owned_next, distinct_next, after_prefix}
 
 abbrev pub names : List Variable → List (List ℕ)
@@ -199,55 +199,83 @@ from_first f n x xs h =
     let P : ℕ → Type 0 = λ m. named f.names.args m ≡ x.name in
     subst P same (h 0 x refl)
 
--- With a pair in front, or without.
-data IoNext (name : List ℕ) (rest ls : List (List ℕ)) : Type 0 where
-  is_none : ls ≡ rest → IoNext name rest ls
-  is_pair : ls ≡ io_pair name ++ rest → IoNext name rest ls
+-- The names that some of the variables give, each a group of its own.
+data Grouped (group : List ℕ → List (List ℕ)) : (xs : List Variable) (ls : List (List ℕ)) → Type 0 where
+  ended : Grouped group [] []
+  left_out : (x : Variable) (xs : List Variable) (ls : List (List ℕ)) → Grouped group xs ls → Grouped group (x ∷ xs) ls
+  put_in : (x : Variable) (xs : List Variable) (ls : List (List ℕ)) → Grouped group xs ls → Grouped group (x ∷ xs) (group x.name ++ ls)
 
-io_next : (f : Form) (n : ℕ) (x : Variable) (xs : List Variable) → From f n (x ∷ xs) → IoNext x.name (labels (io_locals f (suc n) xs)) (labels (io_locals f n (x ∷ xs)))
-io_next f n x xs h = by (is_io x.ty) refl
-  where
-    by : (b : Bool) → is_io x.ty ≡ b → IoNext x.name (labels (io_locals f (suc n) xs)) (labels (io_locals f n (x ∷ xs)))
-    by false e = is_none (rw e refl)
-    by true e =
-        let same = from_first f n x xs h in
-        let P : List ℕ → Type 0 = λ z. io_pair (named f.names.args n) ++ labels (io_locals f (suc n) xs) ≡ io_pair z ++ labels (io_locals f (suc n) xs) in
-        is_pair (rw e (subst P same refl))
+module _ (group : List ℕ → List (List ℕ)) (IsOf : (own name : List ℕ) → Type 0) (one : (x y l : List ℕ) → IsOf x l → IsOf y l → x ≡ y) (own : (name l : List ℕ) → is_among (group name) l ≡ true → IsOf name l)
+    (apart : (name : List ℕ) → all_distinct (group name) ≡ true) where
+  grouped_owned : (xs : List Variable) (ls : List (List ℕ)) → Grouped group xs ls → Owned IsOf one (names xs) ls
+  grouped_owned _ _ ended = owned_none IsOf one []
+  grouped_owned _ _ (left_out x xs ls g) = owned_next IsOf one x.name (names xs) [] ls (λ l a. absurd (cc a)) (grouped_owned xs ls g)
+  grouped_owned _ _ (put_in x xs ls g) = owned_next IsOf one x.name (names xs) (group x.name) ls (own x.name) (grouped_owned xs ls g)
 
-io_owned : (f : Form) (n : ℕ) (xs : List Variable) → From f n xs → Owned IoOf io_one (names xs) (labels (io_locals f n xs))
-io_owned f n [] h = owned_none IoOf io_one []
-io_owned f n (x ∷ xs) h = by (labels (io_locals f n (x ∷ xs))) (io_next f n x xs h) (io_owned f (suc n) xs (from_next f n x xs h))
+  grouped_distinct : (xs : List Variable) (ls : List (List ℕ)) → Grouped group xs ls → all_distinct (names xs) ≡ true → all_distinct ls ≡ true
+  grouped_distinct _ _ ended d = refl
+  grouped_distinct _ _ (left_out x xs ls g) d = grouped_distinct xs ls g (both_true (not (is_among (names xs) x.name)) (all_distinct (names xs)) d).1
+  grouped_distinct _ _ (put_in x xs ls g) d =
+      let p = both_true (not (is_among (names xs) x.name)) (all_distinct (names xs)) d in
+      distinct_next IsOf one x.name (names xs) (group x.name) ls p.0 (own x.name) (grouped_owned xs ls g) (apart x.name) (grouped_distinct xs ls g p.1)
+
+grouped_all : (T W : List ℕ → Bool) (group : List ℕ → List (List ℕ)) → ((x : List ℕ) → W x ≡ true → list_all T (group x) ≡ true) → (xs : List Variable) (ls : List (List ℕ)) → Grouped group xs ls
+    → list_all W (names xs) ≡ true → list_all T ls ≡ true
+grouped_all T W group h _ _ ended w = refl
+grouped_all T W group h _ _ (left_out x xs ls g) w = grouped_all T W group h xs ls g (both_true (W x.name) (list_all W (names xs)) w).1
+grouped_all T W group h _ _ (put_in x xs ls g) w =
+    let p = both_true (W x.name) (list_all W (names xs)) w in
+    all_both T (group x.name) ls (h x.name p.0) (grouped_all T W group h xs ls g p.1)
+
+-- Those of the buffers among the variables from a number on.
+io_grouped : (f : Form) (n : ℕ) (xs : List Variable) → From f n xs → Grouped io_pair xs (labels (io_locals f n xs))
+io_grouped f n [] h = ended
+io_grouped f n (x ∷ xs) h = by (is_io x.ty) refl (io_grouped f (suc n) xs (from_next f n x xs h))
   where
-    by : (ls : List (List ℕ)) → IoNext x.name (labels (io_locals f (suc n) xs)) ls → Owned IoOf io_one (names xs) (labels (io_locals f (suc n) xs)) → Owned IoOf io_one (names (x ∷ xs)) ls
-    by ls (is_none e) o =
-        let P : List (List ℕ) → Type 0 = Owned IoOf io_one (names (x ∷ xs)) in
-        subst P (sym e) (owned_next IoOf io_one x.name (names xs) [] (labels (io_locals f (suc n) xs)) (λ l a. absurd (cc a)) o)
-    by ls (is_pair e) o =
-        let P : List (List ℕ) → Type 0 = Owned IoOf io_one (names (x ∷ xs)) in
-        subst P (sym e) (owned_next IoOf io_one x.name (names xs) (io_pair x.name) (labels (io_locals f (suc n) xs)) (io_own x.name) o)
+    by : (b : Bool) → is_io x.ty ≡ b → Grouped io_pair xs (labels (io_locals f (suc n) xs)) → Grouped io_pair (x ∷ xs) (labels (io_locals f n (x ∷ xs)))
+    by false e g = rw e (left_out x xs (labels (io_locals f (suc n) xs)) g)
+    by true e g =
+        let P : List ℕ → Type 0 = λ z. Grouped io_pair (x ∷ xs) (io_pair z ++ labels (io_locals f (suc n) xs)) in
+        rw e (subst P (sym (from_first f n x xs h)) (put_in x xs (labels (io_locals f (suc n) xs)) g))
 
 pub io_distinct : (f : Form) (n : ℕ) (xs : List Variable) → From f n xs → all_distinct (names xs) ≡ true → all_distinct (labels (io_locals f n xs)) ≡ true
-io_distinct f n [] h d = refl
-io_distinct f n (x ∷ xs) h d =
-    let p = both_true (not (is_among (names xs) x.name)) (all_distinct (names xs)) d in
-    by (labels (io_locals f n (x ∷ xs))) (io_next f n x xs h) p.0 (io_owned f (suc n) xs (from_next f n x xs h)) (io_distinct f (suc n) xs (from_next f n x xs h) p.1)
-  where
-    by : (ls : List (List ℕ)) → IoNext x.name (labels (io_locals f (suc n) xs)) ls → not (is_among (names xs) x.name) ≡ true → Owned IoOf io_one (names xs) (labels (io_locals f (suc n) xs))
-        → all_distinct (labels (io_locals f (suc n) xs)) ≡ true → all_distinct ls ≡ true
-    by ls (is_none e) single o k = rw e k
-    by ls (is_pair e) single o k =
-        rw e (distinct_next IoOf io_one x.name (names xs) (io_pair x.name) (labels (io_locals f (suc n) xs)) single (io_own x.name) o (io_pair_distinct x.name) k)
+io_distinct f n xs h d = grouped_distinct io_pair IoOf io_one io_own io_pair_distinct xs (labels (io_locals f n xs)) (io_grouped f n xs h) d
 
 pub io_all : (T W : List ℕ → Bool) (f : Form) (n : ℕ) (xs : List Variable) → From f n xs → list_all W (names xs) ≡ true → ((x : List ℕ) → W x ≡ true → (T (codes "p_" ++ x) ≡ true) × (T (codes "e_" ++ x) ≡ true))
     → list_all T (labels (io_locals f n xs)) ≡ true
-io_all T W f n [] h w g = refl
-io_all T W f n (x ∷ xs) h w g =
-    let p = both_true (W x.name) (list_all W (names xs)) w in
-    by (labels (io_locals f n (x ∷ xs))) (io_next f n x xs h) p.0 (io_all T W f (suc n) xs (from_next f n x xs h) p.1 g)
+io_all T W f n xs h w g =
+    grouped_all T W io_pair (λ x k. both_hold (T (codes "p_" ++ x)) _ (g x k).0 (both_hold (T (codes "e_" ++ x)) true (g x k).1 refl)) xs (labels (io_locals f n xs)) (io_grouped f n xs h) w
+
+-- ---- pointers to the bytes of buffers: `b_x`
+
+data BytesOf (x l : List ℕ) : Type 0 where
+  bytes_pointer : l ≡ codes "b_" ++ x → BytesOf x l
+
+bytes_one : (x y l : List ℕ) → BytesOf x l → BytesOf y l → x ≡ y
+bytes_one x y l (bytes_pointer e) (bytes_pointer g) = after_prefix (codes "b_") x y (sym e ∙ g)
+
+abbrev bytes_alone : (name : List ℕ) → List (List ℕ)
+bytes_alone name = (codes "b_" ++ name) ∷ []
+
+bytes_own : (name l : List ℕ) → is_among (bytes_alone name) l ≡ true → BytesOf name l
+bytes_own name l a = bytes_pointer (one_alone l (codes "b_" ++ name) a)
+
+bytes_grouped : (f : Form) (n : ℕ) (xs : List Variable) → From f n xs → Grouped bytes_alone xs (labels (bytes_locals f n xs))
+bytes_grouped f n [] h = ended
+bytes_grouped f n (x ∷ xs) h = by (is_io x.ty) refl (bytes_grouped f (suc n) xs (from_next f n x xs h))
   where
-    by : (ls : List (List ℕ)) → IoNext x.name (labels (io_locals f (suc n) xs)) ls → W x.name ≡ true → list_all T (labels (io_locals f (suc n) xs)) ≡ true → list_all T ls ≡ true
-    by ls (is_none e) w k = rw e k
-    by ls (is_pair e) w k = rw e (both_hold (T (codes "p_" ++ x.name)) _ (g x.name w).0 (both_hold (T (codes "e_" ++ x.name)) _ (g x.name w).1 k))
+    by : (b : Bool) → is_io x.ty ≡ b → Grouped bytes_alone xs (labels (bytes_locals f (suc n) xs)) → Grouped bytes_alone (x ∷ xs) (labels (bytes_locals f n (x ∷ xs)))
+    by false e g = rw e (left_out x xs (labels (bytes_locals f (suc n) xs)) g)
+    by true e g =
+        let P : List ℕ → Type 0 = λ z. Grouped bytes_alone (x ∷ xs) (bytes_alone z ++ labels (bytes_locals f (suc n) xs)) in
+        rw e (subst P (sym (from_first f n x xs h)) (put_in x xs (labels (bytes_locals f (suc n) xs)) g))
+
+pub bytes_distinct : (f : Form) (n : ℕ) (xs : List Variable) → From f n xs → all_distinct (names xs) ≡ true → all_distinct (labels (bytes_locals f n xs)) ≡ true
+bytes_distinct f n xs h d = grouped_distinct bytes_alone BytesOf bytes_one bytes_own (λ name. refl) xs (labels (bytes_locals f n xs)) (bytes_grouped f n xs h) d
+
+pub bytes_all : (T W : List ℕ → Bool) (f : Form) (n : ℕ) (xs : List Variable) → From f n xs → list_all W (names xs) ≡ true → ((x : List ℕ) → W x ≡ true → T (codes "b_" ++ x) ≡ true)
+    → list_all T (labels (bytes_locals f n xs)) ≡ true
+bytes_all T W f n xs h w g = grouped_all T W bytes_alone (λ x k. both_hold (T (codes "b_" ++ x)) true (g x k) refl) xs (labels (bytes_locals f n xs)) (bytes_grouped f n xs h) w
 
 -- ---- locals: `v_x`, or `vp_x` and `vl_x`
 

@@ -1,7 +1,7 @@
 -- What a statement that is no jump is lowered to: statements in front of the code that follows it, with no loop, no label and no
 -- `goto` among them, but for the `case` of a point.
 use Rattle.std.proofs.Common.{◌≡◌, ℕ, zero, suc, Bool, true, false, List, [], ◌∷◌, Option, Some, None}
-use Rattle.std.specs.Prelude.{slice_get}
+use Rattle.std.specs.Prelude.{if◌then◌else◌, slice_get}
 use Rattle.wf_base.specs.declared.base_methods.ReadForm.{ReadForm}
 use Rattle.wf_base.specs.declared.base_methods.ReadForm.TheVariants.{ReadU8, ReadU16Be, ReadU16Le, ReadU32Be, ReadU32Le, ReadU64Be, ReadU64Le}
 use Rattle.wf_base.specs.BaseTable.{bytes_of, read_width}

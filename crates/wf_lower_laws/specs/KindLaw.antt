@@ -7,7 +7,7 @@ use Rattle.c_text.specs.CTree.{ExprTree, member}
 use Rattle.c_meaning.specs.CTypes.{Scope, ExprType, points_to, cell, byte, as_number, type_of}
 use Rattle.wf_exprs.specs.Names.{Names}
 use Rattle.wf_exprs.specs.Words.{num, uint_of}
-use Rattle.wf_exprs.specs.Exprs.{path_code, path_pair, io_code, place_code, end_code, saturated, status_constant, lowered, lowered_slice, lowered_status, lowered_cond}
+use Rattle.wf_exprs.specs.Exprs.{path_code, path_pair, io_code, place_code, end_code, bytes_code, saturated, status_constant, lowered, lowered_slice, lowered_status, lowered_cond}
 
 -- A number of C.
 pub record IsNum (s : Scope) (e : ExprTree) : Type 0 where
@@ -24,13 +24,13 @@ IsPointer s bits e = type_of s e ≡ Some (points_to (cell (uint_of bits)))
 abbrev pub IsText : Scope → ExprTree → Type 0
 IsText s e = (e ≡ num 0) ⊎ (type_of s e ≡ Some (points_to byte))
 
--- A reader or writer, with its place and end.
+-- A reader or writer, with its place and end, and the pointer to its bytes.
 pub record IsBuffer (s : Scope) (names : Names) (a : ℕ) : Type 0 where
   pub place : IsNum s (place_code names a)
   pub end : IsNum s (end_code names a)
   pub position : IsNum s (member (io_code names a) (codes "pos"))
   pub closed : IsNum s (member (io_code names a) (codes "closed"))
-  pub bytes : IsPointer s 8 (member (io_code names a) (codes "ptr"))
+  pub bytes : IsPointer s 8 (bytes_code names a)
 
 -- The scope declares what a method's paths name, each as its type is in C. `has` tells which functions of saturating operators it
 -- has, and `knows` which statuses.

@@ -6,3 +6,4 @@ pub mod NameLaw
 pub mod FormLaw
 pub mod KindLaw
 pub mod ItemLaw
+pub mod SurfaceLaw

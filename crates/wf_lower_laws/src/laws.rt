@@ -8,6 +8,7 @@ ghost use Rattle.wf_lower_laws.specs.JumpLaw.{TextsJumpForward};
 ghost use Rattle.wf_lower_laws.specs.KindLaw.{ExpressionsKeepKinds};
 ghost use Rattle.wf_lower_laws.specs.LabelLaw.{TextsAreLabelled};
 ghost use Rattle.wf_lower_laws.specs.NameLaw.{TextsNameApart};
+ghost use Rattle.wf_lower_laws.specs.SurfaceLaw.{TextsMeetSurfaces};
 ghost use Rattle.wf_lower_laws.specs.TurnLaw.{LoopAlike};
 
 /// Each `goto` of the text of a typed package leads to a label of its function that stands behind it. So it takes no turn, and no
@@ -44,6 +45,12 @@ pub fn names_of_a_function_differ()
 /// `_` in a row and don't end with one, no method is named `initialize`, and the package isn't named `base`.
 pub fn names_of_items_differ()
     ensures { ItemsNameApart }
+{}
+
+/// The text of a package that keeps the rules of types has each function of the package's surface, with its signature, and each
+/// public struct, and no other items of these names, where names are as above.
+pub fn texts_meet_their_surfaces()
+    ensures { TextsMeetSurfaces }
 {}
 
 /// The text of a typed package with such names, in which no method has too many points, has the unit form for the package's surface,

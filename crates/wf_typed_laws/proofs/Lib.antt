@@ -1,7 +1,8 @@
-pub mod ListLemmas
-pub mod TokenNames
+pub mod ApartNames
 pub mod DeclNames
-pub mod ReadNames
 pub mod KeptNames
-pub mod TypedNames
+pub mod ListLemmas
 pub mod NodeNames
+pub mod ReadNames
+pub mod TokenNames
+pub mod TypedNames

@@ -24,7 +24,7 @@ use Rattle.wf_typed_laws.proofs.DeclNames.{DeclIsGood}
 use Rattle.wf_typed_laws.proofs.ReadNames.{IsSpelt, names-spelt}
 use Rattle.wf_typed_laws.proofs.KeptNames.{VariablesHave, StructureHas, MethodHas, free-structs, free-methods}
 
-abbrev NameIsSpelt : List (List ℕ) → Name → Type 0
+abbrev pub NameIsSpelt : List (List ℕ) → Name → Type 0
 NameIsSpelt texts name = IsSpelt texts name.text.0
 
 abbrev NameIsFree : Declared → Name → Type 0
@@ -34,14 +34,14 @@ abbrev NameIsPlain : Declared → Name → Type 0
 NameIsPlain d name = IsPlain (text_of d name.text.0)
 
 -- What is read, by structs and by methods.
-spelt-structs : (texts : List (List ℕ)) (decls : List DeclTree) → AllByRecursion (DeclIsGood (IsSpelt texts)) decls → AllByRecursion (StructureHas (NameIsSpelt texts)) (structs_of decls)
+pub spelt-structs : (texts : List (List ℕ)) (decls : List DeclTree) → AllByRecursion (DeclIsGood (IsSpelt texts)) decls → AllByRecursion (StructureHas (NameIsSpelt texts)) (structs_of decls)
 spelt-structs texts [] a = tt
 spelt-structs texts (parsed.status public text at ∷ decls) a = spelt-structs texts decls a.1
 spelt-structs texts (parsed.constant public name of value at ∷ decls) a = spelt-structs texts decls a.1
 spelt-structs texts (parsed.structure public name mark fields at ∷ decls) a = ((a.0.0, a.0.1), spelt-structs texts decls a.1)
 spelt-structs texts (parsed.method public owner name mark args result body at ∷ decls) a = spelt-structs texts decls a.1
 
-spelt-methods : (texts : List (List ℕ)) (decls : List DeclTree) → AllByRecursion (DeclIsGood (IsSpelt texts)) decls → AllByRecursion (MethodHas (NameIsSpelt texts)) (methods_of decls)
+pub spelt-methods : (texts : List (List ℕ)) (decls : List DeclTree) → AllByRecursion (DeclIsGood (IsSpelt texts)) decls → AllByRecursion (MethodHas (NameIsSpelt texts)) (methods_of decls)
 spelt-methods texts [] a = tt
 spelt-methods texts (parsed.status public text at ∷ decls) a = spelt-methods texts decls a.1
 spelt-methods texts (parsed.constant public name of value at ∷ decls) a = spelt-methods texts decls a.1
