@@ -257,7 +257,7 @@ module _ (p : PackageTree) where
           by true more =
               let it = public_one n s in
               let h = is_one n s ss at in
-              (init_met it h, all_append (Met items) (map (method_signature surface it) it.methods) (struct_signatures surface (public_structs p.methods (suc n) ss)) (methods_met it h 0 p.methods (λ i m e. e)) more)
+              (init_met it h, all_append (Met items) (map (method_signature surface it) it.methods) (struct_signatures surface (public_structs p.methods (suc n) ss)) (methods_met it h 0 p.methods (λ i m e. let same : i ≡ 0 + i = omega arith in let P : ℕ → Type 0 = λ k. slice_get p.methods k ≡ Some m in subst P same e)) more)
           by false more = more
 
       structs_found : (n : ℕ) (ss : List StructTree) → Structs n ss → AllByRecursion (λ it. Found items (struct_name surface it)) (public_structs p.methods n ss)
@@ -305,13 +305,16 @@ complete_unit : (p : PackageTree) → list_all (λ s. is_among (map item_name (l
 unfolding lowered_unit
 complete_unit p h = h
 
+from_zero : (p : PackageTree) (i : ℕ) (s : StructTree) → slice_get p.structs i ≡ Some s → slice_get p.structs (0 + i) ≡ Some s
+from_zero p i s e = let same : i ≡ 0 + i = omega arith in let P : ℕ → Type 0 = λ k. slice_get p.structs k ≡ Some s in subst P same e
+
 pub texts_meet_surfaces : TextsMeetSurfaces
 unfolding surface_of
 texts_meet_surfaces p well names =
     let o = methods_ordered p well in
     let q = structs_ordered p well in
-    let met = structs_met p o q (surface_of p) refl 0 p.structs (λ i s e. e) in
-    let found = structs_found p o q (surface_of p) refl 0 p.structs (λ i s e. e) in
+    let met = structs_met p o q (surface_of p) refl 0 p.structs (from_zero p) in
+    let found = structs_found p o q (surface_of p) refl 0 p.structs (from_zero p) in
     let d = items_name_apart p names in
     record {
       meets = λ i item e. both_hold (list_all (meets_signature item) (signatures (surface_of p))) _ (signatures_met (lowered_unit p) d i item e (signatures (surface_of p)) met) (structures_met (lowered_unit p) d i item e (surface_of p) (surface_of p).structs found);

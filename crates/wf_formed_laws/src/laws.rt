@@ -1,0 +1,9 @@
+// The laws of the C text of an accepted package. Each is the contract of a function that does nothing.
+
+ghost use Rattle.wf_formed_laws.specs.NamesKept.{NamesAreKept};
+
+/// Where the names of a typed package are plain and differ as the rules of names ask, and the package isn't named `base`, the names
+/// in its text are all in order: those of items, and in each function those of parameters and locals.
+pub fn names_are_kept()
+    ensures { NamesAreKept }
+{}
