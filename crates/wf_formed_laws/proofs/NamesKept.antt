@@ -1,5 +1,5 @@
 -- Plain names that differ are in order in a package's text.
-use Rattle.std.proofs.Common.{◌≡◌, ◌⊎◌, inl, inr, ℕ, zero, suc, ◌+◌, ◌<◌, ◌^◌, Bool, true, false, not, ◌&&◌, ◌||◌, List, [], ◌∷◌, ◌++◌, length, map, Option, Some, None, nat_eq, slice_get, refl, sym, ap, ◌∙◌, subst, arith}
+use Rattle.std.proofs.Common.{◌≡◌, ◌⊎◌, inl, inr, ℕ, zero, suc, ◌+◌, ◌<◌, ◌^◌, Bool, true, false, not, ◌&&◌, ◌||◌, List, [], ◌∷◌, ◌++◌, length, map, Option, Some, None, nat_eq, nat_lt, slice_get, refl, sym, ap, ◌∙◌, subst, arith}
 use Rattle.std.specs.Prelude.{if◌then◌else◌, bytes_eq, codes}
 use Rattle.std.specs.List.{list_all, AllByRecursion}
 use Rattle.std.proofs.lemmas.Bool.Decides.{nat_tests}
@@ -12,7 +12,7 @@ use Rattle.wf_ast.specs.TypedInvariant.{IsTyped}
 use Rattle.wf_ast.specs.TypedPackage.{Variable, StructTree, MethodTree, PackageTree, package_of}
 use Rattle.wf_ast.specs.WellTyped.{all_structs_whole, well_method, well_typed}
 use Rattle.wf_ast.proofs.Arena.{both_true}
-use Rattle.wf_tokens.specs.Runs.{is_run, is_letter, is_digit}
+use Rattle.wf_tokens.specs.Runs.{is_between, is_run}
 use Rattle.wf_names_rules.specs.Reserved.{is_underscore, begins_with_underscore, ends_behind, ends_with_underscore, doubles_behind, has_double_underscore, kept_words, is_reserved, is_initialize}
 use Rattle.c_text.specs.CSpelling.{is_word_byte}
 use Rattle.c_meaning.specs.UnitForm.{is_among, all_distinct}
@@ -61,10 +61,13 @@ word_bytes : (text : List ℕ) → list_all is_run text ≡ true → list_all is
 word_bytes [] h = refl
 word_bytes (b ∷ text) h =
     let q = both_true (is_run b) (list_all is_run text) h in
-    both_hold (is_word_byte b) (list_all is_word_byte text) (one q.0) (word_bytes text q.1)
+    both_hold (is_word_byte b) (list_all is_word_byte text) (one (is_between 97 122 b) (is_between 65 90 b) (nat_eq b 95) (is_between 48 57 b) q.0) (word_bytes text q.1)
   where
-    one : is_run b ≡ true → is_word_byte b ≡ true
-    one k = grind (nat_tests, k)
+    one : (x y z w : Bool) → ((x || y || z) || w) ≡ true → ((x || (y || z)) || w) ≡ true
+    one true y z w h = refl
+    one false true z w h = refl
+    one false false true w h = refl
+    one false false false w h = h
 
 clean_by : (last : Bool) (text : List ℕ) → doubles_behind last text ≡ false → ends_behind last text ≡ false → is_clean text ≡ true
 clean_by last [] h k = refl
@@ -161,7 +164,10 @@ module _ (p : PackageTree) (h : IsNamed p) (well : well_typed p ≡ true) where
 
   -- Methods.
   owner_below : (n : ℕ) (m : MethodTree) → slice_get p.methods n ≡ Some m → m.of < length p.structs
-  owner_below n m e = let w = method_rules p p.methods n m (all_methods p well) e in grind (arith, nat_tests, (both_true _ _ w).0)
+  owner_below n m e =
+      let w = method_rules p p.methods n m (all_methods p well) e in
+      let l : nat_lt m.of (length p.structs) ≡ true = (both_true (nat_lt m.of (length p.structs)) _ w).0 in
+      grind (arith, nat_tests, l)
 
   one_method : (i j : ℕ) (m n : MethodTree) → slice_get p.methods i ≡ Some m → slice_get p.methods j ≡ Some n → method_called p m ≡ method_called p n → i ≡ j
   one_method i j m n e g same =

@@ -1,6 +1,6 @@
 -- How many brackets an expression opens: no more than five for each that stands inside another.
 use Rattle.std.proofs.Common.{◌≡◌, ℕ, ◌+◌, ◌-◌, ◌*◌, ◌≤◌, Bool, true, false, ◌&&◌, ◌||◌, List, Option, Some, None, nat_eq, refl, sym, subst, arith}
-use Rattle.std.specs.Prelude.{if◌then◌else◌, nat_le, nat_lt, codes}
+use Rattle.std.specs.Prelude.{if◌then◌else◌, nat_le, nat_lt}
 use Rattle.std.proofs.lemmas.Bool.Decides.{nat_tests}
 use Rattle.std.proofs.lemmas.Slice.Eq.{bytes_eq-Decides}
 use Rattle.wf_text.specs.declared.place.Place.{Place}
@@ -21,7 +21,7 @@ use Rattle.c_text.specs.CTree.{TypeTree, ExprTree, variable, member, operation, 
 use Rattle.c_text.specs.CTree as c
 use Rattle.wf_exprs.specs.Names.{Names}
 use Rattle.wf_exprs.specs.Words.{num, uint_of, two}
-use Rattle.wf_exprs.specs.Exprs.{calculated, rank, Rated, rated, recast, firm, balanced, op_of, with_operand, same_op, chained, saturated, cut_off, factor, linked, converted, path_code, Pair, path_pair, is_array, moved, part_pointer, part_length, io_code, place_code, bytes_code, peeked, raised, peek_code, asked_code, lowered, lowered_slice, lowered_end, given, status_constant, lowered_status, same_code, is_literal, is_held, compared, is_constant, statuses_compared, begins_with, category_code, lowered_cond}
+use Rattle.wf_exprs.specs.Exprs.{calculated, rank, Rated, rated, recast, firm, balanced, op_of, with_operand, same_op, chained, saturated, cut_off, factor, linked, converted, path_code, Pair, path_pair, is_array, moved, part_pointer, part_length, place_code, bytes_code, peeked, raised, peek_code, asked_code, lowered, lowered_slice, lowered_end, given, status_constant, lowered_status, same_code, is_literal, is_held, compared, is_constant, statuses_compared, begins_with, category_code, lowered_cond}
 use Rattle.wf_lower_laws.specs.BracketLaw.{repeats, goes_on, cond_goes_on, num_within, slice_within, end_within, cond_within}
 use Rattle.wf_lower_laws.proofs.Apart.{same_number}
 use Rattle.wf_lower_laws.proofs.OpenBrackets.{ExprOpens, OperandsOpen}

@@ -3,11 +3,13 @@ pub mod Bodies
 pub mod BracketLaw
 pub mod Cases
 pub mod CodeBrackets
+pub mod CodeTypes
 pub mod Control
 pub mod Everywhere
 pub mod ExprBrackets
 pub mod ExprKinds
 pub mod FormLaw
+pub mod Frames
 pub mod Free
 pub mod Functions
 pub mod ItemNames
@@ -25,5 +27,6 @@ pub mod Orders
 pub mod OwnNames
 pub mod Straight
 pub mod Surfaces
+pub mod Typing
 pub mod Weights
 pub mod Whiles

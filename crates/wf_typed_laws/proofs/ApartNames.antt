@@ -18,7 +18,8 @@ use Rattle.wf_named.specs.NamedTree.{NamedPackageTree}
 use Rattle.wf_types_rules.specs.declared.settings.Role.{Role}
 use Rattle.wf_types_rules.specs.declared.settings.Role.TheVariants as roles
 use Rattle.wf_names_rules.specs.Declarations.{Declared, Structure, Method, Variable, declared, variables, locals_of, structs_of, methods_of, bytes_in, text_of, is_spelt, struct_named}
-use Rattle.wf_names_rules.specs.NameRules.{Breaks, by_declaration, by_use, declared_twice, initialize, unknown_struct, twice, unknown, IsRepeated, AreApart, structs, methods, fields, args, locals, names_owned, variable_names, IsUsed}
+use Rattle.wf_names_rules.specs.NameRules.{Breaks, by_declaration, by_use, declared_twice, initialize, unknown_struct, twice, unknown, IsRepeated, AreApart, names_owned, variable_names, IsUsed}
+use Rattle.wf_names_rules.specs.NameRules as rules
 use Rattle.wf_names_rules.specs.Reserved.{is_initialize}
 use Rattle.wf_names_rules.specs.Uses as uses
 use Rattle.wf_names_rules.specs.Uses.{Scope, Site, Use, struct_scope, method_scope, method_uses, method_sites, constant_sites, struct_sites, sites, sites_in}
@@ -60,10 +61,9 @@ there-behind x (y ∷ xs) ys h = there-later x y (xs ++ ys) (there-behind x xs y
 
 there-flat : {X Y : Type 0} (f : Y → List X) (x : X) (ys : List Y) (i : ℕ) (y : Y) → slice_get ys i ≡ Some y → There x (f y) → There x (flat_map f ys)
 there-flat f x [] i y e h = absurd (cc e)
-there-flat f x (z ∷ ys) zero y e h =
+there-flat {Y = Y} f x (z ∷ ys) zero y e h =
     let same : z ≡ y = cc e in
-    let P = λ w. There x (f w) in
-    there-front x (f z) (flat_map f ys) (subst P (sym same) h)
+    there-front x (f z) (flat_map f ys) (subst (λ (w : Y). There x (f w)) (sym same) h)
 there-flat f x (z ∷ ys) (suc i) y e h = there-behind x (f z) (flat_map f ys) (there-flat f x ys i y e h)
 
 record Mapped {X Y : Type 0} (f : X → Y) (xs : List X) (i : ℕ) (y : Y) : Type 0 where
@@ -130,22 +130,22 @@ module _ (d : Declared) (distinct : AreDistinct d.texts) (kept : (refusal : Refu
 
   module _ (spelt_structs : AllByRecursion (StructureHas (NameIsSpelt d.texts)) d.structs) (spelt_methods : AllByRecursion (MethodHas (NameIsSpelt d.texts)) d.methods) where
     structs-apart : AreDistinct (map bytes (map (λ s. s.name) d.structs))
-    structs-apart = names-apart (map (λ s. s.name) d.structs) structs (all-mapped (NameIsSpelt d.texts) (StructureHas (NameIsSpelt d.texts)) (λ s. s.name) (λ s h. h.0) d.structs spelt_structs)
+    structs-apart = names-apart (map (λ s. s.name) d.structs) rules.structs (all-mapped (NameIsSpelt d.texts) (StructureHas (NameIsSpelt d.texts)) (λ s. s.name) (λ s h. h.0) d.structs spelt_structs)
 
     fields-apart : AllByRecursion FieldsApart d.structs
     fields-apart =
         all-from FieldsApart d.structs
-        (λ i s e. names-apart (variable_names s.fields) (fields s (i, e)) (spelt-variables s.fields (all-at (StructureHas (NameIsSpelt d.texts)) d.structs spelt_structs i s e).1))
+        (λ i s e. names-apart (variable_names s.fields) (rules.fields s (i, e)) (spelt-variables s.fields (all-at (StructureHas (NameIsSpelt d.texts)) d.structs spelt_structs i s e).1))
 
     args-apart : AllByRecursion ArgsApart d.methods
     args-apart =
         all-from ArgsApart d.methods
-        (λ i m e. names-apart (variable_names m.args) (args m (i, e)) (spelt-variables m.args (all-at (MethodHas (NameIsSpelt d.texts)) d.methods spelt_methods i m e).1))
+        (λ i m e. names-apart (variable_names m.args) (rules.args m (i, e)) (spelt-variables m.args (all-at (MethodHas (NameIsSpelt d.texts)) d.methods spelt_methods i m e).1))
 
     locals-apart : AllByRecursion LocalsApart d.methods
     locals-apart =
         all-from LocalsApart d.methods
-        (λ i m e. names-apart (variable_names m.locals) (locals m (i, e)) (spelt-variables m.locals (all-at (MethodHas (NameIsSpelt d.texts)) d.methods spelt_methods i m e).2))
+        (λ i m e. names-apart (variable_names m.locals) (rules.locals m (i, e)) (spelt-variables m.locals (all-at (MethodHas (NameIsSpelt d.texts)) d.methods spelt_methods i m e).2))
 
     none-initializes : AllByRecursion IsNamed d.methods
     none-initializes = all-from IsNamed d.methods (λ i m e. by i m e (is_initialize (bytes m.name)) refl)
@@ -262,7 +262,7 @@ module _ (d : Declared) (distinct : AreDistinct d.texts) (kept : (refusal : Refu
         let own : is_spelt owner m.owner ≡ true = grind (arith, nat_tests) in
         let other : is_spelt owner n.owner ≡ true = grind (arith, nat_tests, owners) in
         before-same owner d.methods i j m n e g own other
-        (once-named (names_owned owner d.methods) (methods owner) (spelt-owned owner d.methods spelt_methods) (owned_before owner d.methods i) (owned_before owner d.methods j) m.name n.name
+        (once-named (names_owned owner d.methods) (rules.methods owner) (spelt-owned owner d.methods spelt_methods) (owned_before owner d.methods i) (owned_before owner d.methods j) m.name n.name
         (owned-at owner d.methods i m e own) (owned-at owner d.methods j n g other) same)
 
     -- ---- the same in the typed tree
@@ -276,8 +276,8 @@ module _ (d : Declared) (distinct : AreDistinct d.texts) (kept : (refusal : Refu
       structs-named [] = refl
       structs-named (parsed.status public text at ∷ decls) = structs-named decls
       structs-named (parsed.constant public name of value at ∷ decls) = structs-named decls
-      structs-named (parsed.structure public name mark fields at ∷ decls) = ap (λ zs. bytes name ∷ zs) (structs-named decls)
-      structs-named (parsed.method public owner name mark args result body at ∷ decls) = structs-named decls
+      structs-named (parsed.structure public name mark fs at ∷ decls) = ap (λ zs. bytes name ∷ zs) (structs-named decls)
+      structs-named (parsed.method public owner name mark as_ result body at ∷ decls) = structs-named decls
 
       fields-kept : (decls : List DeclTree) → AllByRecursion FieldsApart (structs_of decls) → AllByRecursion (λ s. AreDistinct (names_of s.fields)) (map (typed_struct p) (resolved_structs d decls))
       fields-kept [] a = tt
@@ -286,7 +286,7 @@ module _ (d : Declared) (distinct : AreDistinct d.texts) (kept : (refusal : Refu
       fields-kept (parsed.structure public name mark fs at ∷ decls) a =
           let s : Structure = record { name = name; fields = variables fs } in
           (subst AreDistinct (sym (variables-named roles.Field (struct_scope d s) (variables fs))) a.0, fields-kept decls a.1)
-      fields-kept (parsed.method public owner name mark args result body at ∷ decls) a = fields-kept decls a
+      fields-kept (parsed.method public owner name mark as_ result body at ∷ decls) a = fields-kept decls a
 
       -- What holds of the names of methods holds of their typed trees.
       methods-kept : (P : Method → Type 0) (Q : MethodTree → Type 0)
