@@ -16,7 +16,7 @@ use Rattle.wf_ast.specs.declared.types.Ty.{Ty}
 use Rattle.wf_ast.specs.declared.types.Ty.TheVariants as types
 use Rattle.wf_ast.specs.TypedPackage.{Variable, MethodTree, PackageTree, answers_of, answer_kind}
 use Rattle.wf_ast.specs.TypedTree.{Path, local, field, arg, NumType, Arith, plus, minus, times, divided, remainder, shift_left, shift_right, bits_and, bits_or, bits_xor, mod_plus, mod_minus, mod_times, mod_shift_left, sat_plus, sat_minus, Question, reader_length, reader_position, peek, writer_length, writer_position, NumTree, number, read, element, link, convert, length_of, asked, SliceTree, slice, array, cut, EndTree, absent, present, CondTree, truth, flag, compare, same_status, junction, negation, closed, has_category, ValueTree, numeric, logical, state, elements, io, lost, StatusTree, status, held, no_status, Target, to_number, to_element, to_flag, to_status, to_slice, to_nothing, Awaited, take_number, skip, write, Written, skip_fast, write_fast, copy_to_writer, copy_to_slice, Called, own, sub, Simple, assign, await, perform, invoke, break_from, continue_in, give_back, yield, claim, Site, Block, end, plain, choose, loop}
-use Rattle.wf_ast.specs.WellTyped.{Context, type_at, is_width, is_range, is_number, is_array, is_slice, is_flag, is_status, is_reader, is_writer, may_ask, may_go_into, fits, is_shift, continues, same_num_type, is_unrefined, is_whole_number, element_type, well_num, well_part, well_slice, well_end, well_status, well_cond, slice_of, fits_type, fit_types, is_coroutine, is_pure, may_write, takes, well_assigned, is_operator, has_none, is_status_target, takes_bits, well_awaited, well_written, takes_answer, same_mark, calls_method, number_of, well_invoked, well_returned, well_simple, breaks, well_block, calls_only, is_suspension}
+use Rattle.wf_ast.specs.WellTyped.{Context, type_at, is_width, is_range, is_number, is_array, is_slice, is_flag, is_status, is_reader, is_writer, may_ask, may_go_into, fits, is_shift, continues, same_num_type, is_unrefined, is_whole_number, element_type, well_num, well_part, well_slice, well_end, well_status, well_cond, slice_of, fits_type, fit_types, is_coroutine, is_pure, may_write, takes, well_assigned, is_operator, has_none, is_status_target, takes_bits, well_awaited, well_written, takes_answer, same_mark, calls_method, number_of, well_invoked, well_returned, well_simple, breaks, well_block, calls_only, is_suspension, may_be_arg, may_be_result}
 use Rattle.wf_ast.proofs.Arena.{both_true}
 use Rattle.wf_meaning.specs.Entry.{short_read, short_write, cannot_suspend}
 use Rattle.wf_meaning.specs.Remaining.{is_point, hands_on}
@@ -40,7 +40,7 @@ use Rattle.wf_lower.specs.Bodies.{params_of, result_of}
 use Rattle.wf_lower_laws.specs.KindLaw.{IsNum, IsPointer, IsText, Declares, KeepKinds, has_op, has_question, num_served, slice_served, end_served, status_served, cond_served}
 use Rattle.wf_lower_laws.proofs.Apart.{left_or, right_or}
 use Rattle.wf_lower_laws.proofs.Names.{both_hold}
-use Rattle.wf_lower_laws.proofs.ExprKinds.{expressions_keep_kinds, num_kind, two_kind, cast_kind, begins_at, begins_kind}
+use Rattle.wf_lower_laws.proofs.ExprKinds.{expressions_keep_kinds, num_kind, two_kind, cast_kind, plus_kind, begins_at, begins_kind}
 use Rattle.wf_lower_laws.proofs.CodeTypes.{Fits, num_fits, text_fits, pointer_fits, same_width, Cell, NumCell, variable_num, member_num, CodeOk, ok_finish, ok_if, ok_assign, ok_number, ok_read, ok_leave, ok_branch, ok_when, ok_repeat, ok_jump, ok_empty, ok_case, ok_label, ok_call, num_typed, num_counts, fits_typed}
 
 -- ---- all that an expression uses is there
@@ -126,7 +126,7 @@ module _ (x : Context) where
       let p = (both_true _ (well_num x a && well_num x b) w).1 in
       let q = both_true (well_num x a) (well_num x b) p in
       both_hold (num_served all_helpers a) (num_served all_helpers b) (served_num a (both_true (is_whole_number a) (well_part x a) q.0).1) (served_num b (both_true (is_whole_number b) (well_part x b) q.1).1)
-  served_cond (same_status at sign a one b) w =
+  served_cond (same_status at sign a same b) w =
       let p = both_true (well_status x a) (well_status x b) w in
       both_hold (status_served known_status a) (status_served known_status b) (served_status a p.0) (served_status b p.1)
   served_cond (junction at both joined a b) w =
@@ -158,6 +158,7 @@ module _ (c : Checked) (f : Form) (Settled : List ℕ → Type 0) (CallOk : List
     pub field : NumCell Settled S (place_in (io_code f.names n) ty)
     pub field_num : IsNum S (place_in (io_code f.names n) ty)
     pub limit : IsNum S (end_of (io_code f.names n) ty)
+    pub pointer : type_of S (io_code f.names n) ≡ Some (points_to (object io_buffer))
 
   -- A local that is kept, and the field that keeps it.
   pub record KeptCells (v : Variable) : Type 0 where
@@ -176,6 +177,8 @@ module _ (c : Checked) (f : Form) (Settled : List ℕ → Type 0) (CallOk : List
     pub found : function_named S.functions (callee_name f.within called callee) ≡ Some function
     pub params : function.params ≡ params_of f.within callee
     pub result : function.result_type ≡ result_of callee
+    pub args_are : list_all (λ v. may_be_arg v.ty) callee.args ≡ true
+    pub result_is : may_be_result callee.mark callee.gives ≡ true
     pub is_own : callee_of (callee_name f.within called callee) ≡ own_function
     pub receiver : type_of S (receiver_code f.names called) ≡ Some (points_to (object (struct_type f.within callee.of)))
     pub ok : CallOk (callee_name f.within called callee)
@@ -198,6 +201,8 @@ module _ (c : Checked) (f : Form) (Settled : List ℕ → Type 0) (CallOk : List
     pub size_held : held_of S size_local ≡ Some (one size)
     pub held_held : held_of S held_local ≡ Some (one (uint U64))
     pub count_held : held_of S count_local ≡ Some (one (uint U8))
+    pub held_settled : is_coroutine m.mark ≡ true → keeps holds_something m.body ≡ true → Settled (codes "held")
+    pub count_settled : is_coroutine m.mark ≡ true → keeps counts_bytes m.body ≡ true → Settled (codes "count")
     pub callable : (called : Called) (callee : MethodTree) → slice_get f.within.methods (number_of called) ≡ Some callee → calls_method x called callee ≡ true → known (number_of called) ≡ true → Callable called callee
     pub result : c.result_type ≡ result_of m
     pub moves : CallOk (codes "memmove")
@@ -450,5 +455,213 @@ module _ (c : Checked) (f : Form) (Settled : List ℕ → Type 0) (CallOk : List
         (element_parts at of cells index q.1, h)
     bits_taken (to_flag at path) bits v w h = absurd (cc w)
     bits_taken (to_status at path) bits v w h = absurd (cc w)
-    bits_taken (to_slice at own path) bits v w h = tt
+    bits_taken (to_slice at width path) bits v w h = tt
     bits_taken to_nothing bits v w h = tt
+
+    element_num8 : (a : ℕ) → Buffer a → IsNum S (next_byte f.names a)
+    element_num8 a b = element_num 8 _ _ b.bytes (place_num a b.ty b.cells)
+
+    step_ok : (a : ℕ) (e : ExprTree) (rest : Code) → Buffer a → IsNum S e → Ok rest → Ok (step_on f.names a e rest)
+    step_ok a e rest b h ok =
+        ok_number c Settled CallOk (place_code f.names a) (two Add (place_code f.names a) e) rest b.cells.place (two_kind S Add (place_code f.names a) e (place_num a b.ty b.cells) h) ok
+
+    -- ---- assignments
+
+    slices_ok : (t : Target) (v : SliceTree) (rest : Code) → well_assigned x t (elements v) ≡ true → Ok rest → Ok (set_slice f.names t (lowered_slice f.names v) rest)
+    slices_ok (to_slice at bits (local n)) v rest w ok =
+        let p = both_true (is_slice bits (type_at x (local n))) (slice_of x bits v) w in
+        let q = both_true (well_slice x v) (nat_eq (element_type v).bits bits) p.1 in
+        let it = slice_ok v q.0 in
+        let same : (element_type v).bits ≡ bits = grind (arith, nat_tests, q.1) in
+        let P : ℕ → Type 0 = λ b. IsPointer S b (lowered_slice f.names v).pointer in
+        ok_read c Settled CallOk size (codes "size") _ _ s.size_held (num_fits S size _ refl it.1) (right_or (expr_reads (codes "size") (lowered_slice f.names v).length.code) _ (right_or (expr_reads (codes "size") (lowered_slice f.names v).pointer) _ refl))
+        (ok_assign c Settled CallOk (uint_pointer (width_of bits)) (variable (local_pointer f.names n)) _ _ (s.pointers bits n p.0) (pointer_fits S bits _ (subst P same it.0))
+        (ok_number c Settled CallOk (variable (local_length f.names n)) size_local rest (s.lengths bits n p.0) size_num ok))
+    slices_ok (to_slice at bits (field n)) v rest w ok = ok
+    slices_ok (to_slice at bits (arg n)) v rest w ok = ok
+    slices_ok (to_number at of path) v rest w ok = ok
+    slices_ok (to_element at of cells index) v rest w ok = ok
+    slices_ok (to_flag at path) v rest w ok = ok
+    slices_ok (to_status at path) v rest w ok = ok
+    slices_ok to_nothing v rest w ok = ok
+
+    number_taken : (t : Target) (v : NumTree) → well_assigned x t (numeric v) ≡ true → Takes t (given f.names v)
+    number_taken (to_number at of path) v w =
+        let p = both_true (may_write m.mark path) _ w in
+        let q = both_true (well_num x (read at of path)) _ p.1 in
+        (s.numbers of path p.0 (read_number at of path q.0), given_ok v (both_true (may_go_into of.bits v) (well_num x v) q.1).1)
+    number_taken (to_element at of cells index) v w =
+        let p = both_true (not (is_pure m.mark)) _ w in
+        let q = both_true (well_num x (element at of cells index)) _ p.1 in
+        (element_parts at of cells index q.0, given_ok v (both_true (may_go_into of.bits v) (well_num x v) q.1).1)
+    number_taken (to_flag at path) v w = absurd (cc w)
+    number_taken (to_status at path) v w = absurd (cc w)
+    number_taken (to_slice at bits path) v w = tt
+    number_taken to_nothing v w = tt
+
+    flag_taken : (t : Target) (v : CondTree) → well_assigned x t (logical v) ≡ true → Takes t (lowered_cond f.names v)
+    flag_taken (to_flag at path) v w =
+        let p = both_true (may_write m.mark path) _ w in
+        let q = both_true (is_flag (type_at x path)) (well_cond x v) p.1 in
+        (s.flags path p.0 q.0, cond_ok v q.1)
+    flag_taken (to_number at of path) v w = absurd (cc w)
+    flag_taken (to_element at of cells index) v w = absurd (cc w)
+    flag_taken (to_status at path) v w = absurd (cc w)
+    flag_taken (to_slice at bits path) v w = tt
+    flag_taken to_nothing v w = tt
+
+    state_taken : (t : Target) (v : StatusTree) → well_assigned x t (state v) ≡ true → Takes t (lowered_status f.names v)
+    state_taken (to_status at path) v w =
+        let p = both_true (may_write m.mark path) _ w in
+        let q = both_true (is_status (type_at x path)) (well_status x v) p.1 in
+        (s.statuses path p.0 q.0, status_ok v q.1)
+    state_taken (to_number at of path) v w = absurd (cc w)
+    state_taken (to_element at of cells index) v w = absurd (cc w)
+    state_taken (to_flag at path) v w = absurd (cc w)
+    state_taken (to_slice at bits path) v w = tt
+    state_taken to_nothing v w = tt
+
+    values_ok : (t : Target) (v : ValueTree) (rest : Code) → well_assigned x t v ≡ true → Ok rest → Ok (set_value f.names t v rest)
+    values_ok t (numeric v) rest w ok = into_ok t _ rest (number_taken t v w) ok
+    values_ok t (logical v) rest w ok = into_ok t _ rest (flag_taken t v w) ok
+    values_ok t (state v) rest w ok = into_ok t _ rest (state_taken t v w) ok
+    values_ok t (elements v) rest w ok = slices_ok t v rest w ok
+    values_ok t (io at a) rest w ok = ok
+    values_ok t lost rest w ok = ok
+
+    -- ---- base calls that suspend
+
+    with_ok : (big : Bool) (e : ExprTree) → IsNum S e → IsNum S (with_byte big e)
+    with_ok true e h = two_kind S Add (two Shl held_local (num 8)) e (two_kind S Shl held_local (num 8) held_num (num_kind S 8)) h
+    with_ok false e h =
+        two_kind S Add held_local _ held_num (two_kind S Shl (c_tree.cast (uint_of 64) e) (two Mul (num 8) count_local) (cast_kind S 64 e h) (two_kind S Mul (num 8) count_local (num_kind S 8) count_num))
+
+    with_reads : (big : Bool) (e : ExprTree) → expr_reads (codes "held") (with_byte big e) ≡ true
+    with_reads true e = refl
+    with_reads false e = refl
+
+    used_ok : (a : ℕ) → Buffer a → has_type c (is_used_up f.names a) ≡ true
+    used_ok a b = num_typed c Settled CallOk _ (two_kind S Ge (place_code f.names a) (end_code f.names a) (place_num a b.ty b.cells) (end_num a b.ty b.cells))
+
+    there_ok : (a : ℕ) → Buffer a → IsNum S (there f.names a)
+    there_ok a b = two_kind S Sub (end_code f.names a) (place_code f.names a) (end_num a b.ty b.cells) (place_num a b.ty b.cells)
+
+    take_ok : (a : ℕ) (form : ReadForm) (rest : Code) → Buffer a → Ok rest → Ok (take_byte f.names a form rest)
+    take_ok a form rest b ok =
+        ok_when c Settled CallOk _ _ rest
+        (num_typed c Settled CallOk _ (two_kind S Both _ _ (two_kind S Lt count_local (num (bytes_of (read_width form))) count_num (num_kind S (bytes_of (read_width form)))) (two_kind S Lt (place_code f.names a) (end_code f.names a) (place_num a b.ty b.cells) (end_num a b.ty b.cells))))
+        (ok_read c Settled CallOk (uint U64) (codes "held") _ _ s.held_held (num_fits S (uint U64) _ refl (with_ok (is_big_endian form) _ (element_num8 a b))) (left_or _ _ (with_reads (is_big_endian form) (next_byte f.names a)))
+        (step_ok a (num 1) _ b (num_kind S 1) (ok_read c Settled CallOk (uint U8) (codes "count") _ finish s.count_held (num_fits S (uint U8) _ refl (two_kind S Add count_local (num 1) count_num (num_kind S 1))) refl done))) ok
+
+    takes_ok : (a : ℕ) (form : ReadForm) (n : ℕ) (rest : Code) → Buffer a → Ok rest → Ok (take_bytes f.names a form n rest)
+    takes_ok a form zero rest b ok = ok
+    takes_ok a form (suc n) rest b ok = take_ok a form (take_bytes f.names a form n rest) b (takes_ok a form n rest b ok)
+
+    taken_ok : (k : ℕ) (t : Target) (a : ℕ) (form : ReadForm) (rest : Code) → is_coroutine m.mark ≡ true → Buffer a → Takes t held_local → Ok rest
+        → Ok (take_bytes f.names a form (bytes_of (read_width form)) (when (two Lt count_local (num (bytes_of (read_width form)))) (suspend f k (status_constant short_read) finish) (put_into f.names t held_local rest)))
+    taken_ok k t a form rest co b h ok =
+        takes_ok a form (bytes_of (read_width form)) _ b
+        (ok_when c Settled CallOk _ _ _ (num_typed c Settled CallOk _ (two_kind S Lt count_local (num (bytes_of (read_width form))) count_num (num_kind S (bytes_of (read_width form)))))
+        (suspends_ok k (status_constant short_read) finish co (constant_ok short_read (s.base short_read (inl refl))) done) (into_ok t held_local rest h ok))
+
+    well_taken : (t : Target) (a : ℕ) (form : ReadForm) (v : ExprTree) → well_awaited x t a (take_number form) ≡ true → IsNum S v → Buffer a × Takes t v
+    well_taken t a form v w h = let p = both_true (is_reader (type_at x (arg a))) _ w in (reader_ok a p.0, bits_taken t (bits_of (read_width form)) v p.1 h)
+
+    stays_same : (b : NumTree) → well_num x b ≡ true → IsNum S (written_byte f.names b)
+    stays_same b w = by (stays b)
+      where
+        by : (test : Bool) → IsNum S (if test then given f.names b else held_local)
+        by true = given_ok b w
+        by false = held_num
+
+    awoken_call_ok : (k : ℕ) (t : Target) (a : ℕ) (call : Awaited) (rest : Code) → is_coroutine m.mark ≡ true → well_awaited x t a call ≡ true → Ok rest → Ok (awoken_call f k t a call rest)
+    awoken_call_ok k t a (take_number ReadU8) rest co w ok =
+        let b = (well_taken t a ReadU8 held_local w held_num).0 in
+        ok_when c Settled CallOk _ _ _ (used_ok a b) (suspends_ok k (status_constant short_read) finish co (constant_ok short_read (s.base short_read (inl refl))) done)
+        (into_ok t (next_byte f.names a) _ (well_taken t a ReadU8 (next_byte f.names a) w (element_num8 a b)).1 (step_ok a (num 1) rest b (num_kind S 1) ok))
+    awoken_call_ok k t a (take_number ReadU16Be) rest co w ok = let p = well_taken t a ReadU16Be held_local w held_num in taken_ok k t a ReadU16Be rest co p.0 p.1 ok
+    awoken_call_ok k t a (take_number ReadU16Le) rest co w ok = let p = well_taken t a ReadU16Le held_local w held_num in taken_ok k t a ReadU16Le rest co p.0 p.1 ok
+    awoken_call_ok k t a (take_number ReadU32Be) rest co w ok = let p = well_taken t a ReadU32Be held_local w held_num in taken_ok k t a ReadU32Be rest co p.0 p.1 ok
+    awoken_call_ok k t a (take_number ReadU32Le) rest co w ok = let p = well_taken t a ReadU32Le held_local w held_num in taken_ok k t a ReadU32Le rest co p.0 p.1 ok
+    awoken_call_ok k t a (take_number ReadU64Be) rest co w ok = let p = well_taken t a ReadU64Be held_local w held_num in taken_ok k t a ReadU64Be rest co p.0 p.1 ok
+    awoken_call_ok k t a (take_number ReadU64Le) rest co w ok = let p = well_taken t a ReadU64Le held_local w held_num in taken_ok k t a ReadU64Le rest co p.0 p.1 ok
+    awoken_call_ok k t a (skip n) rest co w ok =
+        let b = reader_ok a (both_true (is_reader (type_at x (arg a))) _ w).0 in
+        let left = two_kind S Sub held_local (there f.names a) held_num (there_ok a b) in
+        ok_when c Settled CallOk _ _ _ (num_typed c Settled CallOk _ (two_kind S Gt held_local (there f.names a) held_num (there_ok a b)))
+        (ok_read c Settled CallOk (uint U64) (codes "held") _ _ s.held_held (num_fits S (uint U64) _ refl left) refl
+        (ok_number c Settled CallOk (place_code f.names a) (end_code f.names a) _ b.cells.place (end_num a b.ty b.cells) (suspends_ok k (status_constant short_read) finish co (constant_ok short_read (s.base short_read (inl refl))) done)))
+        (step_ok a held_local rest b held_num ok)
+    awoken_call_ok k t a (write n) rest co w ok =
+        let p = both_true (is_writer (type_at x (arg a))) _ w in
+        let b = writer_ok a p.0 in
+        let q = both_true (has_none t) _ p.1 in
+        let r = both_true (may_go_into 8 n) (well_num x n) q.1 in
+        ok_when c Settled CallOk _ _ _ (used_ok a b) (suspends_ok k (status_constant short_write) finish co (constant_ok short_write (s.base short_write (inr (inl refl)))) done)
+        (ok_number c Settled CallOk (next_byte f.names a) (written_byte f.names n) _ (element_cell 8 _ _ b.bytes (place_num a b.ty b.cells)) (stays_same n r.1) (step_ok a (num 1) rest b (num_kind S 1) ok))
+
+    -- What has begun is read where it goes on.
+    reads_behind : (name : List ℕ) (k : ℕ) (rest : Code) → code_reads name rest ≡ true → code_reads name (resume_here k rest) ≡ true
+    reads_behind name k rest h = h
+
+    begun_taken : (k : ℕ) (rest : Code) → code_reads (codes "held") rest ≡ true → code_reads (codes "count") rest ≡ true → Ok (resume_here k rest)
+        → Ok (c_tree.assign held_local (num 0) (c_tree.assign count_local (num 0) (resume_here k rest)))
+    begun_taken k rest h g ok =
+        ok_read c Settled CallOk (uint U64) (codes "held") (num 0) _ s.held_held (num_fits S (uint U64) (num 0) refl (num_kind S 0)) (reads_behind (codes "held") k rest h)
+        (ok_read c Settled CallOk (uint U8) (codes "count") (num 0) _ s.count_held (num_fits S (uint U8) (num 0) refl (num_kind S 0)) (reads_behind (codes "count") k rest g) ok)
+
+    resume_ok : (k : ℕ) (rest : Code) → Ok rest → Ok (resume_here k rest)
+    resume_ok k rest ok = ok_when c Settled CallOk (num 0) _ rest (num_typed c Settled CallOk (num 0) (num_kind S 0)) (ok_case c Settled CallOk (Int k) _ (ok_empty c Settled CallOk finish done)) ok
+
+    point_call_ok : (k : ℕ) (t : Target) (a : ℕ) (call : Awaited) (rest : Code) → is_coroutine m.mark ≡ true → well_awaited x t a call ≡ true → Ok rest → Ok (begun_call f.names call (resume_here k (awoken_call f k t a call rest)))
+    point_call_ok k t a (take_number ReadU8) rest co w ok = resume_ok k _ (awoken_call_ok k t a (take_number ReadU8) rest co w ok)
+    point_call_ok k t a (take_number ReadU16Be) rest co w ok = begun_taken k _ refl refl (resume_ok k _ (awoken_call_ok k t a (take_number ReadU16Be) rest co w ok))
+    point_call_ok k t a (take_number ReadU16Le) rest co w ok = begun_taken k _ refl refl (resume_ok k _ (awoken_call_ok k t a (take_number ReadU16Le) rest co w ok))
+    point_call_ok k t a (take_number ReadU32Be) rest co w ok = begun_taken k _ refl refl (resume_ok k _ (awoken_call_ok k t a (take_number ReadU32Be) rest co w ok))
+    point_call_ok k t a (take_number ReadU32Le) rest co w ok = begun_taken k _ refl refl (resume_ok k _ (awoken_call_ok k t a (take_number ReadU32Le) rest co w ok))
+    point_call_ok k t a (take_number ReadU64Be) rest co w ok = begun_taken k _ refl refl (resume_ok k _ (awoken_call_ok k t a (take_number ReadU64Be) rest co w ok))
+    point_call_ok k t a (take_number ReadU64Le) rest co w ok = begun_taken k _ refl refl (resume_ok k _ (awoken_call_ok k t a (take_number ReadU64Le) rest co w ok))
+    point_call_ok k t a (skip n) rest co w ok =
+        let p = both_true (is_reader (type_at x (arg a))) _ w in
+        let q = both_true (has_none t) _ p.1 in
+        let r = both_true (may_go_into 32 n) (well_num x n) q.1 in
+        ok_read c Settled CallOk (uint U64) (codes "held") (given f.names n) _ s.held_held (num_fits S (uint U64) _ refl (given_ok n r.1)) (right_or (expr_reads (codes "held") (given f.names n)) _ refl) (resume_ok k _ (awoken_call_ok k t a (skip n) rest co w ok))
+    point_call_ok k t a (write n) rest co w ok = by (stays n) refl (resume_ok k _ (awoken_call_ok k t a (write n) rest co w ok))
+      where
+        reads_byte : stays n ≡ false → expr_reads (codes "held") (written_byte f.names n) ≡ true
+        reads_byte e = rw e refl
+
+        reads_it : stays n ≡ false → code_reads (codes "held") (awoken_call f k t a (write n) rest) ≡ true
+        reads_it e = right_or (code_reads (codes "held") (suspend f k (status_constant short_write) finish)) _ (left_or _ _ (reads_byte e))
+
+        by : (b : Bool) → stays n ≡ b → Ok (resume_here k (awoken_call f k t a (write n) rest))
+            → Ok (if b then resume_here k (awoken_call f k t a (write n) rest) else c_tree.assign held_local (given f.names n) (resume_here k (awoken_call f k t a (write n) rest)))
+        by true e more = more
+        by false e more =
+            let p = both_true (is_writer (type_at x (arg a))) _ w in
+            let q = both_true (has_none t) _ p.1 in
+            let r = both_true (may_go_into 8 n) (well_num x n) q.1 in
+            ok_read c Settled CallOk (uint U64) (codes "held") (given f.names n) _ s.held_held (num_fits S (uint U64) _ refl (given_ok n r.1)) (right_or (expr_reads (codes "held") (given f.names n)) _ (reads_behind (codes "held") k _ (reads_it e))) more
+
+    -- ---- base calls that don't suspend
+
+    bits_same : (t : SliceTree) → slice_bits t ≡ (element_type t).bits
+    bits_same (slice at bits path) = refl
+    bits_same (array at of count path) = refl
+    bits_same (cut at cells from to) = bits_same cells
+
+    least_ok : (one_size other : ExprTree) (rest : Code) → IsNum S one_size → IsNum S other → Ok rest → Ok (least_size one_size other rest)
+    least_ok one_size other rest h j ok =
+        ok_read c Settled CallOk size (codes "size") one_size _ s.size_held (num_fits S size _ refl h) (right_or (expr_reads (codes "size") one_size) _ refl)
+        (ok_when c Settled CallOk _ _ rest (num_typed c Settled CallOk _ (two_kind S Gt size_local other size_num j))
+        (ok_size other j) ok)
+      where
+        ok_size : (e : ExprTree) → IsNum S e → Ok (c_tree.assign size_local e finish)
+        ok_size e k = ?
+
+    bytes_num : (bits : ℕ) → IsNum S (bytes_for bits)
+    bytes_num bits = by (nat_eq bits 8)
+      where
+        by : (b : Bool) → IsNum S (if b then size_local else two Mul size_local (num (bits / 8)))
+        by true = size_num
+        by false = two_kind S Mul size_local (num (bits / 8)) size_num (num_kind S (bits / 8))
