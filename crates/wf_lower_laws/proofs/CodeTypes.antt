@@ -243,3 +243,31 @@ module _ (c : Checked) (Settled : List ℕ → Type 0) (CallOk : List ℕ → Ty
 
   pub fits_typed : (t : TypeTree) (e : ExprTree) → Fits S t e → has_type c e ≡ true
   fits_typed t e h = rw h.is refl
+
+-- A variable that the code reads may be taken as settled in it.
+abbrev pub Or : (List ℕ → Type 0) → (read_one : List ℕ) → List ℕ → Type 0
+Or Settled read_one name = Settled name ⊎ (name ≡ read_one)
+
+pub absorb : (c : Checked) (Settled CallOk : List ℕ → Type 0) (read_one : List ℕ) (code : Code) → CodeOk c (Or Settled read_one) CallOk code → code_reads read_one code ≡ true → CodeOk c Settled CallOk code
+absorb c Settled CallOk read_one code ok r = record { typed = ok.typed; fair = λ name a. by name (ok.fair name a); called = ok.called }
+  where
+    by : (name : List ℕ) → Or Settled read_one name ⊎ (code_reads name code ≡ true) → Settled name ⊎ (code_reads name code ≡ true)
+    by name (inl (inl s)) = inl s
+    by name (inl (inr e)) = let P : List ℕ → Type 0 = λ z. code_reads z code ≡ true in inr (subst P (sym e) r)
+    by name (inr g) = inr g
+
+pub widen : (c : Checked) (Settled CallOk : List ℕ → Type 0) (read_one : List ℕ) (code : Code) → CodeOk c Settled CallOk code → CodeOk c (Or Settled read_one) CallOk code
+widen c Settled CallOk read_one code ok = record { typed = ok.typed; fair = λ name a. by name (ok.fair name a); called = ok.called }
+  where
+    by : (name : List ℕ) → Settled name ⊎ (code_reads name code ≡ true) → Or Settled read_one name ⊎ (code_reads name code ≡ true)
+    by name (inl s) = inl (inl s)
+    by name (inr g) = inr g
+
+-- `if (test) { read_one = value; }`, where the test reads the variable.
+pub ok_when_assigned : (c : Checked) (Settled CallOk : List ℕ → Type 0) (t : TypeTree) (read_one : List ℕ) (test value : ExprTree) (rest : Code) → held_of c.scope (variable read_one) ≡ Some (one t) → has_type c test ≡ true → Fits c.scope t value
+    → expr_reads read_one test ≡ true → CodeOk c Settled CallOk rest → CodeOk c Settled CallOk (when test (assign (variable read_one) value finish) rest)
+ok_when_assigned c Settled CallOk t read_one test value rest h typed v r ok =
+    absorb c Settled CallOk read_one _
+    (ok_when c (Or Settled read_one) CallOk test _ rest typed
+    (ok_assign c (Or Settled read_one) CallOk t (variable read_one) value finish (record { held = h; settled = λ name e. inr ((bytes_eq-Decides name read_one).0 e) }) v (ok_finish c (Or Settled read_one) CallOk))
+    (widen c Settled CallOk read_one rest ok)) (left_or (expr_reads read_one test) _ r)

@@ -69,6 +69,10 @@ module _ (S T : Scope) (h : S.structs ≡ T.structs) where
   abbrev Agree : ((name : List ℕ) → Bool) → Type 0
   Agree reads = (name : List ℕ) → reads name ≡ true → Agreed S T name
 
+  -- The same of what they hold alone.
+  abbrev AgreeHeld : ((name : List ℕ) → Bool) → Type 0
+  AgreeHeld test = (name : List ℕ) → test name ≡ true → variable_held S name ≡ variable_held T name
+
   left_of : (a b : List ℕ → Bool) → Agree (λ name. a name || b name) → Agree a
   left_of a b k name r = k name (left_or (a name) (b name) r)
 
@@ -137,8 +141,8 @@ module _ (S T : Scope) (h : S.structs ≡ T.structs) where
     args_same (sizeof_arg name es) k = ap (λ (xs : List (Option ExprType)). None ∷ xs) (args_same es k)
 
   -- What is assigned to: a variable by its name, and everything else by what it reads.
-  target_same : (e : ExprTree) → Agree (λ name. is_variable name e) → Agree (λ name. target_reads name e) → held_of S e ≡ held_of T e
-  target_same (variable name) v k = (v name (same_bytes name)).held
+  target_same : (e : ExprTree) → AgreeHeld (λ name. is_variable name e) → Agree (λ name. target_reads name e) → held_of S e ≡ held_of T e
+  target_same (variable name) v k = v name (same_bytes name)
   target_same (member of field) v k = held_same (member of field) k
   target_same (element of index) v k = held_same (element of index) k
   target_same (pointed of) v k = held_same (pointed of) k
@@ -150,13 +154,13 @@ module _ (S T : Scope) (h : S.structs ≡ T.structs) where
   target_same (called function given) v k = refl
 
   module _ (c d : Checked) (s : c.scope ≡ S) (t : d.scope ≡ T) (r : c.result_type ≡ d.result_type) where
-    kept_same : (target : Option ExprTree) (result_type : Option TypeTree) → Agree (λ name. is_result_of name target) → Agree (λ name. result_reads name target) → may_keep c target result_type ≡ may_keep d target result_type
+    kept_same : (target : Option ExprTree) (result_type : Option TypeTree) → AgreeHeld (λ name. is_result_of name target) → Agree (λ name. result_reads name target) → may_keep c target result_type ≡ may_keep d target result_type
     kept_same None result_type v k = refl
     kept_same (Some e) result_type v k =
         let same : held_of c.scope e ≡ held_of d.scope e = ap (λ z. held_of z e) s ∙ (target_same e v k ∙ sym (ap (λ z. held_of z e) t)) in
         ap (λ x. may_assign x (option_map value_type result_type)) same
 
-    called_same : (target : Option ExprTree) (given : List (Option ExprType)) (o : Option Function) → Agree (λ name. is_result_of name target) → Agree (λ name. result_reads name target) → is_called c target given o ≡ is_called d target given o
+    called_same : (target : Option ExprTree) (given : List (Option ExprType)) (o : Option Function) → AgreeHeld (λ name. is_result_of name target) → Agree (λ name. result_reads name target) → is_called c target given o ≡ is_called d target given o
     called_same target given None v k = refl
     called_same target given (Some f) v k = ap (λ b. passable f.params given && b) (kept_same target f.result_type v k)
 
@@ -166,7 +170,7 @@ module _ (S T : Scope) (h : S.structs ≡ T.structs) where
     given_same : (es : Args) → Agree (λ name. args_read name es) → arg_types c.scope es ≡ arg_types d.scope es
     given_same es k = ap (λ z. arg_types z es) s ∙ (args_same es k ∙ sym (ap (λ z. arg_types z es) t))
 
-    call_same : (target : Option ExprTree) (function : List ℕ) (given : Args) → CallAgreed S T function → Agree (λ name. is_result_of name target) → Agree (λ name. result_reads name target) → Agree (λ name. args_read name given)
+    call_same : (target : Option ExprTree) (function : List ℕ) (given : Args) → CallAgreed S T function → AgreeHeld (λ name. is_result_of name target) → Agree (λ name. result_reads name target) → Agree (λ name. args_read name given)
         → formed_call (callee_of function) c target function given ≡ formed_call (callee_of function) d target function given
     call_same target function given a v k j = by a.moves
       where
@@ -193,7 +197,7 @@ module _ (S T : Scope) (h : S.structs ≡ T.structs) where
     both a b x y p q = two_same (λ u v. u && v) a b x y p q
 
     -- Code that is typed in the other scope is typed in this.
-    pub code_same : (code : Code) → Agree (λ name. code_reads name code) → Agree (λ name. assigns name code) → CallsAgree code → typed_code c code ≡ typed_code d code
+    pub code_same : (code : Code) → Agree (λ name. code_reads name code) → AgreeHeld (λ name. assigns name code) → CallsAgree code → typed_code c code ≡ typed_code d code
     code_same finish k v j = refl
     code_same (nested inner rest) k v j =
         both (typed_code c inner) (typed_code d inner) (typed_code c rest) (typed_code d rest)

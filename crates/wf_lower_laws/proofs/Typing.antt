@@ -1,6 +1,6 @@
 -- What statements of a method are lowered to has the types that C asks, in a scope that has all that they name.
 use Rattle.std.proofs.Common.{◌≡◌, ◌⊎◌, inl, inr, ℕ, zero, suc, ◌+◌, ◌/◌, Bool, true, false, not, ◌&&◌, ◌||◌, List, [], ◌∷◌, ◌++◌, Option, Some, None, nat_eq, refl, sym, ap, ◌∙◌, subst, arith}
-use Rattle.std.specs.Prelude.{if◌then◌else◌, is_some, is_none, slice_get, codes, bytes_eq, option_and_then, option_map}
+use Rattle.std.specs.Prelude.{map, if◌then◌else◌, is_some, is_none, slice_get, codes, bytes_eq, option_and_then, option_map}
 use Rattle.std.specs.List.{list_all, AllByRecursion}
 use Rattle.std.proofs.lemmas.Bool.Decides.{nat_tests}
 use Rattle.wf_text.specs.declared.place.Place.{Place}
@@ -14,7 +14,7 @@ use Rattle.wf_base.specs.declared.marks.Mark.{Mark}
 use Rattle.wf_base.specs.declared.marks.Mark.TheVariants.{Pure, Impure, Coroutine}
 use Rattle.wf_ast.specs.declared.types.Ty.{Ty}
 use Rattle.wf_ast.specs.declared.types.Ty.TheVariants as types
-use Rattle.wf_ast.specs.TypedPackage.{Variable, MethodTree, PackageTree, answers_of, answer_kind}
+use Rattle.wf_ast.specs.TypedPackage.{Variable, MethodTree, PackageTree, kind_of, answers_of, answer_kind}
 use Rattle.wf_ast.specs.TypedTree.{Path, local, field, arg, NumType, Arith, plus, minus, times, divided, remainder, shift_left, shift_right, bits_and, bits_or, bits_xor, mod_plus, mod_minus, mod_times, mod_shift_left, sat_plus, sat_minus, Question, reader_length, reader_position, peek, writer_length, writer_position, NumTree, number, read, element, link, convert, length_of, asked, SliceTree, slice, array, cut, EndTree, absent, present, CondTree, truth, flag, compare, same_status, junction, negation, closed, has_category, ValueTree, numeric, logical, state, elements, io, lost, StatusTree, status, held, no_status, Target, to_number, to_element, to_flag, to_status, to_slice, to_nothing, Awaited, take_number, skip, write, Written, skip_fast, write_fast, copy_to_writer, copy_to_slice, Called, own, sub, Simple, assign, await, perform, invoke, break_from, continue_in, give_back, yield, claim, Site, Block, end, plain, choose, loop}
 use Rattle.wf_ast.specs.WellTyped.{Context, type_at, is_width, is_range, is_number, is_array, is_slice, is_flag, is_status, is_reader, is_writer, may_ask, may_go_into, fits, is_shift, continues, same_num_type, is_unrefined, is_whole_number, element_type, well_num, well_part, well_slice, well_end, well_status, well_cond, slice_of, fits_type, fit_types, is_coroutine, is_pure, may_write, takes, well_assigned, is_operator, has_none, is_status_target, takes_bits, well_awaited, well_written, takes_answer, same_mark, calls_method, number_of, well_invoked, well_returned, well_simple, breaks, well_block, calls_only, is_suspension, may_be_arg, may_be_result}
 use Rattle.wf_ast.proofs.Arena.{both_true}
@@ -26,22 +26,25 @@ use Rattle.c_text.specs.declared.kinds.CUnary.TheVariants.{Address}
 use Rattle.c_text.specs.declared.kinds.CNumber.TheVariants.{Int}
 use Rattle.c_text.specs.CTree.{TypeTree, uint, size, boolean, uint_pointer, struct_pointer, text, ExprTree, variable, member, Code, finish, empty, leave, case_label, name_label, ParamTree}
 use Rattle.c_text.specs.CTree as c_tree
-use Rattle.c_meaning.specs.CTypes.{Scope, Function, ExprType, points_to, cell, object, byte, one, is_numeric, assignable, passable, type_of, held_of, arg_types, function_named, io_buffer, held_type, value_type, promoted}
-use Rattle.c_meaning.specs.CStep.{callee_of, own as own_function, memory_move}
-use Rattle.c_meaning.specs.UnitForm.{Checked, has_type, may_assign, formed_return, formed_call, is_called, may_keep, answer_type, arg_params, args_params}
+use Rattle.c_meaning.specs.CTypes.{Scope, Function, ExprType, points_to, cell, object, byte, one, is_numeric, assignable, passable, type_of, held_of, arg_types, function_named, io_buffer, held_type, value_type, promoted, numbers}
+use Rattle.wf_num.specs.declared.c_arithmetic.CTy.TheVariants as ctys
+use Rattle.c_meaning.specs.CStep.{Callee, callee_of, own as own_function, memory_move}
+use Rattle.c_meaning.specs.UnitForm.{uint_of as form_uint, Checked, has_type, may_assign, formed_return, formed_call, is_called, may_keep, answer_type, arg_params, args_params}
 use Rattle.wf_exprs.specs.Names.{Names, local_name, local_pointer, local_length, field_name, point_field, saved_field, held_field, count_field, struct_type, again_label, behind_label}
 use Rattle.wf_exprs.specs.Words.{num, uint_of, width_of, two, self, of_self, args}
 use Rattle.wf_exprs.specs.Exprs.{Pair, path_code, lowered, lowered_expr, lowered_slice, given, lowered_status, lowered_cond, status_constant, begins_with, io_code, place_code, end_code, bytes_code, there}
 use Rattle.wf_exprs.specs.Reads.{expr_reads, code_reads}
 use Rattle.wf_lower_stmts.specs.Forms.{Form, status_local, got_local, size_local, held_local, count_local, is_io, is_kept, local_code, saved_code, stays, holds_something, counts_bytes, keeps, place_in, end_of, when, put, get, put_all, save_locals, restore_locals, save_held, save_count, save_started, give, suspend, resume_here}
 use Rattle.wf_lower_stmts.specs.Lower.{lower, continues as continues_in, again_here, behind_here, other_kind, ending, ending_of, has_result, tail_of, top}
-use Rattle.wf_lower_stmts.specs.Statements.{target_code, put_into, set_slice, set_value, step_on, next_byte, is_used_up, is_big_endian, with_byte, take_byte, take_bytes, written_byte, begun_call, awoken_call, slice_bits, bytes_for, least_size, move, lower_written, value_codes, values_codes, is_passed, receiver_code, callee_name, answer_local, is_wanted, call_into, hand_on, put_result, lower_call, handed_call, plain_call, give_status, give_value, begun, awoken, lower_point, lower_plain, lower_simple}
+use Rattle.wf_lower_stmts.specs.Statements.{target_code, put_into, set_slice, set_value, step_on, next_byte, is_used_up, is_big_endian, with_byte, take_byte, take_bytes, written_byte, begun_call, awoken_call, slice_bits, bytes_for, least_size, move, lower_written, value_codes, values_codes, is_passed, receiver_code, callee_name, answer_local, is_wanted, call_into, hand_on, put_result, lower_call, handed_call, plain_call, give_status, give_value, begun, awoken, lower_point, lower_plain, lower_simple, is_suspension as is_held_back}
 use Rattle.wf_lower.specs.Bodies.{params_of, result_of}
 use Rattle.wf_lower_laws.specs.KindLaw.{IsNum, IsPointer, IsText, Declares, KeepKinds, has_op, has_question, num_served, slice_served, end_served, status_served, cond_served}
 use Rattle.wf_lower_laws.proofs.Apart.{left_or, right_or}
 use Rattle.wf_lower_laws.proofs.Names.{both_hold}
 use Rattle.wf_lower_laws.proofs.ExprKinds.{expressions_keep_kinds, num_kind, two_kind, cast_kind, plus_kind, begins_at, begins_kind}
-use Rattle.wf_lower_laws.proofs.CodeTypes.{Fits, num_fits, text_fits, pointer_fits, same_width, Cell, NumCell, variable_num, member_num, CodeOk, ok_finish, ok_if, ok_assign, ok_number, ok_read, ok_leave, ok_branch, ok_when, ok_repeat, ok_jump, ok_empty, ok_case, ok_label, ok_call, num_typed, num_counts, fits_typed}
+use Rattle.wf_lower_laws.proofs.Frames.{same_bytes, is_variable, is_result_of}
+use Rattle.wf_lower_laws.proofs.Straight.{Straight, over, assigned, calling, leaving, guarded, gets}
+use Rattle.wf_lower_laws.proofs.CodeTypes.{Fits, num_fits, text_fits, pointer_fits, same_width, Cell, NumCell, variable_num, member_num, CodeOk, ok_finish, ok_if, ok_assign, ok_number, ok_read, ok_leave, ok_branch, ok_when, ok_repeat, ok_jump, ok_empty, ok_case, ok_label, ok_call, ok_when_assigned, num_typed, num_counts, fits_typed}
 
 -- ---- all that an expression uses is there
 
@@ -137,6 +140,27 @@ module _ (x : Context) where
   served_cond (has_category at t category) w = served_status t w
 
 -- ---- a scope that serves a method
+
+reader_is_io : (ty : Ty) → is_reader (Some ty) ≡ true → is_io ty ≡ true
+reader_is_io types.Reader e = refl
+reader_is_io types.Writer e = refl
+reader_is_io types.Flag e = absurd (cc e)
+reader_is_io types.Status e = absurd (cc e)
+reader_is_io (types.Num width lo hi) e = absurd (cc e)
+reader_is_io (types.Slice width) e = absurd (cc e)
+reader_is_io (types.Array width lo hi count) e = absurd (cc e)
+reader_is_io (types.Part t) e = absurd (cc e)
+
+writer_is_io : (ty : Ty) → is_writer (Some ty) ≡ true → is_io ty ≡ true
+writer_is_io types.Writer e = refl
+writer_is_io types.Reader e = refl
+writer_is_io types.Flag e = absurd (cc e)
+writer_is_io types.Status e = absurd (cc e)
+writer_is_io (types.Num width lo hi) e = absurd (cc e)
+writer_is_io (types.Slice width) e = absurd (cc e)
+writer_is_io (types.Array width lo hi count) e = absurd (cc e)
+writer_is_io (types.Part t) e = absurd (cc e)
+
 
 abbrev pub around : Form → Context
 around f = record { within = f.within; method = f.method }
@@ -341,30 +365,10 @@ module _ (c : Checked) (f : Form) (Settled : List ℕ → Type 0) (CallOk : List
         by (Some v) e k = record { ty = v.ty; cells = s.buffers a v e (every v.ty k); bytes = bytes }
 
     reader_ok : (a : ℕ) → is_reader (type_at x (arg a)) ≡ true → Buffer a
-    reader_ok a h = found_buffer a is_reader h (λ e. absurd (cc e)) every (s.declares.readers a h).bytes
-      where
-        every : (ty : Ty) → is_reader (Some ty) ≡ true → is_io ty ≡ true
-        every types.Reader e = refl
-        every types.Writer e = refl
-        every types.Flag e = absurd (cc e)
-        every types.Status e = absurd (cc e)
-        every (types.Num width lo hi) e = absurd (cc e)
-        every (types.Slice width) e = absurd (cc e)
-        every (types.Array width lo hi count) e = absurd (cc e)
-        every (types.Part t) e = absurd (cc e)
+    reader_ok a h = found_buffer a is_reader h (λ e. absurd (cc e)) reader_is_io (s.declares.readers a h).bytes
 
     writer_ok : (a : ℕ) → is_writer (type_at x (arg a)) ≡ true → Buffer a
-    writer_ok a h = found_buffer a is_writer h (λ e. absurd (cc e)) every (s.declares.writers a h).bytes
-      where
-        every : (ty : Ty) → is_writer (Some ty) ≡ true → is_io ty ≡ true
-        every types.Writer e = refl
-        every types.Reader e = refl
-        every types.Flag e = absurd (cc e)
-        every types.Status e = absurd (cc e)
-        every (types.Num width lo hi) e = absurd (cc e)
-        every (types.Slice width) e = absurd (cc e)
-        every (types.Array width lo hi count) e = absurd (cc e)
-        every (types.Part t) e = absurd (cc e)
+    writer_ok a h = found_buffer a is_writer h (λ e. absurd (cc e)) writer_is_io (s.declares.writers a h).bytes
 
     -- ---- ends of calls
 
@@ -641,7 +645,8 @@ module _ (c : Checked) (f : Form) (Settled : List ℕ → Type 0) (CallOk : List
             let p = both_true (is_writer (type_at x (arg a))) _ w in
             let q = both_true (has_none t) _ p.1 in
             let r = both_true (may_go_into 8 n) (well_num x n) q.1 in
-            ok_read c Settled CallOk (uint U64) (codes "held") (given f.names n) _ s.held_held (num_fits S (uint U64) _ refl (given_ok n r.1)) (right_or (expr_reads (codes "held") (given f.names n)) _ (reads_behind (codes "held") k _ (reads_it e))) more
+            ok_read c Settled CallOk (uint U64) (codes "held") (given f.names n) (resume_here k (awoken_call f k t a (write n) rest)) s.held_held (num_fits S (uint U64) (given f.names n) refl (given_ok n r.1))
+            (right_or (expr_reads (codes "held") (given f.names n)) (code_reads (codes "held") (resume_here k (awoken_call f k t a (write n) rest))) (reads_behind (codes "held") k (awoken_call f k t a (write n) rest) (reads_it e))) more
 
     -- ---- base calls that don't suspend
 
@@ -653,11 +658,7 @@ module _ (c : Checked) (f : Form) (Settled : List ℕ → Type 0) (CallOk : List
     least_ok : (one_size other : ExprTree) (rest : Code) → IsNum S one_size → IsNum S other → Ok rest → Ok (least_size one_size other rest)
     least_ok one_size other rest h j ok =
         ok_read c Settled CallOk size (codes "size") one_size _ s.size_held (num_fits S size _ refl h) (right_or (expr_reads (codes "size") one_size) _ refl)
-        (ok_when c Settled CallOk _ _ rest (num_typed c Settled CallOk _ (two_kind S Gt size_local other size_num j))
-        (ok_size other j) ok)
-      where
-        ok_size : (e : ExprTree) → IsNum S e → Ok (c_tree.assign size_local e finish)
-        ok_size e k = ?
+        (ok_when_assigned c Settled CallOk size (codes "size") (two Gt size_local other) other rest s.size_held (num_typed c Settled CallOk _ (two_kind S Gt size_local other size_num j)) (num_fits S size other refl j) refl ok)
 
     bytes_num : (bits : ℕ) → IsNum S (bytes_for bits)
     bytes_num bits = by (nat_eq bits 8)
@@ -665,3 +666,617 @@ module _ (c : Checked) (f : Form) (Settled : List ℕ → Type 0) (CallOk : List
         by : (b : Bool) → IsNum S (if b then size_local else two Mul size_local (num (bits / 8)))
         by true = size_num
         by false = two_kind S Mul size_local (num (bits / 8)) size_num (num_kind S (bits / 8))
+
+    move_ok : (bits own_bits : ℕ) (to from : ExprTree) (rest : Code) → IsPointer S own_bits to → IsPointer S own_bits from → Ok rest → Ok (move bits to from rest)
+    move_ok bits own_bits to from rest h j ok =
+        ok_when c Settled CallOk size_local _ rest (num_typed c Settled CallOk size_local size_num)
+        (ok_call c Settled CallOk None (codes "memmove") (args (to ∷ from ∷ bytes_for bits ∷ [])) finish (rw (h, j) (num_counts c Settled CallOk (bytes_for bits) (bytes_num bits))) s.moves (λ name e. absurd (cc e)) done) ok
+
+    written_ok : (t : Target) (call : Written) (rest : Code) → well_written x t call ≡ true → Ok rest → Ok (lower_written f.names t call rest)
+    written_ok t (skip_fast a actual worst_case) rest w ok =
+        let p = both_true (is_reader (type_at x (arg a))) _ w in
+        let q = both_true (has_none t) _ p.1 in
+        let r = both_true (may_go_into 32 actual && well_num x actual) _ q.1 in
+        step_ok a _ rest (reader_ok a p.0) (whole_ok actual (both_true (may_go_into 32 actual) (well_num x actual) r.0).1) ok
+    written_ok t (write_fast a n) rest w ok =
+        let p = both_true (is_writer (type_at x (arg a))) _ w in
+        let q = both_true (has_none t) _ p.1 in
+        let r = both_true (may_go_into 8 n) (well_num x n) q.1 in
+        let b = writer_ok a p.0 in
+        ok_number c Settled CallOk (next_byte f.names a) (given f.names n) _ (element_cell 8 _ _ b.bytes (place_num a b.ty b.cells)) (given_ok n r.1) (step_ok a (num 1) rest b (num_kind S 1) ok)
+    written_ok t (copy_to_writer a source) rest w ok =
+        let p = both_true (is_writer (type_at x (arg a))) _ w in
+        let q = both_true (takes_bits x t 64) _ p.1 in
+        let r = both_true (well_slice x source) (nat_eq (element_type source).bits 8) q.1 in
+        let b = writer_ok a p.0 in
+        let it = slice_ok source r.0 in
+        let same : (element_type source).bits ≡ 8 = grind (arith, nat_tests, r.1) in
+        let P : ℕ → Type 0 = λ bits. IsPointer S bits (lowered_slice f.names source).pointer in
+        least_ok _ (there f.names a) _ it.1 (there_ok a b)
+        (move_ok 8 8 (two Add (bytes_code f.names a) (place_code f.names a)) _ _ (plus_kind S 8 (bytes_code f.names a) (place_code f.names a) b.bytes (place_num a b.ty b.cells)) (subst P same it.0)
+        (step_ok a size_local _ b size_num (into_ok t size_local rest (bits_taken t 64 size_local q.0 size_num) ok)))
+    written_ok t (copy_to_slice to source) rest w ok =
+        let p = both_true (takes_bits x t 64) _ w in
+        let q = both_true (well_slice x to) _ p.1 in
+        let r = both_true (well_slice x source) (nat_eq (element_type source).bits (element_type to).bits) q.1 in
+        let one_part = slice_ok to q.0 in
+        let other = slice_ok source r.0 in
+        let same : (element_type source).bits ≡ (element_type to).bits = grind (arith, nat_tests, r.1) in
+        let P : ℕ → Type 0 = λ bits. IsPointer S bits (lowered_slice f.names source).pointer in
+        least_ok _ _ _ one_part.1 other.1
+        (move_ok (slice_bits to) (element_type to).bits _ _ _ one_part.0 (subst P same other.0) (into_ok t size_local rest (bits_taken t 64 size_local p.0 size_num) ok))
+
+    -- ---- calls of methods
+
+    abbrev given_codes : List ValueTree → List ExprTree
+    given_codes ts = values_codes f.names ts
+
+    abbrev Passes : List ParamTree → List ExprTree → Type 0
+    Passes ps es = passable ps (arg_types S (args es)) ≡ true
+
+    pass_one : (p : ParamTree) (ps : List ParamTree) (e : ExprTree) (es : List ExprTree) → Fits S p.kind e → Passes ps es → Passes (p ∷ ps) (e ∷ es)
+    pass_one p ps e es h more = rw h.is (both_hold (assignable p.kind h.type) _ h.fits more)
+
+    io_code_type : (a : ℕ) (test : Option Ty → Bool) → test (type_at x (arg a)) ≡ true → (test None ≡ true → ⊥) → ((ty : Ty) → test (Some ty) ≡ true → is_io ty ≡ true) → type_of S (io_code f.names a) ≡ Some (points_to (object io_buffer))
+    io_code_type a test h none every = by (slice_get m.args a) refl h
+      where
+        by : (o : Option Variable) → slice_get m.args a ≡ o → test (option_map (λ v. v.ty) o) ≡ true → type_of S (io_code f.names a) ≡ Some (points_to (object io_buffer))
+        by None e k = absurd (none k)
+        by (Some v) e k = (s.buffers a v e (every v.ty k)).pointer
+
+    io_fits : (a : ℕ) → type_of S (io_code f.names a) ≡ Some (points_to (object io_buffer)) → Fits S (struct_pointer io_buffer) (io_code f.names a)
+    io_fits a h = record { type = points_to (object io_buffer); is = h; fits = refl }
+
+    -- One argument's values go to its parameters.
+    pass_value : (name : List ℕ) (ty : Ty) (t : ValueTree) (ps : List ParamTree) (es : List ExprTree) → may_be_arg ty ≡ true → fits_type x ty t ≡ true → Passes ps es
+        → Passes (arg_params (record { name = name; kind = kind_of ty }) ++ ps) (value_codes f.names t ++ es)
+    pass_value name (types.Num width lo hi) (numeric t) ps es a w more =
+        pass_one (record { kind = uint (form_uint (bits_of width)); name = codes "a_" ++ name }) ps (given f.names t) es (num_fits S (uint (form_uint (bits_of width))) (given f.names t) refl (given_ok t (both_true (may_go_into (bits_of width) t) (well_num x t) w).1)) more
+    pass_value name types.Flag (logical t) ps es a w more = pass_one (record { kind = boolean; name = codes "a_" ++ name }) ps (lowered_cond f.names t) es (num_fits S boolean (lowered_cond f.names t) refl (cond_ok t w)) more
+    pass_value name (types.Slice width) (elements t) ps es a w more =
+        let p = both_true (well_slice x t) (nat_eq (element_type t).bits (bits_of width)) w in
+        let it = slice_ok t p.0 in
+        let same : (element_type t).bits ≡ bits_of width = grind (arith, nat_tests, p.1) in
+        let P : ℕ → Type 0 = λ bits. IsPointer S bits (lowered_slice f.names t).pointer in
+        pass_one (record { kind = uint_pointer (width_of (bits_of width)); name = codes "ap_" ++ name }) (record { kind = size; name = codes "al_" ++ name } ∷ ps) (lowered_slice f.names t).pointer ((lowered_slice f.names t).length.code ∷ es)
+        (pointer_fits S (bits_of width) (lowered_slice f.names t).pointer (subst P same it.0))
+        (pass_one (record { kind = size; name = codes "al_" ++ name }) ps (lowered_slice f.names t).length.code es (num_fits S size (lowered_slice f.names t).length.code refl it.1) more)
+    pass_value name types.Reader (io at b) ps es a w more =
+        pass_one (record { kind = struct_pointer io_buffer; name = codes "a_" ++ name }) ps (io_code f.names b) es (io_fits b (io_code_type b is_reader w (λ e. absurd (cc e)) reader_is_io)) more
+    pass_value name types.Writer (io at b) ps es a w more =
+        pass_one (record { kind = struct_pointer io_buffer; name = codes "a_" ++ name }) ps (io_code f.names b) es (io_fits b (io_code_type b is_writer w (λ e. absurd (cc e)) writer_is_io)) more
+    pass_value name types.Status t ps es a w more = absurd (cc a)
+    pass_value name (types.Array width lo hi count) t ps es a w more = absurd (cc a)
+    pass_value name (types.Part part) t ps es a w more = absurd (cc a)
+    pass_value name (types.Num width lo hi) (logical t) ps es a w more = absurd (cc w)
+    pass_value name (types.Num width lo hi) (state t) ps es a w more = absurd (cc w)
+    pass_value name (types.Num width lo hi) (elements t) ps es a w more = absurd (cc w)
+    pass_value name (types.Num width lo hi) (io at b) ps es a w more = absurd (cc w)
+    pass_value name (types.Num width lo hi) lost ps es a w more = absurd (cc w)
+    pass_value name types.Flag (numeric t) ps es a w more = absurd (cc w)
+    pass_value name types.Flag (state t) ps es a w more = absurd (cc w)
+    pass_value name types.Flag (elements t) ps es a w more = absurd (cc w)
+    pass_value name types.Flag (io at b) ps es a w more = absurd (cc w)
+    pass_value name types.Flag lost ps es a w more = absurd (cc w)
+    pass_value name (types.Slice width) (numeric t) ps es a w more = absurd (cc w)
+    pass_value name (types.Slice width) (logical t) ps es a w more = absurd (cc w)
+    pass_value name (types.Slice width) (state t) ps es a w more = absurd (cc w)
+    pass_value name (types.Slice width) (io at b) ps es a w more = absurd (cc w)
+    pass_value name (types.Slice width) lost ps es a w more = absurd (cc w)
+    pass_value name types.Reader (numeric t) ps es a w more = absurd (cc w)
+    pass_value name types.Reader (logical t) ps es a w more = absurd (cc w)
+    pass_value name types.Reader (state t) ps es a w more = absurd (cc w)
+    pass_value name types.Reader (elements t) ps es a w more = absurd (cc w)
+    pass_value name types.Reader lost ps es a w more = absurd (cc w)
+    pass_value name types.Writer (numeric t) ps es a w more = absurd (cc w)
+    pass_value name types.Writer (logical t) ps es a w more = absurd (cc w)
+    pass_value name types.Writer (state t) ps es a w more = absurd (cc w)
+    pass_value name types.Writer (elements t) ps es a w more = absurd (cc w)
+    pass_value name types.Writer lost ps es a w more = absurd (cc w)
+
+    pass_all : (vs : List Variable) (ts : List ValueTree) → list_all (λ v. may_be_arg v.ty) vs ≡ true → fit_types x vs ts ≡ true → Passes (args_params (map (λ v. record { name = v.name; kind = kind_of v.ty }) vs)) (given_codes ts)
+    pass_all [] [] a w = refl
+    pass_all [] (t ∷ ts) a w = absurd (cc w)
+    pass_all (v ∷ vs) [] a w = absurd (cc w)
+    pass_all (v ∷ vs) (t ∷ ts) a w =
+        let p = both_true (may_be_arg v.ty) (list_all (λ v. may_be_arg v.ty) vs) a in
+        let q = both_true (fits_type x v.ty t) (fit_types x vs ts) w in
+        pass_value v.name v.ty t _ (given_codes ts) p.0 q.0 (pass_all vs ts p.1 q.1)
+
+    -- What takes a result.
+    abbrev Keeps : Option ExprTree → Option TypeTree → Type 0
+    Keeps into result_type = may_keep c into result_type ≡ true
+
+    text_kept : (gives : Option Ty) → Keeps (Some status_local) (Some text)
+    text_kept gives = rw s.status_held refl
+
+    answer_kept : (mark : Mark) (gives : Option Ty) → may_be_result mark gives ≡ true → Keeps (answer_local mark gives) (answer_type (answers_of mark gives))
+    answer_kept Coroutine gives r = text_kept gives
+    answer_kept Pure None r = refl
+    answer_kept Pure (Some (types.Num width lo hi)) r = rw s.got_held refl
+    answer_kept Pure (Some types.Flag) r = rw s.got_held refl
+    answer_kept Pure (Some types.Status) r = text_kept None
+    answer_kept Pure (Some types.Reader) r = absurd (cc r)
+    answer_kept Pure (Some types.Writer) r = absurd (cc r)
+    answer_kept Pure (Some (types.Slice width)) r = absurd (cc r)
+    answer_kept Pure (Some (types.Array width lo hi count)) r = absurd (cc r)
+    answer_kept Pure (Some (types.Part part)) r = absurd (cc r)
+    answer_kept Impure None r = refl
+    answer_kept Impure (Some (types.Num width lo hi)) r = rw s.got_held refl
+    answer_kept Impure (Some types.Flag) r = rw s.got_held refl
+    answer_kept Impure (Some types.Status) r = text_kept None
+    answer_kept Impure (Some types.Reader) r = absurd (cc r)
+    answer_kept Impure (Some types.Writer) r = absurd (cc r)
+    answer_kept Impure (Some (types.Slice width)) r = absurd (cc r)
+    answer_kept Impure (Some (types.Array width lo hi count)) r = absurd (cc r)
+    answer_kept Impure (Some (types.Part part)) r = absurd (cc r)
+
+    call_formed : (into : Option ExprTree) (called : Called) (callee : MethodTree) (ts : List ValueTree) → Callable called callee → fit_types x callee.args ts ≡ true → Keeps into (result_of callee)
+        → formed_call (callee_of (callee_name f.within called callee)) c into (callee_name f.within called callee) (args (receiver_code f.names called ∷ given_codes ts)) ≡ true
+    call_formed into called callee ts k w r =
+        let name = callee_name f.within called callee in
+        let es = args (receiver_code f.names called ∷ given_codes ts) in
+        let P : Callee → Type 0 = λ z. formed_call z c into name es ≡ true in
+        let Q : Option Function → Type 0 = λ o. is_called c into (arg_types S es) o ≡ true in
+        let R : List ParamTree → Type 0 = λ ps. passable ps (arg_types S es) ≡ true in
+        let T : Option TypeTree → Type 0 = λ t. may_keep c into t ≡ true in
+        let receiver : Fits S (struct_pointer (struct_type f.within callee.of)) (receiver_code f.names called) = record { type = points_to (object (struct_type f.within callee.of)); is = k.receiver; fits = same_bytes (struct_type f.within callee.of) } in
+        let passed = pass_one (record { kind = struct_pointer (struct_type f.within callee.of); name = codes "self" }) _ (receiver_code f.names called) (given_codes ts) receiver (pass_all callee.args ts k.args_are w) in
+        subst P (sym k.is_own) (subst Q (sym k.found) (both_hold (passable k.function.params (arg_types S es)) (may_keep c into k.function.result_type) (subst R (sym k.params) passed) (subst T (sym k.result) r)))
+
+    -- Code that follows is read as it is.
+    straight_reads : (name : List ℕ) (rest code : Code) → Straight rest code → code_reads name rest ≡ true → code_reads name code ≡ true
+    straight_reads name rest _ over h = h
+    straight_reads name rest _ (assigned target value code t) h = right_or _ _ (right_or (expr_reads name value) _ (straight_reads name rest code t h))
+    straight_reads name rest _ (calling target function given_args code t) h = right_or _ _ (right_or _ _ (straight_reads name rest code t h))
+    straight_reads name rest _ (leaving value code t) h = right_or _ _ (straight_reads name rest code t h)
+    straight_reads name rest _ (guarded test body code b t) h = right_or (expr_reads name test) _ (right_or (code_reads name body) _ (straight_reads name rest code t h))
+
+    into_call_ok : (into : Option ExprTree) (called : Called) (callee : MethodTree) (ts : List ValueTree) (rest : Code) → Callable called callee → fit_types x callee.args ts ≡ true → Keeps into (result_of callee)
+        → ((name : List ℕ) → is_result_of name into ≡ true → code_reads name rest ≡ true) → Ok rest → Ok (call_into f into called callee ts rest)
+    into_call_ok into called callee ts rest k w r reads ok =
+        puts_ok (is_passed ts) 0 m.args _ args_all
+        (ok_call c Settled CallOk into (callee_name f.within called callee) (args (receiver_code f.names called ∷ given_codes ts)) _ (call_formed into called callee ts k w r) k.ok
+        (λ name e. straight_reads name rest _ (gets f.names (is_passed ts) 0 m.args rest) (reads name e)) (gets_ok (is_passed ts) 0 m.args rest args_all ok))
+
+    hand_on_ok : (k : ℕ) (rest : Code) → is_coroutine m.mark ≡ true → Ok rest → Ok (hand_on f k rest)
+    hand_on_ok k rest co ok =
+        ok_when c Settled CallOk status_local _ rest (fits_typed c Settled CallOk text status_local (text_fits S status_local status_text))
+        (ok_when c Settled CallOk _ _ _ (num_typed c Settled CallOk _ (two_kind S Eq (num 36) (c_tree.element status_local (num 0)) (num_kind S 36) first_num))
+        (suspends_ok k status_local finish co status_text done) (gives_ok (Some status_local) finish (returned text status_local (coroutine_result co) (text_fits S status_local status_text)) done)) ok
+      where
+        status_text_type : type_of S status_local ≡ Some (points_to byte)
+        status_text_type = ap (option_and_then held_type) s.status_held
+
+        first_num : IsNum S (c_tree.element status_local (num 0))
+        first_num = record { type = numbers ctys.Int; is = rw status_text_type refl; ty = ctys.Int; counts = refl }
+
+    handed_ok : (k : ℕ) (t : Target) (keep : Bool) (mark : Mark) (called : Called) (callee : Option MethodTree) (ts : List ValueTree) (rest : Code) → is_coroutine m.mark ≡ true → hands_on keep mark ≡ true → slice_get f.within.methods (number_of called) ≡ callee
+        → well_invoked x t keep mark called ts callee ≡ true → known (number_of called) ≡ true → Ok rest → Ok (handed_call f k called callee ts rest)
+    handed_ok k t keep mark called None ts rest co h e w n ok = ok
+    handed_ok k t keep mark called (Some callee) ts rest co h e w n ok =
+        let p = both_true (same_mark mark callee.mark) _ w in
+        let q = both_true (allows m.mark mark) _ p.1 in
+        let r = both_true (calls_method x called callee) _ q.1 in
+        let u = both_true (fit_types x callee.args ts) _ r.1 in
+        let result : Keeps (Some status_local) (result_of callee) = coroutine_keeps callee.mark (marks mark callee.mark p.0 h) in
+        into_call_ok (Some status_local) called callee ts _ (s.callable called callee e r.0 n) u.0 result (λ name g. status_read name g) (hand_on_ok k rest co ok)
+      where
+        marks : (a b : Mark) → same_mark a b ≡ true → hands_on keep a ≡ true → is_coroutine b ≡ true
+        marks Coroutine Coroutine g j = refl
+        marks Coroutine Pure g j = absurd (cc g)
+        marks Coroutine Impure g j = absurd (cc g)
+        marks Pure b g j = absurd (none keep j)
+          where
+            none : (t : Bool) → (not t && false) ≡ true → ⊥
+            none true i = cc i
+            none false i = cc i
+        marks Impure b g j = absurd (none keep j)
+          where
+            none : (t : Bool) → (not t && false) ≡ true → ⊥
+            none true i = cc i
+            none false i = cc i
+
+        coroutine_keeps : (b : Mark) → is_coroutine b ≡ true → Keeps (Some status_local) (answer_type (answers_of b callee.gives))
+        coroutine_keeps Coroutine g = text_kept None
+        coroutine_keeps Pure g = absurd (cc g)
+        coroutine_keeps Impure g = absurd (cc g)
+
+        status_read : (name : List ℕ) → bytes_eq name (codes "status") ≡ true → code_reads name (hand_on f k rest) ≡ true
+        status_read name g = left_or (bytes_eq name (codes "status")) _ g
+
+    -- The answer goes to the target.
+    abbrev AnswerTaken : Target → Option ExprTree → Type 0
+    AnswerTaken t None = Unit {0}
+    AnswerTaken t (Some e) = Takes t e
+
+    abbrev answer_of : Ty → ExprTree
+    answer_of types.Status = status_local
+    answer_of ty = got_local
+
+    type_taken : (t : Target) (ty : Ty) → takes x t ty ≡ true → Takes t (answer_of ty)
+    type_taken to_nothing ty w = tt
+    type_taken (to_slice at bits path) ty w = tt
+    type_taken (to_number at of path) (types.Num width lo hi) w =
+        let p = both_true (may_write m.mark path) _ w in
+        let q = both_true (nat_eq of.bits (bits_of width)) _ p.1 in
+        (s.numbers of path p.0 (read_number at of path q.1), got_num)
+    type_taken (to_number at of path) types.Flag w = absurd (cc w)
+    type_taken (to_number at of path) types.Status w = absurd (cc w)
+    type_taken (to_number at of path) types.Reader w = absurd (cc w)
+    type_taken (to_number at of path) types.Writer w = absurd (cc w)
+    type_taken (to_number at of path) (types.Slice width) w = absurd (cc w)
+    type_taken (to_number at of path) (types.Array width lo hi count) w = absurd (cc w)
+    type_taken (to_number at of path) (types.Part part) w = absurd (cc w)
+    type_taken (to_element at of cells index) (types.Num width lo hi) w =
+        let p = both_true (not (is_pure m.mark)) _ w in
+        let q = both_true (nat_eq of.bits (bits_of width)) _ p.1 in
+        (element_parts at of cells index q.1, got_num)
+    type_taken (to_element at of cells index) types.Flag w = absurd (cc w)
+    type_taken (to_element at of cells index) types.Status w = absurd (cc w)
+    type_taken (to_element at of cells index) types.Reader w = absurd (cc w)
+    type_taken (to_element at of cells index) types.Writer w = absurd (cc w)
+    type_taken (to_element at of cells index) (types.Slice width) w = absurd (cc w)
+    type_taken (to_element at of cells index) (types.Array width lo hi count) w = absurd (cc w)
+    type_taken (to_element at of cells index) (types.Part part) w = absurd (cc w)
+    type_taken (to_flag at path) types.Flag w = let p = both_true (may_write m.mark path) _ w in (s.flags path p.0 p.1, got_num)
+    type_taken (to_flag at path) (types.Num width lo hi) w = absurd (cc w)
+    type_taken (to_flag at path) types.Status w = absurd (cc w)
+    type_taken (to_flag at path) types.Reader w = absurd (cc w)
+    type_taken (to_flag at path) types.Writer w = absurd (cc w)
+    type_taken (to_flag at path) (types.Slice width) w = absurd (cc w)
+    type_taken (to_flag at path) (types.Array width lo hi count) w = absurd (cc w)
+    type_taken (to_flag at path) (types.Part part) w = absurd (cc w)
+    type_taken (to_status at path) types.Status w = let p = both_true (may_write m.mark path) _ w in (s.statuses path p.0 p.1, status_text)
+    type_taken (to_status at path) (types.Num width lo hi) w = absurd (cc w)
+    type_taken (to_status at path) types.Flag w = absurd (cc w)
+    type_taken (to_status at path) types.Reader w = absurd (cc w)
+    type_taken (to_status at path) types.Writer w = absurd (cc w)
+    type_taken (to_status at path) (types.Slice width) w = absurd (cc w)
+    type_taken (to_status at path) (types.Array width lo hi count) w = absurd (cc w)
+    type_taken (to_status at path) (types.Part part) w = absurd (cc w)
+
+    none_taken : (t : Target) (e : Option ExprTree) → has_none t ≡ true → AnswerTaken t e
+    none_taken to_nothing None w = tt
+    none_taken to_nothing (Some e) w = tt
+    none_taken (to_number at of path) e w = absurd (cc w)
+    none_taken (to_element at of cells index) e w = absurd (cc w)
+    none_taken (to_flag at path) e w = absurd (cc w)
+    none_taken (to_status at path) e w = absurd (cc w)
+    none_taken (to_slice at bits path) e w = absurd (cc w)
+
+    variable_reads : (name : List ℕ) (e : ExprTree) → is_variable name e ≡ true → expr_reads name e ≡ true
+    variable_reads name (variable n) h = h
+    variable_reads name (c_tree.number n) h = absurd (cc h)
+    variable_reads name (member of n) h = absurd (cc h)
+    variable_reads name (c_tree.element of i) h = absurd (cc h)
+    variable_reads name (c_tree.pointed of) h = absurd (cc h)
+    variable_reads name (c_tree.operation op a b es) h = absurd (cc h)
+    variable_reads name (c_tree.unary op of) h = absurd (cc h)
+    variable_reads name (c_tree.cast to of) h = absurd (cc h)
+    variable_reads name (c_tree.choice a b e) h = absurd (cc h)
+    variable_reads name (c_tree.called n es) h = absurd (cc h)
+
+    -- What is wanted of a result is read where it goes.
+    assigned_reads : (name : List ℕ) (place e : ExprTree) (rest : Code) → is_variable name e ≡ true → code_reads name (c_tree.assign place e rest) ≡ true
+    assigned_reads name place e rest h = right_or _ _ (left_or (expr_reads name e) _ (variable_reads name e h))
+
+    abbrev is_single : Target → Bool
+    is_single (to_slice at bits path) = false
+    is_single t = true
+
+    result_reads_so : (t : Target) (e : Option ExprTree) (rest : Code) → is_single t ≡ true → (name : List ℕ) → is_result_of name (if is_wanted t then e else None) ≡ true → code_reads name (put_result f.names t e rest) ≡ true
+    result_reads_so to_nothing e rest k name h = absurd (cc h)
+    result_reads_so (to_slice at bits path) e rest k name h = absurd (cc k)
+    result_reads_so (to_number at of path) None rest k name h = absurd (cc h)
+    result_reads_so (to_number at of path) (Some e) rest k name h = assigned_reads name (path_code f.names path) e rest h
+    result_reads_so (to_element at of cells index) None rest k name h = absurd (cc h)
+    result_reads_so (to_element at of cells index) (Some e) rest k name h = assigned_reads name (c_tree.element (lowered_slice f.names cells).pointer (lowered_expr f.names index)) e rest h
+    result_reads_so (to_flag at path) None rest k name h = absurd (cc h)
+    result_reads_so (to_flag at path) (Some e) rest k name h = assigned_reads name (path_code f.names path) e rest h
+    result_reads_so (to_status at path) None rest k name h = absurd (cc h)
+    result_reads_so (to_status at path) (Some e) rest k name h = assigned_reads name (path_code f.names path) e rest h
+
+    none_single : (t : Target) → has_none t ≡ true → is_single t ≡ true
+    none_single to_nothing w = refl
+    none_single (to_slice at bits path) w = absurd (cc w)
+    none_single (to_number at of path) w = refl
+    none_single (to_element at of cells index) w = refl
+    none_single (to_flag at path) w = refl
+    none_single (to_status at path) w = refl
+
+    status_single : (t : Target) → is_status_target t ≡ true → is_single t ≡ true
+    status_single to_nothing w = refl
+    status_single (to_slice at bits path) w = absurd (cc w)
+    status_single (to_number at of path) w = refl
+    status_single (to_element at of cells index) w = refl
+    status_single (to_flag at path) w = refl
+    status_single (to_status at path) w = refl
+
+    type_single : (t : Target) (ty : Ty) → takes x t ty ≡ true → may_be_result Pure (Some ty) ≡ true → is_single t ≡ true
+    type_single to_nothing ty w r = refl
+    type_single (to_number at of path) ty w r = refl
+    type_single (to_element at of cells index) ty w r = refl
+    type_single (to_flag at path) ty w r = refl
+    type_single (to_status at path) ty w r = refl
+    type_single (to_slice at bits path) (types.Slice width) w r = absurd (cc r)
+    type_single (to_slice at bits path) (types.Num width lo hi) w r = absurd (cc w)
+    type_single (to_slice at bits path) types.Flag w r = absurd (cc w)
+    type_single (to_slice at bits path) types.Status w r = absurd (cc w)
+    type_single (to_slice at bits path) types.Reader w r = absurd (cc w)
+    type_single (to_slice at bits path) types.Writer w r = absurd (cc w)
+    type_single (to_slice at bits path) (types.Array width lo hi count) w r = absurd (cc w)
+    type_single (to_slice at bits path) (types.Part part) w r = absurd (cc w)
+
+    answer_by_type : (t : Target) (ty : Ty) → Takes t (answer_of ty) → AnswerTaken t (answer_local Pure (Some ty))
+    answer_by_type t (types.Num width lo hi) h = h
+    answer_by_type t types.Flag h = h
+    answer_by_type t types.Status h = h
+    answer_by_type t types.Reader h = h
+    answer_by_type t types.Writer h = h
+    answer_by_type t (types.Slice width) h = h
+    answer_by_type t (types.Array width lo hi count) h = h
+    answer_by_type t (types.Part part) h = h
+
+    status_result : (ty : Ty) → may_be_result Impure (Some ty) ≡ true → may_be_result Pure (Some ty) ≡ true
+    status_result (types.Num width lo hi) h = h
+    status_result types.Flag h = refl
+    status_result types.Status h = refl
+    status_result types.Reader h = absurd (cc h)
+    status_result types.Writer h = absurd (cc h)
+    status_result (types.Slice width) h = absurd (cc h)
+    status_result (types.Array width lo hi count) h = absurd (cc h)
+    status_result (types.Part part) h = absurd (cc h)
+
+    record Answered (t : Target) (mark : Mark) (gives : Option Ty) : Type 0 where
+      taken : AnswerTaken t (answer_local mark gives)
+      single : is_single t ≡ true
+
+    answer_taken : (t : Target) (keep : Bool) (mark : Mark) (gives : Option Ty) → takes_answer x t keep mark gives ≡ true → may_be_result mark gives ≡ true → Answered t mark gives
+    answer_taken t true Coroutine gives w r =
+        let p = both_true (is_status_target t) (takes x t types.Status) w in
+        record { taken = type_taken t types.Status p.1; single = status_single t p.0 }
+    answer_taken t true Pure gives w r = absurd (cc w)
+    answer_taken t true Impure gives w r = absurd (cc w)
+    answer_taken t false Coroutine gives w r = record { taken = none_taken t (Some status_local) w; single = none_single t w }
+    answer_taken t false Pure None w r = record { taken = none_taken t None w; single = none_single t w }
+    answer_taken t false Impure None w r = record { taken = none_taken t None w; single = none_single t w }
+    answer_taken t false Pure (Some ty) w r = record { taken = answer_by_type t ty (type_taken t ty w); single = type_single t ty w r }
+    answer_taken t false Impure (Some ty) w r = record { taken = answer_by_type t ty (type_taken t ty w); single = type_single t ty w (status_result ty r) }
+
+    results_ok : (t : Target) (e : Option ExprTree) (rest : Code) → AnswerTaken t e → Ok rest → Ok (put_result f.names t e rest)
+    results_ok t None rest h ok = ok
+    results_ok t (Some e) rest h ok = into_ok t e rest h ok
+
+    plain_call_ok : (t : Target) (keep : Bool) (mark : Mark) (called : Called) (callee : Option MethodTree) (ts : List ValueTree) (rest : Code) → slice_get f.within.methods (number_of called) ≡ callee
+        → well_invoked x t keep mark called ts callee ≡ true → known (number_of called) ≡ true → Ok rest → Ok (plain_call f t called callee ts rest)
+    plain_call_ok t keep mark called None ts rest e w n ok = ok
+    plain_call_ok t keep mark called (Some callee) ts rest e w n ok =
+        let p = both_true (same_mark mark callee.mark) _ w in
+        let q = both_true (allows m.mark mark) _ p.1 in
+        let r = both_true (calls_method x called callee) _ q.1 in
+        let u = both_true (fit_types x callee.args ts) _ r.1 in
+        let v = both_true (takes_answer x t keep mark callee.gives) _ u.1 in
+        let k = s.callable called callee e r.0 n in
+        let P : Mark → Type 0 = λ z. takes_answer x t keep z callee.gives ≡ true in
+        let a = answer_taken t keep callee.mark callee.gives (subst P (marks mark callee.mark p.0) v.0) k.result_is in
+        into_call_ok (if is_wanted t then answer_local callee.mark callee.gives else None) called callee ts _ k u.0 (wanted (is_wanted t) (answer_local callee.mark callee.gives) (answer_kept callee.mark callee.gives k.result_is))
+        (result_reads_so t (answer_local callee.mark callee.gives) rest a.single) (results_ok t (answer_local callee.mark callee.gives) rest a.taken ok)
+      where
+        marks : (a b : Mark) → same_mark a b ≡ true → a ≡ b
+        marks Pure Pure g = refl
+        marks Impure Impure g = refl
+        marks Coroutine Coroutine g = refl
+        marks Pure Impure g = absurd (cc g)
+        marks Pure Coroutine g = absurd (cc g)
+        marks Impure Pure g = absurd (cc g)
+        marks Impure Coroutine g = absurd (cc g)
+        marks Coroutine Pure g = absurd (cc g)
+        marks Coroutine Impure g = absurd (cc g)
+
+        wanted : (b : Bool) (e : Option ExprTree) → Keeps e (result_of callee) → Keeps (if b then e else None) (result_of callee)
+        wanted true e h = h
+        wanted false e h = refl
+
+    -- ---- returns
+
+    method_result : (mark : Mark) → m.mark ≡ mark → result_of m ≡ answer_type (answers_of mark m.gives)
+    method_result mark e = ap (λ z. answer_type (answers_of z m.gives)) e
+
+    asked_ok : (e : ExprTree) (rest : Code) → IsText S e → result_of m ≡ Some text → Ok rest
+        → Ok (if is_coroutine m.mark then c_tree.assign status_local e (when (begins_with 36 status_local) (c_tree.assign status_local (status_constant cannot_suspend) finish) (give f (Some status_local) rest)) else give f (Some e) rest)
+    asked_ok e rest h r ok =
+        ok_if c Settled CallOk (is_coroutine m.mark) _ _
+        (ok_read c Settled CallOk text (codes "status") e _ s.status_held (text_fits S e h) (right_or (expr_reads (codes "status") e) _ refl)
+        (ok_when_assigned c Settled CallOk text (codes "status") (begins_with 36 status_local) (status_constant cannot_suspend) (give f (Some status_local) rest) s.status_held
+        (num_typed c Settled CallOk _ (begins_kind S 36 status_local status_text)) (text_fits S _ (constant_ok cannot_suspend (s.base cannot_suspend (inr (inr refl))))) refl
+        (gives_ok (Some status_local) rest (returned text status_local r (text_fits S status_local status_text)) ok)))
+        (gives_ok (Some e) rest (returned text e r (text_fits S e h)) ok)
+
+    give_status_ok : (t : StatusTree) (rest : Code) → well_status x t ≡ true → result_of m ≡ Some text → Ok rest → Ok (give_status f t rest)
+    give_status_ok (status at n) rest w r ok =
+        gives_ok _ rest (returned text _ r (text_fits S _ (by (is_coroutine m.mark && is_held_back f n)))) ok
+      where
+        by : (b : Bool) → IsText S (status_constant (if b then cannot_suspend else n))
+        by true = constant_ok cannot_suspend (s.base cannot_suspend (inr (inr refl)))
+        by false = constant_ok n w
+    give_status_ok (held at path) rest w r ok = asked_ok (lowered_status f.names (held at path)) rest (status_ok (held at path) w) r ok
+    give_status_ok no_status rest w r ok = absurd (cc w)
+
+    nothing_given : (rest : Code) → result_of m ≡ None → Ok rest → Ok (give f None rest)
+    nothing_given rest r ok = gives_ok None rest (let P : Option TypeTree → Type 0 = λ o. formed_return c None o ≡ true in subst P (sym (s.result ∙ r)) refl) ok
+
+    plain_value_ok : (gives : Option Ty) (value : Option ValueTree) (rest : Code) → result_of m ≡ answer_type (answer_kind gives) → may_be_result Pure gives ≡ true → well_returned x Pure gives value ≡ true → Ok rest → Ok (give_value f value rest)
+    plain_value_ok None None rest r q w ok = nothing_given rest r ok
+    plain_value_ok None (Some v) rest r q w ok = absurd (cc w)
+    plain_value_ok (Some ty) None rest r q w ok = absurd (cc w)
+    plain_value_ok (Some (types.Num width lo hi)) (Some (numeric t)) rest r q w ok =
+        gives_ok _ rest (returned _ (given f.names t) r (num_fits S _ (given f.names t) refl (given_ok t (both_true (may_go_into (bits_of width) t) (well_num x t) w).1))) ok
+    plain_value_ok (Some types.Flag) (Some (logical t)) rest r q w ok = gives_ok _ rest (returned boolean (lowered_cond f.names t) r (num_fits S boolean _ refl (cond_ok t w))) ok
+    plain_value_ok (Some types.Status) (Some (state t)) rest r q w ok = give_status_ok t rest w r ok
+    plain_value_ok (Some ty) (Some (elements t)) rest r q w ok = ok
+    plain_value_ok (Some ty) (Some (io at a)) rest r q w ok = ok
+    plain_value_ok (Some ty) (Some lost) rest r q w ok = ok
+    plain_value_ok (Some (types.Num width lo hi)) (Some (logical t)) rest r q w ok = absurd (cc w)
+    plain_value_ok (Some (types.Num width lo hi)) (Some (state t)) rest r q w ok = absurd (cc w)
+    plain_value_ok (Some types.Flag) (Some (numeric t)) rest r q w ok = absurd (cc w)
+    plain_value_ok (Some types.Flag) (Some (state t)) rest r q w ok = absurd (cc w)
+    plain_value_ok (Some types.Status) (Some (numeric t)) rest r q w ok = absurd (cc w)
+    plain_value_ok (Some types.Status) (Some (logical t)) rest r q w ok = absurd (cc w)
+    plain_value_ok (Some types.Reader) (Some (numeric t)) rest r q w ok = absurd (cc q)
+    plain_value_ok (Some types.Reader) (Some (logical t)) rest r q w ok = absurd (cc q)
+    plain_value_ok (Some types.Reader) (Some (state t)) rest r q w ok = absurd (cc q)
+    plain_value_ok (Some types.Writer) (Some (numeric t)) rest r q w ok = absurd (cc q)
+    plain_value_ok (Some types.Writer) (Some (logical t)) rest r q w ok = absurd (cc q)
+    plain_value_ok (Some types.Writer) (Some (state t)) rest r q w ok = absurd (cc q)
+    plain_value_ok (Some (types.Slice width)) (Some (numeric t)) rest r q w ok = absurd (cc q)
+    plain_value_ok (Some (types.Slice width)) (Some (logical t)) rest r q w ok = absurd (cc q)
+    plain_value_ok (Some (types.Slice width)) (Some (state t)) rest r q w ok = absurd (cc q)
+    plain_value_ok (Some (types.Array width lo hi count)) (Some (numeric t)) rest r q w ok = absurd (cc q)
+    plain_value_ok (Some (types.Array width lo hi count)) (Some (logical t)) rest r q w ok = absurd (cc q)
+    plain_value_ok (Some (types.Array width lo hi count)) (Some (state t)) rest r q w ok = absurd (cc q)
+    plain_value_ok (Some (types.Part part)) (Some (numeric t)) rest r q w ok = absurd (cc q)
+    plain_value_ok (Some (types.Part part)) (Some (logical t)) rest r q w ok = absurd (cc q)
+    plain_value_ok (Some (types.Part part)) (Some (state t)) rest r q w ok = absurd (cc q)
+
+    impure_result : (gives : Option Ty) → may_be_result Impure gives ≡ true → may_be_result Pure gives ≡ true
+    impure_result None h = refl
+    impure_result (Some ty) h = status_result ty h
+
+    impure_returned : (gives : Option Ty) (value : Option ValueTree) → well_returned x Impure gives value ≡ true → well_returned x Pure gives value ≡ true
+    impure_returned None None h = h
+    impure_returned None (Some v) h = absurd (cc h)
+    impure_returned (Some ty) None h = absurd (cc h)
+    impure_returned (Some ty) (Some v) h = h
+
+    -- A value of the declared type is given back.
+    value_ok : (mark : Mark) (gives : Option Ty) (value : Option ValueTree) (rest : Code) → result_of m ≡ answer_type (answers_of mark gives) → may_be_result mark gives ≡ true → well_returned x mark gives value ≡ true → Ok rest → Ok (give_value f value rest)
+    value_ok Coroutine gives None rest r q w ok = absurd (cc w)
+    value_ok Coroutine gives (Some (numeric t)) rest r q w ok = absurd (cc w)
+    value_ok Coroutine gives (Some (logical t)) rest r q w ok = absurd (cc w)
+    value_ok Coroutine gives (Some (state t)) rest r q w ok = give_status_ok t rest w r ok
+    value_ok Coroutine gives (Some (elements t)) rest r q w ok = ok
+    value_ok Coroutine gives (Some (io at a)) rest r q w ok = ok
+    value_ok Coroutine gives (Some lost) rest r q w ok = ok
+    value_ok Pure gives value rest r q w ok = plain_value_ok gives value rest r q w ok
+    value_ok Impure gives value rest r q w ok = plain_value_ok gives value rest r (impure_result gives q) (impure_returned gives value w) ok
+
+    -- ---- statements and blocks
+
+    module _ (result_is : may_be_result m.mark m.gives ≡ true) where
+      abbrev IsKnown : Simple → Type 0
+      IsKnown (invoke at t keep mark called ts) = known (number_of called) ≡ true
+      IsKnown simple = Unit {0}
+
+      plain_ok : (loops : List ℕ) (simple : Simple) (rest : Code) → well_simple x loops simple ≡ true → IsKnown simple → Ok rest → Ok (lower_plain f simple rest)
+      plain_ok loops (assign t None v) rest w n ok = values_ok t v rest w ok
+      plain_ok loops (assign t (Some op) v) rest w n ok = values_ok t v rest (both_true (well_assigned x t v) (is_operator op v) w).0 ok
+      plain_ok loops (await at t a call) rest w n ok = ok
+      plain_ok loops (perform at t call) rest w n ok = written_ok t call rest (both_true (not (is_pure m.mark)) (well_written x t call) w).1 ok
+      plain_ok loops (invoke at t keep mark called ts) rest w n ok = plain_call_ok t keep mark called (slice_get f.within.methods (number_of called)) ts rest refl w n ok
+      plain_ok loops (break_from v) rest w n ok = ok_jump c Settled CallOk (behind_label v) rest ok
+      plain_ok loops (continue_in v) rest w n ok = ok_jump c Settled CallOk (again_label v) rest ok
+      plain_ok loops (give_back value) rest w n ok = value_ok m.mark m.gives value rest refl result_is w ok
+      plain_ok loops (yield k) rest w n ok = ok
+      plain_ok loops (claim goal ax) rest w n ok = ok
+
+      suspension_known : (n : ℕ) → is_suspension (slice_get f.within.statuses n) ≡ true → known_status x n ≡ true
+      suspension_known n h = by (slice_get f.within.statuses n) h
+        where
+          by : (o : Option (List ℕ)) → is_suspension o ≡ true → is_some o ≡ true
+          by None k = absurd (cc k)
+          by (Some t) k = refl
+
+      caller_is : (caller mark : Mark) (keep : Bool) → hands_on keep mark ≡ true → allows caller mark ≡ true → is_coroutine caller ≡ true
+      caller_is Coroutine mark keep h a = refl
+      caller_is Pure Coroutine keep h a = absurd (cc a)
+      caller_is Impure Coroutine keep h a = absurd (cc a)
+      caller_is Pure Pure true h a = absurd (cc h)
+      caller_is Pure Pure false h a = absurd (cc h)
+      caller_is Pure Impure true h a = absurd (cc h)
+      caller_is Pure Impure false h a = absurd (cc h)
+      caller_is Impure Pure true h a = absurd (cc h)
+      caller_is Impure Pure false h a = absurd (cc h)
+      caller_is Impure Impure true h a = absurd (cc h)
+      caller_is Impure Impure false h a = absurd (cc h)
+
+      allowed : (t : Target) (keep : Bool) (mark : Mark) (called : Called) (ts : List ValueTree) (callee : Option MethodTree) → well_invoked x t keep mark called ts callee ≡ true → allows m.mark mark ≡ true
+      allowed t keep mark called ts None w = absurd (cc w)
+      allowed t keep mark called ts (Some callee) w = (both_true (allows m.mark mark) _ (both_true (same_mark mark callee.mark) _ w).1).0
+
+      point_ok : (loops : List ℕ) (k : ℕ) (simple : Simple) (rest : Code) → is_point simple ≡ true → well_simple x loops simple ≡ true → IsKnown simple → Ok rest → Ok (lower_point f k simple rest)
+      point_ok loops k (assign t op v) rest h w n ok = absurd (cc h)
+      point_ok loops k (await at t a call) rest h w n ok =
+          let p = both_true (is_coroutine m.mark) (well_awaited x t a call) w in
+          point_call_ok k t a call rest p.0 p.1 ok
+      point_ok loops k (perform at t call) rest h w n ok = absurd (cc h)
+      point_ok loops k (invoke at t keep mark called ts) rest h w n ok =
+          let co = caller_is m.mark mark keep h (allowed t keep mark called ts (slice_get f.within.methods (number_of called)) w) in
+          resume_ok k _ (handed_ok k t keep mark called (slice_get f.within.methods (number_of called)) ts rest co h refl w n ok)
+      point_ok loops k (break_from v) rest h w n ok = absurd (cc h)
+      point_ok loops k (continue_in v) rest h w n ok = absurd (cc h)
+      point_ok loops k (give_back value) rest h w n ok = absurd (cc h)
+      point_ok loops k (yield v) rest h w n ok =
+          let p = both_true (is_coroutine m.mark) (is_suspension (slice_get f.within.statuses v)) w in
+          suspends_ok k (status_constant v) _ p.0 (constant_ok v (suspension_known v p.1)) (resume_ok k rest ok)
+      point_ok loops k (claim goal ax) rest h w n ok = absurd (cc h)
+
+      simple_ok : (loops : List ℕ) (k : ℕ) (simple : Simple) (rest : Code) → well_simple x loops simple ≡ true → IsKnown simple → Ok rest → Ok (lower_simple f k simple rest)
+      simple_ok loops k simple rest w n ok = by (is_point simple) refl
+        where
+          by : (b : Bool) → is_point simple ≡ b → Ok (if b then lower_point f k simple rest else lower_plain f simple rest)
+          by true e = point_ok loops k simple rest e w n ok
+          by false e = plain_ok loops simple rest w n ok
+
+      known_parts : (site : Site) (simple : Simple) (rest : Block) → calls_only known (plain site simple rest) ≡ true → IsKnown simple × (calls_only known rest ≡ true)
+      known_parts site (invoke at t keep mark called ts) rest h = both_true (known (number_of called)) (calls_only known rest) h
+      known_parts site (assign t op v) rest h = (tt, h)
+      known_parts site (await at t a call) rest h = (tt, h)
+      known_parts site (perform at t call) rest h = (tt, h)
+      known_parts site (break_from v) rest h = (tt, h)
+      known_parts site (continue_in v) rest h = (tt, h)
+      known_parts site (give_back value) rest h = (tt, h)
+      known_parts site (yield v) rest h = (tt, h)
+      known_parts site (claim goal ax) rest h = (tt, h)
+
+      label_if : (b : Bool) (name : List ℕ) (rest : Code) → Ok rest → Ok (if b then name_label name (empty rest) else rest)
+      label_if true name rest ok = ok_label c Settled CallOk name (empty rest) (ok_empty c Settled CallOk rest ok)
+      label_if false name rest ok = ok
+
+      pub block_ok : (numbered : Site → ℕ) (loops : List ℕ) (b : Block) (tail : Code) → well_block x loops b ≡ true → calls_only known b ≡ true → Ok tail → Ok (lower f numbered b tail)
+      block_ok numbered loops end tail w k ok = ok
+      block_ok numbered loops (plain site simple rest) tail w k ok =
+          let p = both_true (well_simple x loops simple) (well_block x loops rest) w in
+          let q = known_parts site simple rest k in
+          simple_ok loops (numbered site) simple (lower f numbered rest tail) p.0 q.0 (block_ok numbered loops rest tail p.1 q.1 ok)
+      block_ok numbered loops (choose site chained t a b rest) tail w k ok =
+          let p = both_true (well_cond x t) (well_block x loops a && (well_block x loops b && well_block x loops rest)) w in
+          let q = both_true (well_block x loops a) (well_block x loops b && well_block x loops rest) p.1 in
+          let r = both_true (well_block x loops b) (well_block x loops rest) q.1 in
+          let u = both_true (calls_only known a) (calls_only known b && calls_only known rest) k in
+          let v = both_true (calls_only known b) (calls_only known rest) u.1 in
+          ok_branch c Settled CallOk (lowered_cond f.names t) (lower f numbered a finish) (other_kind b) (lower f numbered b finish) (lower f numbered rest tail) (num_typed c Settled CallOk _ (cond_ok t p.0))
+          (block_ok numbered loops a finish q.0 u.0 done) (block_ok numbered loops b finish r.0 v.0 done) (block_ok numbered loops rest tail r.1 v.1 ok)
+      block_ok numbered loops (loop site head body rest) tail w k ok =
+          let p = both_true (well_cond x head.cond) _ w in
+          let q = (both_true _ _ p.1).1 in
+          let r = (both_true _ _ q).1 in
+          let u = both_true (well_block x (site.number ∷ loops) body) (well_block x loops rest) r in
+          let v = both_true (calls_only known body) (calls_only known rest) k in
+          ok_repeat c Settled CallOk (lowered_cond f.names head.cond) (lower f numbered body (again_here site body)) (behind_here site body (lower f numbered rest tail)) (num_typed c Settled CallOk _ (cond_ok head.cond p.0))
+          (block_ok numbered (site.number ∷ loops) body (again_here site body) u.0 v.0 (label_if (continues_in site.number body) (again_label site.number) finish done))
+          (label_if (breaks site.number body) (behind_label site.number) (lower f numbered rest tail) (block_ok numbered loops rest tail u.1 v.1 ok))
+
+      pub ending_ok : Ok (ending f)
+      ending_ok = by (is_coroutine m.mark) refl
+        where
+          plain_end : (b : Bool) → Ok (ending_of f b)
+          plain_end true = done
+          plain_end false = puts_ok (λ n. true) 0 m.args finish args_all done
+
+          by : (b : Bool) → is_coroutine m.mark ≡ b → Ok (if b then give f (Some (num 0)) finish else ending_of f (has_result m.gives))
+          by true e = gives_ok (Some (num 0)) finish (returned text (num 0) (coroutine_result e) (text_fits S (num 0) (inl refl))) done
+          by false e = plain_end (has_result m.gives)
+
+      pub statements_ok : (numbered : Site → ℕ) → well_block x [] m.body ≡ true → calls_only known m.body ≡ true → Ok (lower f numbered m.body (tail_of f top))
+      statements_ok numbered w k = block_ok numbered [] m.body (tail_of f top) w k (ok_if c Settled CallOk (is_coroutine m.mark) finish (ending f) done ending_ok)

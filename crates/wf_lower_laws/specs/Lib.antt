@@ -7,3 +7,4 @@ pub mod FormLaw
 pub mod KindLaw
 pub mod ItemLaw
 pub mod SurfaceLaw
+pub mod FieldLaw
