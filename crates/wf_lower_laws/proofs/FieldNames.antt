@@ -12,7 +12,7 @@ use Rattle.wf_ast.specs.WellTyped.{is_coroutine}
 use Rattle.wf_ast.proofs.Arena.{both_true}
 use Rattle.wf_meaning.specs.SourceState.{fields_of}
 use Rattle.c_text.specs.declared.kinds.CUint.TheVariants.{U8, U16, U64}
-use Rattle.c_text.specs.CTree.{uint, plain, FieldTree}
+use Rattle.c_text.specs.CTree.{TypeTree, uint, plain, FieldTree}
 use Rattle.c_meaning.specs.UnitForm.{is_among, all_distinct}
 use Rattle.wf_exprs.specs.Names.{point_field, saved_field, held_field, count_field}
 use Rattle.wf_lower_stmts.specs.Forms.{is_kept, holds_something, counts_bytes, keeps}
@@ -36,6 +36,9 @@ data FieldOf (key l : List ℕ) : Type 0 where
   saved : (x : List ℕ) → is_clean key ≡ true → l ≡ codes "s_" ++ (key ++ (codes "__" ++ x)) → FieldOf key l
   holds : l ≡ codes "h_" ++ key → FieldOf key l
   counts : l ≡ codes "n_" ++ key → FieldOf key l
+
+abbrev own_field : TypeTree → List ℕ → FieldTree
+own_field type name = record { kind = plain type; name = name; count = None }
 
 abbrev first : List ℕ → ℕ
 first [] = 0
@@ -115,7 +118,7 @@ module _ (m : MethodTree) (clean : is_clean m.name ≡ true) where
       by (inr t) = more l t
 
   of_both : (xs ys : List FieldTree) → Of xs → Of ys → Of (xs ++ ys)
-  of_both [] ys h j = j
+  of_both [] ys h j l a = j l a
   of_both (x ∷ xs) ys h j l a = by (either_true (bytes_eq l x.name) (is_among (labels (xs ++ ys)) l) a) (of_both xs ys (λ l a. h l (right_or (bytes_eq l x.name) (is_among (labels xs) l) a)) j l)
     where
       by : (bytes_eq l x.name ≡ true) ⊎ (is_among (labels (xs ++ ys)) l ≡ true) → (is_among (labels (xs ++ ys)) l ≡ true → FieldOf m.name l) → FieldOf m.name l
@@ -128,12 +131,12 @@ module _ (m : MethodTree) (clean : is_clean m.name ≡ true) where
 
   of_kept : (xs : List Variable) → Of (kept_fields m.name xs)
   of_kept [] = of_none
-  of_kept (x ∷ xs) = of_if (is_kept x.ty) _ (kept_fields m.name xs) (of_one _ (kept_fields m.name xs) (saved x.name clean refl) (of_kept xs)) (of_kept xs)
+  of_kept (x ∷ xs) = of_if (is_kept x.ty) _ (kept_fields m.name xs) (of_one (own_field (kept_type x.ty) (saved_field m.name x.name)) (kept_fields m.name xs) (saved x.name clean refl) (of_kept xs)) (of_kept xs)
 
   of_method : Of (coroutine_fields m)
   of_method =
-      of_if (is_coroutine m.mark) _ [] (of_one _ (kept_fields m.name m.locals ++ started_fields m) (point refl) (of_both (kept_fields m.name m.locals) (started_fields m) (of_kept m.locals)
-      (of_both _ _ (of_if (keeps holds_something m.body) _ [] (of_one _ [] (holds refl) of_none) of_none) (of_if (keeps counts_bytes m.body) _ [] (of_one _ [] (counts refl) of_none) of_none)))) of_none
+      of_if (is_coroutine m.mark) _ [] (of_one (own_field (uint U16) (point_field m.name)) (kept_fields m.name m.locals ++ started_fields m) (point refl) (of_both (kept_fields m.name m.locals) (started_fields m) (of_kept m.locals)
+      (of_both _ _ (of_if (keeps holds_something m.body) _ [] (of_one (own_field (uint U64) (held_field m.name)) [] (holds refl) of_none) of_none) (of_if (keeps counts_bytes m.body) _ [] (of_one (own_field (uint U8) (count_field m.name)) [] (counts refl) of_none) of_none)))) of_none
 
   -- They differ.
   kept_absent : (xs : List Variable) (x : List ℕ) → is_among (map (λ x. x.name) xs) x ≡ false → is_among (labels (kept_fields m.name xs)) (saved_field m.name x) ≡ false

@@ -161,3 +161,39 @@ function_found (function_item own_linkage own_result other own_params own_locals
     let p = both_true (not (is_among (map item_name items) other)) (all_distinct (map item_name items)) d in
     let n : bytes_eq other name ≡ false = other_name items i (function_item linkage result_type name params locals body) other e p.0 in
     rw n (function_found items i linkage result_type name params locals body p.1 e)
+
+-- ---- what stands in a list
+
+abbrev pub There : {X : Type 0} → X → List X → Type 0
+There x xs = (i : ℕ) × (slice_get xs i ≡ Some x)
+
+pub there_first : {X : Type 0} (x : X) (xs : List X) → There x (x ∷ xs)
+there_first x xs = (0, refl)
+
+pub there_later : {X : Type 0} (x y : X) (xs : List X) → There x xs → There x (y ∷ xs)
+there_later x y xs h = (suc h.0, h.1)
+
+pub there_front : {X : Type 0} (x : X) (xs ys : List X) → There x xs → There x (xs ++ ys)
+there_front x [] ys h = absurd (cc h.1)
+there_front x (y ∷ xs) ys h = by h.0 h.1 (there_front x xs ys)
+  where
+    by : (i : ℕ) → slice_get (y ∷ xs) i ≡ Some x → (There x xs → There x (xs ++ ys)) → There x (y ∷ (xs ++ ys))
+    by zero e more = (0, e)
+    by (suc i) e more = there_later x y (xs ++ ys) (more (i, e))
+
+pub there_behind : {X : Type 0} (x : X) (xs ys : List X) → There x ys → There x (xs ++ ys)
+there_behind x [] ys h = h
+there_behind x (y ∷ xs) ys h = there_later x y (xs ++ ys) (there_behind x xs ys h)
+
+pub there_map : {X Y : Type 0} (g : X → Y) (x : X) (xs : List X) → There x xs → There (g x) (map g xs)
+there_map g x [] h = absurd (cc h.1)
+there_map g x (y ∷ xs) h = by h.0 h.1 (there_map g x xs)
+  where
+    by : (i : ℕ) → slice_get (y ∷ xs) i ≡ Some x → (There x xs → There (g x) (map g xs)) → There (g x) (g y ∷ map g xs)
+    by zero e more =
+        let same : y ≡ x = cc e in
+        (0, ap (λ z. Some (g z)) same)
+    by (suc i) e more = there_later (g x) (g y) (map g xs) (more (i, e))
+
+pub there_found : {X : Type 0} (name : X → List ℕ) (xs : List X) (x : X) → all_distinct (map name xs) ≡ true → There x xs → find (λ y. bytes_eq (name y) (name x)) xs ≡ Some x
+there_found name xs x d h = found_at name xs h.0 x d h.1

@@ -73,7 +73,7 @@ four_distinct front =
       widths_differ front 32 64 (omega arith) (omega arith) (λ e. absurd (omega (arith, e))),
     ) refl
 
-helper_names_distinct : all_distinct (map item_name all_saturating) ≡ true
+pub helper_names_distinct : all_distinct (map item_name all_saturating) ≡ true
 helper_names_distinct = distinct_by (begins (codes "sat_plus_u")) (four_names (codes "sat_plus_u")) (four_names (codes "sat_minus_u")) refl refl (four_distinct (codes "sat_plus_u")) (four_distinct (codes "sat_minus_u"))
 
 module _ (p : PackageTree) (h : HasItemNames p) where

@@ -141,7 +141,7 @@ module _ (x : Context) where
 
 -- ---- a scope that serves a method
 
-reader_is_io : (ty : Ty) → is_reader (Some ty) ≡ true → is_io ty ≡ true
+pub reader_is_io : (ty : Ty) → is_reader (Some ty) ≡ true → is_io ty ≡ true
 reader_is_io types.Reader e = refl
 reader_is_io types.Writer e = refl
 reader_is_io types.Flag e = absurd (cc e)
@@ -151,7 +151,7 @@ reader_is_io (types.Slice width) e = absurd (cc e)
 reader_is_io (types.Array width lo hi count) e = absurd (cc e)
 reader_is_io (types.Part t) e = absurd (cc e)
 
-writer_is_io : (ty : Ty) → is_writer (Some ty) ≡ true → is_io ty ≡ true
+pub writer_is_io : (ty : Ty) → is_writer (Some ty) ≡ true → is_io ty ≡ true
 writer_is_io types.Writer e = refl
 writer_is_io types.Reader e = refl
 writer_is_io types.Flag e = absurd (cc e)
