@@ -1,5 +1,5 @@
 -- A scope that has all that a method's body may name, and that the body's statements find all in it.
-use Rattle.std.proofs.Common.{◌≡◌, ◌⊎◌, inl, inr, ℕ, zero, suc, ◌+◌, ◌<◌, ◌^◌, Bool, true, false, not, ◌&&◌, ◌||◌, List, [], ◌∷◌, ◌++◌, length, map, Option, Some, None, nat_eq, refl, sym, ap, ◌∙◌, subst, arith}
+use Rattle.std.proofs.Common.{◌≡◌, ◌⊎◌, inl, inr, ℕ, zero, suc, ◌+◌, ◌<◌, ◌^◌, Bool, true, false, not, ◌&&◌, ◌||◌, List, [], ◌∷◌, ◌++◌, length, map, Option, Some, None, nat_eq, nat_lt, refl, sym, ap, ◌∙◌, subst, arith}
 use Rattle.std.specs.Prelude.{if◌then◌else◌, find, slice_get, bytes_eq, codes, is_some, option_map, option_and_then, unwrap_or}
 use Rattle.std.specs.List.{list_all, AllByRecursion}
 use Rattle.std.proofs.lemmas.Bool.Decides.{nat_tests}
@@ -10,15 +10,18 @@ use Rattle.wf_ast.specs.declared.types.Ty.{Ty}
 use Rattle.wf_ast.specs.declared.types.Ty.TheVariants as types
 use Rattle.wf_ast.specs.TypedPackage.{Variable, StructTree, MethodTree, PackageTree, kind_of}
 use Rattle.wf_ast.specs.TypedTree.{Path, local, field, arg, NumType, Called, own, sub}
-use Rattle.wf_ast.specs.WellTyped.{Context, type_at, variable_at, field_at, is_width, same_num_type, is_number, is_array, is_slice, is_flag, is_status, is_reader, is_writer, is_coroutine, may_be_arg, may_be_local, may_be_field, may_be_result, struct_of_field, calls_method, number_of}
+use Rattle.wf_ast.specs.WellTyped.{Context, type_at, variable_at, field_at, is_width, same_num_type, is_number, is_array, is_slice, is_flag, is_status, is_reader, is_writer, is_coroutine, may_be_arg, may_be_local, may_be_field, may_be_result, struct_of_field, calls_method, number_of, well_method}
 use Rattle.wf_ast.proofs.Arena.{both_true}
 use Rattle.wf_meaning.specs.SourceState.{fields_of}
 use Rattle.c_text.specs.declared.kinds.CUint.TheVariants.{U8, U16, U32, U64}
+use Rattle.wf_meaning.specs.Entry.{short_read, short_write, cannot_suspend}
+use Rattle.c_text.specs.declared.kinds.CUnary.TheVariants.{Address}
+use Rattle.c_text.specs.declared.kinds.Linkage.TheVariants.{Static}
 use Rattle.c_text.specs.CSpelling.{is_word_byte}
-use Rattle.c_text.specs.CTree.{TypeTree, uint, size, boolean, uint_pointer, struct_pointer, text, ExprTree, variable, member, Code, plain, inside, FieldTree, ParamTree, LocalTree}
-use Rattle.c_meaning.specs.CTypes.{Scope, StructDecl, Function, functions_of, struct_named, function_named, local_name, ExprType, points_to, cell, object, byte, one, held_type, value_type, is_numeric, type_of, held_of, io_buffer}
+use Rattle.c_text.specs.CTree.{TypeTree, uint, size, boolean, uint_pointer, struct_pointer, text, ExprTree, variable, member, unary, Code, plain, inside, FieldTree, ParamTree, LocalTree}
+use Rattle.c_meaning.specs.CTypes.{Scope, StructDecl, Function, functions_of, struct_named, function_named, local_name, ExprType, points_to, cell, object, byte, one, held_type, value_type, is_numeric, type_of, held_of, io_buffer, assignable, address_type}
 use Rattle.c_meaning.specs.CStep.{callee_of, own as own_function, memory_move}
-use Rattle.c_meaning.specs.UnitForm.{is_among, all_distinct, item_name, args_params, arg_params}
+use Rattle.c_meaning.specs.UnitForm.{Checked, is_among, all_distinct, args_params, arg_params}
 use Rattle.wf_exprs.specs.Names.{Names, names_of, named, local_name as source_local, local_pointer, local_length, arg_name, arg_pointer, arg_length, io_place, io_end, io_bytes, field_name, status_name, struct_type, body_name, entry_name, point_field, saved_field, held_field, count_field}
 use Rattle.wf_exprs.specs.Words.{num, width_of, uint_of, self, of_self}
 use Rattle.wf_exprs.specs.Helpers.{all_saturating}
@@ -36,11 +39,11 @@ use Rattle.wf_lower_laws.proofs.OwnNames.{names, args_labels, args_all, labels, 
 use Rattle.wf_lower_laws.proofs.NameLaw.{Words, named_at, from_front}
 use Rattle.wf_lower_laws.proofs.CodeTypes.{Fits, Cell, NumCell, held_fits, same_width, variable_num, member_num}
 use Rattle.wf_lower_laws.proofs.Frames.{same_bytes, is_variable}
-use Rattle.wf_lower_laws.proofs.Typing.{all_helpers, known_status, around, reader_is_io, writer_is_io}
+use Rattle.wf_lower_laws.proofs.Typing.{all_helpers, known_status, around, reader_is_io, writer_is_io, KeptCells, Kept, IoCells, Callable, Serves}
 use Rattle.wf_lower_laws.proofs.Finding.{found_front, found_behind, found_none, There, there_first, there_later, there_front, there_behind, there_map, there_found}
 use Rattle.wf_lower_laws.proofs.FieldNames.{labels as field_labels}
 use Rattle.wf_lower_laws.proofs.Statuses.{all_texts, constant_text, saturated_num}
-use Rattle.wf_lower_laws.proofs.Scopes.{io_fields, name_of, name_held, name_type, io_length, io_written, io_read, io_position, io_closed, io_pointer, HasSelf, self_type, member_so, own_cell, source_in, method_in}
+use Rattle.wf_lower_laws.proofs.Scopes.{io_fields, name_of, name_held, name_type, io_length, io_written, io_read, io_position, io_closed, io_limit, HasSelf, self_type, member_so, own_cell, source_in, method_in}
 
 -- A variable of the source in C, where it is one value.
 abbrev in_c : Ty → Option TypeTree
@@ -117,6 +120,9 @@ module _ (p : PackageTree) (n : ℕ) (m : MethodTree) (structs : List StructDecl
   abbrev pub T : Scope
   T = record { structs = structs; texts = all_texts 0 p.statuses; functions = functions_of all_saturating ++ fs; names = front ++ behind }
 
+  abbrev pub c : Checked
+  c = record { scope = T; linkage = Static; result_type = result_of m; body = body_code f }
+
   abbrev pub Settled : List ℕ → Type 0
   Settled name = (is_some (find (λ it. bytes_eq it.name name) front) ≡ true) ⊎ (code_reads name (body_code f) ≡ true)
 
@@ -150,7 +156,7 @@ module _ (p : PackageTree) (n : ℕ) (m : MethodTree) (structs : List StructDecl
     param_there : (x : ParamTree) → There x (params_of p m) → There x front
     param_there x h = there_front x (params_of p m) (map local_name (fixed_locals f)) h
 
-    args_there : (xs : List Variable) (i : ℕ) (v : Variable) (x : ParamTree) → slice_get xs i ≡ Some v → There x (arg_params (record { name = v.name; kind = kind_of v.ty })) → There x (args_params (public_args xs))
+    pub args_there : (xs : List Variable) (i : ℕ) (v : Variable) (x : ParamTree) → slice_get xs i ≡ Some v → There x (arg_params (record { name = v.name; kind = kind_of v.ty })) → There x (args_params (public_args xs))
     args_there [] i v x e h = absurd (cc e)
     args_there (y ∷ xs) zero v x e h =
         let same : y ≡ v = cc e in
@@ -471,7 +477,7 @@ module _ (p : PackageTree) (n : ℕ) (m : MethodTree) (structs : List StructDecl
         let last : list_all U (map name_of (map local_name further_locals ++ map local_name resume_locals)) ≡ true =
         subst P (sym (map_both name_of (map local_name further_locals) (map local_name resume_locals))) (all_both U (labels further_locals) (map name_of (map local_name resume_locals)) refl (resumes (is_coroutine m.mark))) in
         let rest : list_all U (map name_of behind) ≡ true =
-        subst P (sym (map_both name_of (map local_name (bytes_locals f 0 m.args)) _)) (all_both U _ _ (buffers_all U (λ x _. refl)) last) in
+        subst P (sym (map_both name_of (map local_name (bytes_locals f 0 m.args)) _)) (all_both U (map name_of (map local_name (bytes_locals f 0 m.args))) (map name_of (map local_name further_locals ++ map local_name resume_locals)) (buffers_all U (λ x _. refl)) last) in
         let all : list_all U (map name_of T.names) ≡ true =
         subst P (sym (map_both name_of front behind)) (all_both U (map name_of front) (map name_of behind) (front_all U refl (λ x _. (refl, (refl, refl))) (λ x _. (refl, refl)) (λ x _. (refl, (refl, refl)))) rest) in
         found_none name_of T.names (status_name k) (not_there U (map name_of T.names) (status_name k) all refl)
@@ -503,7 +509,11 @@ module _ (p : PackageTree) (n : ℕ) (m : MethodTree) (structs : List StructDecl
       where
         by : (b : Bool) → There (place_local j v.ty) (io_locals f (suc k) xs) × There (end_local j v.ty) (io_locals f (suc k) xs)
             → There (place_local j v.ty) (if b then place_local k y.ty ∷ end_local k y.ty ∷ io_locals f (suc k) xs else io_locals f (suc k) xs) × There (end_local j v.ty) (if b then place_local k y.ty ∷ end_local k y.ty ∷ io_locals f (suc k) xs else io_locals f (suc k) xs)
-        by true t = (there_later _ _ _ (there_later _ _ _ t.0), there_later _ _ _ (there_later _ _ _ t.1))
+        by true t =
+            (
+              there_later (place_local j v.ty) (place_local k y.ty) (end_local k y.ty ∷ io_locals f (suc k) xs) (there_later (place_local j v.ty) (end_local k y.ty) (io_locals f (suc k) xs) t.0),
+              there_later (end_local j v.ty) (place_local k y.ty) (end_local k y.ty ∷ io_locals f (suc k) xs) (there_later (end_local j v.ty) (end_local k y.ty) (io_locals f (suc k) xs) t.1),
+            )
         by false t = t
 
     pointer_there : (xs : List Variable) (k i j : ℕ) (v : Variable) → slice_get xs i ≡ Some v → is_io v.ty ≡ true → j ≡ k + i → There (pointer_local j) (bytes_locals f k xs)
@@ -517,7 +527,7 @@ module _ (p : PackageTree) (n : ℕ) (m : MethodTree) (structs : List StructDecl
     pointer_there (y ∷ xs) k (suc i) j v e h s = by (is_io y.ty) (pointer_there xs (suc k) i j v e h (omega (arith, s)))
       where
         by : (b : Bool) → There (pointer_local j) (bytes_locals f (suc k) xs) → There (pointer_local j) (if b then pointer_local k ∷ bytes_locals f (suc k) xs else bytes_locals f (suc k) xs)
-        by true t = there_later _ _ _ t
+        by true t = there_later (pointer_local j) (pointer_local k) (bytes_locals f (suc k) xs) t
         by false t = t
 
     buffer_place : (i : ℕ) (v : Variable) → slice_get m.args i ≡ Some v → is_io v.ty ≡ true → Cell Settled T size (place_code f.names i)
@@ -581,3 +591,240 @@ module _ (p : PackageTree) (n : ℕ) (m : MethodTree) (structs : List StructDecl
       constants = λ k h. constant_text T p.statuses refl g.few k h (no_status_name k);
       calls = λ sum bits x y w h j. saturated_num T fs refl sum bits x y w h j;
     }
+
+    -- ---- what a coroutine keeps
+
+    coroutine_there : (x : FieldTree) → is_coroutine m.mark ≡ true → There x (record { kind = plain (uint U16); name = point_field m.name; count = None } ∷ kept_fields m.name m.locals ++ started_fields m) → There x (struct_fields p m.of)
+    coroutine_there x e h = method_in p n m x g.is (by (is_coroutine m.mark) e)
+      where
+        by : (b : Bool) → b ≡ true → There x (if b then record { kind = plain (uint U16); name = point_field m.name; count = None } ∷ kept_fields m.name m.locals ++ started_fields m else [])
+        by true k = h
+        by false k = absurd (cc k)
+
+    point_cell : is_coroutine m.mark ≡ true → NumCell Settled T (of_self (point_field m.name))
+    point_cell e = record { type = uint U16; numeric = refl; cell = self_cell (uint U16) (point_field m.name) refl (coroutine_there (record { kind = plain (uint U16); name = point_field m.name; count = None }) e (0, refl)) }
+
+    started_there : (x : FieldTree) → is_coroutine m.mark ≡ true → There x (started_fields m) → There x (struct_fields p m.of)
+    started_there x e h = coroutine_there x e (there_later x (record { kind = plain (uint U16); name = point_field m.name; count = None }) (kept_fields m.name m.locals ++ started_fields m) (there_behind x (kept_fields m.name m.locals) (started_fields m) h))
+
+    held_cell : is_coroutine m.mark ≡ true → keeps holds_something m.body ≡ true → NumCell Settled T (of_self (held_field m.name))
+    held_cell e k =
+        let x : FieldTree = record { kind = plain (uint U64); name = held_field m.name; count = None } in
+        record { type = uint U64; numeric = refl; cell = self_cell (uint U64) (held_field m.name) refl (started_there x e (by (keeps holds_something m.body) k)) }
+      where
+        by : (b : Bool) → b ≡ true → There {X = FieldTree} (record { kind = plain (uint U64); name = held_field m.name; count = None })
+            ((if b then record { kind = plain (uint U64); name = held_field m.name; count = None } ∷ [] else []) ++ (if keeps counts_bytes m.body then record { kind = plain (uint U8); name = count_field m.name; count = None } ∷ [] else []))
+        by true h = (0, refl)
+        by false h = absurd (cc h)
+
+    count_cell : is_coroutine m.mark ≡ true → keeps counts_bytes m.body ≡ true → NumCell Settled T (of_self (count_field m.name))
+    count_cell e k =
+        let x : FieldTree = record { kind = plain (uint U8); name = count_field m.name; count = None } in
+        record { type = uint U8; numeric = refl; cell = self_cell (uint U8) (count_field m.name) refl
+            (started_there x e (there_behind x (if keeps holds_something m.body then record { kind = plain (uint U64); name = held_field m.name; count = None } ∷ [] else []) (if keeps counts_bytes m.body then record { kind = plain (uint U8); name = count_field m.name; count = None } ∷ [] else []) (by (keeps counts_bytes m.body) k))) }
+      where
+        by : (b : Bool) → b ≡ true → There {X = FieldTree} (record { kind = plain (uint U8); name = count_field m.name; count = None }) (if b then record { kind = plain (uint U8); name = count_field m.name; count = None } ∷ [] else [])
+        by true h = (0, refl)
+        by false h = absurd (cc h)
+
+    kept_there : (xs : List Variable) (i : ℕ) (v : Variable) → slice_get xs i ≡ Some v → is_kept v.ty ≡ true → There (record { kind = plain (kept_type v.ty); name = saved_field m.name v.name; count = None }) (kept_fields m.name xs)
+    kept_there [] i v e h = absurd (cc e)
+    kept_there (y ∷ xs) zero v e h =
+        let same : y ≡ v = cc e in
+        let P : Variable → Type 0 = λ z. There (record { kind = plain (kept_type v.ty); name = saved_field m.name v.name; count = None }) (if is_kept z.ty then record { kind = plain (kept_type z.ty); name = saved_field m.name z.name; count = None } ∷ kept_fields m.name xs else kept_fields m.name xs) in
+        subst P (sym same) (rw h (0, refl))
+    kept_there (y ∷ xs) (suc i) v e h = by (is_kept y.ty) (kept_there xs i v e h)
+      where
+        by : (b : Bool) → There {X = FieldTree} (record { kind = plain (kept_type v.ty); name = saved_field m.name v.name; count = None }) (kept_fields m.name xs)
+            → There (record { kind = plain (kept_type v.ty); name = saved_field m.name v.name; count = None }) (if b then record { kind = plain (kept_type y.ty); name = saved_field m.name y.name; count = None } ∷ kept_fields m.name xs else kept_fields m.name xs)
+        by true t = there_later (record { kind = plain (kept_type v.ty); name = saved_field m.name v.name; count = None }) (record { kind = plain (kept_type y.ty); name = saved_field m.name y.name; count = None }) (kept_fields m.name xs) t
+        by false t = t
+
+    kept_cells : (i : ℕ) (name : List ℕ) (ty : Ty) → slice_get m.locals i ≡ Some (record { name = name; ty = ty }) → may_be_local ty ≡ true → is_kept ty ≡ true → is_coroutine m.mark ≡ true → KeptCells c f Settled MayBeCalled (record { name = name; ty = ty })
+    kept_cells i name ty e a k co = by ty e a k
+      where
+        saved : (ty : Ty) → slice_get m.locals i ≡ Some (record { name = name; ty = ty }) → is_kept ty ≡ true → Cell Settled T (kept_type ty) (of_self (saved_field m.name name))
+        saved ty e k =
+            let x : FieldTree = record { kind = plain (kept_type ty); name = saved_field m.name name; count = None } in
+            self_cell (kept_type ty) (saved_field m.name name) refl
+            (coroutine_there x co (there_later x (record { kind = plain (uint U16); name = point_field m.name; count = None }) (kept_fields m.name m.locals ++ started_fields m) (there_front x (kept_fields m.name m.locals) (started_fields m) (kept_there m.locals i (record { name = name; ty = ty }) e k))))
+
+        made : (ty : Ty) (t : TypeTree) → kept_type ty ≡ t → in_c ty ≡ Some t → assignable t (value_type t) ≡ true → slice_get m.locals i ≡ Some (record { name = name; ty = ty }) → is_kept ty ≡ true → KeptCells c f Settled MayBeCalled (record { name = name; ty = ty })
+        made ty t s h w e k =
+            let P : TypeTree → Type 0 = λ z. Cell Settled T z (of_self (saved_field m.name name)) in
+            let one_cell = subst P s (saved ty e k) in
+            let other = local_cell i name ty t e h in
+            record {
+              type = t;
+              saved = one_cell;
+              own = other;
+              saved_fits = held_fits T t (of_self (saved_field m.name name)) (ap (option_and_then held_type) one_cell.held) w;
+              own_fits = held_fits T t (variable (codes "v_" ++ name)) (ap (option_and_then held_type) other.held) w;
+            }
+
+        by : (ty : Ty) → slice_get m.locals i ≡ Some (record { name = name; ty = ty }) → may_be_local ty ≡ true → is_kept ty ≡ true → KeptCells c f Settled MayBeCalled (record { name = name; ty = ty })
+        by (types.Num width lo hi) e a k = made (types.Num width lo hi) (uint (width_of (bits_of width))) refl refl refl e k
+        by types.Flag e a k = made types.Flag boolean refl refl refl e k
+        by types.Status e a k = made types.Status text refl refl refl e k
+        by (types.Slice width) e a k = absurd (cc k)
+        by types.Reader e a k = absurd (cc a)
+        by types.Writer e a k = absurd (cc a)
+        by (types.Array width lo hi count) e a k = absurd (cc a)
+        by (types.Part s) e a k = absurd (cc a)
+
+    all_kept : (xs : List Variable) (k : ℕ) → ((i : ℕ) (v : Variable) → slice_get xs i ≡ Some v → slice_get m.locals (k + i) ≡ Some v) → AllByRecursion (Kept c f Settled MayBeCalled) xs
+    all_kept [] k h = tt
+    all_kept (v ∷ xs) k h =
+        ((λ t co. let e = here in kept_cells k v.name v.ty e (all_at (λ v. may_be_local v.ty) m.locals k v g.locals_are e) t co),
+        all_kept xs (suc k) (λ i y e. let same : k + suc i ≡ suc k + i = omega arith in let P : ℕ → Type 0 = λ z. slice_get m.locals z ≡ Some y in subst P same (h (suc i) y e)))
+      where
+        here : slice_get m.locals k ≡ Some v
+        here = let same : k + 0 ≡ k = omega arith in let P : ℕ → Type 0 = λ z. slice_get m.locals z ≡ Some v in subst P same (h 0 v refl)
+
+    -- ---- readers and writers, and calls
+
+    io_cells : (i : ℕ) (v : Variable) → slice_get m.args i ≡ Some v → is_io v.ty ≡ true → IoCells c f Settled MayBeCalled i v.ty
+    io_cells i v e h =
+        let t = io_type i v e h in
+        let places = in_buffer v.ty h in
+        record {
+          place = record { type = size; numeric = refl; cell = buffer_place i v e h };
+          end = record { type = size; numeric = refl; cell = buffer_end i v e h };
+          field = places.0 t;
+          field_num = places.1.0 t;
+          limit = places.1.1 t;
+          pointer = t;
+        }
+      where
+        cell_of : (name : List ℕ) → held_of T (member (io_code f.names i) name) ≡ Some (one size) → NumCell Settled T (member (io_code f.names i) name)
+        cell_of name k = record { type = size; numeric = refl; cell = record { held = k; settled = λ l q. absurd (cc q) } }
+
+        in_buffer : (ty : Ty) → is_io ty ≡ true
+            → (type_of T (io_code f.names i) ≡ Some (points_to (object io_buffer)) → NumCell Settled T (place_in (io_code f.names i) ty))
+            × ((type_of T (io_code f.names i) ≡ Some (points_to (object io_buffer)) → IsNum T (place_in (io_code f.names i) ty)) × (type_of T (io_code f.names i) ≡ Some (points_to (object io_buffer)) → IsNum T (end_of (io_code f.names i) ty)))
+        in_buffer types.Reader k =
+            (
+              (λ t. cell_of (codes "ri") (io_read T g.io (io_code f.names i) t)),
+              ((λ t. member_num T size (io_code f.names i) (codes "ri") refl (io_read T g.io (io_code f.names i) t)), (λ t. member_num T size (io_code f.names i) (codes "wi") refl (io_written T g.io (io_code f.names i) t))),
+            )
+        in_buffer types.Writer k =
+            (
+              (λ t. cell_of (codes "wi") (io_written T g.io (io_code f.names i) t)),
+              (
+                (λ t. member_num T size (io_code f.names i) (codes "wi") refl (io_written T g.io (io_code f.names i) t)),
+                (λ t. io_limit T g.io (io_code f.names i) t),
+              ),
+            )
+        in_buffer types.Flag k = absurd (cc k)
+        in_buffer types.Status k = absurd (cc k)
+        in_buffer (types.Num width lo hi) k = absurd (cc k)
+        in_buffer (types.Slice width) k = absurd (cc k)
+        in_buffer (types.Array width lo hi count) k = absurd (cc k)
+        in_buffer (types.Part s) k = absurd (cc k)
+
+    -- Functions that stand in front.
+    pub record FoundAs (name : List ℕ) (callee : MethodTree) : Type 0 where
+      pub function : Function
+      pub there : function_named fs name ≡ Some function
+      pub params : function.params ≡ params_of p callee
+      pub result : function.result_type ≡ result_of callee
+
+    helpers_out : (name : List ℕ) → begins (codes "sat_") name ≡ false → is_among (map (λ (h : Function). h.name) (functions_of all_saturating)) name ≡ false
+    helpers_out name h = not_there (begins (codes "sat_")) (map (λ (h : Function). h.name) (functions_of all_saturating)) name refl h
+
+    found_function : (name : List ℕ) (callee : MethodTree) → begins (codes "sat_") name ≡ false → (k : FoundAs name callee) → function_named T.functions name ≡ Some k.function
+    found_function name callee h k = found_behind (λ (h : Function). h.name) (functions_of all_saturating) fs name (helpers_out name h) ∙ k.there
+
+    part_type : (i : ℕ) (callee : MethodTree) → is_some (option_and_then (λ s. if nat_eq s callee.of then Some s else None) (struct_of_field (field_at p m.of i))) ≡ true
+        → type_of T (unary Address (of_self (field_name f.names i))) ≡ Some (points_to (object (struct_type p callee.of)))
+    part_type i callee h = by (field_at p m.of i) refl h
+      where
+        other : (ty : Ty) → field_at p m.of i ≡ Some ty → is_some (option_and_then (λ s. if nat_eq s callee.of then Some s else None) (struct_of_field (Some ty))) ≡ true → type_of T (unary Address (of_self (field_name f.names i))) ≡ Some (points_to (object (struct_type p callee.of)))
+        other (types.Part s) e k = same (nat_eq s.0 callee.of) refl k
+          where
+            same : (b : Bool) → nat_eq s.0 callee.of ≡ b → is_some (if b then Some s.0 else None) ≡ true → type_of T (unary Address (of_self (field_name f.names i))) ≡ Some (points_to (object (struct_type p callee.of)))
+            same false q k = absurd (cc k)
+            same true q k =
+                let v = field_typed i (types.Part s) e in
+                let number : s.0 ≡ callee.of = grind (arith, nat_tests, q) in
+                let x : Variable = record { name = v.name; ty = types.Part s } in
+                let held = member_so T p m.of has_self (source_field p x) (source_in p m.of i x v.there) in
+                let P : List ℕ → Type 0 = λ z. type_of T (unary Address (of_self (codes "f_" ++ z))) ≡ Some (points_to (object (struct_type p callee.of))) in
+                let Q : ℕ → Type 0 = λ z. type_of T (unary Address (of_self (codes "f_" ++ v.name))) ≡ Some (points_to (object (struct_type p z))) in
+                subst P (sym v.called) (subst Q number (ap (option_and_then address_type) held))
+        other types.Flag e k = absurd (cc k)
+        other types.Status e k = absurd (cc k)
+        other types.Reader e k = absurd (cc k)
+        other types.Writer e k = absurd (cc k)
+        other (types.Num width lo hi) e k = absurd (cc k)
+        other (types.Slice width) e k = absurd (cc k)
+        other (types.Array width lo hi count) e k = absurd (cc k)
+
+        by : (o : Option Ty) → field_at p m.of i ≡ o → is_some (option_and_then (λ s. if nat_eq s callee.of then Some s else None) (struct_of_field o)) ≡ true → type_of T (unary Address (of_self (field_name f.names i))) ≡ Some (points_to (object (struct_type p callee.of)))
+        by None e k = absurd (cc k)
+        by (Some ty) e k = other ty e k
+
+    module _ (methods_are : (j : ℕ) (callee : MethodTree) → slice_get p.methods j ≡ Some callee → well_method p callee ≡ true)
+        (bodies : (j : ℕ) (callee : MethodTree) → known j ≡ true → slice_get p.methods j ≡ Some callee → FoundAs (body_name p callee) callee)
+        (entries : (j : ℕ) (callee : MethodTree) → known j ≡ true → slice_get p.methods j ≡ Some callee → callee.public ≡ true → FoundAs (entry_name p callee) callee)
+        (base : (k : ℕ) → k < 10 → is_some (slice_get p.statuses k) ≡ true)
+        (held_read : is_coroutine m.mark ≡ true → keeps holds_something m.body ≡ true → code_reads (codes "held") (body_code f) ≡ true)
+        (count_read : is_coroutine m.mark ≡ true → keeps counts_bytes m.body ≡ true → code_reads (codes "count") (body_code f) ≡ true) where
+      callable_made : (called : Called) (callee : MethodTree) → (k : FoundAs (callee_name p called callee) callee) → begins (codes "sat_") (callee_name p called callee) ≡ false → callee_of (callee_name p called callee) ≡ own_function
+          → well_method p callee ≡ true → type_of T (receiver_code f.names called) ≡ Some (points_to (object (struct_type p callee.of))) → Callable c f Settled MayBeCalled called callee
+      callable_made called callee k out is_own w r =
+          let a = (both_true (nat_lt callee.of (length p.structs)) _ w).1 in
+          let b = both_true (list_all (λ x. may_be_arg x.ty) callee.args) _ a in
+          let d = both_true (list_all (λ x. may_be_local x.ty) callee.locals) _ b.1 in
+          let e = both_true (may_be_result callee.mark callee.gives) _ d.1 in
+          record {
+            function = k.function;
+            found = found_function (callee_name p called callee) callee out k;
+            params = k.params;
+            result = k.result;
+            args_are = b.0;
+            result_is = e.0;
+            is_own = is_own;
+            receiver = r;
+            ok = (out, inl is_own);
+          }
+
+      callable_of : (called : Called) (callee : MethodTree) → slice_get p.methods (number_of called) ≡ Some callee → calls_method (around f) called callee ≡ true → known (number_of called) ≡ true → Callable c f Settled MayBeCalled called callee
+      callable_of (own j) callee e h k =
+          let same : callee.of ≡ m.of = grind (arith, nat_tests, h) in
+          let P : ℕ → Type 0 = λ z. type_of T self ≡ Some (points_to (object (struct_type p z))) in
+          callable_made (own j) callee (bodies j callee k e) refl refl (methods_are j callee e) (subst P (sym same) (self_type T p m.of has_self))
+      callable_of (sub i j) callee e h k =
+          let q = both_true callee.public _ h in
+          callable_made (sub i j) callee (entries j callee k e q.0) refl refl (methods_are j callee e) (part_type i callee q.1)
+
+      pub serves : Serves c f Settled MayBeCalled known
+      serves = record {
+        declares = declares;
+        base = λ k h. base k (few_base k h);
+        numbers = λ of path w h. number_cell of path h;
+        flags = λ path w h. flag_cell path h;
+        statuses = λ path w h. status_cell path h;
+        pointers = λ bits i h. (let ty = some_type (type_at (around f) (local i)) (is_slice bits) h refl in (local_slice i bits ty.0 ty.1.0 ty.1.1).pointer_cell);
+        lengths = λ bits i h. (let ty = some_type (type_at (around f) (local i)) (is_slice bits) h refl in record { type = size; numeric = refl; cell = (local_slice i bits ty.0 ty.1.0 ty.1.1).length_cell });
+        buffers = io_cells;
+        kept = all_kept m.locals 0 (λ i v e. let same : i ≡ 0 + i = omega arith in let P : ℕ → Type 0 = λ z. slice_get m.locals z ≡ Some v in subst P same e);
+        point = point_cell;
+        held_kept = held_cell;
+        count_kept = count_cell;
+        status_held = name_held T (record { kind = text; name = codes "status" }) status_found;
+        got_held = name_held T (record { kind = uint U64; name = codes "got" }) got_found;
+        size_held = name_held T (record { kind = size; name = codes "size" }) size_found;
+        held_held = name_held T (record { kind = uint U64; name = codes "held" }) held_found;
+        count_held = name_held T (record { kind = uint U8; name = codes "count" }) count_found;
+        held_settled = λ e k. inr (held_read e k);
+        count_settled = λ e k. inr (count_read e k);
+        callable = callable_of;
+        result = refl;
+        moves = (refl, inr refl);
+      }
+        where
+          few_base : (k : ℕ) → (k ≡ short_read) ⊎ ((k ≡ short_write) ⊎ (k ≡ cannot_suspend)) → k < 10
+          few_base k (inl e) = omega (arith, e)
+          few_base k (inr (inl e)) = omega (arith, e)
+          few_base k (inr (inr e)) = omega (arith, e)

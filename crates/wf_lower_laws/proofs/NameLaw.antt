@@ -99,10 +99,10 @@ from_front p m i x e =
     subst P same (named_at m.args i x e)
 
 pub record Words (m : MethodTree) : Type 0 where
-  args_apart : all_distinct (names m.args) ≡ true
-  args_words : list_all is_word_name (names m.args) ≡ true
-  locals_apart : all_distinct (names m.locals) ≡ true
-  locals_words : list_all is_word_name (names m.locals) ≡ true
+  pub args_apart : all_distinct (names m.args) ≡ true
+  pub args_words : list_all is_word_name (names m.args) ≡ true
+  pub locals_apart : all_distinct (names m.locals) ≡ true
+  pub locals_words : list_all is_word_name (names m.locals) ≡ true
 
 pub words : (m : MethodTree) → (are_named m.args && are_named m.locals) ≡ true → Words m
 words m h =
@@ -206,7 +206,7 @@ module _ (p : PackageTree) (m : MethodTree) (w : Words m) where
       let are_names : list_all is_own_name (map (λ it. it.name) ps) ≡ true = subst N (sym (param_names ls)) (params_all is_own_name name_passes (labels ls) (each is_own_name name_passes)) in
       (both_hold (all_distinct (map (λ it. it.name) ps)) _ distinct (sym (all_named (is_free all) ps) ∙ frees), sym (all_named is_own_name ps) ∙ are_names)
 
-  body_own : (all : List (List ℕ)) → list_all is_item all ≡ true → OwnNames all (body_function f)
+  pub body_own : (all : List (List ℕ)) → list_all is_item all ≡ true → OwnNames all (body_function f)
   body_own all items =
       let ls = body_locals f in
       let A : List (List ℕ) → Type 0 = λ ns. list_all (λ l. not (begins (codes "a") l)) ns ≡ true in
@@ -218,7 +218,7 @@ module _ (p : PackageTree) (m : MethodTree) (w : Words m) where
       (subst D (sym all_labels) behind_distinct)
       (λ T t. let E : List (List ℕ) → Type 0 = λ ns. list_all T ns ≡ true in subst E (sym all_labels) (behind_all T t.places t.locals t.bytes t.further t.resume))
 
-  entry_own : (n : ℕ) (all : List (List ℕ)) → list_all is_item all ≡ true → OwnNames all (entry_function p n m)
+  pub entry_own : (n : ℕ) (all : List (List ℕ)) → list_all is_item all ≡ true → OwnNames all (entry_function p n m)
   entry_own n all items = by (answers_of m.mark m.gives)
     where
       status_of : (T : List ℕ → Bool) → Passes T → T (codes "status") ≡ true

@@ -16,8 +16,9 @@ use Rattle.wf_ast.specs.WellTyped.{Context, type_at, variable_at, field_at, is_w
 use Rattle.wf_ast.proofs.Arena.{both_true}
 use Rattle.wf_meaning.specs.SourceState.{fields_of}
 use Rattle.c_text.specs.declared.kinds.CUint.TheVariants.{U8, U16, U32, U64}
-use Rattle.c_text.specs.CTree.{TypeTree, uint, size, boolean, uint_pointer, struct_pointer, text, ExprTree, variable, member, Code, FieldKind, plain, inside, FieldTree, ParamTree, LocalTree, ItemTree, struct_item, text_item, function_item}
-use Rattle.c_meaning.specs.CTypes.{Scope, StructDecl, TextDecl, Function, structs_of, texts_of, functions_of, scope_of, struct_named, function_named, field_named, local_name, ExprType, points_to, cell, object, byte, Held, one, many, fixed, inner, characters, held_type, is_bytes_field, cell_held, field_held, value_type, is_numeric, variable_held, member_held, field_of, type_of, held_of, io_buffer, called_type, passable, is_expression, result_of, assignable, promoted}
+use Rattle.wf_num.specs.declared.c_arithmetic.CTy.TheVariants as ctys
+use Rattle.c_text.specs.CTree.{TypeTree, uint, size, boolean, uint_pointer, struct_pointer, text, ExprTree, variable, member, choice, Code, FieldKind, plain, inside, FieldTree, ParamTree, LocalTree, ItemTree, struct_item, text_item, function_item}
+use Rattle.c_meaning.specs.CTypes.{Scope, StructDecl, TextDecl, Function, structs_of, texts_of, functions_of, scope_of, struct_named, function_named, field_named, local_name, ExprType, points_to, cell, object, byte, Held, one, many, fixed, inner, characters, held_type, is_bytes_field, cell_held, field_held, value_type, is_numeric, variable_held, member_held, field_of, type_of, held_of, io_buffer, called_type, passable, is_expression, result_of, assignable, promoted, numbers}
 use Rattle.c_meaning.specs.UnitForm.{is_among, all_distinct, item_name, args_params, arg_params, own_names}
 use Rattle.wf_exprs.specs.Names.{Names, names_of, named, local_name as source_local, io_place, io_end, io_bytes, field_name, status_name, struct_type, fields_called, struct_called}
 use Rattle.wf_exprs.specs.Words.{num, width_of, uint_of, self, of_self, args}
@@ -71,6 +72,9 @@ module _ (S : Scope) where
 
     pub io_closed : held_of S (member e (codes "closed")) ≡ Some (one boolean)
     io_closed = rw (h, io) refl
+
+    pub io_limit : IsNum S (choice (member e (codes "closed")) (member e (codes "wi")) (member e (codes "len")))
+    io_limit = record { type = numbers ctys.U64; is = rw (h, io) refl; ty = ctys.U64; counts = refl }
 
     pub io_pointer : type_of S (member e (codes "ptr")) ≡ Some (points_to (cell (uint U8)))
     io_pointer = rw (h, io) refl

@@ -128,7 +128,7 @@ all_append P [] ys h j = j
 all_append P (x ∷ xs) ys h j = (h.0, all_append P xs ys h.1 j)
 
 module _ (p : PackageTree) where
-  in_inits : (ss : List ℕ) (s : ℕ) → has ss s ≡ true → Stands (initialize_function p s) (initialize_functions p ss)
+  pub in_inits : (ss : List ℕ) (s : ℕ) → has ss s ≡ true → Stands (initialize_function p s) (initialize_functions p ss)
   in_inits [] s h = absurd (cc h)
   in_inits (x ∷ ss) s h = by (nat_eq s x) refl h (in_inits ss s)
     where
@@ -138,7 +138,7 @@ module _ (p : PackageTree) where
           subst P (one_number s x e) (stands_first (initialize_function p s) (initialize_functions p ss))
       by false e k more = stands_later _ _ _ (more k)
 
-  in_structs : (ss : List ℕ) (s : ℕ) → has ss s ≡ true → Stands (struct_item (struct_fields p s) (struct_type p s)) (struct_items p ss)
+  pub in_structs : (ss : List ℕ) (s : ℕ) → has ss s ≡ true → Stands (struct_item (struct_fields p s) (struct_type p s)) (struct_items p ss)
   in_structs [] s h = absurd (cc h)
   in_structs (x ∷ ss) s h = by (nat_eq s x) refl h (in_structs ss s)
     where
@@ -149,14 +149,14 @@ module _ (p : PackageTree) where
       by false e k more = stands_later _ _ _ (more k)
 
   -- A public method's function for callers outside.
-  entry_there : (n : ℕ) (m : MethodTree) → m.public ≡ true → Stands (entry_function p n m) (functions_of p n (Some m))
+  pub entry_there : (n : ℕ) (m : MethodTree) → m.public ≡ true → Stands (entry_function p n m) (functions_of p n (Some m))
   entry_there n m h = stands_later _ (body_function (form_of p m)) _ (by m.public h)
     where
       by : (b : Bool) → b ≡ true → Stands (entry_function p n m) (if b then entry_function p n m ∷ [] else [])
       by true e = stands_first (entry_function p n m) []
       by false e = absurd (cc e)
 
-  in_methods : (ns : List ℕ) (n : ℕ) (m : MethodTree) → has ns n ≡ true → slice_get p.methods n ≡ Some m → m.public ≡ true → Stands (entry_function p n m) (method_functions p ns)
+  pub in_methods : (ns : List ℕ) (n : ℕ) (m : MethodTree) → has ns n ≡ true → slice_get p.methods n ≡ Some m → m.public ≡ true → Stands (entry_function p n m) (method_functions p ns)
   in_methods [] n m h e g = absurd (cc h)
   in_methods (x ∷ ns) n m h e g = by (nat_eq n x) refl h (λ k. in_methods ns n m k e g)
     where

@@ -43,7 +43,7 @@ use Rattle.wf_lower_laws.proofs.Apart.{left_or, right_or}
 use Rattle.wf_lower_laws.proofs.Names.{both_hold}
 use Rattle.wf_lower_laws.proofs.ExprKinds.{expressions_keep_kinds, num_kind, two_kind, cast_kind, plus_kind, begins_at, begins_kind}
 use Rattle.wf_lower_laws.proofs.Frames.{same_bytes, is_variable, is_result_of}
-use Rattle.wf_lower_laws.proofs.Straight.{Straight, over, assigned, calling, leaving, guarded, gets}
+use Rattle.wf_lower_laws.proofs.Straight.{straight_reads, gets}
 use Rattle.wf_lower_laws.proofs.CodeTypes.{Fits, num_fits, text_fits, pointer_fits, same_width, Cell, NumCell, variable_num, member_num, CodeOk, ok_finish, ok_if, ok_assign, ok_number, ok_read, ok_leave, ok_branch, ok_when, ok_repeat, ok_jump, ok_empty, ok_case, ok_label, ok_call, ok_when_assigned, num_typed, num_counts, fits_typed}
 
 -- ---- all that an expression uses is there
@@ -823,14 +823,6 @@ module _ (c : Checked) (f : Form) (Settled : List ℕ → Type 0) (CallOk : List
         let receiver : Fits S (struct_pointer (struct_type f.within callee.of)) (receiver_code f.names called) = record { type = points_to (object (struct_type f.within callee.of)); is = k.receiver; fits = same_bytes (struct_type f.within callee.of) } in
         let passed = pass_one (record { kind = struct_pointer (struct_type f.within callee.of); name = codes "self" }) _ (receiver_code f.names called) (given_codes ts) receiver (pass_all callee.args ts k.args_are w) in
         subst P (sym k.is_own) (subst Q (sym k.found) (both_hold (passable k.function.params (arg_types S es)) (may_keep c into k.function.result_type) (subst R (sym k.params) passed) (subst T (sym k.result) r)))
-
-    -- Code that follows is read as it is.
-    straight_reads : (name : List ℕ) (rest code : Code) → Straight rest code → code_reads name rest ≡ true → code_reads name code ≡ true
-    straight_reads name rest _ over h = h
-    straight_reads name rest _ (assigned target value code t) h = right_or _ _ (right_or (expr_reads name value) _ (straight_reads name rest code t h))
-    straight_reads name rest _ (calling target function given_args code t) h = right_or _ _ (right_or _ _ (straight_reads name rest code t h))
-    straight_reads name rest _ (leaving value code t) h = right_or _ _ (straight_reads name rest code t h)
-    straight_reads name rest _ (guarded test body code b t) h = right_or (expr_reads name test) _ (right_or (code_reads name body) _ (straight_reads name rest code t h))
 
     into_call_ok : (into : Option ExprTree) (called : Called) (callee : MethodTree) (ts : List ValueTree) (rest : Code) → Callable called callee → fit_types x callee.args ts ≡ true → Keeps into (result_of callee)
         → ((name : List ℕ) → is_result_of name into ≡ true → code_reads name rest ≡ true) → Ok rest → Ok (call_into f into called callee ts rest)
