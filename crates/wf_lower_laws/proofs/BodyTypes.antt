@@ -156,7 +156,7 @@ touched_typed c (name ∷ names) code rest h t = by (code_reads name code) (h na
 -- ---- parameters and locals
 
 module _ (structs : List StructDecl) where
-  params_known : (xs : List Variable) → is_some (struct_named structs io_buffer) ≡ true → list_all (λ q. is_known structs q.kind) (args_params (map (λ x. record { name = x.name; kind = kind_of x.ty }) xs)) ≡ true
+  pub params_known : (xs : List Variable) → is_some (struct_named structs io_buffer) ≡ true → list_all (λ q. is_known structs q.kind) (args_params (map (λ x. record { name = x.name; kind = kind_of x.ty }) xs)) ≡ true
   params_known [] h = refl
   params_known (x ∷ xs) h = by x.ty (params_known xs h)
     where
@@ -197,7 +197,7 @@ module _ (before : List ItemTree) (params : List ParamTree) where
   all_if true xs ys h j = h
   all_if false xs ys h j = j
 
-  zero_ok : (t : TypeTree) (name : List ℕ) → is_known (structs_of before) t ≡ true → LocalOk (record { kind = t; name = name; initial = Some (num 0) })
+  pub zero_ok : (t : TypeTree) (name : List ℕ) → is_known (structs_of before) t ≡ true → LocalOk (record { kind = t; name = name; initial = Some (num 0) })
   zero_ok t name k = record { known = k; initial = λ ys. refl }
 
   source_ok : (name : List ℕ) (ty : Ty) → AllByRecursion LocalOk (local_of (record { name = name; ty = ty }))
@@ -413,7 +413,7 @@ module _ (p : PackageTree) (n : ℕ) (m : MethodTree) (items : List ItemTree) (a
       (all_both B (params_of p m) (only_read code further_locals) _ (read_ok B (params_of p m) code further_locals (further_ok B (params_of p m))) (resume_ok (is_coroutine m.mark) refl)))
 
   pub params_so : list_all (λ q. is_known (structs_of B) q.kind) (params_of p m) ≡ true
-  params_so = both_hold (is_some (struct_named (structs_of B) (struct_type p m.of))) _ (rw g.own refl) (params_known (structs_of B) m.args (rw g.io refl))
+  params_so = both_hold (is_some (struct_named (structs_of B) (struct_type p m.of))) _ (rw g.own refl) (params_known (structs_of B) m.args refl)
 
   pub body_typed : CodeOk (c p n m (structs_of B) (functions_of items)) (Settled p n m (structs_of B) (functions_of items)) MayBeCalled code → typed_item B (body_function F) ≡ true
   body_typed ok =
