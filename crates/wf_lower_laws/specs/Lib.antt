@@ -8,3 +8,4 @@ pub mod KindLaw
 pub mod ItemLaw
 pub mod SurfaceLaw
 pub mod FieldLaw
+pub mod TypeLaw
