@@ -204,6 +204,14 @@ module _ (p : PackageTree) (h : IsNamed p) (well : well_typed p ≡ true) where
       by None g k more = more
       by (Some m) g k more = rw (methods_alone ns n m g k, more) refl
 
+fields_apart : (ss : List StructTree) → AllByRecursion (λ s. AreDistinct (map (λ x. x.name) s.fields)) ss → list_all (λ s. all_distinct (map (λ x. x.name) s.fields)) ss ≡ true
+fields_apart [] a = refl
+fields_apart (s ∷ ss) a = both_hold (all_distinct (map (λ x. x.name) s.fields)) _ (distinct_names (map (λ x. x.name) s.fields) a.0) (fields_apart ss a.1)
+
+methods_clean : (ms : List MethodTree) → AllByRecursion HasPlainVariables ms → list_all (λ m. is_clean m.name) ms ≡ true
+methods_clean [] a = refl
+methods_clean (m ∷ ms) a = both_hold (is_clean m.name) _ (plain_clean m.name a.0.name) (methods_clean ms a.1)
+
 few_of : (nodes : TypedNodes) → IsTyped nodes → length (package_of nodes).statuses < 2 ^ 64
 unfolding package_of
 few_of nodes typed = omega (arith, typed.few_statuses)
@@ -223,4 +231,5 @@ names_are_kept nodes typed h =
         owners = λ n m e. (struct_clean p h typed.rules m.of (owner_below p h typed.rules n m e), all_at (λ m. is_initialize m.name ≡ false) p.methods h.apart.initialize n m e);
         few = few_of nodes typed;
       };
+      fields = record { fields = fields_apart p.structs h.apart.fields; methods = h.apart.methods; clean = methods_clean p.methods h.plain.methods };
     }

@@ -5,6 +5,7 @@ use Rattle.wf_ast.specs.TypedInvariant.{IsTyped}
 use Rattle.wf_ast.specs.TypedPackage.{PackageTree, package_of}
 use Rattle.wf_typed_laws.specs.PlainNames.{HasPlainNames}
 use Rattle.wf_typed_laws.specs.ApartNames.{HasApartNames}
+use Rattle.wf_lower_laws.specs.FieldLaw.{HasFieldNames}
 use Rattle.wf_lower_laws.specs.NameLaw.{HasNames}
 use Rattle.wf_lower_laws.specs.ItemLaw.{HasItemNames}
 
@@ -17,6 +18,7 @@ pub record IsNamed (p : PackageTree) : Type 0 where
 pub record KeepsNames (p : PackageTree) : Type 0 where
   pub variables : HasNames p
   pub items : HasItemNames p
+  pub fields : HasFieldNames p
 
 abbrev pub NamesAreKept : Type 0
 NamesAreKept = (nodes : TypedNodes) → IsTyped nodes → IsNamed (package_of nodes) → KeepsNames (package_of nodes)

@@ -21,7 +21,7 @@ use Rattle.wf_exprs.specs.Exprs.{status_constant}
 use Rattle.wf_exprs.specs.Helpers.{saturating, all_saturating}
 use Rattle.wf_exprs.specs.Reads.{expr_reads, code_reads}
 use Rattle.wf_lower_stmts.specs.Forms.{Form, form_of}
-use Rattle.wf_lower.specs.Bodies.{functions_of as method_items, params_of, result_of, fixed_locals, body_locals, body_code, body_function, answer_locals, entry_function, entry_code}
+use Rattle.wf_lower.specs.Bodies.{functions_of as method_items, params_of, result_of, fixed_locals, body_locals, body_code, own_names, touched, body_function, answer_locals, entry_function, entry_code}
 use Rattle.wf_lower.specs.Unit.{io_buffer_item, struct_fields, struct_order, struct_items, initialize_code, initialize_function, initialize_functions, method_functions, all_functions, is_used, used_texts, helper_name, used_helpers, lowered_unit}
 use Rattle.wf_lower_laws.specs.FieldLaw.{is_short, HasFieldNames, HasShortArrays}
 use Rattle.wf_lower_laws.specs.FormLaw.{typed_item}
@@ -273,3 +273,214 @@ module _ (p : PackageTree) (well : well_typed p ≡ true) (named : HasItemNames 
       (λ t h. (let k = function_in items (initialize_function p t) (in_inits p done t (r.0 t h)) in
       record { function = _; found = function_found (before_function p items) k.0 External (Some text) (initialize_name p t) (record { kind = struct_pointer (struct_type p t); name = codes "self" } ∷ []) [] (initialize_code p t) names k.1; params = refl })),
       subst Q (sym (before_more p items (initialize_function p s ∷ []))) (subst R (inits_both p done (s ∷ [])) (inits_from (done ++ s ∷ []) rest (e ∙ sym (append_assoc done (s ∷ []) rest)) r.1)))
+
+  -- ---- methods
+
+  method_is : (n : ℕ) (m : MethodTree) → slice_get p.methods n ≡ Some m → well_method p m ≡ true
+  method_is n m e = method_rules p p.methods n m (all_methods p well) e
+
+  record Rules (m : MethodTree) : Type 0 where
+    below : m.of < length p.structs
+    args_are : list_all (λ v. may_be_arg v.ty) m.args ≡ true
+    locals_are : list_all (λ v. may_be_local v.ty) m.locals ≡ true
+    result_is : may_be_result m.mark m.gives ≡ true
+    body_is : well_block (record { within = p; method = m }) [] m.body ≡ true
+
+  rules_of : (m : MethodTree) → well_method p m ≡ true → Rules m
+  rules_of m w =
+      let a = both_true (nat_lt m.of (length p.structs)) _ w in
+      let b = both_true (list_all (λ x. may_be_arg x.ty) m.args) _ a.1 in
+      let d = both_true (list_all (λ x. may_be_local x.ty) m.locals) _ b.1 in
+      let f = both_true (may_be_result m.mark m.gives) _ d.1 in
+      let g = both_true (answers_always m.mark m.gives m.body) _ f.1 in
+      let l : nat_lt m.of (length p.structs) ≡ true = a.0 in
+      record { below = grind (arith, nat_tests, l); args_are = b.0; locals_are = d.0; result_is = f.0; body_is = g.1 }
+
+  words_at : (n : ℕ) (m : MethodTree) → slice_get p.methods n ≡ Some m → Words m
+  words_at n m e = words m (named_method p.methods n m own e)
+
+  few : length p.statuses < 2 ^ 64
+  few = named.few
+
+  fronts_apart : (m : MethodTree) (fixed others : List LocalTree) → all_distinct (map name_of (params_of p m ++ map local_name (fixed ++ others))) ≡ true → all_distinct (map name_of (params_of p m ++ map local_name fixed)) ≡ true
+  fronts_apart m fixed others d =
+      let P : List (List ℕ) → Type 0 = λ z. all_distinct z ≡ true in
+      let Q : List ParamTree → Type 0 = λ z. all_distinct (map name_of z) ≡ true in
+      distinct_front (map name_of (params_of p m ++ map local_name fixed)) (map name_of (map local_name others))
+      (subst P (map_both name_of (params_of p m ++ map local_name fixed) (map local_name others))
+      (subst Q (sym (append_assoc (params_of p m) (map local_name fixed) (map local_name others)))
+      (let R : List ParamTree → Type 0 = λ z. all_distinct (map name_of (params_of p m ++ z)) ≡ true in subst R (map_both local_name fixed others) d)))
+
+  body_front : (n : ℕ) (m : MethodTree) (e : slice_get p.methods n ≡ Some m) → all_distinct (map name_of (params_of p m ++ map local_name (fixed_locals (form_of p m)))) ≡ true
+  body_front n m e =
+      fronts_apart m (fixed_locals (form_of p m)) _ (both_true (all_distinct (map name_of (params_of p m ++ map local_name (body_locals (form_of p m))))) _ (body_own p m (words_at n m e) [] refl).0).0
+
+  entry_front : (n : ℕ) (m : MethodTree) (e : slice_get p.methods n ≡ Some m) → all_distinct (map name_of (params_of p m ++ map local_name (answer_locals (answers_of m.mark m.gives)))) ≡ true
+  entry_front n m e = (both_true (all_distinct (map name_of (params_of p m ++ map local_name (answer_locals (answers_of m.mark m.gives))))) _ (entry_own p m (words_at n m e) n [] refl).0).0
+
+  abbrev in_front : List ℕ → List ItemTree
+  in_front done = I ++ method_functions p done
+
+  parts_at : (done rest : List ℕ) → p.order ≡ done ++ rest → all_functions p ≡ in_front done ++ method_functions p rest
+  parts_at done rest e = ap (λ z. I ++ method_functions p z) e ∙ (ap (λ z. I ++ z) (methods_both p done rest) ∙ sym (append_assoc I (method_functions p done) (method_functions p rest)))
+
+  -- A body in its place, behind the functions of the methods in front of it.
+  module _ (acc done rest : List ℕ) (n : ℕ) (m : MethodTree) (order : p.order ≡ done ++ n ∷ rest) (e : slice_get p.methods n ≡ Some m) (calls : calls_only (has acc) m.body ≡ true) (known : (j : ℕ) → has acc j ≡ true → has done j ≡ true) where
+    abbrev items : List ItemTree
+    items = in_front done
+
+    abbrev later_items : List ItemTree
+    later_items = method_functions p (n ∷ rest)
+
+    parts : all_functions p ≡ items ++ later_items
+    parts = parts_at done (n ∷ rest) order
+
+    rules : Rules m
+    rules = rules_of m (method_is n m e)
+
+    given : Given p n m (structs_of (before_function p items)) (functions_of items) (has acc)
+    given = record {
+      is = e;
+      words = words_at n m e;
+      few = few;
+      args_are = rules.args_are;
+      locals_are = rules.locals_are;
+      fields_are = λ s it q. fields_rule 0 p.structs s it structs_are q;
+      distinct = body_front n m e;
+      io = refl;
+      own = own_struct items later_items parts m.of rules.below;
+      fields_apart = fields_distinct p fields own m.of;
+    }
+
+    body_found : (j : ℕ) (callee : MethodTree) → has acc j ≡ true → slice_get p.methods j ≡ Some callee → FoundAs p n m (structs_of (before_function p items)) (functions_of items) (has acc) given (body_name p callee) callee
+    body_found j callee k q =
+        let there = stands_behind (body_function (form_of p callee)) I (method_functions p done) (in_bodies p done j callee (known j k) q) in
+        let code = touched (own_names (form_of p callee)) (body_code (form_of p callee)) (body_code (form_of p callee)) in
+        record {
+          function = record { linkage = Static; result_type = result_of callee; name = body_name p callee; params = params_of p callee; locals = body_locals (form_of p callee); body = code };
+          there = function_found items there.0 Static (result_of callee) (body_name p callee) (params_of p callee) (body_locals (form_of p callee)) code (item_names items later_items parts) there.1;
+          params = refl;
+          result = refl;
+        }
+
+    entry_found : (j : ℕ) (callee : MethodTree) → has acc j ≡ true → slice_get p.methods j ≡ Some callee → callee.public ≡ true
+        → FoundAs p n m (structs_of (before_function p items)) (functions_of items) (has acc) given (entry_name p callee) callee
+    entry_found j callee k q public =
+        let there = stands_behind (entry_function p j callee) I (method_functions p done) (in_methods p done j callee (known j k) q public) in
+        let locals = answer_locals (answers_of callee.mark callee.gives) in
+        record {
+          function = record { linkage = External; result_type = result_of callee; name = entry_name p callee; params = params_of p callee; locals = locals; body = entry_code p j callee };
+          there = function_found items there.0 External (result_of callee) (entry_name p callee) (params_of p callee) locals (entry_code p j callee) (item_names items later_items parts) there.1;
+          params = refl;
+          result = refl;
+        }
+
+    body_there : Stands (body_function (form_of p m)) (all_functions p)
+    body_there = stands_behind (body_function (form_of p m)) I M (in_bodies p p.order n m (ordered.all n (slice_get_within p.methods n m e)) e)
+
+    own_body_typed : typed_item (before_function p items) (body_function (form_of p m)) ≡ true
+    own_body_typed =
+        let s = serves p n m (structs_of (before_function p items)) (functions_of items) (has acc) given method_is body_found entry_found base (λ co k. held_read (form_of p m) k) (λ co k. count_read (form_of p m) k) in
+        body_typed p n m items (items_are items later_items parts) body_there.0 body_there.1 (has acc) given s
+        (body_ok p n m (structs_of (before_function p items)) (functions_of items) (has acc) given s rules.result_is rules.body_is calls)
+
+    -- And its entry behind it.
+    module _ (public : m.public ≡ true) where
+      abbrev with_body : List ItemTree
+      with_body = items ++ body_function (form_of p m) ∷ []
+
+      own_items : method_items p n (slice_get p.methods n) ≡ body_function (form_of p m) ∷ entry_function p n m ∷ []
+      own_items = ap (method_items p n) e ∙ by m.public public
+        where
+          by : (b : Bool) → b ≡ true → body_function (form_of p m) ∷ (if b then entry_function p n m ∷ [] else []) ≡ body_function (form_of p m) ∷ entry_function p n m ∷ []
+          by true k = refl
+          by false k = absurd (cc k)
+
+      entry_parts : all_functions p ≡ with_body ++ (entry_function p n m ∷ method_functions p rest)
+      entry_parts =
+          parts ∙ (ap (λ z. items ++ (z ++ method_functions p rest)) own_items ∙ sym (append_assoc items (body_function (form_of p m) ∷ []) (entry_function p n m ∷ method_functions p rest)))
+
+      entry_place : Stands (entry_function p n m) (all_functions p)
+      entry_place = stands_behind (entry_function p n m) I M (in_methods p p.order n m (ordered.all n (slice_get_within p.methods n m e)) e public)
+
+      own_entry_typed : typed_item (before_function p with_body) (entry_function p n m) ≡ true
+      own_entry_typed =
+          let behind_it = entry_function p n m ∷ method_functions p rest in
+          let there = stands_behind (body_function (form_of p m)) items (body_function (form_of p m) ∷ []) (0, refl) in
+          let code = touched (own_names (form_of p m)) (body_code (form_of p m)) (body_code (form_of p m)) in
+          entry_typed p n m with_body (items_are with_body behind_it entry_parts) entry_place.0 entry_place.1 (record {
+            own = own_struct with_body behind_it entry_parts m.of rules.below;
+            fields_apart = fields_distinct p fields own m.of;
+            distinct = entry_front n m e;
+            words = words_at n m e;
+            few = few;
+            base = base;
+            body = record { linkage = Static; result_type = result_of m; name = body_name p m; params = params_of p m; locals = body_locals (form_of p m); body = code };
+            found = function_found with_body there.0 Static (result_of m) (body_name p m) (params_of p m) (body_locals (form_of p m)) code (item_names with_body behind_it entry_parts) there.1;
+            params = refl;
+            result = refl;
+          })
+
+    own_from : TypedFrom (before_function p items) (method_items p n (Some m))
+    own_from = (own_body_typed, by m.public refl)
+      where
+        by : (b : Bool) → m.public ≡ b → TypedFrom (before_function p items ++ body_function (form_of p m) ∷ []) (if b then entry_function p n m ∷ [] else [])
+        by false k = tt
+        by true k =
+            let P : List ItemTree → Type 0 = λ z. typed_item z (entry_function p n m) ≡ true in
+            (subst P (sym (before_more p items (body_function (form_of p m) ∷ []))) (own_entry_typed k), tt)
+
+  methods_from : (acc done rest : List ℕ) → p.order ≡ done ++ rest → calls_in_front p acc rest ≡ true → ((j : ℕ) → has acc j ≡ true → has done j ≡ true) → TypedFrom (before_function p (in_front done)) (method_functions p rest)
+  methods_from acc done [] order calls known = tt
+  methods_from acc done (n ∷ rest) order calls known =
+      let q = both_true (calls_known (has acc) (slice_get p.methods n)) _ calls in
+      let r = both_true (not (has acc n)) (calls_in_front p (n ∷ acc) rest) q.1 in
+      by (slice_get p.methods n) refl q.0 (methods_from (n ∷ acc) (done ++ n ∷ []) rest (order ∙ sym (append_assoc done (n ∷ []) rest)) r.1 (λ j k. more j (nat_eq j n) refl k))
+    where
+      more : (j : ℕ) (b : Bool) → nat_eq j n ≡ b → (b || has acc j) ≡ true → has (done ++ n ∷ []) j ≡ true
+      more j true e k = list_any-append (nat_eq j) done (n ∷ []) ∙ right_or (has done j) _ (left_or (nat_eq j n) false e)
+      more j false e k = list_any-append (nat_eq j) done (n ∷ []) ∙ left_or (has done j) _ (known j k)
+
+      next_front : (o : Option MethodTree) → slice_get p.methods n ≡ o → before_function p (in_front (done ++ n ∷ [])) ≡ before_function p (in_front done) ++ method_items p n o
+      next_front o e =
+          ap (λ z. before_function p (I ++ z)) (methods_both p done (n ∷ []) ∙ ap (λ z. method_functions p done ++ z) (append-nil (method_items p n (slice_get p.methods n)) ∙ ap (method_items p n) e))
+          ∙ (ap (before_function p) (sym (append_assoc I (method_functions p done) (method_items p n o))) ∙ sym (before_more p (in_front done) (method_items p n o)))
+
+      by : (o : Option MethodTree) → slice_get p.methods n ≡ o → calls_known (has acc) o ≡ true → TypedFrom (before_function p (in_front (done ++ n ∷ []))) (method_functions p rest)
+          → TypedFrom (before_function p (in_front done)) (method_items p n o ++ method_functions p rest)
+      by None e k later = absurd (cc k)
+      by (Some m) e k later =
+          let P : List ItemTree → Type 0 = λ z. TypedFrom z (method_functions p rest) in
+          from_both (before_function p (in_front done)) (method_items p n (Some m)) (method_functions p rest) (own_from acc done rest n m order e k known) (subst P (next_front (Some m) e) later)
+
+  -- ---- all of it
+
+  abbrev A : List ItemTree
+  A = structs_part p
+
+  abbrev X : List ItemTree
+  X = texts_part p
+
+  abbrev H : List ItemTree
+  H = helpers_part p
+
+  unit_from : TypedFrom (io_buffer_item ∷ []) (A ++ (X ++ (H ++ (I ++ M))))
+  unit_from =
+      let io = io_buffer_item ∷ [] in
+      let P : List ItemTree → Type 0 = λ z. TypedFrom z (I ++ M) in
+      let functions : TypedFrom (((io ++ A) ++ X) ++ H) (I ++ M) =
+      subst P (sym (append_assoc (io ++ A) X H ∙ append_assoc io A (X ++ H) ∙ ap (λ z. io ++ (A ++ (X ++ z))) (sym (append-nil H)))) (from_both (before_function p []) I M (inits_from [] (struct_order p) refl placed.good.rising) (let Q : List ItemTree → Type 0 = λ z. TypedFrom z M in subst Q (front_of_methods) (methods_from [] [] p.order refl ordered.calls (λ j k. absurd (cc k))))) in
+      from_both io A (X ++ (H ++ (I ++ M))) (structs_from [] (struct_order p) placed.good.rising) (from_both (io ++ A) X (H ++ (I ++ M)) (texts_from (io ++ A) (all_functions p) 0 p.statuses)
+      (from_both ((io ++ A) ++ X) H (I ++ M) (helpers_from ((io ++ A) ++ X) (all_functions p) all_saturating helpers_typed) functions))
+    where
+      front_of_methods : before_function p (in_front []) ≡ before_function p [] ++ I
+      front_of_methods = ap (before_function p) (append-nil I) ∙ sym (before_more p [] I)
+
+  unit_typed : (i : ℕ) (item : ItemTree) → slice_get (lowered_unit p) (suc i) ≡ Some item → typed_item (take (suc i) (lowered_unit p)) item ≡ true
+  unit_typed i item e =
+      let P : List ItemTree → Type 0 = λ z. slice_get z (suc i) ≡ Some item in
+      let Q : List ItemTree → Type 0 = λ z. typed_item (take (suc i) z) item ≡ true in
+      subst Q (sym whole) (from_at (io_buffer_item ∷ []) (A ++ (X ++ (H ++ (I ++ M)))) unit_from i item (subst P whole e))
+
+pub texts_are_typed : TextsAreTyped
+texts_are_typed p well named own fields short base = unit_typed p well named own fields short base

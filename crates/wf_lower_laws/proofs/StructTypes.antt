@@ -195,8 +195,7 @@ module _ (p : PackageTree) (s : ℕ) (B : List ItemTree) where
 
     pub init_typed : is_some (struct_named (structs_of B) (struct_type p s)) ≡ true → ((t : ℕ) → has (parts_in (fields_of p s)) t ≡ true → Ready t) → typed_item B (initialize_function p s) ≡ true
     init_typed known r =
-        let self_is = self_type S p s h in
-        let life = own_cell S p s h (uint U8) (codes "life") refl (life_in s) in
+        let life = own_cell S p s h (uint U8) (codes "life") refl (life_in p s) in
         let last : typed_code C (leave (Some (num 0)) finish) ≡ true = refl in
         let parts = parts_typed 0 (fields_of p s) (leave (Some (num 0)) finish) (λ i x e. let q : i ≡ 0 + i = omega arith in let P : ℕ → Type 0 = λ z. slice_get (fields_of p s) z ≡ Some x in subst P q e) r last in
         let ready : may_assign (held_of S (of_self (codes "life"))) (type_of S (num 1)) ≡ true = rw life refl in
