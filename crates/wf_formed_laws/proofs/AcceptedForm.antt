@@ -22,11 +22,8 @@ use Rattle.wf_formed_laws.proofs.NamesKept.{names_are_kept}
 
 -- What stands in a front of a list stands in it.
 in_whole : (xs : List (List ℕ)) (j k : ℕ) → is_some (slice_get (take j xs) k) ≡ true → is_some (slice_get xs k) ≡ true
-in_whole [] j k h = absurd (cc (empty j k h))
-  where
-    empty : (j k : ℕ) → is_some (slice_get (take j []) k) ≡ true → false ≡ true
-    empty zero k h = h
-    empty (suc j) k h = h
+in_whole [] zero k h = h
+in_whole [] (suc j) k h = h
 in_whole (x ∷ xs) zero k h = absurd (cc h)
 in_whole (x ∷ xs) (suc j) zero h = refl
 in_whole (x ∷ xs) (suc j) (suc k) h = in_whole xs j k h
