@@ -70,7 +70,7 @@ rows n m rest =
     guarded _ _ _ (refuses m _) (guarded _ _ _ (refuses m _)
     (follows _ _ rest (disabled_row m _) (follows _ _ rest (wrong_row m _) (other_row n m rest))))
 
-settles : (n : ℕ) (m : MethodTree) (rest : Code) → Straight rest (settle_if_coroutine n m rest)
+pub settles : (n : ℕ) (m : MethodTree) (rest : Code) → Straight rest (settle_if_coroutine n m rest)
 settles n m rest =
     ifs (is_coroutine m.mark) _ _ rest (assigned _ _ _ (guarded _ _ _ (guarded _ _ _ (assigned _ _ _ over) (guarded _ _ _ (assigned _ _ _ over) over)) over)) over
 

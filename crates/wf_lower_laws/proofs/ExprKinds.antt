@@ -92,7 +92,7 @@ module _ (S : Scope) where
   cast_num u zero_literal ty h = refl
   cast_num u (points_to x) ty h = absurd (cc h)
 
-  cast_kind : (bits : ℕ) (x : ExprTree) → IsNum S x → IsNum S (cast (uint_of bits) x)
+  pub cast_kind : (bits : ℕ) (x : ExprTree) → IsNum S x → IsNum S (cast (uint_of bits) x)
   cast_kind bits x h = record { type = numbers (promoted (width_of bits)); is = rw h.is (cast_num (width_of bits) h.type h.ty h.counts); ty = promoted (width_of bits); counts = refl }
 
   kind_if : (b : Bool) (x y : ExprTree) → IsNum S x → IsNum S y → IsNum S (if b then x else y)
@@ -175,7 +175,7 @@ module _ (S : Scope) where
   element_kind : (bits : ℕ) (p i : ExprTree) → IsPointer S bits p → IsNum S i → IsNum S (c.element p i)
   element_kind bits p i h j = record { type = numbers (promoted (width_of bits)); is = rw (h, j.is, j.counts) refl; ty = promoted (width_of bits); counts = refl }
 
-  plus_kind : (bits : ℕ) (p i : ExprTree) → IsPointer S bits p → IsNum S i → IsPointer S bits (two Add p i)
+  pub plus_kind : (bits : ℕ) (p i : ExprTree) → IsPointer S bits p → IsNum S i → IsPointer S bits (two Add p i)
   plus_kind bits p i h j = rw (h, j.is, j.counts) refl
 
   choice_kind : (bits : ℕ) (p i : ExprTree) → IsPointer S bits p → IsNum S i → IsPointer S bits (choice p (two Add p i) (num 0))
@@ -244,7 +244,7 @@ module _ (S : Scope) where
       let same = two_kind Eq (num k) (c.element e (num 0)) n first in
       either_kind e (two Eq (num k) (c.element e (num 0))) (points_to byte) same.type h same.is
 
-  begins_at : (k : ℕ) (e : ExprTree) → type_of S e ≡ Some (points_to byte) → IsNum S (begins_with k e)
+  pub begins_at : (k : ℕ) (e : ExprTree) → type_of S e ≡ Some (points_to byte) → IsNum S (begins_with k e)
   begins_at k (c.number v) h = num_kind 0
   begins_at k (variable name) h = first_byte k _ h
   begins_at k (member p x) h = first_byte k _ h
@@ -256,7 +256,7 @@ module _ (S : Scope) where
   begins_at k (choice a b x) h = first_byte k _ h
   begins_at k (called name es) h = first_byte k _ h
 
-  begins_kind : (k : ℕ) (e : ExprTree) → IsText S e → IsNum S (begins_with k e)
+  pub begins_kind : (k : ℕ) (e : ExprTree) → IsText S e → IsNum S (begins_with k e)
   begins_kind k e (inl h) =
       let P : ExprTree → Type 0 = λ e. IsNum S (begins_with k e) in
       subst P (sym h) (num_kind 0)

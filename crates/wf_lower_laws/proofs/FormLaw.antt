@@ -28,9 +28,9 @@ use Rattle.wf_lower_stmts.specs.Lower.{ending, top, tail_of, lower_trail}
 use Rattle.wf_lower.specs.Bodies.{body_code, own_names as method_names, resumed, statements_of, body_function, entry_code, entry_function}
 use Rattle.wf_lower.specs.Unit.{io_buffer_item, initialize_code, initialize_function, lowered_unit}
 use Rattle.wf_lower_laws.specs.JumpLaw.{LeadsBehind}
-use Rattle.wf_lower_laws.specs.NameLaw.{OwnNames}
+use Rattle.wf_lower_laws.specs.NameLaw.{HasNames, OwnNames}
 use Rattle.wf_lower_laws.specs.LabelLaw.{AreCases}
-use Rattle.wf_lower_laws.specs.FormLaw.{typed_code, typed_item, TextsAreFormed}
+use Rattle.wf_lower_laws.specs.FormLaw.{typed_code, typed_item, KeepsTypes, TextsAreFormed}
 use Rattle.wf_lower_laws.proofs.Straight.{Straight, over, assigned, calling, leaving, guarded, top_straight, ending_straight}
 use Rattle.wf_lower_laws.proofs.Everywhere.{Everywhere, IsEasy, straight_everywhere}
 use Rattle.wf_lower_laws.proofs.Bodies.{touches, takes_number, entry_straight, initialize_straight}
@@ -229,10 +229,10 @@ formed_list s all before (item ∷ items) e c h =
     let one : formed_item s before (map item_name all) item ≡ true = subst R (subst P e (take_next before items item)) (h (length before) item (subst Q e (at_next before items item))) in
     rw one (formed_list s all (before ++ item ∷ []) items (append_assoc before (item ∷ []) items ∙ e) c h)
 
-item_formed : (s : Surface) (before : List ItemTree) (all : List (List ℕ)) (item : ItemTree) → (before ≡ [] → is_io_buffer item ≡ true) → free_name before item ≡ true → formed_content before all item ≡ true → meets_surface s item ≡ true
+item_formed : (s : Surface) (before : List ItemTree) (all : List (List ℕ)) (item : ItemTree) → (before ≡ [] → is_io_buffer item ≡ true) → free_name before item ≡ true → ((x : ItemTree) (xs : List ItemTree) → before ≡ x ∷ xs → formed_content before all item ≡ true) → meets_surface s item ≡ true
     → formed_item s before all item ≡ true
 item_formed s [] all item first free formed meets = both_hold (is_io_buffer item) _ (first refl) meets
-item_formed s (x ∷ before) all item first free formed meets = both_hold (free_name (x ∷ before) item) _ free (both_hold (formed_content (x ∷ before) all item) _ formed meets)
+item_formed s (x ∷ before) all item first free formed meets = both_hold (free_name (x ∷ before) item) _ free (both_hold (formed_content (x ∷ before) all item) _ (formed x before refl) meets)
 
 -- The first item of a text is the io buffer's struct.
 first_item : (p : PackageTree) (i : ℕ) (item : ItemTree) → slice_get (lowered_unit p) i ≡ Some item → take i (lowered_unit p) ≡ [] → is_io_buffer item ≡ true
@@ -297,6 +297,15 @@ free_item p i item d e = by (is_among (map item_name (take i (lowered_unit p))) 
     by true a = absurd (cc (d, among_front i (lowered_unit p) item (item_name item) e a refl))
     by false a = rw (a, no_library (item_name item) named_so) refl
 
+-- What stands behind others is formed where it is typed.
+formed_behind : (nodes : TypedNodes) → IsTyped nodes → Decides (HasTooMany (package_of nodes)) None → HasNames (package_of nodes) → KeepsTypes (surface_of (package_of nodes)) (lowered_unit (package_of nodes))
+    → (i : ℕ) (item : ItemTree) → slice_get (lowered_unit (package_of nodes)) i ≡ Some item → (x : ItemTree) (xs : List ItemTree) → take i (lowered_unit (package_of nodes)) ≡ x ∷ xs
+    → formed_content (take i (lowered_unit (package_of nodes))) (map item_name (lowered_unit (package_of nodes))) item ≡ true
+formed_behind nodes typed few named keeps zero item e x xs h = absurd (cc h)
+formed_behind nodes typed few named keeps (suc i) item e x xs h =
+    let p = package_of nodes in
+    where_typed (map item_name (lowered_unit p)) item (rest_of nodes typed few (suc i) item e) (take (suc i) (lowered_unit p)) (texts_name_apart p (suc i) item named e) (keeps.typed i item e)
+
 pub texts_are_formed : TextsAreFormed
 texts_are_formed nodes typed few named apart keeps =
     let p = package_of nodes in
@@ -304,4 +313,4 @@ texts_are_formed nodes typed few named apart keeps =
     let all = map item_name items in
     formed_list (surface_of p) items [] items refl keeps.complete (λ i item e.
     item_formed (surface_of p) (take i items) all item (first_item p i item e) (free_item p i item (items_name_apart p apart) e)
-    (where_typed all item (rest_of nodes typed few i item e) (take i items) (texts_name_apart p i item named e) (keeps.typed i item e)) (keeps.meets i item e))
+    (formed_behind nodes typed few named keeps i item e) (keeps.meets i item e))

@@ -45,7 +45,7 @@ seam_front c (d ∷ x) y z h e =
     let none : is_clean (95 ∷ 95 ∷ x) ≡ true = subst Q (sym other) (subst P (sym one) h) in
     absurd (cc none)
 
-one_seam : (x y v w : List ℕ) → is_clean x ≡ true → is_clean v ≡ true → x ++ (codes "__" ++ y) ≡ v ++ (codes "__" ++ w) → y ≡ w
+pub one_seam : (x y v w : List ℕ) → is_clean x ≡ true → is_clean v ≡ true → x ++ (codes "__" ++ y) ≡ v ++ (codes "__" ++ w) → y ≡ w
 one_seam [] y [] w h j e = after_prefix (codes "__") y w e
 one_seam [] y (c ∷ v) w h j e = absurd (seam_front c v y w j e)
 one_seam (a ∷ x) y [] w h j e = absurd (seam_front a x w y h (sym e))
@@ -73,7 +73,7 @@ four_distinct front =
       widths_differ front 32 64 (omega arith) (omega arith) (λ e. absurd (omega (arith, e))),
     ) refl
 
-helper_names_distinct : all_distinct (map item_name all_saturating) ≡ true
+pub helper_names_distinct : all_distinct (map item_name all_saturating) ≡ true
 helper_names_distinct = distinct_by (begins (codes "sat_plus_u")) (four_names (codes "sat_plus_u")) (four_names (codes "sat_minus_u")) refl refl (four_distinct (codes "sat_plus_u")) (four_distinct (codes "sat_minus_u"))
 
 module _ (p : PackageTree) (h : HasItemNames p) where

@@ -84,7 +84,7 @@ name_passes = record {
 
 -- ---- bodies
 
-named_at : (xs : List Variable) (i : ℕ) (x : Variable) → slice_get xs i ≡ Some x → named (names xs) i ≡ x.name
+pub named_at : (xs : List Variable) (i : ℕ) (x : Variable) → slice_get xs i ≡ Some x → named (names xs) i ≡ x.name
 named_at [] i x e = absurd (cc e)
 named_at (y ∷ xs) zero x e = ap (λ (v : Variable). v.name) (some_same e)
   where
@@ -92,19 +92,19 @@ named_at (y ∷ xs) zero x e = ap (λ (v : Variable). v.name) (some_same e)
     some_same e = cc e
 named_at (y ∷ xs) (suc i) x e = named_at xs i x e
 
-from_front : (p : PackageTree) (m : MethodTree) → From (form_of p m) 0 m.args
+pub from_front : (p : PackageTree) (m : MethodTree) → From (form_of p m) 0 m.args
 from_front p m i x e =
     let same : i ≡ 0 + i = omega arith in
     let P : ℕ → Type 0 = λ n. named (names m.args) n ≡ x.name in
     subst P same (named_at m.args i x e)
 
-record Words (m : MethodTree) : Type 0 where
-  args_apart : all_distinct (names m.args) ≡ true
-  args_words : list_all is_word_name (names m.args) ≡ true
-  locals_apart : all_distinct (names m.locals) ≡ true
-  locals_words : list_all is_word_name (names m.locals) ≡ true
+pub record Words (m : MethodTree) : Type 0 where
+  pub args_apart : all_distinct (names m.args) ≡ true
+  pub args_words : list_all is_word_name (names m.args) ≡ true
+  pub locals_apart : all_distinct (names m.locals) ≡ true
+  pub locals_words : list_all is_word_name (names m.locals) ≡ true
 
-words : (m : MethodTree) → (are_named m.args && are_named m.locals) ≡ true → Words m
+pub words : (m : MethodTree) → (are_named m.args && are_named m.locals) ≡ true → Words m
 words m h =
     let p = both_true (are_named m.args) (are_named m.locals) h in
     let a = both_true (all_distinct (names m.args)) (list_all (λ x. list_all is_word_byte x.name) m.args) p.0 in
@@ -206,7 +206,7 @@ module _ (p : PackageTree) (m : MethodTree) (w : Words m) where
       let are_names : list_all is_own_name (map (λ it. it.name) ps) ≡ true = subst N (sym (param_names ls)) (params_all is_own_name name_passes (labels ls) (each is_own_name name_passes)) in
       (both_hold (all_distinct (map (λ it. it.name) ps)) _ distinct (sym (all_named (is_free all) ps) ∙ frees), sym (all_named is_own_name ps) ∙ are_names)
 
-  body_own : (all : List (List ℕ)) → list_all is_item all ≡ true → OwnNames all (body_function f)
+  pub body_own : (all : List (List ℕ)) → list_all is_item all ≡ true → OwnNames all (body_function f)
   body_own all items =
       let ls = body_locals f in
       let A : List (List ℕ) → Type 0 = λ ns. list_all (λ l. not (begins (codes "a") l)) ns ≡ true in
@@ -218,7 +218,7 @@ module _ (p : PackageTree) (m : MethodTree) (w : Words m) where
       (subst D (sym all_labels) behind_distinct)
       (λ T t. let E : List (List ℕ) → Type 0 = λ ns. list_all T ns ≡ true in subst E (sym all_labels) (behind_all T t.places t.locals t.bytes t.further t.resume))
 
-  entry_own : (n : ℕ) (all : List (List ℕ)) → list_all is_item all ≡ true → OwnNames all (entry_function p n m)
+  pub entry_own : (n : ℕ) (all : List (List ℕ)) → list_all is_item all ≡ true → OwnNames all (entry_function p n m)
   entry_own n all items = by (answers_of m.mark m.gives)
     where
       status_of : (T : List ℕ → Bool) → Passes T → T (codes "status") ≡ true
@@ -271,7 +271,7 @@ helper_own : (sum : Bool) (bits : ℕ) (all : List (List ℕ)) → list_all is_i
 unfolding is_reserved
 helper_own sum bits all h = (rw (free all h (codes "a") refl refl, free all h (codes "b") refl refl) refl, refl)
 
-named_method : (ms : List MethodTree) (i : ℕ) (m : MethodTree) → list_all (λ m. are_named m.args && are_named m.locals) ms ≡ true → slice_get ms i ≡ Some m → (are_named m.args && are_named m.locals) ≡ true
+pub named_method : (ms : List MethodTree) (i : ℕ) (m : MethodTree) → list_all (λ m. are_named m.args && are_named m.locals) ms ≡ true → slice_get ms i ≡ Some m → (are_named m.args && are_named m.locals) ≡ true
 named_method [] i m h e = absurd (cc e)
 named_method (x ∷ ms) zero m h e =
     let same : x ≡ m = cc e in

@@ -13,6 +13,8 @@ use Rattle.c_text.specs.CTree.{ExprTree, Args, Code, finish, leave}
 use Rattle.c_text.specs.CTree as c
 use Rattle.wf_exprs.specs.Names.{Names, point_field}
 use Rattle.wf_exprs.specs.Words.{num, of_self}
+use Rattle.wf_exprs.specs.Reads.{expr_reads, args_read, target_reads, result_reads, value_reads, code_reads}
+use Rattle.wf_lower_laws.proofs.Apart.{right_or}
 use Rattle.wf_exprs.specs.Exprs.{Pair, given, lowered_slice, lowered_status, lowered_cond, status_constant}
 use Rattle.wf_lower_stmts.specs.Forms.{Form, status_local, size_local, is_io, is_kept, stays, holds_something, counts_bytes, keeps, when, put, get, save_locals, restore_locals, save_count, restore_count, save_started, restore_started, give, suspend}
 use Rattle.wf_lower_stmts.specs.Lower.{ending, ending_of, has_result, tail_of, top}
@@ -31,6 +33,14 @@ follows _ middle rest (assigned target value code s) h = assigned target value c
 follows _ middle rest (calling target function given_args code s) h = calling target function given_args code (follows code middle rest s h)
 follows _ middle rest (leaving value code s) h = leaving value code (follows code middle rest s h)
 follows _ middle rest (guarded test body code t s) h = guarded test body code t (follows code middle rest s h)
+
+-- Code that follows is read as it is.
+pub straight_reads : (name : List ℕ) (rest code : Code) → Straight rest code → code_reads name rest ≡ true → code_reads name code ≡ true
+straight_reads name rest _ over h = h
+straight_reads name rest _ (assigned target value code t) h = right_or (target_reads name target) _ (right_or (expr_reads name value) _ (straight_reads name rest code t h))
+straight_reads name rest _ (calling target function given_args code t) h = right_or (result_reads name target) _ (right_or (args_read name given_args) _ (straight_reads name rest code t h))
+straight_reads name rest _ (leaving value code t) h = right_or (value_reads name value) _ (straight_reads name rest code t h)
+straight_reads name rest _ (guarded test body code b t) h = right_or (expr_reads name test) _ (right_or (code_reads name body) _ (straight_reads name rest code t h))
 
 pub ifs : (b : Bool) (first other rest : Code) → Straight rest first → Straight rest other → Straight rest (if b then first else other)
 ifs true first other rest h j = h

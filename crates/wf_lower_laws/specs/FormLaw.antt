@@ -1,5 +1,5 @@
 -- The unit form of a text, rule by rule.
-use Rattle.std.specs.Prelude.{◌≡◌, ℕ, Bool, true, ◌&&◌, List, ◌++◌, map, take, None, Some, slice_get}
+use Rattle.std.specs.Prelude.{◌≡◌, ℕ, suc, Bool, true, ◌&&◌, List, ◌++◌, map, take, None, Some, slice_get}
 use Rattle.std.specs.List.{list_all}
 use Rattle.wf_text.specs.Precedence.{Decides}
 use Rattle.wf_ast.specs.declared.typed_nodes.TypedNodes.{TypedNodes}
@@ -39,9 +39,10 @@ typed_item before (function_item linkage result_type name params locals body) =
     list_all (λ p. is_known (structs_of before) p.kind) params
     && (formed_locals (scope_of before params) locals && typed_code (checked before linkage result_type (params ++ map local_name locals) body) body)
 
--- The rules of the unit form that speak of types and of a package's surface.
+-- The rules of the unit form that speak of types and of a package's surface. The first item, the struct of an io buffer, has a rule of
+-- its own.
 pub record KeepsTypes (surface : Surface) (items : List ItemTree) : Type 0 where
-  pub typed : (i : ℕ) (item : ItemTree) → slice_get items i ≡ Some item → typed_item (take i items) item ≡ true
+  pub typed : (i : ℕ) (item : ItemTree) → slice_get items (suc i) ≡ Some item → typed_item (take (suc i) items) item ≡ true
   pub meets : (i : ℕ) (item : ItemTree) → slice_get items i ≡ Some item → meets_surface surface item ≡ true
   pub complete : is_complete surface items ≡ true
 

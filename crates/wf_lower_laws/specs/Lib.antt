@@ -6,3 +6,6 @@ pub mod NameLaw
 pub mod FormLaw
 pub mod KindLaw
 pub mod ItemLaw
+pub mod SurfaceLaw
+pub mod FieldLaw
+pub mod TypeLaw

@@ -8,7 +8,9 @@ ghost use Rattle.wf_lower_laws.specs.JumpLaw.{TextsJumpForward};
 ghost use Rattle.wf_lower_laws.specs.KindLaw.{ExpressionsKeepKinds};
 ghost use Rattle.wf_lower_laws.specs.LabelLaw.{TextsAreLabelled};
 ghost use Rattle.wf_lower_laws.specs.NameLaw.{TextsNameApart};
+ghost use Rattle.wf_lower_laws.specs.SurfaceLaw.{TextsMeetSurfaces};
 ghost use Rattle.wf_lower_laws.specs.TurnLaw.{LoopAlike};
+ghost use Rattle.wf_lower_laws.specs.TypeLaw.{TextsAreTyped};
 
 /// Each `goto` of the text of a typed package leads to a label of its function that stands behind it. So it takes no turn, and no
 /// function goes back but by a `while`.
@@ -46,11 +48,24 @@ pub fn names_of_items_differ()
     ensures { ItemsNameApart }
 {}
 
+/// The text of a package that keeps the rules of types has each function of the package's surface, with its signature, and each
+/// public struct, and no other items of these names, where names are as above.
+pub fn texts_meet_their_surfaces()
+    ensures { TextsMeetSurfaces }
+{}
+
 /// The text of a typed package with such names, in which no method has too many points, has the unit form for the package's surface,
 /// where the rules of types hold of its items and the surface's functions are there. All other rules hold of it: the first item,
 /// the names of items, results, the names of a function, its labels, jumps, loops and cases.
 pub fn a_text_has_the_unit_form_where_typed()
     ensures { TextsAreFormed }
+{}
+
+/// Each item but the first of the text of a package that keeps the rules of types has the types that C asks of it, behind the items in front of it:
+/// fields, parameters, locals and statements. Names are as above; the fields of each struct differ, and so do its methods, whose
+/// names have no two `_` in a row; each array has fewer than 2^31 elements; and the statuses of the language are there.
+pub fn items_of_a_text_are_typed()
+    ensures { TextsAreTyped }
 {}
 
 /// In a scope that declares what a method's paths name, each expression of the method that keeps the rules of types has its kind in

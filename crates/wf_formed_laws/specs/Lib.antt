@@ -1,0 +1,2 @@
+pub mod AcceptedForm
+pub mod NamesKept
