@@ -1,6 +1,6 @@
 -- A scope that has all that a method's body may name, and that the body's statements find all in it.
-use Rattle.std.proofs.Common.{◌≡◌, ◌⊎◌, inl, inr, ℕ, zero, suc, ◌+◌, ◌<◌, ◌^◌, Bool, true, false, not, ◌&&◌, ◌||◌, List, [], ◌∷◌, ◌++◌, length, map, Option, Some, None, nat_eq, nat_lt, refl, sym, ap, ◌∙◌, subst, arith}
-use Rattle.std.specs.Prelude.{if◌then◌else◌, find, slice_get, bytes_eq, codes, is_some, option_map, option_and_then, unwrap_or}
+use Rattle.std.proofs.Common.{◌≡◌, ◌⊎◌, inl, inr, ℕ, zero, suc, ◌+◌, ◌<◌, ◌^◌, Bool, true, false, not, List, [], ◌∷◌, ◌++◌, length, map, Option, Some, None, nat_eq, nat_lt, refl, sym, ap, ◌∙◌, subst, arith}
+use Rattle.std.specs.Prelude.{if◌then◌else◌, find, slice_get, bytes_eq, codes, is_some, option_map, option_and_then}
 use Rattle.std.specs.List.{list_all, AllByRecursion}
 use Rattle.std.proofs.lemmas.Bool.Decides.{nat_tests}
 use Rattle.std.proofs.lemmas.Slice.Eq.{bytes_eq-Decides}
@@ -10,40 +10,39 @@ use Rattle.wf_ast.specs.declared.types.Ty.{Ty}
 use Rattle.wf_ast.specs.declared.types.Ty.TheVariants as types
 use Rattle.wf_ast.specs.TypedPackage.{Variable, StructTree, MethodTree, PackageTree, kind_of}
 use Rattle.wf_ast.specs.TypedTree.{Path, local, field, arg, NumType, Called, own, sub}
-use Rattle.wf_ast.specs.WellTyped.{Context, type_at, variable_at, field_at, is_width, same_num_type, is_number, is_array, is_slice, is_flag, is_status, is_reader, is_writer, is_coroutine, may_be_arg, may_be_local, may_be_field, may_be_result, struct_of_field, calls_method, number_of, well_method}
+use Rattle.wf_ast.specs.WellTyped.{type_at, variable_at, field_at, same_num_type, is_number, is_array, is_slice, is_flag, is_status, is_reader, is_writer, is_coroutine, may_be_arg, may_be_local, may_be_field, may_be_result, struct_of_field, calls_method, number_of, well_method}
 use Rattle.wf_ast.proofs.Arena.{both_true}
 use Rattle.wf_meaning.specs.SourceState.{fields_of}
-use Rattle.c_text.specs.declared.kinds.CUint.TheVariants.{U8, U16, U32, U64}
+use Rattle.c_text.specs.declared.kinds.CUint.TheVariants.{U8, U16, U64}
 use Rattle.wf_meaning.specs.Entry.{short_read, short_write, cannot_suspend}
 use Rattle.c_text.specs.declared.kinds.CUnary.TheVariants.{Address}
 use Rattle.c_text.specs.declared.kinds.Linkage.TheVariants.{Static}
 use Rattle.c_text.specs.CSpelling.{is_word_byte}
-use Rattle.c_text.specs.CTree.{TypeTree, uint, size, boolean, uint_pointer, struct_pointer, text, ExprTree, variable, member, unary, Code, plain, inside, FieldTree, ParamTree, LocalTree}
-use Rattle.c_meaning.specs.CTypes.{Scope, StructDecl, Function, functions_of, struct_named, function_named, local_name, ExprType, points_to, cell, object, byte, one, held_type, value_type, is_numeric, type_of, held_of, io_buffer, assignable, address_type}
+use Rattle.c_text.specs.CTree.{TypeTree, uint, size, boolean, uint_pointer, struct_pointer, text, variable, member, unary, plain, FieldTree, ParamTree, LocalTree}
+use Rattle.c_meaning.specs.CTypes.{Scope, StructDecl, Function, functions_of, struct_named, function_named, local_name, points_to, object, byte, one, held_type, value_type, is_numeric, type_of, held_of, io_buffer, assignable, address_type}
 use Rattle.c_meaning.specs.CStep.{callee_of, own as own_function, memory_move}
 use Rattle.c_meaning.specs.UnitForm.{Checked, is_among, all_distinct, args_params, arg_params}
-use Rattle.wf_exprs.specs.Names.{Names, names_of, named, local_name as source_local, local_pointer, local_length, arg_name, arg_pointer, arg_length, io_place, io_end, io_bytes, field_name, status_name, struct_type, body_name, entry_name, point_field, saved_field, held_field, count_field}
-use Rattle.wf_exprs.specs.Words.{num, width_of, uint_of, self, of_self}
+use Rattle.wf_exprs.specs.Names.{named, local_name as source_local, local_pointer, local_length, arg_name, arg_pointer, arg_length, io_place, io_end, io_bytes, field_name, status_name, struct_type, body_name, entry_name, point_field, saved_field, held_field, count_field}
+use Rattle.wf_exprs.specs.Words.{num, width_of, self, of_self}
 use Rattle.wf_exprs.specs.Helpers.{all_saturating}
-use Rattle.wf_exprs.specs.Exprs.{path_code, path_pair, io_code, place_code, end_code, bytes_code, status_constant}
+use Rattle.wf_exprs.specs.Exprs.{path_code, path_pair, io_code, place_code, end_code, bytes_code}
 use Rattle.wf_exprs.specs.Reads.{code_reads}
-use Rattle.wf_lower_stmts.specs.Forms.{Form, form_of, is_io, is_kept, place_in, end_of, local_code, saved_code, status_local, got_local, size_local, held_local, count_local, holds_something, counts_bytes, keeps}
+use Rattle.wf_lower_stmts.specs.Forms.{Form, form_of, is_io, is_kept, place_in, end_of, holds_something, counts_bytes, keeps}
 use Rattle.wf_lower_stmts.specs.Statements.{callee_name, receiver_code}
-use Rattle.wf_lower.specs.Bodies.{params_of, result_of, io_locals, bytes_locals, local_of, locals_of, further_locals, resume_of, fixed_locals, body_code, body_function, entry_function}
-use Rattle.wf_lower.specs.Unit.{struct_fields, source_field, kept_type, kept_fields, started_fields, coroutine_fields}
+use Rattle.wf_lower.specs.Bodies.{params_of, result_of, io_locals, bytes_locals, local_of, locals_of, further_locals, resume_of, fixed_locals, body_code}
+use Rattle.wf_lower.specs.Unit.{struct_fields, source_field, kept_type, kept_fields, started_fields}
 use Rattle.wf_lower_laws.specs.NameLaw.{begins}
-use Rattle.wf_lower_laws.specs.KindLaw.{IsNum, IsPointer, IsText, IsBuffer, Declares}
-use Rattle.wf_lower_laws.proofs.Apart.{left_or, right_or}
+use Rattle.wf_lower_laws.specs.KindLaw.{IsNum, IsPointer, IsBuffer, Declares}
 use Rattle.wf_lower_laws.proofs.Names.{both_hold, among_passes}
-use Rattle.wf_lower_laws.proofs.OwnNames.{names, args_labels, args_all, labels, io_all, locals_all, bytes_all, bytes_distinct, all_both, labels_both, map_both}
+use Rattle.wf_lower_laws.proofs.OwnNames.{args_labels, args_all, labels, io_all, locals_all, bytes_all, bytes_distinct, all_both, labels_both, map_both}
 use Rattle.wf_lower_laws.proofs.NameLaw.{Words, named_at, from_front}
-use Rattle.wf_lower_laws.proofs.CodeTypes.{Fits, Cell, NumCell, held_fits, same_width, variable_num, member_num}
-use Rattle.wf_lower_laws.proofs.Frames.{same_bytes, is_variable}
+use Rattle.wf_lower_laws.proofs.CodeTypes.{Cell, NumCell, held_fits, variable_num, member_num}
+use Rattle.wf_lower_laws.proofs.Frames.{same_bytes}
 use Rattle.wf_lower_laws.proofs.Typing.{all_helpers, known_status, around, reader_is_io, writer_is_io, KeptCells, Kept, IoCells, Callable, Serves}
 use Rattle.wf_lower_laws.proofs.Finding.{found_front, found_behind, found_none, There, there_first, there_later, there_front, there_behind, there_map, there_found}
 use Rattle.wf_lower_laws.proofs.FieldNames.{labels as field_labels}
 use Rattle.wf_lower_laws.proofs.Statuses.{all_texts, constant_text, saturated_num}
-use Rattle.wf_lower_laws.proofs.Scopes.{io_fields, name_of, name_held, name_type, io_length, io_written, io_read, io_position, io_closed, io_limit, HasSelf, self_type, member_so, own_cell, source_in, method_in}
+use Rattle.wf_lower_laws.proofs.Scopes.{io_fields, name_of, name_held, name_type, io_written, io_read, io_position, io_closed, io_limit, HasSelf, self_type, member_so, own_cell, source_in, method_in}
 
 -- A variable of the source in C, where it is one value.
 abbrev in_c : Ty → Option TypeTree
@@ -509,11 +508,10 @@ module _ (p : PackageTree) (n : ℕ) (m : MethodTree) (structs : List StructDecl
       where
         by : (b : Bool) → There (place_local j v.ty) (io_locals f (suc k) xs) × There (end_local j v.ty) (io_locals f (suc k) xs)
             → There (place_local j v.ty) (if b then place_local k y.ty ∷ end_local k y.ty ∷ io_locals f (suc k) xs else io_locals f (suc k) xs) × There (end_local j v.ty) (if b then place_local k y.ty ∷ end_local k y.ty ∷ io_locals f (suc k) xs else io_locals f (suc k) xs)
-        by true t =
-            (
-              there_later (place_local j v.ty) (place_local k y.ty) (end_local k y.ty ∷ io_locals f (suc k) xs) (there_later (place_local j v.ty) (end_local k y.ty) (io_locals f (suc k) xs) t.0),
-              there_later (end_local j v.ty) (place_local k y.ty) (end_local k y.ty ∷ io_locals f (suc k) xs) (there_later (end_local j v.ty) (end_local k y.ty) (io_locals f (suc k) xs) t.1),
-            )
+        by true t = (
+          there_later (place_local j v.ty) (place_local k y.ty) (end_local k y.ty ∷ io_locals f (suc k) xs) (there_later (place_local j v.ty) (end_local k y.ty) (io_locals f (suc k) xs) t.0),
+          there_later (end_local j v.ty) (place_local k y.ty) (end_local k y.ty ∷ io_locals f (suc k) xs) (there_later (end_local j v.ty) (end_local k y.ty) (io_locals f (suc k) xs) t.1),
+        )
         by false t = t
 
     pointer_there : (xs : List Variable) (k i j : ℕ) (v : Variable) → slice_get xs i ≡ Some v → is_io v.ty ≡ true → j ≡ k + i → There (pointer_local j) (bytes_locals f k xs)
@@ -620,8 +618,12 @@ module _ (p : PackageTree) (n : ℕ) (m : MethodTree) (structs : List StructDecl
     count_cell : is_coroutine m.mark ≡ true → keeps counts_bytes m.body ≡ true → NumCell Settled T (of_self (count_field m.name))
     count_cell e k =
         let x : FieldTree = record { kind = plain (uint U8); name = count_field m.name; count = None } in
-        record { type = uint U8; numeric = refl; cell = self_cell (uint U8) (count_field m.name) refl
-            (started_there x e (there_behind x (if keeps holds_something m.body then record { kind = plain (uint U64); name = held_field m.name; count = None } ∷ [] else []) (if keeps counts_bytes m.body then record { kind = plain (uint U8); name = count_field m.name; count = None } ∷ [] else []) (by (keeps counts_bytes m.body) k))) }
+        record {
+          type = uint U8;
+          numeric = refl;
+          cell = self_cell (uint U8) (count_field m.name) refl
+              (started_there x e (there_behind x (if keeps holds_something m.body then record { kind = plain (uint U64); name = held_field m.name; count = None } ∷ [] else []) (if keeps counts_bytes m.body then record { kind = plain (uint U8); name = count_field m.name; count = None } ∷ [] else []) (by (keeps counts_bytes m.body) k)));
+        }
       where
         by : (b : Bool) → b ≡ true → There {X = FieldTree} (record { kind = plain (uint U8); name = count_field m.name; count = None }) (if b then record { kind = plain (uint U8); name = count_field m.name; count = None } ∷ [] else [])
         by true h = (0, refl)
@@ -674,9 +676,10 @@ module _ (p : PackageTree) (n : ℕ) (m : MethodTree) (structs : List StructDecl
 
     all_kept : (xs : List Variable) (k : ℕ) → ((i : ℕ) (v : Variable) → slice_get xs i ≡ Some v → slice_get m.locals (k + i) ≡ Some v) → AllByRecursion (Kept c f Settled MayBeCalled) xs
     all_kept [] k h = tt
-    all_kept (v ∷ xs) k h =
-        ((λ t co. let e = here in kept_cells k v.name v.ty e (all_at (λ v. may_be_local v.ty) m.locals k v g.locals_are e) t co),
-        all_kept xs (suc k) (λ i y e. let same : k + suc i ≡ suc k + i = omega arith in let P : ℕ → Type 0 = λ z. slice_get m.locals z ≡ Some y in subst P same (h (suc i) y e)))
+    all_kept (v ∷ xs) k h = (
+      (λ t co. let e = here in kept_cells k v.name v.ty e (all_at (λ v. may_be_local v.ty) m.locals k v g.locals_are e) t co),
+      all_kept xs (suc k) (λ i y e. let same : k + suc i ≡ suc k + i = omega arith in let P : ℕ → Type 0 = λ z. slice_get m.locals z ≡ Some y in subst P same (h (suc i) y e)),
+    )
       where
         here : slice_get m.locals k ≡ Some v
         here = let same : k + 0 ≡ k = omega arith in let P : ℕ → Type 0 = λ z. slice_get m.locals z ≡ Some v in subst P same (h 0 v refl)
@@ -702,19 +705,17 @@ module _ (p : PackageTree) (n : ℕ) (m : MethodTree) (structs : List StructDecl
         in_buffer : (ty : Ty) → is_io ty ≡ true
             → (type_of T (io_code f.names i) ≡ Some (points_to (object io_buffer)) → NumCell Settled T (place_in (io_code f.names i) ty))
             × ((type_of T (io_code f.names i) ≡ Some (points_to (object io_buffer)) → IsNum T (place_in (io_code f.names i) ty)) × (type_of T (io_code f.names i) ≡ Some (points_to (object io_buffer)) → IsNum T (end_of (io_code f.names i) ty)))
-        in_buffer types.Reader k =
-            (
-              (λ t. cell_of (codes "ri") (io_read T g.io (io_code f.names i) t)),
-              ((λ t. member_num T size (io_code f.names i) (codes "ri") refl (io_read T g.io (io_code f.names i) t)), (λ t. member_num T size (io_code f.names i) (codes "wi") refl (io_written T g.io (io_code f.names i) t))),
-            )
-        in_buffer types.Writer k =
-            (
-              (λ t. cell_of (codes "wi") (io_written T g.io (io_code f.names i) t)),
-              (
-                (λ t. member_num T size (io_code f.names i) (codes "wi") refl (io_written T g.io (io_code f.names i) t)),
-                (λ t. io_limit T g.io (io_code f.names i) t),
-              ),
-            )
+        in_buffer types.Reader k = (
+          (λ t. cell_of (codes "ri") (io_read T g.io (io_code f.names i) t)),
+          ((λ t. member_num T size (io_code f.names i) (codes "ri") refl (io_read T g.io (io_code f.names i) t)), (λ t. member_num T size (io_code f.names i) (codes "wi") refl (io_written T g.io (io_code f.names i) t))),
+        )
+        in_buffer types.Writer k = (
+          (λ t. cell_of (codes "wi") (io_written T g.io (io_code f.names i) t)),
+          (
+            (λ t. member_num T size (io_code f.names i) (codes "wi") refl (io_written T g.io (io_code f.names i) t)),
+            (λ t. io_limit T g.io (io_code f.names i) t),
+          ),
+        )
         in_buffer types.Flag k = absurd (cc k)
         in_buffer types.Status k = absurd (cc k)
         in_buffer (types.Num width lo hi) k = absurd (cc k)

@@ -1,7 +1,7 @@
 -- The order of a package's methods has each of them once, and the order of its structs has each once, behind those that its
 -- fields hold.
-use Rattle.std.proofs.Common.{◌≡◌, ℕ, zero, suc, ◌+◌, ◌<◌, ◌≤◌, Bool, true, false, not, ◌&&◌, ◌||◌, List, [], ◌∷◌, ◌++◌, length, Option, Some, None, nat_eq, refl, sym, ap, ◌∙◌, subst, arith, append_assoc}
-use Rattle.std.specs.Prelude.{if◌then◌else◌, slice_get, ⊤}
+use Rattle.std.proofs.Common.{◌≡◌, ℕ, zero, suc, ◌+◌, ◌<◌, ◌≤◌, Bool, true, false, not, ◌||◌, List, [], ◌∷◌, ◌++◌, length, Option, Some, None, nat_eq, refl, sym, ap, ◌∙◌, subst, arith, append_assoc}
+use Rattle.std.specs.Prelude.{if◌then◌else◌, slice_get}
 use Rattle.std.specs.List.{list_all, IsDistinct, AllByRecursion}
 use Rattle.std.proofs.lemmas.Bool.Decides.{nat_tests}
 use Rattle.std.proofs.lemmas.List.Folds.{list_any-append}
@@ -228,12 +228,14 @@ module _ (p : PackageTree) where
   place_last : (l s : ℕ) (placed middle : List ℕ) → is_whole p (suc l) s ≡ true → is_whole p l s ≡ false → has placed s ≡ false → WholeFields l s → PartsPlaced l (fields_of p s) placed middle
       → Placing (suc l) placed (middle ++ s ∷ []) × (has (middle ++ s ∷ []) s ≡ true)
   place_last l s placed middle w n out f h =
-      let absent : has middle s ≡ false = by (has middle s) refl in
-      (record {
-        good = record { once = apart_more middle s h.placing.good.once absent; below = λ a k. below a (nat_eq a s) refl (sym (list_any-append (nat_eq a) middle (s ∷ [])) ∙ k); rising = rising_more [] middle s h.placing.good.rising h.there };
-        keeps = λ a k. has_more middle s a (h.placing.keeps a k);
-        new = λ a k m. fresh a (nat_eq a s) refl (sym (list_any-append (nat_eq a) middle (s ∷ [])) ∙ k) m;
-      }, has_last middle s)
+      let absent : has middle s ≡ false = by (has middle s) refl in (
+        record {
+          good = record { once = apart_more middle s h.placing.good.once absent; below = λ a k. below a (nat_eq a s) refl (sym (list_any-append (nat_eq a) middle (s ∷ [])) ∙ k); rising = rising_more [] middle s h.placing.good.rising h.there };
+          keeps = λ a k. has_more middle s a (h.placing.keeps a k);
+          new = λ a k m. fresh a (nat_eq a s) refl (sym (list_any-append (nat_eq a) middle (s ∷ [])) ∙ k) m;
+        },
+        has_last middle s,
+      )
     where
       by : (b : Bool) → has middle s ≡ b → has middle s ≡ false
       by false e = e

@@ -1,5 +1,5 @@
 -- The types of a text's items.
-use Rattle.std.specs.Prelude.{◌≡◌, ◌<◌, ℕ, suc, true, List, Some, slice_get, take, is_some}
+use Rattle.std.specs.Prelude.{◌≡◌, ◌<◌, ℕ, suc, true, Some, slice_get, take, is_some}
 use Rattle.wf_ast.specs.TypedPackage.{PackageTree}
 use Rattle.wf_ast.specs.WellTyped.{well_typed}
 use Rattle.c_text.specs.CTree.{ItemTree}
