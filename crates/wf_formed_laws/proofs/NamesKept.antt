@@ -1,33 +1,31 @@
 -- Plain names that differ are in order in a package's text.
-use Rattle.std.proofs.Common.{◌≡◌, ◌⊎◌, inl, inr, ℕ, zero, suc, ◌+◌, ◌<◌, ◌^◌, Bool, true, false, not, ◌&&◌, ◌||◌, List, [], ◌∷◌, ◌++◌, length, map, Option, Some, None, nat_eq, nat_lt, slice_get, refl, sym, ap, ◌∙◌, subst, arith}
-use Rattle.std.specs.Prelude.{if◌then◌else◌, bytes_eq, codes}
+use Rattle.std.proofs.Common.{◌≡◌, ◌⊎◌, inl, inr, ℕ, zero, suc, ◌<◌, ◌^◌, Bool, true, false, not, ◌&&◌, ◌||◌, List, [], ◌∷◌, ◌++◌, length, map, Option, Some, None, nat_eq, nat_lt, slice_get, refl, sym, ap, ◌∙◌, subst, arith}
+use Rattle.std.specs.Prelude.{bytes_eq, codes}
 use Rattle.std.specs.List.{list_all, AllByRecursion}
 use Rattle.std.proofs.lemmas.Bool.Decides.{nat_tests}
 use Rattle.std.proofs.lemmas.List.{append_cancel_right}
 use Rattle.std.proofs.lemmas.Slice.Eq.{bytes_eq-Decides}
-use Rattle.std.proofs.lemmas.Option.{slice_get_within}
 use Rattle.wf_ast.specs.ParsedParts.{AreDistinct}
 use Rattle.wf_ast.specs.declared.typed_nodes.TypedNodes.{TypedNodes}
 use Rattle.wf_ast.specs.TypedInvariant.{IsTyped}
 use Rattle.wf_ast.specs.TypedPackage.{Variable, StructTree, MethodTree, PackageTree, package_of}
-use Rattle.wf_ast.specs.WellTyped.{all_structs_whole, well_method, well_typed}
+use Rattle.wf_ast.specs.WellTyped.{well_typed}
 use Rattle.wf_ast.proofs.Arena.{both_true}
 use Rattle.wf_tokens.specs.Runs.{is_between, is_run}
-use Rattle.wf_names_rules.specs.Reserved.{is_underscore, begins_with_underscore, ends_behind, ends_with_underscore, doubles_behind, has_double_underscore, kept_words, is_reserved, is_initialize}
+use Rattle.wf_names_rules.specs.Reserved.{is_underscore, begins_with_underscore, ends_behind, ends_with_underscore, doubles_behind, has_double_underscore, is_reserved, is_initialize}
 use Rattle.c_text.specs.CSpelling.{is_word_byte}
 use Rattle.c_meaning.specs.UnitForm.{is_among, all_distinct}
 use Rattle.wf_exprs.specs.Names.{struct_called}
 use Rattle.wf_lower.specs.Unit.{struct_order}
-use Rattle.wf_typed_laws.specs.PlainNames.{IsPlain, ArePlain, HasPlainFields, HasPlainVariables, HasPlainNames}
-use Rattle.wf_typed_laws.specs.ApartNames.{HasApartNames}
-use Rattle.wf_lower_laws.specs.NameLaw.{are_named, HasNames}
-use Rattle.wf_lower_laws.specs.ItemLaw.{is_clean, method_called, method_names, methods_called, HasItemNames}
+use Rattle.wf_typed_laws.specs.PlainNames.{IsPlain, ArePlain, HasPlainFields, HasPlainVariables}
+use Rattle.wf_lower_laws.specs.NameLaw.{are_named}
+use Rattle.wf_lower_laws.specs.ItemLaw.{is_clean, method_called, method_names, methods_called}
 use Rattle.wf_lower_laws.proofs.Apart.{has, apart, neither, left_or, right_or, not_true, same_number}
 use Rattle.wf_lower_laws.proofs.Names.{either_true, both_hold}
 use Rattle.wf_lower_laws.proofs.ItemNames.{one_seam}
 use Rattle.wf_lower_laws.proofs.JumpLaw.{all_methods, method_rules}
-use Rattle.wf_lower_laws.proofs.Orders.{one_number, AreOrdered, methods_ordered, StructsOrdered, structs_ordered}
-use Rattle.wf_formed_laws.specs.NamesKept.{IsNamed, KeepsNames, NamesAreKept}
+use Rattle.wf_lower_laws.proofs.Orders.{methods_ordered, structs_ordered}
+use Rattle.wf_formed_laws.specs.NamesKept.{IsNamed, NamesAreKept}
 
 -- ---- lists of names
 

@@ -1,52 +1,44 @@
 -- The bodies of methods have the types that C asks, behind the items that stand in front of them.
-use Rattle.std.proofs.Common.{◌≡◌, ◌⊎◌, inl, inr, ℕ, zero, suc, ◌+◌, ◌<◌, ◌^◌, Bool, true, false, not, ◌&&◌, ◌||◌, List, [], ◌∷◌, ◌++◌, length, map, Option, Some, None, nat_eq, nat_lt, refl, sym, ap, ◌∙◌, subst, arith, append_assoc, append-nil}
-use Rattle.std.specs.Prelude.{if◌then◌else◌, cond, find, slice_get, bytes_eq, codes, is_some, option_and_then}
+use Rattle.std.proofs.Common.{◌≡◌, ◌⊎◌, inl, inr, ℕ, suc, ◌+◌, Bool, true, false, List, [], ◌∷◌, ◌++◌, map, Option, Some, None, refl, sym, ap, ◌∙◌, subst, arith, append_assoc, append-nil}
+use Rattle.std.specs.Prelude.{if◌then◌else◌, cond, find, slice_get, bytes_eq, codes, is_some}
 use Rattle.std.specs.List.{list_all, AllByRecursion}
-use Rattle.std.proofs.lemmas.Bool.Decides.{nat_tests}
-use Rattle.std.proofs.lemmas.List.Folds.{list_any-append}
 use Rattle.std.proofs.lemmas.Slice.Eq.{bytes_eq-Decides}
-use Rattle.wf_text.specs.Surface.{PublicArg}
 use Rattle.wf_base.specs.BaseTable.{bits_of}
 use Rattle.wf_ast.specs.declared.types.Ty.{Ty}
 use Rattle.wf_ast.specs.declared.types.Ty.TheVariants as types
-use Rattle.wf_ast.specs.TypedPackage.{Variable, StructTree, MethodTree, PackageTree, kind_of}
-use Rattle.wf_ast.specs.WellTyped.{is_coroutine, may_be_arg, may_be_local, may_be_field, may_be_result, answers_always, well_block, well_method, calls_only}
-use Rattle.wf_ast.proofs.Arena.{both_true}
+use Rattle.wf_ast.specs.TypedPackage.{Variable, MethodTree, PackageTree, kind_of}
+use Rattle.wf_ast.specs.WellTyped.{is_coroutine, may_be_result, well_block, calls_only}
 use Rattle.wf_meaning.specs.Remaining.{number_of}
 use Rattle.c_text.specs.declared.kinds.CNumber.TheVariants.{Int}
 use Rattle.c_text.specs.declared.kinds.CUint.TheVariants.{U8, U16, U64}
 use Rattle.c_text.specs.declared.kinds.Linkage.TheVariants.{Static}
-use Rattle.c_text.specs.CTree.{TypeTree, uint, size, boolean, uint_pointer, struct_pointer, text, ExprTree, variable, member, Code, finish, empty, nested, assign, call, jump, branch, repeat, select, leave, case_label, default_label, name_label, FieldTree, plain, ParamTree, LocalTree, ItemTree, struct_item}
-use Rattle.c_meaning.specs.CTypes.{Scope, StructDecl, Function, structs_of, texts_of, functions_of, scope_of, struct_named, function_named, local_name, variable_held, ExprType, points_to, object, one, held_type, value_type, type_of, held_of, is_known, io_buffer, assignable}
-use Rattle.c_meaning.specs.UnitForm.{Checked, checked, has_type, is_among, all_distinct, item_name, arg_params, args_params, formed_initial, formed_locals, may_assign}
-use Rattle.wf_exprs.specs.Names.{struct_type, io_place, io_end, io_bytes, point_field, held_field, count_field, body_name}
+use Rattle.c_text.specs.CTree.{TypeTree, uint, size, boolean, uint_pointer, struct_pointer, text, ExprTree, variable, member, Code, finish, empty, nested, assign, call, jump, branch, repeat, select, leave, case_label, default_label, name_label, FieldTree, plain, ParamTree, LocalTree, ItemTree}
+use Rattle.c_meaning.specs.CTypes.{Scope, StructDecl, Function, structs_of, functions_of, scope_of, struct_named, local_name, variable_held, points_to, object, type_of, is_known, io_buffer}
+use Rattle.c_meaning.specs.UnitForm.{Checked, checked, has_type, is_among, all_distinct, arg_params, args_params, formed_initial, formed_locals}
+use Rattle.wf_exprs.specs.Names.{struct_type, io_place, io_end, io_bytes, point_field, held_field, count_field}
 use Rattle.wf_exprs.specs.Words.{num, width_of, of_self}
 use Rattle.wf_exprs.specs.Exprs.{io_code}
-use Rattle.wf_exprs.specs.Helpers.{all_saturating}
 use Rattle.wf_exprs.specs.Reads.{code_reads}
-use Rattle.wf_lower_stmts.specs.Forms.{Form, form_of, is_io, place_in, end_of, resume_local, holds_something, counts_bytes, keeps, restore_locals, restore_held, restore_count, restore_started, when, when_some}
-use Rattle.wf_lower_stmts.specs.Lower.{ending, tail_of, top}
+use Rattle.wf_lower_stmts.specs.Forms.{Form, form_of, is_io, place_in, end_of, resume_local, holds_something, counts_bytes, keeps, restore_count, restore_started, when, when_some}
+use Rattle.wf_lower_stmts.specs.Lower.{ending}
 use Rattle.wf_lower.specs.Bodies.{params_of, result_of, io_locals, bytes_locals, local_of, locals_of, further_locals, resume_of, only_read, touched, resumed, statements_of, body_code, fixed_locals, own_names, body_locals, body_function}
-use Rattle.wf_lower.specs.Unit.{io_buffer_item, struct_fields, all_functions, is_used}
-use Rattle.wf_lower_laws.specs.NameLaw.{begins}
+use Rattle.wf_lower.specs.Unit.{struct_fields, all_functions, is_used}
 use Rattle.wf_lower_laws.specs.FormLaw.{typed_code, typed_item}
 use Rattle.wf_lower_laws.specs.KindLaw.{IsNum}
 use Rattle.wf_lower_laws.proofs.Apart.{left_or, right_or}
 use Rattle.wf_lower_laws.proofs.Names.{either_true, both_hold}
 use Rattle.wf_lower_laws.proofs.OwnNames.{map_both}
 use Rattle.wf_lower_laws.proofs.ExprKinds.{num_kind}
-use Rattle.wf_lower_laws.proofs.CodeTypes.{Fits, num_fits, held_fits, Cell, NumCell, variable_num, member_num, CodeOk, ok_finish, ok_if, ok_assign, ok_number, ok_when, ok_select, ok_empty, ok_case, num_typed, num_counts}
-use Rattle.wf_lower_laws.proofs.Frames.{Agreed, CallAgreed, code_same, same_bytes, assigns, calls}
-use Rattle.wf_lower_laws.proofs.Typing.{Serves, Kept, restores_ok, statements_ok, ending_ok}
+use Rattle.wf_lower_laws.proofs.CodeTypes.{Fits, num_fits, held_fits, variable_num, member_num, CodeOk, ok_finish, ok_number, ok_when, ok_select, ok_empty, ok_case, num_typed, num_counts}
+use Rattle.wf_lower_laws.proofs.Frames.{Agreed, CallAgreed, code_same, same_bytes}
+use Rattle.wf_lower_laws.proofs.Typing.{Serves, restores_ok, statements_ok, ending_ok}
 use Rattle.wf_lower_laws.proofs.Finding.{found_front, found_both, found_alike, There, there_found, there_later, distinct_front}
-use Rattle.wf_lower_laws.proofs.Scopes.{io_fields, name_of, name_held, name_type, io_length, io_written, io_read, io_position, io_closed, io_limit, io_pointer, HasSelf, own_cell, method_in}
-use Rattle.wf_lower_laws.proofs.MethodScope.{MayBeCalled, front, behind, resume_locals, T, c, Settled, Given, FoundAs, serves, resume_found, args_there}
-use Rattle.wf_lower_laws.proofs.Statuses.{all_texts}
+use Rattle.wf_lower_laws.proofs.Scopes.{name_of, name_held, name_type, io_written, io_read, io_limit, io_pointer, HasSelf, own_cell, method_in}
+use Rattle.wf_lower_laws.proofs.MethodScope.{MayBeCalled, front, behind, resume_locals, T, c, Settled, Given, resume_found, args_there}
 use Rattle.wf_lower_laws.proofs.Prefixes.{AreFunctions, before_function, read_alike, text_alike, function_alike, other_alike, used_by}
 use Rattle.wf_lower_laws.proofs.Straight.{straight_reads}
 use Rattle.wf_lower_laws.proofs.Bodies.{touches}
 use Rattle.wf_lower_laws.proofs.NameLaw.{named_at}
-use Rattle.wf_lower_laws.proofs.KeptReads.{held_read, count_read}
 
 -- ---- a body's own code
 

@@ -1,7 +1,7 @@
 -- Code whose expressions have the types that its statements ask. What it assigns to is settled, or read in it; and what it calls
 -- may be called.
-use Rattle.std.proofs.Common.{◌≡◌, ◌⊎◌, inl, inr, ℕ, zero, suc, Bool, true, false, not, ◌&&◌, ◌||◌, List, [], ◌∷◌, ◌++◌, Option, Some, None, nat_eq, refl, sym, ap, ◌∙◌, subst}
-use Rattle.std.specs.Prelude.{if◌then◌else◌, option_and_then, is_some, bytes_eq, codes}
+use Rattle.std.proofs.Common.{◌≡◌, ◌⊎◌, inl, inr, ℕ, Bool, true, false, ◌||◌, List, Option, Some, refl, sym, ap, subst}
+use Rattle.std.specs.Prelude.{if◌then◌else◌, option_and_then, bytes_eq}
 use Rattle.wf_num.specs.declared.c_arithmetic.CTy.{CTy}
 use Rattle.wf_num.specs.declared.c_arithmetic.CTy.TheVariants.{Int}
 use Rattle.wf_num.specs.declared.c_arithmetic.CTy.TheVariants as ctys
@@ -11,11 +11,11 @@ use Rattle.c_text.specs.declared.kinds.Otherwise.{Otherwise}
 use Rattle.c_text.specs.declared.kinds.Otherwise.TheVariants.{Nothing}
 use Rattle.c_text.specs.declared.kinds.CUint.{CUint}
 use Rattle.c_text.specs.declared.kinds.CUint.TheVariants.{U8, U16, U32, U64}
-use Rattle.c_text.specs.CTree.{TypeTree, uint, size, boolean, uint_pointer, struct_pointer, text, ExprTree, number, variable, member, element, Args, Code, finish, nested, empty, assign, call, jump, branch, repeat, select, leave, case_label, default_label, name_label}
-use Rattle.c_meaning.specs.CTypes.{Scope, ExprType, numbers, points_to, zero_literal, cell, object, byte, Held, one, held_type, same_uint, same_type, same_target, is_numeric, as_number, assignable, value_type, type_of, held_of, arg_types, passable, function_named, Function, promoted}
-use Rattle.c_meaning.specs.CStep.{Callee, own, memory_move, callee_of}
+use Rattle.c_text.specs.CTree.{TypeTree, uint, size, boolean, uint_pointer, struct_pointer, text, ExprTree, variable, member, Args, Code, finish, empty, assign, call, jump, branch, repeat, select, leave, case_label, name_label}
+use Rattle.c_meaning.specs.CTypes.{Scope, ExprType, numbers, points_to, zero_literal, cell, byte, one, held_type, same_uint, is_numeric, as_number, assignable, value_type, type_of, held_of, promoted}
+use Rattle.c_meaning.specs.CStep.{callee_of}
 use Rattle.c_meaning.specs.UnitForm.{Checked, has_type, is_number, may_assign, formed_call, formed_return}
-use Rattle.wf_exprs.specs.Words.{num, uint_of, width_of}
+use Rattle.wf_exprs.specs.Words.{uint_of, width_of}
 use Rattle.wf_exprs.specs.Reads.{expr_reads, args_read, target_reads, result_reads, value_reads, code_reads}
 use Rattle.wf_lower_stmts.specs.Forms.{when}
 use Rattle.wf_lower_laws.specs.FormLaw.{typed_code}

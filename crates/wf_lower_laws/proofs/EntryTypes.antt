@@ -1,8 +1,7 @@
 -- The entries of methods have the types that C asks, behind the items that stand in front of them.
-use Rattle.std.proofs.Common.{◌≡◌, ◌⊎◌, inl, inr, ℕ, zero, suc, ◌+◌, ◌-◌, ◌<◌, ◌^◌, Bool, true, false, not, ◌&&◌, ◌||◌, List, [], ◌∷◌, ◌++◌, length, map, Option, Some, None, nat_eq, nat_lt, refl, sym, ap, ◌∙◌, subst, arith}
-use Rattle.std.specs.Prelude.{if◌then◌else◌, find, slice_get, bytes_eq, codes, is_some, option_and_then}
+use Rattle.std.proofs.Common.{◌≡◌, ◌⊎◌, inl, inr, ℕ, zero, suc, ◌+◌, ◌-◌, ◌<◌, ◌^◌, Bool, true, false, not, List, [], ◌∷◌, ◌++◌, length, map, Option, Some, None, nat_lt, refl, sym, ◌∙◌, subst, arith}
+use Rattle.std.specs.Prelude.{if◌then◌else◌, find, slice_get, bytes_eq, codes, is_some}
 use Rattle.std.specs.List.{list_all, AllByRecursion}
-use Rattle.std.proofs.lemmas.Slice.Eq.{bytes_eq-Decides}
 use Rattle.wf_text.specs.Surface as surface
 use Rattle.wf_text.specs.Surface.{PublicArg, AnswerKind}
 use Rattle.wf_base.specs.BaseTable.{bits_of}
@@ -12,7 +11,6 @@ use Rattle.wf_ast.specs.declared.types.Ty.{Ty}
 use Rattle.wf_ast.specs.declared.types.Ty.TheVariants as types
 use Rattle.wf_ast.specs.TypedPackage.{Variable, MethodTree, PackageTree, kind_of, answers_of}
 use Rattle.wf_ast.specs.WellTyped.{is_coroutine, is_pure}
-use Rattle.wf_ast.proofs.Arena.{both_true}
 use Rattle.wf_meaning.specs.Entry.{bad_receiver, bad_argument, not_initialized, interleaved, was_disabled}
 use Rattle.wf_num.specs.declared.c_arithmetic.CTy.TheVariants as ctys
 use Rattle.c_text.specs.CSpelling.{is_word_byte}
@@ -20,17 +18,17 @@ use Rattle.c_text.specs.declared.kinds.COp.TheVariants.{Lt, Gt, Eq, Ne, Both, Ei
 use Rattle.c_text.specs.declared.kinds.CUint.TheVariants.{U8, U32}
 use Rattle.c_text.specs.declared.kinds.CUnary.TheVariants.{Not}
 use Rattle.c_text.specs.declared.kinds.Linkage.TheVariants.{External}
-use Rattle.c_text.specs.CTree.{TypeTree, uint, size, boolean, uint_pointer, struct_pointer, text, ExprTree, variable, element, unary, Code, finish, assign, leave, ParamTree, LocalTree, ItemTree}
-use Rattle.c_meaning.specs.CTypes.{Scope, Function, structs_of, texts_of, functions_of, scope_of, struct_named, function_named, local_name, variable_held, ExprType, points_to, object, byte, one, numbers, held_type, value_type, is_numeric, type_of, held_of, arg_types, is_known, assignable, passable, io_buffer, promoted}
-use Rattle.c_meaning.specs.CStep.{Callee, callee_of, own as own_function}
+use Rattle.c_text.specs.CTree.{TypeTree, uint, size, boolean, uint_pointer, struct_pointer, text, ExprTree, variable, element, unary, Code, finish, assign, ParamTree, ItemTree}
+use Rattle.c_meaning.specs.CTypes.{Scope, Function, structs_of, functions_of, scope_of, struct_named, function_named, local_name, variable_held, ExprType, points_to, byte, one, numbers, value_type, type_of, held_of, arg_types, is_known, assignable, passable, io_buffer, promoted}
+use Rattle.c_meaning.specs.CStep.{callee_of}
 use Rattle.c_meaning.specs.UnitForm.{uint_of as form_uint, Checked, checked, all_distinct, is_among, has_type, is_called, may_keep, formed_call, formed_return, formed_locals, answer_type, arg_params, args_params}
-use Rattle.wf_exprs.specs.Names.{struct_type, entry_name, body_name, status_name}
-use Rattle.wf_exprs.specs.Words.{num, width_of, uint_of, two, self, of_self, args}
+use Rattle.wf_exprs.specs.Names.{struct_type, body_name, status_name}
+use Rattle.wf_exprs.specs.Words.{num, width_of, two, self, of_self, args}
 use Rattle.wf_exprs.specs.Exprs.{chained, status_constant}
 use Rattle.wf_exprs.specs.Helpers.{all_saturating}
 use Rattle.wf_exprs.specs.Reads.{code_reads}
 use Rattle.wf_lower_stmts.specs.Forms.{status_local, got_local, when}
-use Rattle.wf_lower.specs.Bodies.{params_of, result_of, refuse, refused_with, wrong_number, wrong_arg, wrong_args, either_of, when_any, when_disabled, when_wrong, when_other, disable_if_marked, table, settle_if_coroutine, answer_locals, answer_in, answered, handed, entry_code, entry_function}
+use Rattle.wf_lower.specs.Bodies.{params_of, result_of, refuse, refused_with, wrong_arg, wrong_args, either_of, when_any, when_wrong, when_other, disable_if_marked, table, settle_if_coroutine, answer_locals, answer_in, answered, handed, entry_code, entry_function}
 use Rattle.wf_lower.specs.Unit.{struct_fields, all_functions, is_used}
 use Rattle.wf_lower_laws.specs.NameLaw.{begins}
 use Rattle.wf_lower_laws.specs.FormLaw.{typed_code, typed_item}
@@ -40,10 +38,10 @@ use Rattle.wf_lower_laws.proofs.Names.{both_hold, among_passes}
 use Rattle.wf_lower_laws.proofs.OwnNames.{args_labels, args_all, all_both, map_both}
 use Rattle.wf_lower_laws.proofs.NameLaw.{Words}
 use Rattle.wf_lower_laws.proofs.ExprKinds.{num_kind, two_kind, chained_kind}
-use Rattle.wf_lower_laws.proofs.CodeTypes.{Fits, num_fits, text_fits, held_fits, same_width, Cell, variable_num, member_num, CodeOk, ok_finish, ok_if, ok_assign, ok_leave, ok_when, ok_call, num_typed, fits_typed}
-use Rattle.wf_lower_laws.proofs.Frames.{Agreed, CallAgreed, code_same, same_bytes, is_result_of}
+use Rattle.wf_lower_laws.proofs.CodeTypes.{num_fits, text_fits, same_width, member_num, CodeOk, ok_finish, ok_if, ok_assign, ok_leave, ok_when, ok_call, num_typed, fits_typed}
+use Rattle.wf_lower_laws.proofs.Frames.{Agreed, code_same, same_bytes, is_result_of}
 use Rattle.wf_lower_laws.proofs.Finding.{found_behind, found_none, There, there_found, there_front, there_behind, there_later}
-use Rattle.wf_lower_laws.proofs.Scopes.{name_of, name_held, name_type, HasSelf, own_cell, life_in, active_in}
+use Rattle.wf_lower_laws.proofs.Scopes.{name_of, name_type, HasSelf, own_cell, life_in, active_in}
 use Rattle.wf_lower_laws.proofs.MethodScope.{MayBeCalled}
 use Rattle.wf_lower_laws.proofs.Statuses.{all_texts, constant_text}
 use Rattle.wf_lower_laws.proofs.Prefixes.{AreFunctions, before_function, text_alike, function_alike, other_alike, used_by}

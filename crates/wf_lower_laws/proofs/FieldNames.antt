@@ -1,8 +1,7 @@
 -- The fields of a struct in C have different names.
-use Rattle.std.proofs.Common.{◌≡◌, ◌⊎◌, inl, inr, ℕ, zero, suc, ◌+◌, ◌<◌, Bool, true, false, not, ◌&&◌, ◌||◌, List, [], ◌∷◌, ◌++◌, length, map, Option, Some, None, nat_eq, refl, sym, ap, ◌∙◌, subst, arith}
+use Rattle.std.proofs.Common.{◌≡◌, ◌⊎◌, inl, inr, ℕ, zero, suc, ◌+◌, Bool, true, false, not, ◌&&◌, List, [], ◌∷◌, ◌++◌, map, Option, Some, None, nat_eq, refl, sym, ap, ◌∙◌, subst, arith}
 use Rattle.std.specs.Prelude.{if◌then◌else◌, bytes_eq, codes, slice_get, unwrap_or, option_map}
 use Rattle.std.specs.List.{list_all}
-use Rattle.std.proofs.lemmas.Bool.Decides.{nat_tests}
 use Rattle.std.proofs.lemmas.List.{append_cancel_right}
 use Rattle.std.proofs.lemmas.Slice.Eq.{bytes_eq-Decides}
 use Rattle.wf_ast.specs.declared.types.Ty.{Ty}
@@ -21,7 +20,7 @@ use Rattle.wf_lower_laws.specs.NameLaw.{begins, are_named, HasNames}
 use Rattle.wf_lower_laws.specs.ItemLaw.{is_clean}
 use Rattle.wf_lower_laws.specs.FieldLaw.{HasFieldNames}
 use Rattle.wf_lower_laws.proofs.Apart.{neither, left_or, right_or, not_true}
-use Rattle.wf_lower_laws.proofs.Names.{either_true, both_hold, among_passes, distinct_both, distinct_by, Owned, Owner, owned_none, owned_next, distinct_next, after_prefix}
+use Rattle.wf_lower_laws.proofs.Names.{either_true, both_hold, among_passes, distinct_by, Owned, owned_none, owned_next, distinct_next, after_prefix}
 use Rattle.wf_lower_laws.proofs.OwnNames.{all_both, map_both}
 use Rattle.wf_lower_laws.proofs.ItemNames.{one_seam}
 use Rattle.wf_lower_laws.proofs.Orders.{one_number}

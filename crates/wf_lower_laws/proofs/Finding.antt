@@ -1,15 +1,14 @@
 -- What is found under a name in a list, and in the items of a text.
-use Rattle.std.proofs.Common.{◌≡◌, ◌⊎◌, inl, inr, ℕ, zero, suc, Bool, true, false, not, ◌&&◌, ◌||◌, List, [], ◌∷◌, ◌++◌, map, Option, Some, None, refl, sym, ap, ◌∙◌, subst}
-use Rattle.std.specs.Prelude.{if◌then◌else◌, cond, find, slice_get, bytes_eq, is_some}
+use Rattle.std.proofs.Common.{◌≡◌, ℕ, zero, suc, Bool, true, false, not, List, [], ◌∷◌, ◌++◌, map, Option, Some, None, refl, sym, ap, ◌∙◌, subst}
+use Rattle.std.specs.Prelude.{cond, find, slice_get, bytes_eq}
 use Rattle.std.proofs.lemmas.List.Folds.{list_any-append}
 use Rattle.std.proofs.lemmas.Slice.Eq.{bytes_eq-Decides}
 use Rattle.wf_ast.proofs.Arena.{both_true}
 use Rattle.c_text.specs.CTree.{TypeTree, Code, FieldTree, ParamTree, LocalTree, ItemTree, struct_item, text_item, function_item}
 use Rattle.c_text.specs.declared.kinds.Linkage.{Linkage}
-use Rattle.c_meaning.specs.CTypes.{StructDecl, TextDecl, Function, structs_of, texts_of, functions_of, struct_named, function_named}
+use Rattle.c_meaning.specs.CTypes.{structs_of, texts_of, functions_of, struct_named, function_named}
 use Rattle.c_meaning.specs.UnitForm.{is_among, all_distinct, item_name}
 use Rattle.wf_lower_laws.proofs.Apart.{neither, left_or, right_or, not_true}
-use Rattle.wf_lower_laws.proofs.Names.{either_true}
 use Rattle.wf_lower_laws.proofs.Surfaces.{stands}
 use Rattle.wf_lower_laws.proofs.Frames.{same_bytes}
 

@@ -1,15 +1,14 @@
 -- Expressions and code have the same types in two scopes that agree on the names that stand in them.
-use Rattle.std.proofs.Common.{◌≡◌, ◌⊎◌, inl, inr, ℕ, Bool, true, false, ◌&&◌, ◌||◌, List, [], ◌∷◌, Option, Some, None, refl, sym, ap, ◌∙◌, subst}
-use Rattle.std.specs.Prelude.{if◌then◌else◌, option_map, option_and_then, is_none, is_some, bytes_eq, codes}
+use Rattle.std.proofs.Common.{◌≡◌, ◌⊎◌, inl, inr, ℕ, Bool, true, false, ◌&&◌, ◌||◌, List, ◌∷◌, Option, Some, None, refl, sym, ap, ◌∙◌, subst}
+use Rattle.std.specs.Prelude.{option_map, option_and_then, is_none, is_some, bytes_eq}
 use Rattle.std.proofs.lemmas.Slice.Eq.{bytes_eq-Decides}
 use Rattle.c_text.specs.CTree.{TypeTree, ExprTree, number, variable, member, element, pointed, operation, unary, cast, choice, called, Operands, no_operand, operand, Args, no_arg, expr_arg, sizeof_arg, Code, finish, nested, empty, assign, call, jump, branch, repeat, select, leave, case_label, default_label, name_label}
-use Rattle.c_meaning.specs.CTypes.{Scope, Function, StructDecl, ExprType, numbers, points_to, zero_literal, cell, object, byte, Held, held_type, field_held, struct_named, function_named, field_named, variable_held, member_held, pointed_held, element_held, operations_type, unary_type, cast_from, choice_type, called_type, type_of, held_of, operand_types, arg_types, value_type, passable, one}
-use Rattle.c_meaning.specs.CStep.{Callee, memory_move, memory_set, own, callee_of}
-use Rattle.c_meaning.specs.UnitForm.{Checked, has_type, is_number, may_assign, formed_call, formed_return, is_called, is_moved, may_keep}
+use Rattle.c_meaning.specs.CTypes.{Scope, Function, StructDecl, ExprType, numbers, points_to, zero_literal, cell, object, byte, held_type, field_held, struct_named, function_named, field_named, variable_held, member_held, pointed_held, element_held, operations_type, unary_type, cast_from, choice_type, called_type, type_of, held_of, operand_types, arg_types, value_type, passable, one}
+use Rattle.c_meaning.specs.CStep.{Callee, memory_move, own, callee_of}
+use Rattle.c_meaning.specs.UnitForm.{Checked, is_number, may_assign, formed_call, formed_return, is_called, is_moved, may_keep}
 use Rattle.wf_exprs.specs.Reads.{expr_reads, operands_read, args_read, target_reads, result_reads, value_reads, code_reads}
 use Rattle.wf_lower_laws.specs.FormLaw.{typed_code}
 use Rattle.wf_lower_laws.proofs.Apart.{left_or, right_or}
-use Rattle.wf_lower_laws.proofs.Names.{both_hold}
 
 pub same_bytes : (l : List ℕ) → bytes_eq l l ≡ true
 same_bytes l = (bytes_eq-Decides l l).1 refl

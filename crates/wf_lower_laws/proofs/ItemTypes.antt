@@ -1,52 +1,48 @@
 -- All items of a text have the types that C asks.
-use Rattle.std.proofs.Common.{◌≡◌, ◌⊎◌, inl, inr, ℕ, zero, suc, ◌+◌, ◌<◌, ◌^◌, Bool, true, false, not, ◌&&◌, ◌||◌, List, [], ◌∷◌, ◌++◌, length, map, take, Option, Some, None, nat_eq, nat_lt, refl, sym, ap, ◌∙◌, subst, arith, append_assoc, append-nil}
-use Rattle.std.specs.Prelude.{if◌then◌else◌, cond, find, slice_get, bytes_eq, codes, is_some, option_and_then, unwrap_or, option_map}
+use Rattle.std.proofs.Common.{◌≡◌, inl, inr, ℕ, zero, suc, ◌<◌, ◌^◌, Bool, true, false, not, ◌||◌, List, [], ◌∷◌, ◌++◌, length, map, take, Option, Some, None, nat_eq, nat_lt, refl, sym, ap, ◌∙◌, subst, arith, append_assoc, append-nil}
+use Rattle.std.specs.Prelude.{if◌then◌else◌, cond, slice_get, bytes_eq, codes, is_some, option_and_then, unwrap_or, option_map}
 use Rattle.std.specs.List.{list_all}
 use Rattle.std.proofs.lemmas.Bool.Decides.{nat_tests}
 use Rattle.std.proofs.lemmas.List.Folds.{list_any-append}
 use Rattle.std.proofs.lemmas.Option.{slice_get_within}
-use Rattle.wf_ast.specs.TypedPackage.{Variable, StructTree, MethodTree, PackageTree, answers_of}
-use Rattle.wf_ast.specs.WellTyped.{may_be_arg, may_be_local, may_be_field, may_be_result, answers_always, well_block, well_method, calls_only, calls_known, calls_in_front, is_whole, all_structs_whole, well_typed, is_coroutine}
+use Rattle.wf_ast.specs.TypedPackage.{StructTree, MethodTree, PackageTree, answers_of}
+use Rattle.wf_ast.specs.WellTyped.{may_be_arg, may_be_local, may_be_field, may_be_result, answers_always, well_block, well_method, calls_only, calls_known, calls_in_front, is_whole, all_structs_whole, well_typed}
 use Rattle.wf_ast.proofs.Arena.{both_true}
 use Rattle.wf_meaning.specs.Entry.{bad_receiver}
 use Rattle.wf_meaning.specs.SourceState.{fields_of}
 use Rattle.c_text.specs.declared.kinds.Linkage.TheVariants.{External, Static}
-use Rattle.c_text.specs.CTree.{text, struct_pointer, variable, leave, unary, finish, FieldTree, ParamTree, LocalTree, ItemTree, struct_item, text_item, function_item}
-use Rattle.c_text.specs.declared.kinds.CUnary.TheVariants.{Not}
-use Rattle.c_meaning.specs.CTypes.{Scope, Function, structs_of, texts_of, functions_of, scope_of, struct_named, function_named, local_name, points_to, byte, type_of, held_type, variable_held, io_buffer}
+use Rattle.c_text.specs.CTree.{text, struct_pointer, FieldTree, ParamTree, LocalTree, ItemTree, struct_item, text_item, function_item}
+use Rattle.c_meaning.specs.CTypes.{Scope, structs_of, functions_of, scope_of, struct_named, local_name, held_type, variable_held}
 use Rattle.c_meaning.specs.UnitForm.{is_among, all_distinct, item_name}
 use Rattle.wf_exprs.specs.Names.{struct_type, initialize_name, body_name, entry_name, status_name}
-use Rattle.wf_exprs.specs.Words.{num, self, of_self}
 use Rattle.wf_exprs.specs.Exprs.{status_constant}
-use Rattle.wf_exprs.specs.Helpers.{saturating, all_saturating}
-use Rattle.wf_exprs.specs.Reads.{expr_reads, code_reads}
-use Rattle.wf_lower_stmts.specs.Forms.{Form, form_of}
+use Rattle.wf_exprs.specs.Helpers.{all_saturating}
+use Rattle.wf_lower_stmts.specs.Forms.{form_of}
 use Rattle.wf_lower.specs.Bodies.{functions_of as method_items, params_of, result_of, fixed_locals, body_locals, body_code, own_names, touched, body_function, answer_locals, entry_function, entry_code}
 use Rattle.wf_lower.specs.Unit.{io_buffer_item, struct_fields, struct_order, struct_items, initialize_code, initialize_function, initialize_functions, method_functions, all_functions, is_used, used_texts, helper_name, used_helpers, lowered_unit}
 use Rattle.wf_lower_laws.specs.FieldLaw.{is_short, HasFieldNames, HasShortArrays}
 use Rattle.wf_lower_laws.specs.FormLaw.{typed_item}
 use Rattle.wf_lower_laws.specs.ItemLaw.{HasItemNames}
 use Rattle.wf_lower_laws.specs.KindLaw.{IsText}
-use Rattle.wf_lower_laws.specs.NameLaw.{are_named, HasNames}
+use Rattle.wf_lower_laws.specs.NameLaw.{HasNames}
 use Rattle.wf_lower_laws.specs.TypeLaw.{HasBaseStatuses, TextsAreTyped}
 use Rattle.wf_lower_laws.proofs.Apart.{has, left_or, right_or}
-use Rattle.wf_lower_laws.proofs.Names.{either_true, both_hold}
 use Rattle.wf_lower_laws.proofs.OwnNames.{map_both}
 use Rattle.wf_lower_laws.proofs.NameLaw.{Words, words, named_method, body_own, entry_own}
 use Rattle.wf_lower_laws.proofs.ItemNames.{items_name_apart}
 use Rattle.wf_lower_laws.proofs.JumpLaw.{all_methods, method_rules}
-use Rattle.wf_lower_laws.proofs.Orders.{one_number, parts_in, Rising, AreOrdered, methods_ordered, StructsOrdered, structs_ordered}
-use Rattle.wf_lower_laws.proofs.Surfaces.{Stands, stands_first, stands_later, stands_front, stands_behind, in_inits, in_structs, in_methods, entry_there}
+use Rattle.wf_lower_laws.proofs.Orders.{one_number, Rising, AreOrdered, methods_ordered, StructsOrdered, structs_ordered}
+use Rattle.wf_lower_laws.proofs.Surfaces.{Stands, stands_later, stands_front, stands_behind, in_inits, in_structs, in_methods}
 use Rattle.wf_lower_laws.proofs.Frames.{same_bytes}
 use Rattle.wf_lower_laws.proofs.Finding.{distinct_front, struct_found, function_found}
 use Rattle.wf_lower_laws.proofs.FieldNames.{fields_distinct}
-use Rattle.wf_lower_laws.proofs.Scopes.{name_of, HasSelf}
+use Rattle.wf_lower_laws.proofs.Scopes.{name_of}
 use Rattle.wf_lower_laws.proofs.Statuses.{all_texts, constant_text}
 use Rattle.wf_lower_laws.proofs.Prefixes.{AreFunctions, functions_front, functions_are, before_function, structs_part, texts_part, helpers_part, text_alike, used_by}
-use Rattle.wf_lower_laws.proofs.MethodScope.{front, c, Settled, MayBeCalled, Given, FoundAs, serves}
+use Rattle.wf_lower_laws.proofs.MethodScope.{Given, FoundAs, serves}
 use Rattle.wf_lower_laws.proofs.BodyTypes.{body_ok, body_typed}
-use Rattle.wf_lower_laws.proofs.EntryTypes.{EntryGiven, entry_typed}
-use Rattle.wf_lower_laws.proofs.StructTypes.{struct_formed, Ready, init_typed}
+use Rattle.wf_lower_laws.proofs.EntryTypes.{entry_typed}
+use Rattle.wf_lower_laws.proofs.StructTypes.{struct_formed, init_typed}
 use Rattle.wf_lower_laws.proofs.KeptReads.{held_read, count_read}
 
 -- ---- items behind others

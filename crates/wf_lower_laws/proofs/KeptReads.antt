@@ -1,9 +1,8 @@
 -- What a coroutine keeps of a started statement is read in its body.
-use Rattle.std.proofs.Common.{◌≡◌, ◌⊎◌, inl, inr, ℕ, Bool, true, false, not, ◌&&◌, ◌||◌, List, [], ◌∷◌, Option, Some, None, refl, sym, ap, ◌∙◌, subst}
+use Rattle.std.proofs.Common.{◌≡◌, ◌⊎◌, inl, inr, ℕ, Bool, true, false, not, ◌||◌, List, refl}
 use Rattle.std.specs.Prelude.{if◌then◌else◌, codes}
-use Rattle.wf_base.specs.declared.base_methods.ReadForm.{ReadForm}
 use Rattle.wf_base.specs.declared.base_methods.ReadForm.TheVariants.{ReadU8, ReadU16Be, ReadU16Le, ReadU32Be, ReadU32Le, ReadU64Be, ReadU64Le}
-use Rattle.wf_ast.specs.TypedTree.{NumTree, Target, Awaited, take_number, skip, write, Simple, assign, await, perform, invoke, break_from, continue_in, give_back, yield, claim, Site, Block, end, plain, choose, loop}
+use Rattle.wf_ast.specs.TypedTree.{Target, Awaited, take_number, skip, write, Simple, assign, await, perform, invoke, break_from, continue_in, give_back, yield, claim, Site, Block, end, plain, choose, loop}
 use Rattle.wf_ast.specs.WellTyped.{is_coroutine, breaks}
 use Rattle.wf_meaning.specs.Entry.{short_write}
 use Rattle.wf_meaning.specs.Remaining.{is_point, number_of}
@@ -12,15 +11,15 @@ use Rattle.c_text.specs.CTree.{Code, finish, empty, case_label, name_label, sele
 use Rattle.c_text.specs.CTree as c_tree
 use Rattle.wf_exprs.specs.Names.{behind_label, point_field}
 use Rattle.wf_exprs.specs.Words.{num, of_self}
-use Rattle.wf_exprs.specs.Exprs.{lowered_cond, status_constant, given}
+use Rattle.wf_exprs.specs.Exprs.{lowered_cond, status_constant}
 use Rattle.wf_exprs.specs.Reads.{expr_reads, code_reads}
 use Rattle.wf_lower_stmts.specs.Forms.{Form, resume_local, stays, holds_something, counts_bytes, awaits, keeps, suspend, resume_here, when_some}
 use Rattle.wf_lower_stmts.specs.Lower.{lower, again_here, behind_here, ending, tail_of, top}
-use Rattle.wf_lower_stmts.specs.Statements.{written_byte, awoken_call, begun, awoken, lower_point, lower_plain, lower_simple}
+use Rattle.wf_lower_stmts.specs.Statements.{written_byte, awoken_call, awoken, lower_point, lower_plain, lower_simple}
 use Rattle.wf_lower.specs.Bodies.{resumed, statements_of, body_code}
 use Rattle.wf_lower_laws.proofs.Apart.{left_or, right_or}
 use Rattle.wf_lower_laws.proofs.Names.{either_true}
-use Rattle.wf_lower_laws.proofs.Straight.{straight_reads, is_jump, plain_straight, begun_straight, awoken_straight}
+use Rattle.wf_lower_laws.proofs.Straight.{straight_reads, plain_straight, begun_straight, awoken_straight}
 use Rattle.wf_lower_laws.proofs.Bodies.{takes_number}
 
 held_call : (f : Form) (k : ℕ) (t : Target) (a : ℕ) (call : Awaited) (rest : Code) → holds_something call ≡ true → code_reads (codes "held") (awoken_call f k t a call rest) ≡ true

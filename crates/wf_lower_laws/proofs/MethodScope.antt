@@ -1,6 +1,6 @@
 -- A scope that has all that a method's body may name, and that the body's statements find all in it.
-use Rattle.std.proofs.Common.{◌≡◌, ◌⊎◌, inl, inr, ℕ, zero, suc, ◌+◌, ◌<◌, ◌^◌, Bool, true, false, not, ◌&&◌, ◌||◌, List, [], ◌∷◌, ◌++◌, length, map, Option, Some, None, nat_eq, nat_lt, refl, sym, ap, ◌∙◌, subst, arith}
-use Rattle.std.specs.Prelude.{if◌then◌else◌, find, slice_get, bytes_eq, codes, is_some, option_map, option_and_then, unwrap_or}
+use Rattle.std.proofs.Common.{◌≡◌, ◌⊎◌, inl, inr, ℕ, zero, suc, ◌+◌, ◌<◌, ◌^◌, Bool, true, false, not, List, [], ◌∷◌, ◌++◌, length, map, Option, Some, None, nat_eq, nat_lt, refl, sym, ap, ◌∙◌, subst, arith}
+use Rattle.std.specs.Prelude.{if◌then◌else◌, find, slice_get, bytes_eq, codes, is_some, option_map, option_and_then}
 use Rattle.std.specs.List.{list_all, AllByRecursion}
 use Rattle.std.proofs.lemmas.Bool.Decides.{nat_tests}
 use Rattle.std.proofs.lemmas.Slice.Eq.{bytes_eq-Decides}
@@ -10,40 +10,39 @@ use Rattle.wf_ast.specs.declared.types.Ty.{Ty}
 use Rattle.wf_ast.specs.declared.types.Ty.TheVariants as types
 use Rattle.wf_ast.specs.TypedPackage.{Variable, StructTree, MethodTree, PackageTree, kind_of}
 use Rattle.wf_ast.specs.TypedTree.{Path, local, field, arg, NumType, Called, own, sub}
-use Rattle.wf_ast.specs.WellTyped.{Context, type_at, variable_at, field_at, is_width, same_num_type, is_number, is_array, is_slice, is_flag, is_status, is_reader, is_writer, is_coroutine, may_be_arg, may_be_local, may_be_field, may_be_result, struct_of_field, calls_method, number_of, well_method}
+use Rattle.wf_ast.specs.WellTyped.{type_at, variable_at, field_at, same_num_type, is_number, is_array, is_slice, is_flag, is_status, is_reader, is_writer, is_coroutine, may_be_arg, may_be_local, may_be_field, may_be_result, struct_of_field, calls_method, number_of, well_method}
 use Rattle.wf_ast.proofs.Arena.{both_true}
 use Rattle.wf_meaning.specs.SourceState.{fields_of}
-use Rattle.c_text.specs.declared.kinds.CUint.TheVariants.{U8, U16, U32, U64}
+use Rattle.c_text.specs.declared.kinds.CUint.TheVariants.{U8, U16, U64}
 use Rattle.wf_meaning.specs.Entry.{short_read, short_write, cannot_suspend}
 use Rattle.c_text.specs.declared.kinds.CUnary.TheVariants.{Address}
 use Rattle.c_text.specs.declared.kinds.Linkage.TheVariants.{Static}
 use Rattle.c_text.specs.CSpelling.{is_word_byte}
-use Rattle.c_text.specs.CTree.{TypeTree, uint, size, boolean, uint_pointer, struct_pointer, text, ExprTree, variable, member, unary, Code, plain, inside, FieldTree, ParamTree, LocalTree}
-use Rattle.c_meaning.specs.CTypes.{Scope, StructDecl, Function, functions_of, struct_named, function_named, local_name, ExprType, points_to, cell, object, byte, one, held_type, value_type, is_numeric, type_of, held_of, io_buffer, assignable, address_type}
+use Rattle.c_text.specs.CTree.{TypeTree, uint, size, boolean, uint_pointer, struct_pointer, text, variable, member, unary, plain, FieldTree, ParamTree, LocalTree}
+use Rattle.c_meaning.specs.CTypes.{Scope, StructDecl, Function, functions_of, struct_named, function_named, local_name, points_to, object, byte, one, held_type, value_type, is_numeric, type_of, held_of, io_buffer, assignable, address_type}
 use Rattle.c_meaning.specs.CStep.{callee_of, own as own_function, memory_move}
 use Rattle.c_meaning.specs.UnitForm.{Checked, is_among, all_distinct, args_params, arg_params}
-use Rattle.wf_exprs.specs.Names.{Names, names_of, named, local_name as source_local, local_pointer, local_length, arg_name, arg_pointer, arg_length, io_place, io_end, io_bytes, field_name, status_name, struct_type, body_name, entry_name, point_field, saved_field, held_field, count_field}
-use Rattle.wf_exprs.specs.Words.{num, width_of, uint_of, self, of_self}
+use Rattle.wf_exprs.specs.Names.{named, local_name as source_local, local_pointer, local_length, arg_name, arg_pointer, arg_length, io_place, io_end, io_bytes, field_name, status_name, struct_type, body_name, entry_name, point_field, saved_field, held_field, count_field}
+use Rattle.wf_exprs.specs.Words.{num, width_of, self, of_self}
 use Rattle.wf_exprs.specs.Helpers.{all_saturating}
-use Rattle.wf_exprs.specs.Exprs.{path_code, path_pair, io_code, place_code, end_code, bytes_code, status_constant}
+use Rattle.wf_exprs.specs.Exprs.{path_code, path_pair, io_code, place_code, end_code, bytes_code}
 use Rattle.wf_exprs.specs.Reads.{code_reads}
-use Rattle.wf_lower_stmts.specs.Forms.{Form, form_of, is_io, is_kept, place_in, end_of, local_code, saved_code, status_local, got_local, size_local, held_local, count_local, holds_something, counts_bytes, keeps}
+use Rattle.wf_lower_stmts.specs.Forms.{Form, form_of, is_io, is_kept, place_in, end_of, holds_something, counts_bytes, keeps}
 use Rattle.wf_lower_stmts.specs.Statements.{callee_name, receiver_code}
-use Rattle.wf_lower.specs.Bodies.{params_of, result_of, io_locals, bytes_locals, local_of, locals_of, further_locals, resume_of, fixed_locals, body_code, body_function, entry_function}
-use Rattle.wf_lower.specs.Unit.{struct_fields, source_field, kept_type, kept_fields, started_fields, coroutine_fields}
+use Rattle.wf_lower.specs.Bodies.{params_of, result_of, io_locals, bytes_locals, local_of, locals_of, further_locals, resume_of, fixed_locals, body_code}
+use Rattle.wf_lower.specs.Unit.{struct_fields, source_field, kept_type, kept_fields, started_fields}
 use Rattle.wf_lower_laws.specs.NameLaw.{begins}
-use Rattle.wf_lower_laws.specs.KindLaw.{IsNum, IsPointer, IsText, IsBuffer, Declares}
-use Rattle.wf_lower_laws.proofs.Apart.{left_or, right_or}
+use Rattle.wf_lower_laws.specs.KindLaw.{IsNum, IsPointer, IsBuffer, Declares}
 use Rattle.wf_lower_laws.proofs.Names.{both_hold, among_passes}
-use Rattle.wf_lower_laws.proofs.OwnNames.{names, args_labels, args_all, labels, io_all, locals_all, bytes_all, bytes_distinct, all_both, labels_both, map_both}
+use Rattle.wf_lower_laws.proofs.OwnNames.{args_labels, args_all, labels, io_all, locals_all, bytes_all, bytes_distinct, all_both, labels_both, map_both}
 use Rattle.wf_lower_laws.proofs.NameLaw.{Words, named_at, from_front}
-use Rattle.wf_lower_laws.proofs.CodeTypes.{Fits, Cell, NumCell, held_fits, same_width, variable_num, member_num}
-use Rattle.wf_lower_laws.proofs.Frames.{same_bytes, is_variable}
+use Rattle.wf_lower_laws.proofs.CodeTypes.{Cell, NumCell, held_fits, variable_num, member_num}
+use Rattle.wf_lower_laws.proofs.Frames.{same_bytes}
 use Rattle.wf_lower_laws.proofs.Typing.{all_helpers, known_status, around, reader_is_io, writer_is_io, KeptCells, Kept, IoCells, Callable, Serves}
 use Rattle.wf_lower_laws.proofs.Finding.{found_front, found_behind, found_none, There, there_first, there_later, there_front, there_behind, there_map, there_found}
 use Rattle.wf_lower_laws.proofs.FieldNames.{labels as field_labels}
 use Rattle.wf_lower_laws.proofs.Statuses.{all_texts, constant_text, saturated_num}
-use Rattle.wf_lower_laws.proofs.Scopes.{io_fields, name_of, name_held, name_type, io_length, io_written, io_read, io_position, io_closed, io_limit, HasSelf, self_type, member_so, own_cell, source_in, method_in}
+use Rattle.wf_lower_laws.proofs.Scopes.{io_fields, name_of, name_held, name_type, io_written, io_read, io_position, io_closed, io_limit, HasSelf, self_type, member_so, own_cell, source_in, method_in}
 
 -- A variable of the source in C, where it is one value.
 abbrev in_c : Ty → Option TypeTree

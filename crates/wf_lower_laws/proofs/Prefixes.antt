@@ -1,19 +1,18 @@
 -- The items in front of a function of a text, and what a scope has of them.
-use Rattle.std.proofs.Common.{◌≡◌, ◌⊎◌, inl, inr, ℕ, zero, suc, ◌+◌, Bool, true, false, not, ◌&&◌, ◌||◌, List, [], ◌∷◌, ◌++◌, map, Option, Some, None, refl, sym, ap, ◌∙◌, subst, append_assoc, append-nil}
-use Rattle.std.specs.Prelude.{if◌then◌else◌, cond, find, slice_get, bytes_eq, codes, is_some}
+use Rattle.std.proofs.Common.{◌≡◌, ℕ, zero, suc, Bool, true, false, List, [], ◌∷◌, ◌++◌, map, Option, Some, None, refl, sym, ap, ◌∙◌, subst, append-nil}
+use Rattle.std.specs.Prelude.{if◌then◌else◌, cond, find, slice_get, bytes_eq, codes}
 use Rattle.std.specs.List.{list_all, list_any}
 use Rattle.std.proofs.lemmas.Slice.Eq.{bytes_eq-Decides}
-use Rattle.std.proofs.lemmas.List.Folds.{list_any-append}
 use Rattle.wf_ast.specs.TypedPackage.{MethodTree, PackageTree}
 use Rattle.wf_ast.proofs.Arena.{both_true}
-use Rattle.c_text.specs.CTree.{Code, ParamTree, LocalTree, ItemTree, struct_item, text_item, function_item}
-use Rattle.c_meaning.specs.CTypes.{Scope, StructDecl, TextDecl, Function, structs_of, texts_of, functions_of, struct_named, function_named, local_name, scope_of}
-use Rattle.c_meaning.specs.UnitForm.{is_among, all_distinct, item_name}
-use Rattle.wf_exprs.specs.Names.{struct_type, status_name}
+use Rattle.c_text.specs.CTree.{Code, LocalTree, ItemTree, struct_item, text_item, function_item}
+use Rattle.c_meaning.specs.CTypes.{TextDecl, Function, texts_of, functions_of, function_named, local_name}
+use Rattle.c_meaning.specs.UnitForm.{is_among}
+use Rattle.wf_exprs.specs.Names.{status_name}
 use Rattle.wf_exprs.specs.Helpers.{all_saturating}
 use Rattle.wf_exprs.specs.Reads.{code_reads}
 use Rattle.wf_lower.specs.Bodies.{functions_of as method_items, entry_function, only_read}
-use Rattle.wf_lower.specs.Unit.{io_buffer_item, struct_fields, struct_order, struct_items, initialize_functions, method_functions, all_functions, is_read_in, is_used, used_texts, helper_name, used_helpers, lowered_unit}
+use Rattle.wf_lower.specs.Unit.{io_buffer_item, struct_order, struct_items, initialize_functions, method_functions, all_functions, is_read_in, is_used, used_texts, used_helpers}
 use Rattle.wf_lower_laws.specs.NameLaw.{begins}
 use Rattle.wf_lower_laws.proofs.Apart.{left_or, right_or}
 use Rattle.wf_lower_laws.proofs.Names.{both_hold, among_passes}

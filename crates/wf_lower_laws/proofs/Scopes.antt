@@ -1,39 +1,20 @@
 -- The scope of a method's functions: what its names stand for.
-use Rattle.std.proofs.Common.{◌≡◌, ◌⊎◌, inl, inr, ℕ, zero, suc, ◌+◌, ◌<◌, ◌≤◌, ◌^◌, Bool, true, false, not, ◌&&◌, ◌||◌, List, [], ◌∷◌, ◌++◌, length, map, Option, Some, None, nat_eq, refl, sym, ap, ◌∙◌, subst, arith, append_assoc}
-use Rattle.std.specs.Prelude.{if◌then◌else◌, cond, find, slice_get, bytes_eq, codes, decimal, is_some, option_map, option_and_then, unwrap_or}
-use Rattle.std.specs.List.{list_all, AllByRecursion}
+use Rattle.std.proofs.Common.{◌≡◌, ℕ, zero, suc, Bool, true, false, ◌&&◌, List, [], ◌∷◌, ◌++◌, Some, None, nat_eq, refl, sym, ap, ◌∙◌, subst, arith}
+use Rattle.std.specs.Prelude.{if◌then◌else◌, find, slice_get, bytes_eq, codes, option_map, option_and_then}
 use Rattle.std.proofs.lemmas.Bool.Decides.{nat_tests}
-use Rattle.std.proofs.lemmas.Fmt.{decimal_injective}
-use Rattle.std.proofs.lemmas.Slice.Eq.{bytes_eq-Decides}
-use Rattle.std.proofs.lemmas.Option.{slice_get_within}
-use Rattle.wf_num.specs.declared.c_arithmetic.CTy.{CTy}
-use Rattle.wf_base.specs.BaseTable.{bits_of}
-use Rattle.wf_ast.specs.declared.types.Ty.{Ty}
-use Rattle.wf_ast.specs.declared.types.Ty.TheVariants as types
-use Rattle.wf_ast.specs.TypedPackage.{Variable, StructTree, MethodTree, PackageTree, kind_of}
-use Rattle.wf_ast.specs.TypedTree.{Path, local, field, arg, NumType}
-use Rattle.wf_ast.specs.WellTyped.{Context, type_at, variable_at, field_at, is_width, same_num_type, is_number, is_array, is_slice, is_flag, is_status, is_reader, is_writer, is_coroutine}
-use Rattle.wf_ast.proofs.Arena.{both_true}
+use Rattle.wf_ast.specs.TypedPackage.{Variable, MethodTree, PackageTree}
 use Rattle.wf_meaning.specs.SourceState.{fields_of}
-use Rattle.c_text.specs.declared.kinds.CUint.TheVariants.{U8, U16, U32, U64}
+use Rattle.c_text.specs.declared.kinds.CUint.TheVariants.{U8, U32, U64}
 use Rattle.wf_num.specs.declared.c_arithmetic.CTy.TheVariants as ctys
-use Rattle.c_text.specs.CTree.{TypeTree, uint, size, boolean, uint_pointer, struct_pointer, text, ExprTree, variable, member, choice, Code, FieldKind, plain, inside, FieldTree, ParamTree, LocalTree, ItemTree, struct_item, text_item, function_item}
-use Rattle.c_meaning.specs.CTypes.{Scope, StructDecl, TextDecl, Function, structs_of, texts_of, functions_of, scope_of, struct_named, function_named, field_named, local_name, ExprType, points_to, cell, object, byte, Held, one, many, fixed, inner, characters, held_type, is_bytes_field, cell_held, field_held, value_type, is_numeric, variable_held, member_held, field_of, type_of, held_of, io_buffer, called_type, passable, is_expression, result_of, assignable, promoted, numbers}
-use Rattle.c_meaning.specs.UnitForm.{is_among, all_distinct, item_name, args_params, arg_params, own_names}
-use Rattle.wf_exprs.specs.Names.{Names, names_of, named, local_name as source_local, io_place, io_end, io_bytes, field_name, status_name, struct_type, fields_called, struct_called}
-use Rattle.wf_exprs.specs.Words.{num, width_of, uint_of, self, of_self, args}
-use Rattle.wf_exprs.specs.Helpers.{saturating, all_saturating}
-use Rattle.wf_exprs.specs.Exprs.{saturating_name, saturated, path_code, path_pair, io_code, place_code, end_code, bytes_code, status_constant}
-use Rattle.wf_lower_stmts.specs.Forms.{Form, form_of, is_io, is_kept, place_in, end_of, local_code, saved_code}
-use Rattle.wf_lower.specs.Bodies.{params_of, io_locals, bytes_locals, local_of, locals_of, further_locals, resume_of, fixed_locals}
-use Rattle.wf_lower.specs.Unit.{io_buffer_item, struct_fields, source_field, source_fields, methods_fields, coroutine_fields}
-use Rattle.wf_lower_laws.specs.KindLaw.{IsNum, IsPointer, IsText}
-use Rattle.wf_lower_laws.proofs.Apart.{left_or, right_or}
-use Rattle.wf_lower_laws.proofs.Names.{both_hold}
-use Rattle.wf_lower_laws.proofs.CodeTypes.{Fits, num_fits, same_width, number_value, variable_num, member_num}
-use Rattle.wf_lower_laws.proofs.Frames.{same_bytes}
-use Rattle.wf_lower_laws.proofs.Finding.{found_front, found_behind, found_none, found_at, There, there_first, there_later, there_front, there_behind, there_map, there_found}
-use Rattle.wf_lower_laws.proofs.FieldNames.{labels, fields_distinct}
+use Rattle.c_text.specs.CTree.{TypeTree, uint, size, boolean, uint_pointer, struct_pointer, ExprTree, variable, member, choice, plain, FieldTree, ParamTree}
+use Rattle.c_meaning.specs.CTypes.{Scope, struct_named, points_to, cell, object, one, held_type, cell_held, field_held, value_type, member_held, field_of, type_of, held_of, io_buffer, numbers}
+use Rattle.c_meaning.specs.UnitForm.{all_distinct}
+use Rattle.wf_exprs.specs.Names.{struct_type}
+use Rattle.wf_exprs.specs.Words.{self, of_self}
+use Rattle.wf_lower.specs.Unit.{struct_fields, source_field, source_fields, methods_fields, coroutine_fields}
+use Rattle.wf_lower_laws.specs.KindLaw.{IsNum}
+use Rattle.wf_lower_laws.proofs.Finding.{There, there_later, there_front, there_behind, there_found}
+use Rattle.wf_lower_laws.proofs.FieldNames.{labels}
 
 none_false : (b : Bool) → (b && false) ≡ false
 none_false true = refl

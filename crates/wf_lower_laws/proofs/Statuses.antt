@@ -1,28 +1,22 @@
 -- The statuses and helpers of a text: all of them, and those that a text has.
-use Rattle.std.proofs.Common.{◌≡◌, ◌⊎◌, inl, inr, ℕ, zero, suc, ◌+◌, ◌<◌, ◌≤◌, ◌^◌, Bool, true, false, not, ◌&&◌, ◌||◌, List, [], ◌∷◌, ◌++◌, length, map, Option, Some, None, nat_eq, refl, sym, ap, ◌∙◌, subst, arith}
-use Rattle.std.specs.Prelude.{if◌then◌else◌, cond, find, slice_get, bytes_eq, codes, decimal, is_some, option_and_then}
-use Rattle.std.specs.List.{list_all}
+use Rattle.std.proofs.Common.{◌≡◌, inl, inr, ℕ, zero, suc, ◌+◌, ◌<◌, ◌^◌, Bool, true, false, ◌||◌, List, [], ◌∷◌, ◌++◌, length, map, Option, Some, None, nat_eq, refl, sym, ap, subst, arith}
+use Rattle.std.specs.Prelude.{if◌then◌else◌, cond, find, slice_get, bytes_eq, codes, is_some}
 use Rattle.std.proofs.lemmas.Bool.Decides.{nat_tests}
-use Rattle.std.proofs.lemmas.Fmt.{decimal_injective}
 use Rattle.std.proofs.lemmas.Slice.Eq.{bytes_eq-Decides}
-use Rattle.wf_ast.specs.TypedPackage.{PackageTree}
 use Rattle.wf_ast.specs.WellTyped.{is_width}
-use Rattle.wf_ast.proofs.Arena.{both_true}
 use Rattle.c_text.specs.declared.kinds.Linkage.TheVariants.{StaticInline}
 use Rattle.c_text.specs.CTree.{leave, finish, ExprTree, variable, ItemTree, struct_item, text_item, function_item}
-use Rattle.c_meaning.specs.CTypes.{Scope, TextDecl, Function, texts_of, functions_of, function_named, ExprType, points_to, byte, characters, held_type, variable_held, called_type, passable, type_of, assignable, value_type, promoted, numbers}
-use Rattle.c_meaning.specs.UnitForm.{is_among, all_distinct, item_name}
+use Rattle.c_meaning.specs.CTypes.{Scope, TextDecl, Function, texts_of, functions_of, function_named, points_to, byte, passable, type_of, value_type, promoted}
+use Rattle.c_meaning.specs.UnitForm.{all_distinct}
 use Rattle.wf_exprs.specs.Names.{status_name}
-use Rattle.wf_exprs.specs.Words.{num, width_of, uint_of, args}
+use Rattle.wf_exprs.specs.Words.{num, width_of, uint_of}
 use Rattle.wf_exprs.specs.Helpers.{saturating_value, all_saturating}
 use Rattle.wf_exprs.specs.Exprs.{saturating_name, saturated, status_constant}
 use Rattle.wf_lower.specs.Unit.{is_used, used_texts, helper_name, used_helpers}
-use Rattle.wf_lower_laws.specs.NameLaw.{begins}
 use Rattle.wf_lower_laws.specs.KindLaw.{IsNum, IsText}
-use Rattle.wf_lower_laws.proofs.Apart.{left_or, right_or}
-use Rattle.wf_lower_laws.proofs.Names.{both_hold, among_passes, after_prefix}
+use Rattle.wf_lower_laws.proofs.Names.{both_hold}
 use Rattle.wf_lower_laws.proofs.ItemNames.{helper_names_distinct}
-use Rattle.wf_lower_laws.proofs.CodeTypes.{Fits, num_fits}
+use Rattle.wf_lower_laws.proofs.CodeTypes.{num_fits}
 use Rattle.wf_lower_laws.proofs.Frames.{same_bytes}
 use Rattle.wf_lower_laws.proofs.Finding.{found_at, found_front}
 

@@ -1,39 +1,37 @@
 -- The structs of a text, and the functions that make them ready, have the types that C asks.
-use Rattle.std.proofs.Common.{◌≡◌, ◌⊎◌, inl, inr, ℕ, zero, suc, ◌+◌, ◌<◌, ◌≤◌, ◌^◌, Bool, true, false, not, ◌&&◌, ◌||◌, List, [], ◌∷◌, ◌++◌, length, map, take, Option, Some, None, nat_eq, nat_lt, nat_le, refl, sym, ap, ◌∙◌, subst, arith, append_assoc, append-nil}
-use Rattle.std.specs.Prelude.{if◌then◌else◌, find, slice_get, bytes_eq, codes, is_some, option_and_then, unwrap_or, option_map}
+use Rattle.std.proofs.Common.{◌≡◌, ℕ, suc, ◌+◌, ◌^◌, Bool, true, false, ◌&&◌, ◌||◌, List, [], ◌∷◌, ◌++◌, Option, Some, None, nat_eq, nat_lt, nat_le, refl, sym, ap, subst, arith}
+use Rattle.std.specs.Prelude.{if◌then◌else◌, slice_get, codes, is_some, option_and_then}
 use Rattle.std.specs.List.{list_all}
 use Rattle.std.proofs.lemmas.Bool.Decides.{nat_tests}
 use Rattle.wf_base.specs.BaseTable.{bits_of}
 use Rattle.wf_ast.specs.declared.types.Ty.{Ty}
 use Rattle.wf_ast.specs.declared.types.Ty.TheVariants as types
-use Rattle.wf_ast.specs.TypedPackage.{Variable, StructTree, MethodTree, PackageTree}
-use Rattle.wf_ast.specs.WellTyped.{is_coroutine, is_range, holds_zero, may_be_field}
+use Rattle.wf_ast.specs.TypedPackage.{Variable, MethodTree, PackageTree}
+use Rattle.wf_ast.specs.WellTyped.{is_coroutine, may_be_field}
 use Rattle.wf_ast.proofs.Arena.{both_true}
 use Rattle.wf_meaning.specs.Entry.{bad_receiver}
 use Rattle.wf_meaning.specs.SourceState.{fields_of}
-use Rattle.c_text.specs.declared.kinds.CNumber.TheVariants.{Int}
-use Rattle.c_text.specs.declared.kinds.CUint.TheVariants.{U8, U16, U32, U64}
+use Rattle.c_text.specs.declared.kinds.CUint.TheVariants.{U8, U16, U64}
 use Rattle.c_text.specs.declared.kinds.CUnary.TheVariants.{Not, Address}
 use Rattle.c_text.specs.declared.kinds.Linkage.TheVariants.{External}
-use Rattle.c_text.specs.CTree.{TypeTree, uint, size, boolean, text, struct_pointer, ExprTree, unary, expr_arg, sizeof_arg, no_arg, Code, finish, assign, call, leave, plain, inside, FieldTree, ParamTree, ItemTree, struct_item, function_item}
-use Rattle.c_meaning.specs.CTypes.{Scope, StructDecl, TextDecl, Function, structs_of, texts_of, functions_of, scope_of, struct_named, function_named, local_name, points_to, object, byte, one, type_of, held_of, is_known, address_type, passable, arg_types}
-use Rattle.c_meaning.specs.CStep.{Callee, callee_of, own as own_function}
+use Rattle.c_text.specs.CTree.{TypeTree, uint, text, struct_pointer, ExprTree, unary, Code, finish, leave, plain, FieldTree, ParamTree, ItemTree}
+use Rattle.c_meaning.specs.CTypes.{Scope, StructDecl, Function, structs_of, functions_of, scope_of, struct_named, function_named, points_to, object, type_of, held_of, is_known, address_type, passable, arg_types}
+use Rattle.c_meaning.specs.CStep.{own as own_function}
 use Rattle.c_meaning.specs.UnitForm.{Checked, checked, is_length, is_called, all_distinct, formed_field, formed_fields, formed_call, formed_return, may_assign, has_type}
-use Rattle.wf_exprs.specs.Names.{struct_type, initialize_name, status_name, point_field, saved_field, held_field, count_field}
+use Rattle.wf_exprs.specs.Names.{struct_type, initialize_name, point_field, saved_field, held_field, count_field}
 use Rattle.wf_exprs.specs.Words.{literal, num, width_of, self, of_self, args}
 use Rattle.wf_exprs.specs.Exprs.{status_constant}
-use Rattle.wf_lower_stmts.specs.Forms.{is_kept, holds_something, counts_bytes, keeps, when}
+use Rattle.wf_lower_stmts.specs.Forms.{is_kept, holds_something, counts_bytes, keeps}
 use Rattle.wf_lower.specs.Unit.{source_field, source_fields, kept_type, kept_fields, started_fields, coroutine_fields, methods_fields, struct_fields, initialize_part, initialize_parts, initialize_code, initialize_function}
 use Rattle.wf_lower_laws.specs.FormLaw.{typed_code, typed_item}
 use Rattle.wf_lower_laws.specs.FieldLaw.{is_short}
-use Rattle.wf_lower_laws.specs.KindLaw.{IsNum, IsText}
+use Rattle.wf_lower_laws.specs.KindLaw.{IsText}
 use Rattle.wf_lower_laws.proofs.Apart.{has, left_or, right_or}
 use Rattle.wf_lower_laws.proofs.Names.{both_hold}
 use Rattle.wf_lower_laws.proofs.Orders.{parts_in}
-use Rattle.wf_lower_laws.proofs.CodeTypes.{Fits, text_fits}
+use Rattle.wf_lower_laws.proofs.CodeTypes.{text_fits}
 use Rattle.wf_lower_laws.proofs.Frames.{same_bytes}
-use Rattle.wf_lower_laws.proofs.Finding.{There}
-use Rattle.wf_lower_laws.proofs.Scopes.{HasSelf, self_type, own_cell, member_so, source_in, life_in}
+use Rattle.wf_lower_laws.proofs.Scopes.{HasSelf, own_cell, member_so, source_in, life_in}
 use Rattle.wf_lower_laws.proofs.FieldNames.{labels}
 
 -- ---- fields

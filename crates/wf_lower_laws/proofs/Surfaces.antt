@@ -1,29 +1,27 @@
 -- What a package's surface asks of its text is there: each public function with its signature, and the structs.
-use Rattle.std.proofs.Common.{◌≡◌, ◌⊎◌, inl, inr, ℕ, zero, suc, ◌+◌, ◌<◌, Bool, true, false, not, ◌&&◌, ◌||◌, List, [], ◌∷◌, ◌++◌, length, map, Option, Some, None, nat_eq, refl, sym, ap, ◌∙◌, subst, arith}
+use Rattle.std.proofs.Common.{◌≡◌, ℕ, zero, suc, ◌+◌, ◌<◌, Bool, true, false, not, ◌&&◌, ◌||◌, List, [], ◌∷◌, ◌++◌, length, map, Option, Some, None, nat_eq, refl, sym, ap, ◌∙◌, subst, arith}
 use Rattle.std.specs.Prelude.{if◌then◌else◌, slice_get, bytes_eq, codes}
 use Rattle.std.specs.List.{list_all, AllByRecursion}
 use Rattle.std.proofs.lemmas.Slice.Eq.{bytes_eq-Decides}
 use Rattle.std.proofs.lemmas.Option.{slice_get_within}
-use Rattle.wf_text.specs.Surface.{Surface, PublicStruct, PublicMethod}
+use Rattle.wf_text.specs.Surface.{Surface, PublicStruct}
 use Rattle.wf_ast.specs.TypedPackage.{StructTree, MethodTree, PackageTree, answers_of, surface_of, public_method, public_methods, public_structs}
-use Rattle.wf_ast.specs.WellTyped.{well_typed}
 use Rattle.wf_ast.proofs.Arena.{both_true}
 use Rattle.c_text.specs.declared.kinds.CUint.{CUint}
 use Rattle.c_text.specs.declared.kinds.CUint.TheVariants.{U8, U16, U32, U64}
 use Rattle.c_text.specs.declared.kinds.Linkage.TheVariants.{External}
-use Rattle.c_text.specs.CTree.{TypeTree, uint, size, boolean, uint_pointer, struct_pointer, text, Code, ParamTree, LocalTree, ItemTree, struct_item, text_item, function_item}
+use Rattle.c_text.specs.CTree.{TypeTree, uint, size, boolean, uint_pointer, struct_pointer, text, Code, ParamTree, LocalTree, ItemTree, struct_item, function_item}
 use Rattle.c_meaning.specs.CTypes.{same_uint, same_type}
 use Rattle.c_meaning.specs.CRun.{struct_name}
-use Rattle.c_meaning.specs.UnitForm.{is_among, all_distinct, item_name, args_params, Signature, method_signature, initialize_signature, struct_signatures, signatures, same_params, same_result, has_signature, is_struct, meets_signature, meets_struct, meets_surface, is_complete}
+use Rattle.c_meaning.specs.UnitForm.{is_among, all_distinct, item_name, args_params, Signature, method_signature, initialize_signature, struct_signatures, signatures, same_params, same_result, has_signature, is_struct, meets_signature, meets_struct, is_complete}
 use Rattle.wf_exprs.specs.Names.{struct_called, struct_type, entry_name, initialize_name as lowering_name}
 use Rattle.wf_lower_stmts.specs.Forms.{form_of}
 use Rattle.wf_lower.specs.Bodies.{params_of, result_of, functions_of, body_function, answer_locals, entry_code, entry_function}
 use Rattle.wf_lower.specs.Unit.{struct_fields, struct_order, struct_items, initialize_code, initialize_function, initialize_functions, method_functions, all_functions, used_texts, used_helpers, lowered_unit}
 use Rattle.wf_exprs.specs.Helpers.{all_saturating}
-use Rattle.wf_lower_laws.specs.ItemLaw.{HasItemNames}
-use Rattle.wf_lower_laws.specs.SurfaceLaw.{MeetsSurface, TextsMeetSurfaces}
+use Rattle.wf_lower_laws.specs.SurfaceLaw.{TextsMeetSurfaces}
 use Rattle.wf_lower_laws.proofs.Apart.{has, left_or, right_or, not_true}
-use Rattle.wf_lower_laws.proofs.Names.{either_true, both_hold}
+use Rattle.wf_lower_laws.proofs.Names.{both_hold}
 use Rattle.wf_lower_laws.proofs.Orders.{AreOrdered, methods_ordered, StructsOrdered, structs_ordered, one_number}
 use Rattle.wf_lower_laws.proofs.ItemNames.{items_name_apart}
 

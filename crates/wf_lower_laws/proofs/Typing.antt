@@ -1,11 +1,9 @@
 -- What statements of a method are lowered to has the types that C asks, in a scope that has all that they name.
 use Rattle.std.proofs.Common.{◌≡◌, ◌⊎◌, inl, inr, ℕ, zero, suc, ◌+◌, ◌/◌, Bool, true, false, not, ◌&&◌, ◌||◌, List, [], ◌∷◌, ◌++◌, Option, Some, None, nat_eq, refl, sym, ap, ◌∙◌, subst, arith}
-use Rattle.std.specs.Prelude.{map, if◌then◌else◌, is_some, is_none, slice_get, codes, bytes_eq, option_and_then, option_map}
+use Rattle.std.specs.Prelude.{map, if◌then◌else◌, is_some, slice_get, codes, bytes_eq, option_and_then, option_map}
 use Rattle.std.specs.List.{list_all, AllByRecursion}
 use Rattle.std.proofs.lemmas.Bool.Decides.{nat_tests}
 use Rattle.wf_text.specs.declared.place.Place.{Place}
-use Rattle.wf_text.specs.Surface as surface
-use Rattle.wf_text.specs.Surface.{AnswerKind}
 use Rattle.wf_base.specs.declared.base_methods.ReadForm.{ReadForm}
 use Rattle.wf_base.specs.declared.base_methods.ReadForm.TheVariants.{ReadU8, ReadU16Be, ReadU16Le, ReadU32Be, ReadU32Le, ReadU64Be, ReadU64Le}
 use Rattle.wf_base.specs.BaseTable.{bits_of, bytes_of, read_width}
@@ -14,37 +12,36 @@ use Rattle.wf_base.specs.declared.marks.Mark.{Mark}
 use Rattle.wf_base.specs.declared.marks.Mark.TheVariants.{Pure, Impure, Coroutine}
 use Rattle.wf_ast.specs.declared.types.Ty.{Ty}
 use Rattle.wf_ast.specs.declared.types.Ty.TheVariants as types
-use Rattle.wf_ast.specs.TypedPackage.{Variable, MethodTree, PackageTree, kind_of, answers_of, answer_kind}
-use Rattle.wf_ast.specs.TypedTree.{Path, local, field, arg, NumType, Arith, plus, minus, times, divided, remainder, shift_left, shift_right, bits_and, bits_or, bits_xor, mod_plus, mod_minus, mod_times, mod_shift_left, sat_plus, sat_minus, Question, reader_length, reader_position, peek, writer_length, writer_position, NumTree, number, read, element, link, convert, length_of, asked, SliceTree, slice, array, cut, EndTree, absent, present, CondTree, truth, flag, compare, same_status, junction, negation, closed, has_category, ValueTree, numeric, logical, state, elements, io, lost, StatusTree, status, held, no_status, Target, to_number, to_element, to_flag, to_status, to_slice, to_nothing, Awaited, take_number, skip, write, Written, skip_fast, write_fast, copy_to_writer, copy_to_slice, Called, own, sub, Simple, assign, await, perform, invoke, break_from, continue_in, give_back, yield, claim, Site, Block, end, plain, choose, loop}
-use Rattle.wf_ast.specs.WellTyped.{Context, type_at, is_width, is_range, is_number, is_array, is_slice, is_flag, is_status, is_reader, is_writer, may_ask, may_go_into, fits, is_shift, continues, same_num_type, is_unrefined, is_whole_number, element_type, well_num, well_part, well_slice, well_end, well_status, well_cond, slice_of, fits_type, fit_types, is_coroutine, is_pure, may_write, takes, well_assigned, is_operator, has_none, is_status_target, takes_bits, well_awaited, well_written, takes_answer, same_mark, calls_method, number_of, well_invoked, well_returned, well_simple, breaks, well_block, calls_only, is_suspension, may_be_arg, may_be_result}
+use Rattle.wf_ast.specs.TypedPackage.{Variable, MethodTree, kind_of, answers_of, answer_kind}
+use Rattle.wf_ast.specs.TypedTree.{Path, local, field, arg, NumType, Arith, plus, minus, times, divided, remainder, shift_left, shift_right, bits_and, bits_or, bits_xor, mod_plus, mod_minus, mod_times, mod_shift_left, sat_plus, sat_minus, Question, reader_length, reader_position, peek, writer_length, writer_position, NumTree, number, read, element, link, convert, length_of, asked, SliceTree, slice, array, cut, EndTree, absent, present, CondTree, truth, flag, compare, same_status, junction, negation, closed, has_category, ValueTree, numeric, logical, state, elements, io, lost, StatusTree, status, held, no_status, Target, to_number, to_element, to_flag, to_status, to_slice, to_nothing, Awaited, take_number, skip, write, Written, skip_fast, write_fast, copy_to_writer, copy_to_slice, Called, Simple, assign, await, perform, invoke, break_from, continue_in, give_back, yield, claim, Site, Block, end, plain, choose, loop}
+use Rattle.wf_ast.specs.WellTyped.{Context, type_at, is_width, is_range, is_number, is_slice, is_flag, is_status, is_reader, is_writer, may_go_into, fits, is_shift, continues, same_num_type, is_unrefined, is_whole_number, element_type, well_num, well_part, well_slice, well_end, well_status, well_cond, slice_of, fits_type, fit_types, is_coroutine, is_pure, may_write, takes, well_assigned, is_operator, has_none, is_status_target, takes_bits, well_awaited, well_written, takes_answer, same_mark, calls_method, number_of, well_invoked, well_returned, well_simple, breaks, well_block, calls_only, is_suspension, may_be_arg, may_be_result}
 use Rattle.wf_ast.proofs.Arena.{both_true}
 use Rattle.wf_meaning.specs.Entry.{short_read, short_write, cannot_suspend}
 use Rattle.wf_meaning.specs.Remaining.{is_point, hands_on}
-use Rattle.c_text.specs.declared.kinds.CUint.TheVariants.{U8, U16, U64}
+use Rattle.c_text.specs.declared.kinds.CUint.TheVariants.{U8, U64}
 use Rattle.c_text.specs.declared.kinds.COp.TheVariants.{Add, Sub, Mul, Shl, Lt, Gt, Ge, Eq, Both}
-use Rattle.c_text.specs.declared.kinds.CUnary.TheVariants.{Address}
 use Rattle.c_text.specs.declared.kinds.CNumber.TheVariants.{Int}
 use Rattle.c_text.specs.CTree.{TypeTree, uint, size, boolean, uint_pointer, struct_pointer, text, ExprTree, variable, member, Code, finish, empty, leave, case_label, name_label, ParamTree}
 use Rattle.c_text.specs.CTree as c_tree
-use Rattle.c_meaning.specs.CTypes.{Scope, Function, ExprType, points_to, cell, object, byte, one, is_numeric, assignable, passable, type_of, held_of, arg_types, function_named, io_buffer, held_type, value_type, promoted, numbers}
+use Rattle.c_meaning.specs.CTypes.{Scope, Function, points_to, object, byte, one, assignable, passable, type_of, held_of, arg_types, function_named, io_buffer, held_type, value_type, promoted, numbers}
 use Rattle.wf_num.specs.declared.c_arithmetic.CTy.TheVariants as ctys
-use Rattle.c_meaning.specs.CStep.{Callee, callee_of, own as own_function, memory_move}
-use Rattle.c_meaning.specs.UnitForm.{uint_of as form_uint, Checked, has_type, may_assign, formed_return, formed_call, is_called, may_keep, answer_type, arg_params, args_params}
-use Rattle.wf_exprs.specs.Names.{Names, local_name, local_pointer, local_length, field_name, point_field, saved_field, held_field, count_field, struct_type, again_label, behind_label}
-use Rattle.wf_exprs.specs.Words.{num, uint_of, width_of, two, self, of_self, args}
-use Rattle.wf_exprs.specs.Exprs.{Pair, path_code, lowered, lowered_expr, lowered_slice, given, lowered_status, lowered_cond, status_constant, begins_with, io_code, place_code, end_code, bytes_code, there}
+use Rattle.c_meaning.specs.CStep.{Callee, callee_of, own as own_function}
+use Rattle.c_meaning.specs.UnitForm.{uint_of as form_uint, Checked, has_type, formed_return, formed_call, is_called, may_keep, answer_type, arg_params, args_params}
+use Rattle.wf_exprs.specs.Names.{local_pointer, local_length, point_field, held_field, count_field, struct_type, again_label, behind_label}
+use Rattle.wf_exprs.specs.Words.{num, uint_of, width_of, two, of_self, args}
+use Rattle.wf_exprs.specs.Exprs.{path_code, lowered_expr, lowered_slice, given, lowered_status, lowered_cond, status_constant, begins_with, io_code, place_code, end_code, bytes_code, there}
 use Rattle.wf_exprs.specs.Reads.{expr_reads, code_reads}
-use Rattle.wf_lower_stmts.specs.Forms.{Form, status_local, got_local, size_local, held_local, count_local, is_io, is_kept, local_code, saved_code, stays, holds_something, counts_bytes, keeps, place_in, end_of, when, put, get, put_all, save_locals, restore_locals, save_held, save_count, save_started, give, suspend, resume_here}
+use Rattle.wf_lower_stmts.specs.Forms.{Form, status_local, got_local, size_local, held_local, count_local, is_io, is_kept, local_code, saved_code, stays, holds_something, counts_bytes, keeps, place_in, end_of, when, put, get, save_locals, restore_locals, save_count, save_started, give, suspend, resume_here}
 use Rattle.wf_lower_stmts.specs.Lower.{lower, continues as continues_in, again_here, behind_here, other_kind, ending, ending_of, has_result, tail_of, top}
-use Rattle.wf_lower_stmts.specs.Statements.{target_code, put_into, set_slice, set_value, step_on, next_byte, is_used_up, is_big_endian, with_byte, take_byte, take_bytes, written_byte, begun_call, awoken_call, slice_bits, bytes_for, least_size, move, lower_written, value_codes, values_codes, is_passed, receiver_code, callee_name, answer_local, is_wanted, call_into, hand_on, put_result, lower_call, handed_call, plain_call, give_status, give_value, begun, awoken, lower_point, lower_plain, lower_simple, is_suspension as is_held_back}
+use Rattle.wf_lower_stmts.specs.Statements.{put_into, set_slice, set_value, step_on, next_byte, is_used_up, is_big_endian, with_byte, take_byte, take_bytes, written_byte, begun_call, awoken_call, slice_bits, bytes_for, least_size, move, lower_written, value_codes, values_codes, is_passed, receiver_code, callee_name, answer_local, is_wanted, call_into, hand_on, put_result, handed_call, plain_call, give_status, give_value, lower_point, lower_plain, lower_simple, is_suspension as is_held_back}
 use Rattle.wf_lower.specs.Bodies.{params_of, result_of}
 use Rattle.wf_lower_laws.specs.KindLaw.{IsNum, IsPointer, IsText, Declares, KeepKinds, has_op, has_question, num_served, slice_served, end_served, status_served, cond_served}
 use Rattle.wf_lower_laws.proofs.Apart.{left_or, right_or}
 use Rattle.wf_lower_laws.proofs.Names.{both_hold}
-use Rattle.wf_lower_laws.proofs.ExprKinds.{expressions_keep_kinds, num_kind, two_kind, cast_kind, plus_kind, begins_at, begins_kind}
+use Rattle.wf_lower_laws.proofs.ExprKinds.{expressions_keep_kinds, num_kind, two_kind, cast_kind, plus_kind, begins_kind}
 use Rattle.wf_lower_laws.proofs.Frames.{same_bytes, is_variable, is_result_of}
 use Rattle.wf_lower_laws.proofs.Straight.{straight_reads, gets}
-use Rattle.wf_lower_laws.proofs.CodeTypes.{Fits, num_fits, text_fits, pointer_fits, same_width, Cell, NumCell, variable_num, member_num, CodeOk, ok_finish, ok_if, ok_assign, ok_number, ok_read, ok_leave, ok_branch, ok_when, ok_repeat, ok_jump, ok_empty, ok_case, ok_label, ok_call, ok_when_assigned, num_typed, num_counts, fits_typed}
+use Rattle.wf_lower_laws.proofs.CodeTypes.{Fits, num_fits, text_fits, pointer_fits, Cell, NumCell, variable_num, CodeOk, ok_finish, ok_if, ok_assign, ok_number, ok_read, ok_leave, ok_branch, ok_when, ok_repeat, ok_jump, ok_empty, ok_case, ok_label, ok_call, ok_when_assigned, num_typed, num_counts, fits_typed}
 
 -- ---- all that an expression uses is there
 

@@ -48,8 +48,8 @@ pub fn names_of_items_differ()
     ensures { ItemsNameApart }
 {}
 
-/// The text of a package that keeps the rules of types has each function of the package's surface, with its signature, and each
-/// public struct, and no other items of these names, where names are as above.
+/// In the text of a package that keeps the rules of types, and whose names of items are as above, each item with the name of one of
+/// the surface's functions or structs is as the surface has it, and each function of the surface is there.
 pub fn texts_meet_their_surfaces()
     ensures { TextsMeetSurfaces }
 {}
@@ -61,9 +61,9 @@ pub fn a_text_has_the_unit_form_where_typed()
     ensures { TextsAreFormed }
 {}
 
-/// Each item but the first of the text of a package that keeps the rules of types has the types that C asks of it, behind the items in front of it:
-/// fields, parameters, locals and statements. Names are as above; the fields of each struct differ, and so do its methods, whose
-/// names have no two `_` in a row; each array has fewer than 2^31 elements; and the statuses of the language are there.
+/// Each item but the first of the text of a package that keeps the rules of types has the types that C asks of it, after the items
+/// before it: fields, parameters, locals and statements. Names are as above; the fields of each struct differ, and so do its
+/// methods, whose names have no two `_` in a row; each array has fewer than 2^31 elements; and the statuses of the language are there.
 pub fn items_of_a_text_are_typed()
     ensures { TextsAreTyped }
 {}
