@@ -1,5 +1,5 @@
 -- Which names of a package that is read and keeps the rules of names differ in its typed tree.
-use Rattle.std.proofs.Common.{◌≡◌, ◌+◌, ◌<◌, ◌≤◌, ℕ, zero, suc, Bool, true, false, List, [], ◌∷◌, ◌++◌, map, Option, Some, None, slice_get, nat_eq, nat_lt, refl, sym, ap, ◌∙◌, subst, arith}
+use Rattle.std.proofs.Common.{◌≡◌, ◌⊎◌, inl, inr, ◌+◌, ◌<◌, ◌≤◌, ℕ, zero, suc, Bool, true, false, List, [], ◌∷◌, ◌++◌, map, Option, Some, None, slice_get, nat_eq, nat_lt, refl, sym, ap, ◌∙◌, subst, arith}
 use Rattle.std.specs.Prelude.{cond, if◌then◌else◌}
 use Rattle.std.specs.List.{AllByRecursion, flat_map, position_from}
 use Rattle.std.proofs.lemmas.Bool.Decides.{nat_tests}
@@ -8,7 +8,7 @@ use Rattle.wf_text.specs.declared.rules.Rule.TheVariants.{N3}
 use Rattle.wf_ast.specs.declared.numbers.TextId.{TextId}
 use Rattle.wf_ast.specs.declared.parsed.Name.{Name}
 use Rattle.wf_ast.specs.declared.parsed.WrittenMark.{WrittenMark}
-use Rattle.wf_ast.specs.ParsedParts.{AreDistinct}
+use Rattle.wf_ast.specs.ParsedParts.{Parsed, AreDistinct}
 use Rattle.wf_ast.specs.ParsedTree as parsed
 use Rattle.wf_ast.specs.ParsedTree.{DeclTree}
 use Rattle.wf_ast.specs.TypedPackage.{StructTree, MethodTree}
@@ -30,7 +30,7 @@ use Rattle.wf_typed_tree.specs.ElaboratedPackage.{typed_variable, typed_struct, 
 use Rattle.wf_typed_tree.specs.ElaboratedStmts.{count_block}
 use Rattle.wf_typed_laws.specs.ApartNames.{names_of, HasApartNames, ReadNamesAreApart}
 use Rattle.wf_typed_laws.proofs.ListLemmas.{all-from, all-mapped}
-use Rattle.wf_typed_laws.proofs.ReadNames.{names-spelt}
+use Rattle.wf_typed_laws.proofs.ReadNames.{IsSpelt, names-spelt}
 use Rattle.wf_typed_laws.proofs.KeptNames.{VariablesHave, StructureHas, MethodHas}
 use Rattle.wf_typed_laws.proofs.TypedNames.{NameIsSpelt, spelt-structs, spelt-methods}
 
