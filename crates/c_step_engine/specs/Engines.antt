@@ -8,6 +8,8 @@ use Rattle.wf_text.specs.Seen as answer
 use Rattle.wf_base.specs.HostRun.{Host, HostCall, Response, answers, needs_more, not_defined}
 use Rattle.wf_bufs.specs.declared.outcomes.Outcome.{Outcome}
 use Rattle.wf_bufs.specs.declared.outcomes.Outcome.TheVariants.{Status, Num, Flag, Nothing}
+use Rattle.wf_bufs.specs.declared.outcomes.Reply.{Reply}
+use Rattle.wf_bufs.specs.declared.outcomes.Reply.TheVariants.{Done, Turns, Undefined}
 use Rattle.wf_bufs.specs.EngineLaw.{Gives, done, turns, undefined}
 use Rattle.c_text.specs.CTree.{ItemTree}
 use Rattle.c_meaning.specs.CMemory.{Memory}
@@ -58,3 +60,9 @@ call_gives state called host within = given state.loaded.surface (after_call sta
 -- The state of an engine that has been loaded: all receivers are zero, and nothing has run.
 abbrev pub first_state : List ItemTree → Surface → List Receiver → EngineState
 first_state items surface receivers = record { loaded = loaded (program_of items) surface receivers; memory = (made (program_of items) surface receivers).memory; stopped = false }
+
+-- Something holds where there is an outcome.
+abbrev pub OnDone : Reply → Type 0 → Type 0
+OnDone (Done outcome) holds = holds
+OnDone Turns holds = Unit {0}
+OnDone Undefined holds = Unit {0}

@@ -8,8 +8,8 @@ ghost use Rattle.c_mem.specs.MemoryViews.{memory};
 ghost use Rattle.c_step_exprs.specs.Resolving.{function_number};
 ghost use Rattle.c_step_exprs.specs.Stacks.{on_stack, most};
 ghost use Rattle.c_step_run.specs.Coding.{AreCoded};
-ghost use Rattle.c_step_run.specs.Ready.{CanEnter};
-ghost use Rattle.c_step_engine.specs.Engines.{given};
+ghost use Rattle.c_step_run.specs.Ready.{CanEnter, KeepsShape};
+ghost use Rattle.c_step_engine.specs.Engines.{given, OnDone};
 ghost use Rattle.c_step_engine.specs.Statuses.{AreStatuses};
 
 use crate::answers::answer;
@@ -32,7 +32,8 @@ pub fn init_by_host(
     requires ready { IfSome at (λ it. CanEnter code.now it st.old) }
     requires empty { on_stack st.old.stack ≡ [] }
     requires room { 1 ≤ most st.old.stack }
-    ensures { (it : Loaded) (s : PublicStruct) → option_map (λ a. a.own) at ≡ function_number it.program.functions (initialize_name it.surface s)
+    ensures keeps { OnDone result (KeepsShape st.old st.new) }
+    ensures gives { (it : Loaded) (s : PublicStruct) → option_map (λ a. a.own) at ≡ function_number it.program.functions (initialize_name it.surface s)
         → slice_get it.surface.statuses 0 ≡ Some [] → AreStatuses it.program it.surface statuses.now
         → AreCoded code.now st.old.frames.items st.old.args.items it.program it.program.functions
         → Replies (given it.surface (λ m. m) (init_of it (memory st.old.mem) s receiver turns)) result (memory st.new.mem) }

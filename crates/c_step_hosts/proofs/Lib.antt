@@ -6,4 +6,5 @@ pub mod Taken
 pub mod Around
 pub mod Back
 pub mod Backs
+pub mod Sizes
 pub mod Left

@@ -11,7 +11,7 @@ use Rattle.c_meaning.specs.CMemory.{cells, part, Object, Memory, cells_of, is_se
 use Rattle.c_meaning.specs.CRun.{bytes_object, bytes_pointer, number_in, numbers_in, keeps_pointer, bytes_in, field_cell, lawful_buffer, buffer_left}
 use Rattle.c_meaning.specs.Typed.{of_cells, object_shape}
 use Rattle.c_mem.specs.FieldParts.{is_byte, has_bytes}
-use Rattle.c_step_hosts.specs.Taking.{indices_left, buffer_with, Gives}
+use Rattle.c_step_hosts.specs.Taking.{indices_left, buffer_with, Gives, HasShape}
 use Rattle.c_step_hosts.specs.declared.taking.Indices.{Indices}
 
 numbers_of : (xs : List ℕ) → numbers_in (map (λ n. num n) xs) ≡ Some xs
@@ -52,6 +52,30 @@ length_cells (x ∷ xs) = ap suc (length_cells xs)
 
 pub same_size : (a b : List ℕ) → object_shape (bytes_object a) ≡ object_shape (bytes_object b) → length a ≡ length b
 same_size a b e = let n : length (map (λ n. num n) a) ≡ length (map (λ n. num n) b) = cc (e) in sym (length_cells a) ∙ (n ∙ length_cells b)
+
+numbers_length : (cs : List Cell) (ns : List ℕ) → numbers_in cs ≡ Some ns → length ns ≡ length cs
+numbers_length [] ns e = let s : [] ≡ ns = cc (e) in ap (λ (xs : List ℕ). length xs) (sym s)
+numbers_length (num n ∷ cs) ns e = by (numbers_in cs) (numbers_length cs) e
+  where
+    by : (o : Option (List ℕ)) → ((ms : List ℕ) → o ≡ Some ms → length ms ≡ length cs) → option_map (λ (ms : List ℕ). n ∷ ms) o ≡ Some ns → length ns ≡ suc (length cs)
+    by None h e = absurd (cc (e))
+    by (Some ms) h e = let s : n ∷ ms ≡ ns = cc (e) in ap (λ (xs : List ℕ). length xs) (sym s) ∙ ap suc (h ms refl)
+numbers_length (null ∷ cs) ns e = absurd (cc (e))
+numbers_length (at p ∷ cs) ns e = absurd (cc (e))
+numbers_length (unset ∷ cs) ns e = absurd (cc (e))
+
+length_kept : (o : Object) (was them : List ℕ) → object_shape o ≡ object_shape (bytes_object was) → bytes_of (Some o) ≡ Some them → length them ≡ length was
+unfolding bytes_of
+length_kept [] was them s e = absurd (cc (s))
+length_kept (cells type cs ∷ []) was them s e =
+    let n : length cs ≡ length (map (λ n. num n) was) = cc (s) in
+    numbers_length cs them e ∙ (n ∙ length_cells was)
+length_kept (part k ∷ []) was them s e = absurd (cc (s))
+length_kept (f ∷ g ∷ fs) was them s e = absurd (cc (s))
+
+pub bytes_sized : (memory : Memory) (object : ℕ) (was them : List ℕ) → HasShape memory object was → bytes_in memory object ≡ Some them → length them ≡ length was
+unfolding bytes_of
+bytes_sized memory object was them s e = length_kept s.0 was them s.2 (sym (ap bytes_of s.1) ∙ e)
 
 same_start : (a b : List ℕ) (object : ℕ) → length a ≡ length b → bytes_pointer a object ≡ bytes_pointer b object
 same_start [] [] object e = refl

@@ -254,7 +254,7 @@ pub fn take_back(
     requires apart { places.buffer + length args.now ≤ places.bytes }
     requires numbers { places.bytes + length args.now < 2 ^ 64 }
     ensures host { (was : Host) → host_of host.old ≡ all_lent (map arg_of args.now) was → HaveShapes (memory mem.old) places.bytes was (map arg_of args.now)
-        → Gives (args_left (memory mem.old) places.buffer places.bytes (map arg_of args.now) was) result (λ left. (host_of host.new ≡ left) × HaveBytesBetween places.bytes (places.bytes + length args.now) (memory mem.new)) }
+        → Gives (args_left (memory mem.old) places.buffer places.bytes (map arg_of args.now) was) result (λ left. (host_of host.new ≡ left) × SameSizes was left × HaveBytesBetween places.bytes (places.bytes + length args.now) (memory mem.new)) }
     ensures below { MatchBool result (take places.bytes (memory mem.new) ≡ take places.bytes (memory mem.old)) (Unit {0}) }
     ensures count { MatchBool result (length (memory mem.new) ≡ length (memory mem.old)) (Unit {0}) }
     ensures room { (more : ℕ) → HasRoom mem.old more → HasRoom mem.new more }

@@ -9,6 +9,7 @@ use Rattle.c_step_hosts.specs.Taking.{HaveBytesBetween}
 use Rattle.c_step_hosts.proofs.Steps.{next_there}
 use Rattle.c_step_hosts.proofs.Back.{below_back, as_long_back}
 use Rattle.c_step_hosts.proofs.Backs.{rest_distinct, takes_next, next_none, all_taken}
+use Rattle.c_step_hosts.proofs.Sizes.{args_sized}
 use Rattle.c_step_hosts.proofs.taking.take_back.Goals as goal
 
 pub loop-arg-init : goal.loop-arg-init
@@ -73,4 +74,5 @@ returns-clause-host c = λ was e s.
     let i = c.loop-arg.invariant in
     let r = all_taken _ c.args.places.bytes (memory c.loop-arg.mem) c.loop-arg.io c.loop-arg.object (host_of c.loop-arg.host) c.args.args.now c.loop-arg.arg-index (omega (arith, c.loop-arg-test.false)) (i.taken was e s) in
     let n : c.loop-arg.object ≡ c.args.places.bytes + length c.args.args.now = omega (arith, i.object, c.loop-arg-test.false, c.loop-arg.auto.arg-index-end) in
-    (host_of c.loop-arg.host, r.0, (refl, subst (λ (m : ℕ). HaveBytesBetween c.args.places.bytes m (memory c.loop-arg.mem)) n r.1))
+    let sizes = args_sized (memory c.args.mem.now) c.args.places.buffer c.args.places.bytes (map arg_of c.args.args.now) was (host_of c.loop-arg.host) c.requires.buffers c.requires.arrays s r.0 in
+    (host_of c.loop-arg.host, r.0, (refl, sizes, subst (λ (m : ℕ). HaveBytesBetween c.args.places.bytes m (memory c.loop-arg.mem)) n r.1))
