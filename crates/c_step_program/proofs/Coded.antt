@@ -79,28 +79,28 @@ without_last p f fs c all h = record {
 }
 
 -- There is one entry for each function.
-as_many_functions : (p : Program) (fs : List Function) → length (code_of p fs).functions ≡ length fs
+pub as_many_functions : (p : Program) (fs : List Function) → length (code_of p fs).functions ≡ length fs
 as_many_functions p [] = refl
 as_many_functions p (f ∷ fs) = length-append (code_of p fs).functions (func_of p f (code_of p fs) ∷ []) ∙ one_on (length (code_of p fs).functions) (length fs) (as_many_functions p fs)
   where
     one_on : (n k : ℕ) → n ≡ k → n + length (func_of p f (code_of p fs) ∷ []) ≡ suc k
     one_on n k e = omega (arith, e)
 
-as_many_frames : (fs : List Function) → length (frames_of fs) ≡ length fs
+pub as_many_frames : (fs : List Function) → length (frames_of fs) ≡ length fs
 as_many_frames [] = refl
 as_many_frames (f ∷ fs) = length-append (frames_of fs) (frame_of f ∷ []) ∙ one_on (length (frames_of fs)) (length fs) (as_many_frames fs)
   where
     one_on : (n k : ℕ) → n ≡ k → n + length (frame_of f ∷ []) ≡ suc k
     one_on n k e = omega (arith, e)
 
-as_many_args : (fs : List Function) → length (all_args fs) ≡ length fs
+pub as_many_args : (fs : List Function) → length (all_args fs) ≡ length fs
 as_many_args [] = refl
 as_many_args (f ∷ fs) = length-append (all_args fs) (args_of f ∷ []) ∙ one_on (length (all_args fs)) (length fs) (as_many_args fs)
   where
     one_on : (n k : ℕ) → n ≡ k → n + length (args_of f ∷ []) ≡ suc k
     one_on n k e = omega (arith, e)
 
-as_many_initials : (scope : Scope) (field place : ℕ) (ls : List LocalTree) → length (initials_of scope field place ls) ≡ length ls
+pub as_many_initials : (scope : Scope) (field place : ℕ) (ls : List LocalTree) → length (initials_of scope field place ls) ≡ length ls
 as_many_initials scope field place [] = refl
 as_many_initials scope field place (l ∷ ls) = ap suc (as_many_initials scope (field + 1) (place + length (initial_exprs_of scope l.initial)) ls)
 
@@ -123,43 +123,46 @@ a_value t scope place None type h = refl
 a_value t scope place (Some v) None h = refl
 a_value t scope place (Some v) (Some ty) h = (at_range t.exprs place (value_code scope v) (h v ty refl refl), refl)
 
+-- A body that returns a value is one `return`.
+pub one_return : (body : Code) (x : ExprTree) → returned body ≡ Some x → body ≡ leave (Some x) finish
+one_return (leave None finish) x e = absurd (cc (e))
+one_return (leave (Some v) finish) x e = let s : v ≡ x = cc (e) in ap (λ (y : ExprTree). leave (Some y) finish) s
+one_return (leave value (nested a b)) x e = absurd (cc (e))
+one_return (leave value (empty a)) x e = absurd (cc (e))
+one_return (leave value (assign a b d)) x e = absurd (cc (e))
+one_return (leave value (call a b d g)) x e = absurd (cc (e))
+one_return (leave value (jump a b)) x e = absurd (cc (e))
+one_return (leave value (branch a b d g k)) x e = absurd (cc (e))
+one_return (leave value (repeat a b d)) x e = absurd (cc (e))
+one_return (leave value (select a b d)) x e = absurd (cc (e))
+one_return (leave value (leave a b)) x e = absurd (cc (e))
+one_return (leave value (case_label a b)) x e = absurd (cc (e))
+one_return (leave value (default_label a)) x e = absurd (cc (e))
+one_return (leave value (name_label a b)) x e = absurd (cc (e))
+one_return finish x e = absurd (cc (e))
+one_return (nested a b) x e = absurd (cc (e))
+one_return (empty a) x e = absurd (cc (e))
+one_return (assign a b d) x e = absurd (cc (e))
+one_return (call a b d g) x e = absurd (cc (e))
+one_return (jump a b) x e = absurd (cc (e))
+one_return (branch a b d g k) x e = absurd (cc (e))
+one_return (repeat a b d) x e = absurd (cc (e))
+one_return (select a b d) x e = absurd (cc (e))
+one_return (case_label a b) x e = absurd (cc (e))
+one_return (default_label a) x e = absurd (cc (e))
+one_return (name_label a b) x e = absurd (cc (e))
+
 returned_stands : (all : List Instr) (names : Names) (place : ℕ) (body : Code) (x : ExprTree) (ty : TypeTree) → returned body ≡ Some x → names.result_type ≡ Some ty → StandAt all place (exprs_of names body) → StandAt all place (value_code names.scope x)
-returned_stands all names place (leave None finish) x ty e r h = absurd (cc (e))
-returned_stands all names place (leave (Some v) finish) x ty e r h =
-    let s : v ≡ x = cc (e) in
-    subst (λ (y : ExprTree). StandAt all place (value_code names.scope y)) s
-    (subst (λ (o : Option TypeTree). StandAt all place (return_exprs names o (Some v))) r (at_left all place (return_exprs names names.result_type (Some v)) [] h))
-returned_stands all names place (leave value (nested a b)) x ty e r h = absurd (cc (e))
-returned_stands all names place (leave value (empty a)) x ty e r h = absurd (cc (e))
-returned_stands all names place (leave value (assign a b d)) x ty e r h = absurd (cc (e))
-returned_stands all names place (leave value (call a b d g)) x ty e r h = absurd (cc (e))
-returned_stands all names place (leave value (jump a b)) x ty e r h = absurd (cc (e))
-returned_stands all names place (leave value (branch a b d g k)) x ty e r h = absurd (cc (e))
-returned_stands all names place (leave value (repeat a b d)) x ty e r h = absurd (cc (e))
-returned_stands all names place (leave value (select a b d)) x ty e r h = absurd (cc (e))
-returned_stands all names place (leave value (leave a b)) x ty e r h = absurd (cc (e))
-returned_stands all names place (leave value (case_label a b)) x ty e r h = absurd (cc (e))
-returned_stands all names place (leave value (default_label a)) x ty e r h = absurd (cc (e))
-returned_stands all names place (leave value (name_label a b)) x ty e r h = absurd (cc (e))
-returned_stands all names place finish x ty e r h = absurd (cc (e))
-returned_stands all names place (nested a b) x ty e r h = absurd (cc (e))
-returned_stands all names place (empty a) x ty e r h = absurd (cc (e))
-returned_stands all names place (assign a b d) x ty e r h = absurd (cc (e))
-returned_stands all names place (call a b d g) x ty e r h = absurd (cc (e))
-returned_stands all names place (jump a b) x ty e r h = absurd (cc (e))
-returned_stands all names place (branch a b d g k) x ty e r h = absurd (cc (e))
-returned_stands all names place (repeat a b d) x ty e r h = absurd (cc (e))
-returned_stands all names place (select a b d) x ty e r h = absurd (cc (e))
-returned_stands all names place (case_label a b) x ty e r h = absurd (cc (e))
-returned_stands all names place (default_label a) x ty e r h = absurd (cc (e))
-returned_stands all names place (name_label a b) x ty e r h = absurd (cc (e))
+returned_stands all names place body x ty e r h =
+    let one : StandAt all place (exprs_of names (leave (Some x) finish)) = subst (λ (b : Code). StandAt all place (exprs_of names b)) (one_return body x e) h in
+    subst (λ (o : Option TypeTree). StandAt all place (return_exprs names o (Some x))) r (at_left all place (return_exprs names names.result_type (Some x)) [] one)
 
 -- Names that no function in front has.
 none_if : (b : Bool) (n : ℕ) (o : Option ℕ) → (if b then Some n else o) ≡ None → o ≡ None
 none_if true n o e = absurd (cc (e))
 none_if false n o e = e
 
-none_in : (front fs : List Function) (name : List ℕ) → function_number (front ++ fs) name ≡ None → function_number fs name ≡ None
+pub none_in : (front fs : List Function) (name : List ℕ) → function_number (front ++ fs) name ≡ None → function_number fs name ≡ None
 none_in [] fs name e = e
 none_in (f ∷ front) fs name e = none_in front fs name (none_if (bytes_eq f.name name) (length (front ++ fs)) (function_number (front ++ fs) name) e)
 
@@ -218,7 +221,7 @@ pub program_coded : (p : Program) → AreApart p.functions → AreCoded (code_of
 program_coded p h = all_coded p (code_of p p.functions) (frames_of p.functions) (all_args p.functions) p.functions [] refl h (begins_all (code_of p p.functions)) (begins_self (frames_of p.functions)) (begins_self (all_args p.functions))
 
 -- Ranks.
-inlines_append : (xs ys : List Func) → inlines (xs ++ ys) ≡ inlines xs + inlines ys
+pub inlines_append : (xs ys : List Func) → inlines (xs ++ ys) ≡ inlines xs + inlines ys
 inlines_append [] ys = omega arith
 inlines_append (x ∷ xs) ys = let e : inlines (xs ++ ys) ≡ inlines xs + inlines ys = inlines_append xs ys in omega (arith, e)
 
@@ -237,7 +240,7 @@ in_or_last (z ∷ zs) y (suc i) x e = further (in_or_last zs y i x e)
     further (inside h) = inside h
     further (last h k) = last (ap suc h) k
 
-rank_most : (p : Program) (fs : List Function) (i : ℕ) (x : Func) → slice_get (code_of p fs).functions i ≡ Some x → x.rank + one_if_inline x.inline ≤ inlines (code_of p fs).functions
+pub rank_most : (p : Program) (fs : List Function) (i : ℕ) (x : Func) → slice_get (code_of p fs).functions i ≡ Some x → x.rank + one_if_inline x.inline ≤ inlines (code_of p fs).functions
 rank_most p [] i x e = absurd (cc (e))
 rank_most p (f ∷ fs) i x e = by_place (rank_most p fs i x) (in_or_last (code_of p fs).functions (func_of p f (code_of p fs)) i x e)
   where

@@ -45,10 +45,10 @@ module _ {X : Type 0} (key : X → List ℕ) where
           ∙ sym (end_first name xs y (none_first name xs (subst (λ (n : List ℕ). NoneOf n xs) s h)) ∙ ap (λ (c : Bool). if c then Some y else None) t)
       by_test false t = ap (λ (c : Bool). if c then Some y else first name (reverse xs)) t ∙ (e ∙ sym (front_first name xs y t))
 
-abbrev struct_key : StructDecl → List ℕ
+abbrev pub struct_key : StructDecl → List ℕ
 struct_key s = s.name
 
-abbrev function_key : Function → List ℕ
+abbrev pub function_key : Function → List ℕ
 function_key f = f.name
 
 none_structs : (name : List ℕ) (items : List ItemTree) → is_among (map item_name items) name ≡ false → NoneOf struct_key name (structs_of items)
@@ -74,9 +74,9 @@ structs_append (text_item n bytes ∷ xs) ys = structs_append xs ys
 structs_append (function_item linkage type n params locals body ∷ xs) ys = structs_append xs ys
 
 -- Look-ups are the same from either end.
-record Alike (items : List ItemTree) : Type 0 where
-  structs : (name : List ℕ) → first struct_key name (reverse (structs_of items)) ≡ first struct_key name (structs_of items)
-  functions : (name : List ℕ) → first function_key name (reverse (functions_of items)) ≡ first function_key name (functions_of items)
+pub record Alike (items : List ItemTree) : Type 0 where
+  pub structs : (name : List ℕ) → first struct_key name (reverse (structs_of items)) ≡ first struct_key name (structs_of items)
+  pub functions : (name : List ℕ) → first function_key name (reverse (functions_of items)) ≡ first function_key name (functions_of items)
 
 module _ (before : List ItemTree) (h : Alike before) where
   same_structs : (item : ItemTree) → structs_of (before ++ item ∷ []) ≡ structs_of before → (name : List ℕ) → first struct_key name (reverse (structs_of (before ++ item ∷ []))) ≡ first struct_key name (structs_of (before ++ item ∷ []))
@@ -187,9 +187,12 @@ module _ (s t : Scope) (agree : Agree s t) where
     same_args (expr_arg e others) = ap (λ (o : Option ExprType). o ∷ arg_types s others) (same_type e) ∙ ap (λ (os : List (Option ExprType)). type_of t e ∷ os) (same_args others)
     same_args (sizeof_arg name others) = ap (λ (os : List (Option ExprType)). None ∷ os) (same_args others)
 
+pub alike_items : (p : Surface) (items : List ItemTree) → HasUnitForm p items → Alike items
+alike_items p items h = alike_from p [] items items h (record { structs = λ name. refl; functions = λ name. refl })
+
 program_agrees : (p : Surface) (items : List ItemTree) (f : Function) → HasUnitForm p items → Agree (scope_in (program_of items) f) (scope_of items (names_of f))
 program_agrees p items f h =
-    let a : Alike items = alike_from p [] items items h (record { structs = λ name. refl; functions = λ name. refl }) in
+    let a : Alike items = alike_items p items h in
     record { structs = a.structs; functions = a.functions; names = refl; texts = refl }
 
 pub program_type : (p : Surface) (items : List ItemTree) (f : Function) → HasUnitForm p items → (e : ExprTree) → type_of (scope_in (program_of items) f) e ≡ type_of (scope_of items (names_of f)) e

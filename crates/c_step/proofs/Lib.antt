@@ -1,0 +1,3 @@
+pub mod KnownLaws
+pub mod LoaderLaws
+pub mod MachineLaws

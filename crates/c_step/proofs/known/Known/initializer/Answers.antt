@@ -1,0 +1,15 @@
+use Rattle.std.proofs.Common.{Some, None}
+use Rattle.c_step_tables.proofs.TableLaws.{struct_alike}
+use Rattle.c_step.specs.Machines.{loaded_of}
+use Rattle.c_step.proofs.KnownLaws.{initializer_found, is_declared}
+use Rattle.c_step.proofs.known.Known.initializer.Goals as goal
+
+pub returns-in-Some : goal.returns-in-Some
+returns-in-Some c =
+    let k = c.args.self.now in
+    initializer_found k c.args.receiver c.receiver.result c.receiver.ensures c.in-Some.it.now (struct_alike (loaded_of k).program k.surface k.structs.items c.receiver.result.of.0 (Some c.in-Some.it.now) c.requires.known.structs c.in-Some.ensures)
+
+pub returns-in-None : goal.returns-in-None
+returns-in-None c =
+    let k = c.args.self.now in
+    absurd (is_declared k c.args.receiver c.receiver.result c.receiver.ensures c.requires.known (struct_alike (loaded_of k).program k.surface k.structs.items c.receiver.result.of.0 None c.requires.known.structs c.in-None.ensures))
