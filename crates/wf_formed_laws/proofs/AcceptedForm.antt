@@ -9,6 +9,8 @@ use Rattle.wf_ast.specs.ParsedTree.{DeclTree}
 use Rattle.wf_names_resolve.specs.Package.{resolved_package}
 use Rattle.wf_typed_tree.specs.ElaboratedPackage.{typed_package}
 use Rattle.wf_parse.specs.Parsing.{decls_of}
+use Rattle.wf_const_laws.proofs.Lengths.{read_arrays_are_bounded}
+use Rattle.wf_lower_laws.specs.FieldLaw.{HasShortArrays}
 use Rattle.wf_lower_laws.specs.TypeLaw.{HasBaseStatuses}
 use Rattle.wf_lower_laws.proofs.FormLaw.{texts_are_formed}
 use Rattle.wf_lower_laws.proofs.ItemTypes.{texts_are_typed}
@@ -63,11 +65,11 @@ unfolding typed_package
 named_so name texts decls order = refl
 
 pub read_texts_are_formed : ReadTextsAreFormed
-read_texts_are_formed name files read parsed kept free order nodes tree typed few short =
+read_texts_are_formed name files read parsed kept free order nodes tree typed few =
     let called : (package_of nodes).package_name ≡ name = ap (λ (p : PackageTree). p.package_name) tree ∙ (named_so read.name read.texts (decls_of read) order ∙ parsed.named) in
     let P : List ℕ → Type 0 = λ z. bytes_eq z (codes "base") ≡ false in
     accepted_texts_are_formed nodes typed few (record {
       plain = subst HasPlainNames (sym tree) (read_names_are_plain name files read parsed kept order);
       apart = subst HasApartNames (sym tree) (read_names_are_apart name files read parsed kept order);
       package_name = subst P (sym called) free;
-    }) short
+    }) (subst HasShortArrays (sym tree) (read_arrays_are_bounded name files read parsed kept order).short)

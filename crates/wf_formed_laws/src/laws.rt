@@ -15,8 +15,8 @@ pub fn accepted_texts_have_the_unit_form()
     ensures { AcceptedTextsAreFormed }
 {}
 
-/// The same of every package that is read from files, keeps the rules of names and is typed: where it isn't named `base`, no method
-/// has too many points, and each array has fewer than 2^31 elements, its text has the unit form for its surface.
+/// The same of every package that is read from files, keeps the rules of names and is typed: where it isn't named `base` and no method
+/// has too many points, its text has the unit form for its surface.
 pub fn read_texts_have_the_unit_form()
     ensures { ReadTextsAreFormed }
 {}

@@ -1,0 +1,2 @@
+pub mod ArrayLengths
+pub mod OneValue
