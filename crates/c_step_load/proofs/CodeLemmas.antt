@@ -1,7 +1,7 @@
--- The code of a function, behind the code of those before it.
-use Rattle.std.proofs.Common.{◌≡◌, ℕ, ◌+◌, Bool, List, [], ◌∷◌, ◌++◌, length, map, Option, Some, None, Result, Ok, Err, OnOk, refl, sym, ap, ◌∙◌, subst, arith, append_assoc}
+-- The code of a function, after the code of those before it.
+use Rattle.std.proofs.Common.{◌≡◌, ℕ, ◌+◌, Bool, List, [], ◌∷◌, ◌++◌, length, Option, Some, None, Result, Ok, Err, OnOk, refl, ap, ◌∙◌, arith, append_assoc}
 use Rattle.std.proofs.lemmas.List.{append-nil, length-append}
-use Rattle.c_text.specs.CTree.{TypeTree, ExprTree, LocalTree, Code, leave, finish}
+use Rattle.c_text.specs.CTree.{TypeTree, ExprTree, Code, leave, finish}
 use Rattle.c_text.specs.CNodes.{Nodes}
 use Rattle.c_meaning.specs.CTypes.{Function, Scope, returned}
 use Rattle.c_meaning.specs.CExprs.{cell_type}
@@ -9,12 +9,11 @@ use Rattle.c_meaning.specs.CStep.{code_weight}
 use Rattle.c_meaning.specs.CCall.{scope_in}
 use Rattle.c_step_exprs.specs.declared.instrs.Instr.{Instr}
 use Rattle.c_step_exprs.specs.Resolving.{value_code}
-use Rattle.c_step_text.specs.declared.text.Span.{Span}
 use Rattle.c_step_text.specs.declared.text.StmtInstr.{StmtInstr}
 use Rattle.c_step_text.specs.declared.text.StmtInstr.TheVariants.{Finish}
 use Rattle.c_step_text.specs.Flat.{FlatText, flat_text}
 use Rattle.c_step_text.specs.Layout.{Names, go}
-use Rattle.c_step_text.specs.Emitted.{span_of, exprs_of, arms_of, return_exprs, statements_of}
+use Rattle.c_step_text.specs.Emitted.{exprs_of, arms_of, return_exprs, statements_of}
 use Rattle.c_step_load_stmts.specs.Bodies.{with_code, with_statement, with_exprs}
 use Rattle.c_step_run.specs.declared.code.Initial.{Initial}
 use Rattle.c_step_run.specs.declared.code.Inline.{Inline}

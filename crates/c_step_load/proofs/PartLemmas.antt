@@ -1,5 +1,5 @@
 -- An item that is a function, by its parts.
-use Rattle.std.proofs.Common.{◌≡◌, ℕ, ◌+◌, true, List, [], ◌∷◌, length, map, Result, OnOk, Some, option_map, refl, sym, ap, subst}
+use Rattle.std.proofs.Common.{◌≡◌, ℕ, ◌+◌, true, List, [], ◌∷◌, length, map, Result, OnOk, Some, option_map, refl, sym, subst}
 use Rattle.std.specs.Prelude.{slice_get, reverse, drop}
 use Rattle.c_text.specs.declared.nodes.CParam.{CParam}
 use Rattle.c_text.specs.declared.nodes.CLocal.{CLocal}
@@ -8,7 +8,6 @@ use Rattle.c_text.specs.CNodes.{Nodes, type_in, param_tree, local_tree, expr_of,
 use Rattle.c_meaning.specs.CTypes.{Function, functions_of}
 use Rattle.c_meaning.specs.UnitForm.{all_distinct}
 use Rattle.c_form_stmts.specs.declared.functions.Parts.{Parts}
-use Rattle.c_step_run.specs.Coding.{CodeView}
 use Rattle.c_step_program.specs.Programs.{code_of, with_function}
 use Rattle.c_step_program.proofs.Coded.{as_many_functions}
 use Rattle.c_step_load.specs.declared.loading.Build.{Build}

@@ -1,14 +1,13 @@
 -- The scope of a function, and the names of its text.
-use Rattle.std.proofs.Common.{◌≡◌, ℕ, ◌<◌, Bool, true, false, not, List, [], ◌∷◌, ◌++◌, length, map, Option, Some, None, is_none, option_map, refl, sym, ap, ◌∙◌, subst, append_assoc}
+use Rattle.std.proofs.Common.{◌≡◌, ℕ, Bool, true, false, not, List, [], ◌∷◌, ◌++◌, length, map, is_none, option_map, refl, sym, ap, ◌∙◌, subst, append_assoc}
 use Rattle.std.specs.Prelude.{◌&&◌, if◌then◌else◌, reverse}
 use Rattle.std.proofs.lemmas.List.{map-append, length-map}
 use Rattle.c_text.specs.declared.nodes.CType.{CType}
-use Rattle.c_text.specs.CTree.{TypeTree, ParamTree, LocalTree, Code}
+use Rattle.c_text.specs.CTree.{ParamTree, LocalTree, Code}
 use Rattle.c_text.specs.CNodes.{Nodes, type_in, param_tree, local_tree, expr_of, code_of, unit_tree}
 use Rattle.c_text.specs.CFits.{HasParams, HasLocals}
-use Rattle.c_meaning.specs.CTypes.{Function, Scope, local_name, functions_of, structs_of, texts_of, names_of}
+use Rattle.c_meaning.specs.CTypes.{Function, local_name, functions_of, structs_of, texts_of, names_of}
 use Rattle.c_meaning.specs.CStep.{by_name}
-use Rattle.c_meaning.specs.CCall.{Program, scope_in as scope_of_function}
 use Rattle.c_meaning.specs.UnitForm.{is_among, all_distinct}
 use Rattle.c_form_exprs.specs.Front.{Front, Within, scope_in, entry_param}
 use Rattle.c_form_exprs.specs.Tables.{named}
@@ -18,9 +17,9 @@ use Rattle.c_form_stmts.proofs.NameLemmas.{named_among, entry_names, new_from_no
 use Rattle.c_step_exprs.specs.Resolving.{function_number}
 use Rattle.c_step_text.specs.Layout.{seek}
 use Rattle.c_step_places.specs.Weights.{WeighsAll}
-use Rattle.c_step_load_exprs.specs.Knowing.{program_scope, Knows, AreAlike}
+use Rattle.c_step_load_exprs.specs.Knowing.{AreAlike}
 use Rattle.c_step_load_stmts.specs.declared.bodies.Body.{Body}
-use Rattle.c_step_load_stmts.specs.Bodies.{nodes_of, scope_of, Fits, Tells, below}
+use Rattle.c_step_load_stmts.specs.Bodies.{nodes_of, Fits, Tells, below}
 use Rattle.c_step_program.specs.Programs.{AreApart}
 use Rattle.c_step_load.specs.declared.functions.Known.{Known}
 use Rattle.c_step_load.specs.Loading.{program_in, nodes_in, own_names, function_by, IsKnown, IsFunction, names_by}

@@ -1,6 +1,5 @@
 use Rattle.std.proofs.Common.{map, refl, ap, option_map, Some, ◌∙◌}
 use Rattle.c_text.specs.CNodes.{bytes_at, type_in, param_tree, local_tree, expr_of, code_of, made_item}
-use Rattle.c_text.specs.CTree.{struct_item, text_item}
 use Rattle.c_step_load.proofs.ItemLemmas.{Its, frame_added, no_frame}
 use Rattle.c_step_load.proofs.frames.add_frame.Goals as goal
 

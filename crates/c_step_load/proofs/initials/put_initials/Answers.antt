@@ -1,11 +1,10 @@
-use Rattle.std.proofs.Common.{◌≡◌, ◌<◌, ◌≤◌, ◌+◌, List, [], ◌∷◌, length, map, drop, get_or, ap}
+use Rattle.std.proofs.Common.{◌≡◌, ◌<◌, ◌+◌, List, ◌∷◌, length, map, drop, get_or, ap}
 use Rattle.pens.proofs.Progress.{unroll}
 use Rattle.c_text.specs.CTree.{LocalTree}
 use Rattle.c_text.specs.CNodes.{local_tree, expr_of}
 use Rattle.c_text.proofs.Parts.{no_local, locals_here, locals_rest}
 use Rattle.c_form.proofs.ItemLemmas.{drop_all}
-use Rattle.c_step_load_stmts.specs.Bodies.{nodes_of, scope_of, with_exprs}
-use Rattle.c_step_program.specs.Programs.{initial_exprs, initials_of}
+use Rattle.c_step_load_stmts.specs.Bodies.{nodes_of, scope_of}
 use Rattle.c_step_load.proofs.InitialLemmas.{text_more, initials_more, text_done, initials_done}
 use Rattle.c_step_load.proofs.initials.put_initials.Goals as goal
 

@@ -1,6 +1,4 @@
-use Rattle.std.proofs.Common.{◌≡◌, ◌≤◌, List, length, ap, subst, ◌∙◌, arith}
-use Rattle.c_meaning.specs.CTypes.{Function}
-use Rattle.c_step_run.specs.Coding.{CodeView}
+use Rattle.std.proofs.Common.{◌≤◌, length, ap, ◌∙◌, arith}
 use Rattle.c_step_program.specs.Programs.{code_of}
 use Rattle.c_step_load.specs.Loading.{nodes_in, program_in, code_before}
 use Rattle.c_step_load.proofs.ItemLemmas.{all_functions}

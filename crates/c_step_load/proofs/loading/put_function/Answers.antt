@@ -1,9 +1,8 @@
-use Rattle.std.proofs.Common.{◌≡◌, ◌+◌, ◌++◌, List, length, map, sym, ap, ◌∙◌, subst}
+use Rattle.std.proofs.Common.{◌≡◌, ◌++◌, List, length, map, sym, ap, ◌∙◌, subst}
 use Rattle.c_text.specs.CTree.{LocalTree}
 use Rattle.c_text.specs.CNodes.{local_tree, expr_of, code_of}
 use Rattle.c_meaning.specs.CTypes.{Scope}
 use Rattle.c_step_load_stmts.specs.Bodies.{nodes_of, with_exprs}
-use Rattle.c_step_text.specs.Emitted.{exprs_of}
 use Rattle.c_step_program.specs.Programs.{initial_exprs, initials_of}
 use Rattle.c_step_load.proofs.CodeLemmas.{body_put, exprs_end}
 use Rattle.c_step_load.proofs.loading.put_function.Goals as goal

@@ -1,7 +1,5 @@
-use Rattle.std.proofs.Common.{◌≡◌, List, ap, ◌∙◌, subst}
-use Rattle.c_text.specs.CNodes.{Nodes, unit_tree}
+use Rattle.c_text.specs.CNodes.{unit_tree}
 use Rattle.c_meaning.specs.CCall.{program_of}
-use Rattle.c_step_program.specs.Programs.{code_of, frames_of, all_args}
 use Rattle.c_step_load.proofs.NameLaws.{items_apart}
 use Rattle.c_step_load.proofs.RestLemmas.{at_rest, as_many, coded}
 use Rattle.c_step_load.proofs.programs.load.Goals as goal

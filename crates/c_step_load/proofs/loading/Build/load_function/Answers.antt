@@ -1,5 +1,4 @@
-use Rattle.std.proofs.Common.{◌≡◌, ◌+◌, ◌++◌, [], ◌∷◌, ℕ, List, length, refl, sym, ap, ◌∙◌, subst}
-use Rattle.c_text.specs.CTree.{Code}
+use Rattle.std.proofs.Common.{◌+◌, ◌++◌, [], ◌∷◌, ℕ, List, length, refl, sym, ap, ◌∙◌}
 use Rattle.c_meaning.specs.CTypes.{Function, returned}
 use Rattle.c_meaning.specs.CStep.{code_weight}
 use Rattle.c_step_run.specs.Coding.{is_static}

@@ -1,4 +1,4 @@
-use Rattle.std.proofs.Common.{◌≡◌, Some, ap, ◌∙◌, refl}
+use Rattle.std.proofs.Common.{Some, ap, ◌∙◌, refl}
 use Rattle.c_text.specs.CNodes.{bytes_at, made_item}
 use Rattle.c_form_stmts.specs.declared.functions.Parts.{Parts}
 use Rattle.c_step_load.specs.Loading.{nodes_in, functions_before, function_by, code_before}
