@@ -1,5 +1,5 @@
 -- The constants of a package have the same values by the rules of names as by the rules of types.
-use Rattle.std.proofs.Common.{◌≡◌, ℕ, zero, suc, ◌+◌, ◌-◌, ◌^◌, ◌<◌, ◌≤◌, Bool, true, false, ◌&&◌, List, [], ◌∷◌, ◌++◌, map, Option, Some, None, slice_get, nat_lt, refl, sym, ap, ◌∙◌, subst, arith, append_assoc, append-nil}
+use Rattle.std.proofs.Common.{◌≡◌, ℕ, ◌-◌, ◌^◌, ◌<◌, Bool, true, false, ◌&&◌, List, [], ◌∷◌, ◌++◌, map, Option, Some, None, nat_lt, refl, sym, ap, ◌∙◌, subst, arith, append_assoc, append-nil}
 use Rattle.std.specs.List.{AllByRecursion, list_all}
 use Rattle.std.specs.Prelude.{if◌then◌else◌, min, nat_eq, nat_le, option_map, option_and_then, bytes_eq, codes}
 use Rattle.std.proofs.lemmas.Bool.Decides.{nat_tests}
@@ -19,7 +19,7 @@ use Rattle.wf_names_rules.specs.Meanings.{width_named, width_of}
 use Rattle.wf_names_rules.specs.Uses.{Use, Scope, Site, constant_scope, constant_sites, sites_in, type_uses, uses_of, part_uses, bounds_uses}
 use Rattle.wf_names_rules.specs.ConstantValues.{Sized, Valued, value_of, low_value, refined_value, bounded, typed_value, constant_value, known_from}
 use Rattle.wf_names_resolve.specs.Standing.{Standing, standing_at}
-use Rattle.wf_names_resolve.specs.Resolved.{resolved_expr, resolved_part, resolved_type, resolved_bounds, base_type_named, sized_type, plain_type_named}
+use Rattle.wf_names_resolve.specs.Resolved.{resolved_expr, resolved_part, resolved_type, resolved_bounds, sized_type, plain_type_named}
 use Rattle.wf_names_resolve.specs.Package.{resolved_const, resolved_consts}
 use Rattle.wf_types_rules.specs.declared.meanings.Meaning.{Meaning}
 use Rattle.wf_types_rules.specs.declared.meanings.Meaning.TheVariants as meanings
@@ -28,12 +28,12 @@ use Rattle.wf_types_rules.specs.declared.settings.Setting.{Setting}
 use Rattle.wf_types_rules.specs.declared.settings.Role.TheVariants as roles
 use Rattle.wf_types_rules.specs.Meanings.{constant_number}
 use Rattle.wf_types_rules.specs.ExprTypes.{meaning, number_of, low_number, plain_width, written, array_type, refined_type}
-use Rattle.wf_types_rules.specs.DeclaredTypes.{among_constants, if_allowed, constant_in, constant_with, constant_made, constants_after}
+use Rattle.wf_types_rules.specs.DeclaredTypes.{among_constants, if_allowed, constant_with, constant_made, constants_after}
 use Rattle.wf_read_laws.proofs.BoolLemmas.{both}
 use Rattle.wf_read_laws.specs.WellFormed.{formed_expr, formed_part, formed_type, formed_bounds, well_formed}
 use Rattle.wf_typed_laws.proofs.ListLemmas.{all-front, all-behind, all-of-map}
 use Rattle.wf_const_laws.specs.OneValue.{sized, HasValue, HasConstant, IsKnown}
-use Rattle.wf_const_laws.proofs.Operators.{lt-test, test-lt, fits}
+use Rattle.wf_const_laws.proofs.Operators.{fits}
 use Rattle.wf_const_laws.proofs.Exprs.{Agree, agree-more, expr-value}
 
 -- The number of a constant expression, with the width that it has.

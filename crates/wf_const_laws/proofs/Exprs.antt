@@ -1,18 +1,12 @@
 -- A constant expression has the same value by the rules of names as by the rules of types, where the constants in front have.
-use Rattle.std.proofs.Common.{◌≡◌, ℕ, zero, suc, ◌+◌, ◌-◌, ◌^◌, ◌<◌, ◌≤◌, Bool, true, false, not, ◌&&◌, List, [], ◌∷◌, ◌++◌, Option, Some, None, slice_get, nat_lt, refl, sym, ap, ◌∙◌, subst, arith}
+use Rattle.std.proofs.Common.{◌≡◌, ℕ, suc, ◌+◌, ◌-◌, ◌^◌, ◌≤◌, Bool, true, false, ◌&&◌, List, [], ◌∷◌, ◌++◌, Option, Some, None, slice_get, nat_lt, refl, sym, ap, ◌∙◌, subst, arith}
 use Rattle.std.specs.Bool.{⊤}
 use Rattle.std.specs.List.{AllByRecursion, find, position_from}
 use Rattle.std.specs.Prelude.{cond, if◌then◌else◌, is_some, option_map, option_and_then, bytes_eq, codes}
-use Rattle.std.proofs.lemmas.Bool.Decides.{nat_tests}
 use Rattle.wf_text.specs.declared.place.Place.{Place}
-use Rattle.wf_base.specs.declared.marks.Mark.{Mark}
-use Rattle.wf_base.specs.declared.base_methods.BaseSig.{BaseSig}
-use Rattle.wf_base.specs.declared.base_methods.Gives.{Gives}
-use Rattle.wf_base.specs.declared.base_methods.Gives.TheVariants as gives
 use Rattle.wf_base.specs.declared.widths.Width.{Width}
 use Rattle.wf_base.specs.BaseTable.{bits_of, row_of}
 use Rattle.wf_ast.specs.WellTyped.{is_pure}
-use Rattle.wf_ast.specs.declared.operators.Op.{Op}
 use Rattle.wf_ast.specs.declared.parsed.Root.{Root}
 use Rattle.wf_ast.specs.declared.parsed.Root.TheVariants as roots
 use Rattle.wf_ast.specs.declared.types.Ty.{Ty}
@@ -21,19 +15,17 @@ use Rattle.wf_ast.specs.ParsedTree.{ExprTree, LinkTrees, TypeTree}
 use Rattle.wf_ast.specs.TypedTrees.{sort_of}
 use Rattle.wf_named.specs.declared.nodes.BaseType.{BaseType}
 use Rattle.wf_named.specs.declared.nodes.BaseType.TheVariants as bases
-use Rattle.wf_named.specs.declared.nodes.NamedCallee.{NamedCallee}
 use Rattle.wf_named.specs.declared.nodes.NamedCallee.TheVariants as callees
 use Rattle.wf_named.specs.NamedTree as named
 use Rattle.wf_named.specs.NamedTree.{NamedCallTree, NamedExprTree}
 use Rattle.wf_names_rules.specs.Declarations.{Declared, Variable, is_spelt, text_of, variable_named}
-use Rattle.wf_names_rules.specs.Meanings.{width_named, sort_in, sort_at, known_at}
-use Rattle.wf_names_rules.specs.Uses as uses
+use Rattle.wf_names_rules.specs.Meanings.{width_named, sort_at, known_at}
 use Rattle.wf_names_rules.specs.Uses.{Scope, uses_of, link_uses, type_uses}
 use Rattle.wf_names_rules.specs.Sizes.{hidden_by}
 use Rattle.wf_names_rules.specs.ConstantValues.{Sized, Valued, bits_or_most, known_value, named_value, started, ended, value_of, links_value}
 use Rattle.wf_names_rules.specs.ConstantValues as by_names
 use Rattle.wf_names_resolve.specs.Standing.{Standing, standing_at, place_in}
-use Rattle.wf_names_resolve.specs.Resolved.{number_or, variable_at, bare_variable, resolved_expr, resolved_links, resolved_part, resolved_call, resolved_type, base_type_named, sized_type, plain_type_named}
+use Rattle.wf_names_resolve.specs.Resolved.{variable_at, bare_variable, resolved_expr, resolved_links, resolved_part, resolved_call, resolved_type, base_type_named, sized_type, plain_type_named}
 use Rattle.wf_types_rules.specs.declared.meanings.Meaning.{Meaning}
 use Rattle.wf_types_rules.specs.declared.meanings.Meaning.TheVariants as meanings
 use Rattle.wf_types_rules.specs.declared.meanings.Constant.{Constant}
@@ -41,14 +33,14 @@ use Rattle.wf_types_rules.specs.declared.meanings.Operand.{Operand}
 use Rattle.wf_types_rules.specs.declared.settings.Setting.{Setting}
 use Rattle.wf_types_rules.specs.DeclaredTypes.{among_constants}
 use Rattle.wf_types_rules.specs.Meanings.{variable, there, as_constant, is_value, is_flag, is_number, all_of, place_of}
-use Rattle.wf_types_rules.specs.Operands.{meaning_of_operator, bits_in}
+use Rattle.wf_types_rules.specs.Operands.{meaning_of_operator}
 use Rattle.wf_types_rules.specs.ExprTypes.{meaning, only_where, in_front, operand_at, operands_behind, answer_inside, pure_answer, given_by_base, if_number, if_end, element_of, slice_in}
 use Rattle.wf_types_rules.specs.ExprTypes as by_types
 use Rattle.wf_read_laws.proofs.BoolLemmas.{both}
 use Rattle.wf_read_laws.specs.WellFormed.{formed_expr, formed_links, formed_type, has_its_operands}
 use Rattle.wf_typed_laws.proofs.ListLemmas.{all-front, all-behind}
-use Rattle.wf_const_laws.specs.OneValue.{sized, HasValue, HasConstant, IsKnown}
-use Rattle.wf_const_laws.proofs.Operators.{lt-test, test-lt, fits}
+use Rattle.wf_const_laws.specs.OneValue.{HasValue, HasConstant, IsKnown}
+use Rattle.wf_const_laws.proofs.Operators.{test-lt, fits}
 use Rattle.wf_const_laws.proofs.Chains.{LinksHave, chain-value}
 
 -- Constants as both tables know them.

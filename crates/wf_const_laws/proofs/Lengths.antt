@@ -12,14 +12,14 @@ use Rattle.wf_ast.specs.declared.types.Ty.{Ty}
 use Rattle.wf_ast.specs.declared.types.Ty.TheVariants as types
 use Rattle.wf_ast.specs.ParsedTree as parsed
 use Rattle.wf_ast.specs.ParsedTree.{ExprTree, TypeTree, FieldTrees, DeclTree}
-use Rattle.wf_ast.specs.TypedPackage.{Variable as TypedVariable, StructTree, MethodTree}
+use Rattle.wf_ast.specs.TypedPackage.{Variable as TypedVariable, StructTree}
 use Rattle.wf_parse.specs.Parsing.{decls_of}
 use Rattle.wf_named.specs.declared.nodes.BaseType.{BaseType}
 use Rattle.wf_named.specs.declared.nodes.BaseType.TheVariants as bases
 use Rattle.wf_named.specs.NamedTree as named
 use Rattle.wf_named.specs.NamedTree.{NamedBoundsTree, NamedMethodTree, NamedPackageTree, VarTree}
 use Rattle.wf_names_rules.specs.Declarations.{Declared, Structure, Variable, declared, variables, structs_of, as_variable, struct_named, text_of}
-use Rattle.wf_names_rules.specs.NameRules.{Breaks, by_use, by_size, unknown_variable, too_long_array, unknown, IsSizedHere, field}
+use Rattle.wf_names_rules.specs.NameRules.{Breaks, by_use, by_size, unknown_variable, too_long_array, unknown, field}
 use Rattle.wf_names_rules.specs.Uses as uses
 use Rattle.wf_names_rules.specs.Uses.{Use, Scope, Site, struct_scope, constant_sites, struct_sites, method_sites, sites, sites_in, type_uses, uses_of, variable_uses}
 use Rattle.wf_names_rules.specs.Sizes.{is_too_long, number_or_zero, hidden_by}
@@ -29,10 +29,11 @@ use Rattle.wf_names_resolve.specs.Resolved.{number_or, resolved_expr, resolved_t
 use Rattle.wf_names_resolve.specs.Package.{resolved_variable, resolved_structs, resolved_methods, resolved_package}
 use Rattle.wf_types_rules.specs.declared.meanings.Constant.{Constant}
 use Rattle.wf_types_rules.specs.declared.settings.Setting.{Setting}
+use Rattle.wf_types_rules.specs.declared.settings.Form.TheVariants as forms
 use Rattle.wf_types_rules.specs.declared.settings.Role.{Role}
 use Rattle.wf_types_rules.specs.declared.settings.Role.TheVariants as roles
 use Rattle.wf_types_rules.specs.ExprTypes.{meaning, number_of, low_number, plain_width, written, array_type, refined_type}
-use Rattle.wf_types_rules.specs.DeclaredTypes.{if_allowed, may_be, is_zero_kept, for_types, constants_of}
+use Rattle.wf_types_rules.specs.DeclaredTypes.{if_allowed, may_have, may_be, is_zero_kept, for_types, constants_of}
 use Rattle.wf_typed_tree.specs.ElaboratedPackage.{type_declared, typed_variable, typed_struct, typed_methods, typed_package}
 use Rattle.wf_typed_tree.specs.ElaboratedStmts.{count_block}
 use Rattle.wf_lower_laws.specs.FieldLaw.{is_short}
@@ -40,7 +41,7 @@ use Rattle.wf_read_laws.proofs.BoolLemmas.{both, and-true}
 use Rattle.wf_read_laws.proofs.ReadPackages.{packages_are_well_formed}
 use Rattle.wf_read_laws.specs.WellFormed.{formed_expr, formed_type, formed_fields, well_formed}
 use Rattle.wf_typed_laws.proofs.ListLemmas.{all-from, all-front, all-behind, all-of-map, all-of-flat, all-both}
-use Rattle.wf_const_laws.specs.OneValue.{sized, HasValue, HasConstant, IsKnown, HasOneValue, ReadConstantsHaveOneValue}
+use Rattle.wf_const_laws.specs.OneValue.{HasConstant, IsKnown, HasOneValue, ReadConstantsHaveOneValue}
 use Rattle.wf_const_laws.specs.ArrayLengths.{is_bounded, HasBoundedArrays, ReadArraysAreBounded}
 use Rattle.wf_const_laws.proofs.Exprs.{Agree, expr-value}
 use Rattle.wf_const_laws.proofs.Constants.{number-value, SiteIsKnown, constants-agree, constants-formed}
@@ -121,28 +122,20 @@ field-allowed : (ty : Option Ty) → ((t : Ty) → ty ≡ Some t → is_bounded 
 field-allowed None h = refl
 field-allowed (Some ty) h = any-bounded (may_be roles.Field ty && is_zero_kept roles.Field ty) ty (h ty refl)
 
--- Neither an argument nor a local is an array.
-arg-allowed : (ty : Option Ty) → is_bounded (unwrap_or (option_and_then (if_allowed roles.Arg) ty) types.Flag) ≡ true
-arg-allowed None = refl
-arg-allowed (Some (types.Array width lo hi count)) = refl
-arg-allowed (Some types.Flag) = refl
-arg-allowed (Some types.Status) = refl
-arg-allowed (Some types.Reader) = refl
-arg-allowed (Some types.Writer) = refl
-arg-allowed (Some (types.Part part)) = refl
-arg-allowed (Some (types.Slice width)) = refl
-arg-allowed (Some (types.Num width lo hi)) = any-bounded (may_be roles.Arg (types.Num width lo hi) && is_zero_kept roles.Arg (types.Num width lo hi)) (types.Num width lo hi) refl
+-- Where no array may stand, as an argument or as a local.
+abbrev HasNoArrays : Role → Type 0
+HasNoArrays role = may_have role forms.Array ≡ false
 
-local-allowed : (ty : Option Ty) → is_bounded (unwrap_or (option_and_then (if_allowed roles.Local) ty) types.Flag) ≡ true
-local-allowed None = refl
-local-allowed (Some (types.Array width lo hi count)) = refl
-local-allowed (Some types.Flag) = refl
-local-allowed (Some types.Status) = refl
-local-allowed (Some types.Reader) = refl
-local-allowed (Some types.Writer) = refl
-local-allowed (Some (types.Part part)) = refl
-local-allowed (Some (types.Slice width)) = refl
-local-allowed (Some (types.Num width lo hi)) = any-bounded (may_be roles.Local (types.Num width lo hi) && is_zero_kept roles.Local (types.Num width lo hi)) (types.Num width lo hi) refl
+no-array : (role : Role) → HasNoArrays role → (ty : Option Ty) → is_bounded (unwrap_or (option_and_then (if_allowed role) ty) types.Flag) ≡ true
+no-array role h None = refl
+no-array role h (Some (types.Array width lo hi count)) = rw h refl
+no-array role h (Some types.Flag) = any-bounded (may_be role types.Flag && is_zero_kept role types.Flag) types.Flag refl
+no-array role h (Some types.Status) = any-bounded (may_be role types.Status && is_zero_kept role types.Status) types.Status refl
+no-array role h (Some types.Reader) = any-bounded (may_be role types.Reader && is_zero_kept role types.Reader) types.Reader refl
+no-array role h (Some types.Writer) = any-bounded (may_be role types.Writer && is_zero_kept role types.Writer) types.Writer refl
+no-array role h (Some (types.Part part)) = any-bounded (may_be role (types.Part part) && is_zero_kept role (types.Part part)) (types.Part part) refl
+no-array role h (Some (types.Slice width)) = any-bounded (may_be role (types.Slice width) && is_zero_kept role (types.Slice width)) (types.Slice width) refl
+no-array role h (Some (types.Num width lo hi)) = any-bounded (may_be role (types.Num width lo hi) && is_zero_kept role (types.Num width lo hi)) (types.Num width lo hi) refl
 
 -- A base type is no array.
 refined-bounded : (width : Width) (low high : Option ℕ) (ty : Ty) → refined_type width low high ≡ Some ty → is_bounded ty ≡ true
@@ -247,23 +240,20 @@ module _ (d : Declared) (p : NamedPackageTree) (agree : Agree (known_constants d
       (typed-fields it (variables fields) a.0) (typed-structs decls a.1)
 
 -- Arguments and locals.
-typed-args : (p : NamedPackageTree) (xs : List VarTree) → list_all (λ x. is_bounded x.ty) (map (typed_variable p roles.Arg) xs) ≡ true
-typed-args p [] = refl
-typed-args p (x ∷ xs) = and-true (is_bounded (type_declared p roles.Arg x.of)) (list_all (λ x. is_bounded x.ty) (map (typed_variable p roles.Arg) xs)) (arg-allowed (written (for_types p) x.of)) (typed-args p xs)
-
-typed-locals : (p : NamedPackageTree) (xs : List VarTree) → list_all (λ x. is_bounded x.ty) (map (typed_variable p roles.Local) xs) ≡ true
-typed-locals p [] = refl
-typed-locals p (x ∷ xs) = and-true (is_bounded (type_declared p roles.Local x.of)) (list_all (λ x. is_bounded x.ty) (map (typed_variable p roles.Local) xs)) (local-allowed (written (for_types p) x.of)) (typed-locals p xs)
+typed-variables : (p : NamedPackageTree) (role : Role) → HasNoArrays role → (xs : List VarTree) → list_all (λ x. is_bounded x.ty) (map (typed_variable p role) xs) ≡ true
+typed-variables p role h [] = refl
+typed-variables p role h (x ∷ xs) =
+    and-true (is_bounded (type_declared p role x.of)) (list_all (λ x. is_bounded x.ty) (map (typed_variable p role) xs)) (no-array role h (written (for_types p) x.of)) (typed-variables p role h xs)
 
 methods-args : (p : NamedPackageTree) (n : ℕ) (ms : List NamedMethodTree) → list_all (λ m. list_all (λ x. is_bounded x.ty) m.args) (typed_methods p n ms) ≡ true
 methods-args p n [] = refl
 methods-args p n (m ∷ ms) =
-    and-true (list_all (λ x. is_bounded x.ty) (map (typed_variable p roles.Arg) m.args)) (list_all (λ m. list_all (λ x. is_bounded x.ty) m.args) (typed_methods p (n + count_block m.body) ms)) (typed-args p m.args) (methods-args p (n + count_block m.body) ms)
+    and-true (list_all (λ x. is_bounded x.ty) (map (typed_variable p roles.Arg) m.args)) (list_all (λ m. list_all (λ x. is_bounded x.ty) m.args) (typed_methods p (n + count_block m.body) ms)) (typed-variables p roles.Arg refl m.args) (methods-args p (n + count_block m.body) ms)
 
 methods-locals : (p : NamedPackageTree) (n : ℕ) (ms : List NamedMethodTree) → list_all (λ m. list_all (λ x. is_bounded x.ty) m.locals) (typed_methods p n ms) ≡ true
 methods-locals p n [] = refl
 methods-locals p n (m ∷ ms) =
-    and-true (list_all (λ x. is_bounded x.ty) (map (typed_variable p roles.Local) m.locals)) (list_all (λ m. list_all (λ x. is_bounded x.ty) m.locals) (typed_methods p (n + count_block m.body) ms)) (typed-locals p m.locals) (methods-locals p (n + count_block m.body) ms)
+    and-true (list_all (λ x. is_bounded x.ty) (map (typed_variable p roles.Local) m.locals)) (list_all (λ m. list_all (λ x. is_bounded x.ty) m.locals) (typed_methods p (n + count_block m.body) ms)) (typed-variables p roles.Local refl m.locals) (methods-locals p (n + count_block m.body) ms)
 
 -- Such an array is short enough for C.
 short-from : (ty : Ty) → is_bounded ty ≡ true → is_short ty ≡ true
