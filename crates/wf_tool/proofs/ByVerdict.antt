@@ -12,14 +12,16 @@ use Rattle.wf_script_rules.specs.Report.{End, finished, out_of_turns, not_define
 use Rattle.wf_script_rules.specs.Scripts as scripts
 use Rattle.wf_script_rules.specs.Scripts.{Script, actions_of, script_of}
 use Rattle.wf_names_verdicts.proofs.CallOrders.{kept-have-orders}
+use Rattle.c_text.specs.CLayout.{text_of}
+use Rattle.wf_lower.specs.Unit.{lowered_unit}
 use Rattle.wf_tool.specs.declared.ending.Ending.{Ending}
 use Rattle.wf_tool.specs.declared.ending.Ending.TheVariants.{Done, Refused, Usage, InputFault, OutputFault, ScriptRefused, NoMemory, Turns, TextRefused, Undefined}
-use Rattle.wf_tool.specs.Answer.{AreHeld, AreTold, file_name, Asked, AskedFor, Called, CallsForDone, CallsForRefusal, CallsForRun, CheckCallsFor, CountsInputs, MeanCallsFor, IsAnswered, asked_package, RefusesByVerdict, ChecksByVerdict, MeansByVerdict, IsByVerdict, AnswersAreVerdicts, InputsAreTold, AnswersExist}
+use Rattle.wf_tool.specs.Answer.{AreHeld, AreTold, file_name, Asked, AskedFor, Called, CallsForDone, CallsForRefusal, CallsForRun, CallsForUnit, CheckCallsFor, CountsInputs, GenCallsFor, MeanCallsFor, IsAnswered, asked_package, RefusesByVerdict, ChecksByVerdict, GeneratesByVerdict, MeansByVerdict, IsByVerdict, AnswersAreVerdicts, InputsAreTold, AnswersExist}
 use Rattle.wf_tool.specs.Lines.{accepted_line, refused_line, script_line, usage_line}
 use Rattle.wf_tool.specs.Runs.{IsAcceptedAs, RunCallsFor, source_report}
 use Rattle.wf_tool.specs.Soundness.{in_order}
 use Rattle.wf_tool.specs.Verdict.{IsAccepted, IsRefused}
-use Rattle.wf_tool.specs.Words.{PackageWords, Command, check, mean, command_of}
+use Rattle.wf_tool.specs.Words.{PackageWords, Command, check, gen, mean, command_of}
 use Rattle.wf_tool.proofs.JudgingLemmas.{typed-counted}
 use Rattle.wf_tool.proofs.RefusalFiles.{held-file}
 use Rattle.wf_tool.proofs.RunLemmas.{shows-source, script-seen}
@@ -78,6 +80,29 @@ module _ (held : List ℕ → Option (List ℕ)) (failed : Option (List ℕ)) (a
   check-by TextRefused text f c wrote = absurd c
   check-by Undefined text f c wrote = absurd c
 
+  -- What is written is the C text of the package that these files have.
+  gen-done : (text : List ℕ) → CallsForUnit held asked text → Appends old new text → GeneratesByVerdict asked files old new Done
+  gen-done text c wrote =
+      let F : List (List ℕ) → Type 0 = λ xs. IsAcceptedAs asked.package_name xs c.tree in
+      let here : IsAcceptedAs asked.package_name files c.tree = subst F (told-once held asked.files files c.files told c.hold) c.accepted in
+      let W : List ℕ → Type 0 = Appends old new in
+      record {
+        accepted = λ methods a. (refl, record { tree = c.tree; accepted = here; wrote = subst W c.writes wrote });
+        refused = λ refusal r. absurd (verdicts_exclude.one_answer asked.package_name files (length c.tree.methods) refusal here.verdict r);
+      }
+
+  gen-by : (ending : Ending) (text : List ℕ) → (ending ≡ InputFault → ⊥) → GenCallsFor held failed asked ending text → Appends old new text → GeneratesByVerdict asked files old new ending
+  gen-by Done text f c wrote = gen-done text c wrote
+  gen-by Refused text f c wrote = record { accepted = λ methods a. absurd (not-accepted text c methods a); refused = refused-so text c wrote }
+  gen-by Usage text f c wrote = absurd c
+  gen-by InputFault text f c wrote = absurd (f refl)
+  gen-by OutputFault text f c wrote = absurd c
+  gen-by ScriptRefused text f c wrote = absurd c
+  gen-by NoMemory text f c wrote = absurd c
+  gen-by Turns text f c wrote = absurd c
+  gen-by TextRefused text f c wrote = absurd c
+  gen-by Undefined text f c wrote = absurd c
+
   -- What ran is the script that is told, over the package that these files have.
   mean-run : (script : List ℕ) (ending : Ending) (text : List ℕ) → CallsForRun held asked script ending text → Appends old new text → MeansByVerdict asked files (held script) old new ending
   mean-run script ending text c wrote =
@@ -122,6 +147,7 @@ text-written calls old new Undefined h m = (h.text, h.called, h.wrote, λ e. abs
 by-command : (held : List ℕ → Option (List ℕ)) (failed : Option (List ℕ)) (command : Command) (files : List (List ℕ)) (old new : Option (List ℕ)) (ending : Ending) (text : List ℕ)
     → AreTold held (asked_package command).files files → (ending ≡ InputFault → ⊥) → AskedFor held failed (Some command) ending text → Appends old new text → IsByVerdict held command files old new ending
 by-command held failed (check asked) files old new ending text told f c wrote = check-by held failed asked files old new told ending text f c wrote
+by-command held failed (gen asked) files old new ending text told f c wrote = gen-by held failed asked files old new told ending text f c wrote
 by-command held failed (mean asked script) files old new ending text told f c wrote = mean-by held failed asked files old new told script ending text f c wrote
 
 pub answers-are-verdicts : AnswersAreVerdicts
@@ -172,6 +198,15 @@ module _ (asked : Asked) (faults : ℕ) where
       (Done, accepted_line v.0, (done, refl))
   check-answer of files hold (inr v) = (Refused, refused_line (file_name of.files v.0.at.file) v.0, (refusal-called of files hold v.0 v.1, refl))
 
+  gen-answer : (of : PackageWords) (files : List (List ℕ)) → AreHeld asked.held of.files files
+      → ((methods : ℕ) × IsAccepted of.package_name files methods) ⊎ ((refusal : Refusal) × IsRefused of.package_name files refusal) → Answers (Some (gen of))
+  gen-answer of files hold (inl v) =
+      let p = accepted-as of.package_name files v.0 v.1 in
+      let done : CallsForUnit asked.held of (text_of (lowered_unit p.0)) =
+      record { files = files; tree = p.0; hold = hold; accepted = p.1; writes = refl } in
+      (Done, text_of (lowered_unit p.0), (done, refl))
+  gen-answer of files hold (inr v) = (Refused, refused_line (file_name of.files v.0.at.file) v.0, (refusal-called of files hold v.0 v.1, refl))
+
   -- A script over an accepted package is refused, or its report ends, and not with what isn't defined.
   module _ (of : PackageWords) (files : List (List ℕ)) (hold : AreHeld asked.held of.files files) (script bytes : List ℕ) (is : asked.held script ≡ Some bytes) (p : PackageTree) (accepted : IsAcceptedAs of.package_name files p) where
     run-called : (ending : Ending) (text : List ℕ) → RunCallsFor (surface_of p) (source_report p) bytes ending text → CallsForRun asked.held of script ending text
@@ -209,6 +244,7 @@ module _ (asked : Asked) (faults : ℕ) where
   by-words : (command : Option Command) → InputsAreTold asked.held command → Answers command
   by-words None told = (Usage, usage_line, ((refl, refl), refl))
   by-words (Some (check of)) told = check-answer of told.0 (told-held asked.held of.files told.0 told.1) (verdicts_exist of.package_name told.0)
+  by-words (Some (gen of)) told = gen-answer of told.0 (told-held asked.held of.files told.0 told.1) (verdicts_exist of.package_name told.0)
   by-words (Some (mean of script)) told =
       mean-answer of told.0.0 (told-held asked.held of.files told.0.0 told.0.1) script told.1.0 told.1.1 (verdicts_exist of.package_name told.0.0)
 

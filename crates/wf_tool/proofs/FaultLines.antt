@@ -2,6 +2,7 @@
 use Rattle.std.proofs.Common.{◌≡◌, ◌+◌, ◌-◌, ◌<◌, ℕ, zero, suc, List, [], ◌∷◌, ◌++◌, length, Option, None, Some, IfOk, IfSome, Result, Ok, Err, string_bytes, slice_get, unwrap_or, refl, sym, ap, ◌∙◌, subst, arith}
 use Rattle.wf_text.specs.declared.rules.Refusal.{Refusal}
 use Rattle.wf_tool.specs.declared.ending.Ending.{Ending}
+use Rattle.wf_tool.specs.declared.ending.Ending.TheVariants as endings
 use Rattle.wf_text.specs.declared.faults.NoMemory.{NoMemory as Wants}
 use Rattle.wf_tool.specs.declared.tool.Answer.{Answer}
 use Rattle.wf_tool.specs.declared.taking.TakingFault.{TakingFault}
@@ -10,7 +11,7 @@ use Rattle.wf_tool.specs.Answer.{AreHeld, CallsForFault, CallsForRefusal, FailsA
 use Rattle.wf_tool.specs.Lines.{fault_line, refused_line}
 use Rattle.wf_tool.specs.Sizes.{most_bytes, too_long, too_many}
 use Rattle.wf_tool.specs.Taken.{CountsTaking, FailsHeld, FaultsPackage, NamesFailed, NamesFile, RefusesHeld, StopsPackage, StopsScript, TakesPackage}
-use Rattle.wf_tool.specs.Told.{CheckTold, IsFaultTold, IsTold, MeanTold, input_name}
+use Rattle.wf_tool.specs.Told.{CheckTold, GenTold, IsFaultTold, IsTold, MeanTold, input_name}
 use Rattle.wf_tool.specs.Verdict.{large}
 use Rattle.wf_tool.specs.Words.{PackageWords}
 use Rattle.wf_tool.proofs.RefusalFiles.{held-file}
@@ -52,28 +53,39 @@ module _ (held : List ℕ → Option (List ℕ)) (failed : Option (List ℕ)) (a
       → name ≡ file_name names number → line ≡ fault_line name → CallsForFault held failed asked names line
   fault-called names number name line fails last same is = record { number = number; few = fails.few; fails = fails.fails; writes = is ∙ ap fault_line same; last = last }
 
+  -- What a command calls for, where it calls for these lines of refusals and of faults.
+  module _ (names : List (List ℕ)) (other : List ℕ) (calls : Ending → List ℕ → Type 0) (before now : ℕ)
+      (refusals : (line : List ℕ) → CallsForRefusal held asked line → now ≡ before → calls endings.Refused line)
+      (faults : (line : List ℕ) → CallsForFault held failed asked names line → before < now → calls endings.InputFault line)
+      (named : (number : ℕ) → FailsHeld held (length asked.files) names number → input_name asked.files other number ≡ file_name names number) where
+    pub fault-told : (fault : TakingFault) → FaultsPackage held asked names fault → CountsTaking before now (faulted fault) → NamesFailed failed names fault
+        → (ending : Ending) (text : List ℕ) → IsFaultTold asked.files other fault ending text → calls ending text
+    fault-told (Refused refusal) is counts last ending text told =
+        let C : Ending → Type 0 = λ e. calls e text in
+        subst C (sym told.0) (refusals text (refusal-called refusal text is told.1) counts)
+    fault-told (Failed number) is counts last ending text told =
+        let C : Ending → Type 0 = λ e. calls e text in
+        subst C (sym told.0) (faults text (fault-called names number (input_name asked.files other number) text is last (named number is) told.1) counts)
+    fault-told Memory is counts last ending text told = absurd told
+
   -- Under `check`.
   pub check-fault-told : (before now : ℕ) (fault : TakingFault) → FaultsPackage held asked asked.files fault → CountsTaking before now (faulted fault) → NamesFailed failed asked.files fault
       → (ending : Ending) (text : List ℕ) → IsFaultTold asked.files [] fault ending text → CheckTold held failed asked before now ending text
-  check-fault-told before now (Refused refusal) faults counts last ending text told =
-      let C : Ending → Type 0 = λ e. CheckTold held failed asked before now e text in
-      subst C (sym told.0) (refusal-called refusal text faults told.1, counts)
-  check-fault-told before now (Failed number) faults counts last ending text told =
-      let C : Ending → Type 0 = λ e. CheckTold held failed asked before now e text in
-      subst C (sym told.0) (fault-called asked.files number (input_name asked.files [] number) text faults last (found-name (slice_get asked.files number)) told.1, counts)
-  check-fault-told before now Memory faults counts last ending text told = absurd told
+  check-fault-told before now =
+      fault-told asked.files [] (CheckTold held failed asked before now) before now (λ line c n. (c, n)) (λ line c n. (c, n)) (λ number is. found-name (slice_get asked.files number))
+
+  -- Under `gen`.
+  pub gen-fault-told : (before now : ℕ) (fault : TakingFault) → FaultsPackage held asked asked.files fault → CountsTaking before now (faulted fault) → NamesFailed failed asked.files fault
+      → (ending : Ending) (text : List ℕ) → IsFaultTold asked.files [] fault ending text → GenTold held failed asked before now ending text
+  gen-fault-told before now =
+      fault-told asked.files [] (GenTold held failed asked before now) before now (λ line c n. (c, n)) (λ line c n. (c, n)) (λ number is. found-name (slice_get asked.files number))
 
   -- Under `mean`, where the script is taken after the files.
   pub mean-fault-told : (script : List ℕ) (before now : ℕ) (fault : TakingFault) → FaultsPackage held asked (asked.files ++ script ∷ []) fault → CountsTaking before now (faulted fault)
       → NamesFailed failed (asked.files ++ script ∷ []) fault → (ending : Ending) (text : List ℕ) → IsFaultTold asked.files script fault ending text → MeanTold held failed asked script before now ending text
-  mean-fault-told script before now (Refused refusal) faults counts last ending text told =
-      let C : Ending → Type 0 = λ e. MeanTold held failed asked script before now e text in
-      subst C (sym told.0) (refusal-called refusal text faults told.1, counts)
-  mean-fault-told script before now (Failed number) faults counts last ending text told =
-      let C : Ending → Type 0 = λ e. MeanTold held failed asked script before now e text in
-      let within = fails-within held most_bytes (asked.files ++ script ∷ []) number faults.fails in
-      subst C (sym told.0) (fault-called (asked.files ++ script ∷ []) number (input_name asked.files script number) text faults last (other-name asked.files script number within) told.1, counts)
-  mean-fault-told script before now Memory faults counts last ending text told = absurd told
+  mean-fault-told script before now =
+      fault-told (asked.files ++ script ∷ []) script (MeanTold held failed asked script before now) before now (λ line c n. (c, n)) (λ line c n. (c, n))
+      (λ number is. other-name asked.files script number (fails-within held most_bytes (asked.files ++ script ∷ []) number is.fails))
 
 -- What is told of an answer.
 pub told-answer : (P : Ending → List ℕ → Type 0) (r : Result Answer Wants) → IfOk r (λ it. P it.ending (string_bytes it.line)) → (ending : Ending) (text : List ℕ) → IsTold r ending text → P ending text

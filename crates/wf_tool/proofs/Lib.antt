@@ -8,6 +8,7 @@ pub mod RunLemmas
 pub mod ScriptEnds
 pub mod SoundVerdicts
 pub mod TakingLemmas
+pub mod UnitTexts
 pub mod UsageLine
 pub mod VerdictLaws
 pub mod WholeVerdicts

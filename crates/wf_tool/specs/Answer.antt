@@ -4,6 +4,8 @@ use Rattle.std.specs.Io.KnownBytes.{Appends, Keeps}
 use Rattle.pens.specs.Pens.{KeepsLongest}
 use Rattle.wf_text.specs.declared.rules.Refusal.{Refusal}
 use Rattle.wf_ast.specs.TypedPackage.{PackageTree, surface_of}
+use Rattle.c_text.specs.CLayout.{text_of}
+use Rattle.wf_lower.specs.Unit.{lowered_unit}
 use Rattle.wf_tool.specs.declared.ending.Ending.{Ending}
 use Rattle.wf_tool.specs.declared.ending.Ending.TheVariants.{Done, Refused, Usage, InputFault, OutputFault, ScriptRefused, NoMemory, Turns, TextRefused, Undefined}
 use Rattle.wf_tool.specs.Lines.{accepted_line, fault_line, refused_line, usage_line}
@@ -11,7 +13,7 @@ use Rattle.wf_tool.specs.Sizes.{most_bytes, too_many}
 use Rattle.wf_tool.specs.Soundness.{NeverStuck}
 use Rattle.wf_tool.specs.Runs.{IsAcceptedAs, RunCallsFor, source_report}
 use Rattle.wf_tool.specs.Verdict.{IsAccepted, IsRefused}
-use Rattle.wf_tool.specs.Words.{PackageWords, Command, check, mean, command_of}
+use Rattle.wf_tool.specs.Words.{PackageWords, Command, check, gen, mean, command_of}
 
 -- Bytes that the names hold, one after the other: each is what its name holds, where that is told.
 abbrev pub AreHeld : (held : List ℕ → Option (List ℕ)) → (names files : List (List ℕ)) → Type 0
@@ -45,6 +47,14 @@ pub record CallsForDone (held : List ℕ → Option (List ℕ)) (asked : Package
   pub verdict : IsAccepted asked.package_name files methods
   pub runs : NeverStuck asked.package_name files
   pub writes : line ≡ accepted_line methods
+
+-- The package is accepted, and so it is never stuck. The text is its C text.
+pub record CallsForUnit (held : List ℕ → Option (List ℕ)) (asked : PackageWords) (text : List ℕ) : Type 0 where
+  pub files : List (List ℕ)
+  pub tree : PackageTree
+  pub hold : AreHeld held asked.files files
+  pub accepted : IsAcceptedAs asked.package_name files tree
+  pub writes : text ≡ text_of (lowered_unit tree)
 
 -- This file failed, and those in front of it were taken, within `most` bytes together.
 abbrev pub FailsAt : (held : List ℕ → Option (List ℕ)) → (most : ℕ) → (names : List (List ℕ)) → (number : ℕ) → Type 0
@@ -85,6 +95,19 @@ CheckCallsFor held failed asked Turns text = ⊥
 CheckCallsFor held failed asked TextRefused text = ⊥
 CheckCallsFor held failed asked Undefined text = ⊥
 
+-- A package whose C text is to be written calls for it.
+abbrev pub GenCallsFor : (held : List ℕ → Option (List ℕ)) → (failed : Option (List ℕ)) → PackageWords → Ending → (text : List ℕ) → Type 0
+GenCallsFor held failed asked Done text = CallsForUnit held asked text
+GenCallsFor held failed asked Refused text = CallsForRefusal held asked text
+GenCallsFor held failed asked Usage text = ⊥
+GenCallsFor held failed asked InputFault text = CallsForFault held failed asked asked.files text
+GenCallsFor held failed asked OutputFault text = ⊥
+GenCallsFor held failed asked ScriptRefused text = ⊥
+GenCallsFor held failed asked NoMemory text = ⊥
+GenCallsFor held failed asked Turns text = ⊥
+GenCallsFor held failed asked TextRefused text = ⊥
+GenCallsFor held failed asked Undefined text = ⊥
+
 -- A package whose source is to be run calls for it. The script is taken after the files.
 abbrev pub MeanCallsFor : (held : List ℕ → Option (List ℕ)) → (failed : Option (List ℕ)) → PackageWords → (script : List ℕ) → Ending → (text : List ℕ) → Type 0
 MeanCallsFor held failed asked script Done text = CallsForRun held asked script Done text
@@ -103,6 +126,7 @@ MeanCallsFor held failed asked script Undefined text = ⊥
 abbrev pub AskedFor : (held : List ℕ → Option (List ℕ)) → (failed : Option (List ℕ)) → Option Command → Ending → (text : List ℕ) → Type 0
 AskedFor held failed None ending text = (ending ≡ Usage) × (text ≡ usage_line)
 AskedFor held failed (Some (check asked)) ending text = CheckCallsFor held failed asked ending text
+AskedFor held failed (Some (gen asked)) ending text = GenCallsFor held failed asked ending text
 AskedFor held failed (Some (mean asked script)) ending text = MeanCallsFor held failed asked script ending text
 
 abbrev pub CallFor : (held : List ℕ → Option (List ℕ)) → (failed : Option (List ℕ)) → (words : List (List ℕ)) → Ending → (text : List ℕ) → Type 0
@@ -161,14 +185,15 @@ IsAnswered calls old new OutputFault = ⊥
 IsAnswered calls old new NoMemory = Keeps old new
 IsAnswered calls old new ending = WritesText calls old new ending
 
--- No piece longer than 4,096 bytes was put where a report was written to its end.
-abbrev pub KeepsRunPieces : Ending → (old new : Option ℕ) → Type 0
-KeepsRunPieces Done old new = KeepsLongest old new
-KeepsRunPieces Turns old new = KeepsLongest old new
-KeepsRunPieces ending old new = ⊤
+-- No piece longer than 4,096 bytes was put where a C text or a report was written to its end.
+abbrev pub KeepsWholePieces : Ending → (old new : Option ℕ) → Type 0
+KeepsWholePieces Done old new = KeepsLongest old new
+KeepsWholePieces Turns old new = KeepsLongest old new
+KeepsWholePieces ending old new = ⊤
 
 abbrev pub KeepsPieces : Option Command → Ending → (old new : Option ℕ) → Type 0
-KeepsPieces (Some (mean asked script)) ending old new = KeepsRunPieces ending old new
+KeepsPieces (Some (gen asked)) ending old new = KeepsWholePieces ending old new
+KeepsPieces (Some (mean asked script)) ending old new = KeepsWholePieces ending old new
 KeepsPieces command ending old new = ⊤
 
 -- The inputs tell what each of the names holds.
@@ -187,6 +212,17 @@ pub record ChecksByVerdict (asked : PackageWords) (files : List (List ℕ)) (old
   pub accepted : (methods : ℕ) → IsAccepted asked.package_name files methods → (ending ≡ Done) × Appends old new (accepted_line methods)
   pub refused : RefusesByVerdict asked files old new ending
 
+-- What is written is the C text of a package that is accepted.
+pub record WritesUnit (asked : PackageWords) (files : List (List ℕ)) (old new : Option (List ℕ)) : Type 0 where
+  pub tree : PackageTree
+  pub accepted : IsAcceptedAs asked.package_name files tree
+  pub wrote : Appends old new (text_of (lowered_unit tree))
+
+-- `gen`: the ending is that of the package's verdict, and the C text or the refusal's line is written.
+pub record GeneratesByVerdict (asked : PackageWords) (files : List (List ℕ)) (old new : Option (List ℕ)) (ending : Ending) : Type 0 where
+  pub accepted : (methods : ℕ) → IsAccepted asked.package_name files methods → (ending ≡ Done) × WritesUnit asked files old new
+  pub refused : RefusesByVerdict asked files old new ending
+
 -- The ending and what is written are those of a script with these bytes, run over the source of a package that is accepted.
 pub record RunsByVerdict (asked : PackageWords) (files : List (List ℕ)) (bytes : List ℕ) (old new : Option (List ℕ)) (ending : Ending) : Type 0 where
   pub tree : PackageTree
@@ -203,11 +239,13 @@ pub record MeansByVerdict (asked : PackageWords) (files : List (List ℕ)) (scri
 -- What is answered to a command over a package with these files.
 abbrev pub IsByVerdict : (held : List ℕ → Option (List ℕ)) → Command → (files : List (List ℕ)) → (old new : Option (List ℕ)) → Ending → Type 0
 IsByVerdict held (check asked) files old new ending = ChecksByVerdict asked files old new ending
+IsByVerdict held (gen asked) files old new ending = GeneratesByVerdict asked files old new ending
 IsByVerdict held (mean asked script) files old new ending = MeansByVerdict asked files (held script) old new ending
 
 -- The package that a command is about.
 abbrev pub asked_package : Command → PackageWords
 asked_package (check asked) = asked
+asked_package (gen asked) = asked
 asked_package (mean asked script) = asked
 
 -- Where the words are a command form, the inputs tell what the package's files hold, no fault is counted and memory isn't refused,
@@ -224,6 +262,7 @@ FilesAreTold held asked = (files : List (List ℕ)) × AreTold held asked.files 
 abbrev pub InputsAreTold : (held : List ℕ → Option (List ℕ)) → Option Command → Type 0
 InputsAreTold held None = ⊤
 InputsAreTold held (Some (check asked)) = FilesAreTold held asked
+InputsAreTold held (Some (gen asked)) = FilesAreTold held asked
 InputsAreTold held (Some (mean asked script)) = FilesAreTold held asked × ((bytes : List ℕ) × (held script ≡ Some bytes))
 
 -- Words whose inputs are told call for an ending and a text, with no fault counted.

@@ -15,6 +15,9 @@ use Rattle.wf_typed_tree.specs.ElaboratedPackage.{typed_package}
 use Rattle.wf_names_laws.specs.Ordered.{HasOrder}
 use Rattle.wf_bounds.specs.Acceptance.{AcceptedPackage}
 use Rattle.wf_surfaces.specs.Names.{HasNames}
+use Rattle.c_text.specs.CNodes.{Nodes, unit_tree}
+use Rattle.wf_lower.specs.Made.{IsSpelt}
+use Rattle.wf_lower.specs.Unit.{lowered_unit}
 use Rattle.wf_bounds_laws.specs.BoundsRules as bounds
 use Rattle.wf_tool.specs.declared.judging.Ready.{Ready}
 use Rattle.wf_tool.specs.declared.taking.TakingFault.{TakingFault}
@@ -104,16 +107,16 @@ JudgesRead read (Err (phase.Refused refusal)) =
     ⊎ (KeepsNames read × KeepsTypes read × RefusesTyped (resolved read) refusal))
 JudgesRead read (Err phase.Memory) = ⊤
 
--- The verdict on files whose bytes are within the limits. An accepted package is never stuck, and its
--- nodes have texts for their names.
+-- The verdict on files whose bytes are within the limits. An accepted package is never stuck, its nodes have texts for their
+-- names, and C can spell its names and texts.
 abbrev pub Judges : (name : List ℕ) → (files : List (List ℕ)) → Result AcceptedPackage PhaseFault → Type 0
-Judges name files (Ok a) = IsAcceptedAs name files (package_of a.nodes) × HasNames a.nodes
+Judges name files (Ok a) = IsAcceptedAs name files (package_of a.nodes) × HasNames a.nodes × IsSpelt a.nodes
 Judges name files (Err (phase.Refused refusal)) = IsRefused name files refusal
 Judges name files (Err phase.Memory) = ⊤
 
 -- The same of files that have been taken.
 abbrev pub JudgesTaken : (name : List ℕ) → (files : List (List ℕ)) → Result AcceptedPackage TakingFault → Type 0
-JudgesTaken name files (Ok a) = IsAcceptedAs name files (package_of a.nodes) × HasNames a.nodes
+JudgesTaken name files (Ok a) = IsAcceptedAs name files (package_of a.nodes) × HasNames a.nodes × IsSpelt a.nodes
 JudgesTaken name files (Err (Refused refusal)) = IsRefused name files refusal
 JudgesTaken name files (Err (Failed at)) = ⊥
 JudgesTaken name files (Err Memory) = ⊤
@@ -145,6 +148,22 @@ StopsPackage held names (Refused refusal) = AreTooLarge held names refusal
 StopsPackage held names (Failed at) = FailsHeld held (length names) names at
 StopsPackage held names Memory = ⊤
 
+-- The package is accepted, for bytes that its files hold; its nodes have texts for their names, and C can spell its names and texts.
+pub record AcceptsHeldAs (held : List ℕ → Option (List ℕ)) (asked : PackageWords) (a : AcceptedPackage) : Type 0 where
+  pub files : List (List ℕ)
+  pub hold : AreHeld held asked.files files
+  pub accepted : IsAcceptedAs asked.package_name files (package_of a.nodes)
+  pub names : HasNames a.nodes
+  pub spelt : IsSpelt a.nodes
+
+-- It is accepted, and this is the unit of its C text.
+pub record LowersHeld (held : List ℕ → Option (List ℕ)) (asked : PackageWords) (u : Nodes) : Type 0 where
+  pub files : List (List ℕ)
+  pub tree : PackageTree
+  pub hold : AreHeld held asked.files files
+  pub accepted : IsAcceptedAs asked.package_name files tree
+  pub lowered : unit_tree u ≡ lowered_unit tree
+
 -- The package is accepted with so many methods, for bytes that its files hold, and it is never stuck.
 pub record AcceptsHeld (held : List ℕ → Option (List ℕ)) (asked : PackageWords) (methods : ℕ) : Type 0 where
   pub files : List (List ℕ)
@@ -163,6 +182,16 @@ abbrev pub FaultsPackage : (held : List ℕ → Option (List ℕ)) → PackageWo
 FaultsPackage held asked names (Refused refusal) = RefusesHeld held asked refusal
 FaultsPackage held asked names (Failed at) = FailsHeld held (length asked.files) names at
 FaultsPackage held asked names Memory = ⊤
+
+-- What becomes of the package with these words.
+abbrev pub AcceptsPackage : (held : List ℕ → Option (List ℕ)) → PackageWords → Result AcceptedPackage TakingFault → Type 0
+AcceptsPackage held asked (Ok a) = AcceptsHeldAs held asked a
+AcceptsPackage held asked (Err fault) = FaultsPackage held asked asked.files fault
+
+-- What becomes of the package whose C text is to be written.
+abbrev pub LowersPackage : (held : List ℕ → Option (List ℕ)) → PackageWords → Result Nodes TakingFault → Type 0
+LowersPackage held asked (Ok u) = LowersHeld held asked u
+LowersPackage held asked (Err fault) = FaultsPackage held asked asked.files fault
 
 -- What becomes of the package that is to be checked.
 abbrev pub JudgesPackage : (held : List ℕ → Option (List ℕ)) → PackageWords → Result ℕ TakingFault → Type 0

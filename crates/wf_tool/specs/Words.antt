@@ -19,15 +19,21 @@ pub record PackageWords : Type 0 where
   pub package_name : List ℕ
   pub files : List (List ℕ)
 
--- What is asked for: that a package is checked, or that its source is run by the script with this name.
+-- What is asked for: that a package is checked, that its C text is written, or that its source is run by the script with this name.
 pub data Command : Type 0 where
   check : PackageWords → Command
+  gen : PackageWords → Command
   mean : PackageWords → (script : List ℕ) → Command
 
--- `check PACKAGE FILE...` and `mean PACKAGE SCRIPT FILE...`, with one file or more, by the words behind the package's name.
+-- `check PACKAGE FILE...`, `gen PACKAGE FILE...` and `mean PACKAGE SCRIPT FILE...`, with one file or more, by the words after the
+-- package's name.
 abbrev pub to_check : (package_name : List ℕ) → List (List ℕ) → Option Command
 to_check package_name [] = None
 to_check package_name (file ∷ files) = Some (check (record { package_name = package_name; files = file ∷ files }))
+
+abbrev pub to_gen : (package_name : List ℕ) → List (List ℕ) → Option Command
+to_gen package_name [] = None
+to_gen package_name (file ∷ files) = Some (gen (record { package_name = package_name; files = file ∷ files }))
 
 abbrev pub to_mean : (package_name : List ℕ) → List (List ℕ) → Option Command
 to_mean package_name [] = None
@@ -36,7 +42,8 @@ to_mean package_name (script ∷ (file ∷ files)) = Some (mean (record { packag
 
 abbrev pub asked_of : (command package_name : List ℕ) → List (List ℕ) → Option Command
 asked_of command package_name rest =
-    if bytes_eq command (codes "check") then to_check package_name rest else if bytes_eq command (codes "mean") then to_mean package_name rest else None
+    if bytes_eq command (codes "check") then to_check package_name rest
+    else if bytes_eq command (codes "gen") then to_gen package_name rest else if bytes_eq command (codes "mean") then to_mean package_name rest else None
 
 -- Other words are no command form.
 abbrev pub command_of : List (List ℕ) → Option Command

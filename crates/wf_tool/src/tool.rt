@@ -1,16 +1,17 @@
 // The top call: from the words of a command to what is written and how the program ends.
 
-ghost use Rattle.std.specs.Prelude.{◌≡◌, ◌-◌, ◌^◌, ◌<◌, ◌≤◌, IfOk, IsErr, MatchResult, map, string_bytes};
+ghost use Rattle.std.specs.Prelude.{◌≡◌, true, ◌-◌, ◌^◌, ◌<◌, ◌≤◌, IfOk, IsErr, MatchResult, map, string_bytes};
 ghost use Rattle.wf_ast.specs.TypedPackage.{package_of, surface_of};
 ghost use Rattle.wf_surfaces.specs.Names.{HasNames};
 ghost use Rattle.wf_tool_runs.specs.Sources.{engine_report};
-ghost use Rattle.wf_tool.specs.Answer.{Called, CountsInputs, CountsSink, IsAnswered, KeepsPieces, KeepsRunPieces, Writes};
+ghost use Rattle.wf_tool.specs.Answer.{Called, CountsInputs, CountsSink, IsAnswered, KeepsPieces, KeepsWholePieces, Writes};
 ghost use Rattle.wf_tool.specs.Runs.{RunCallsFor};
-ghost use Rattle.wf_tool.specs.Told.{CheckTold, IsFaultTold, IsTold, MeanTold, TellsText};
+ghost use Rattle.wf_tool.specs.Told.{CheckTold, GenTold, IsFaultTold, IsTold, MeanTold, TellsText};
 ghost use Rattle.wf_tool.specs.Views.{words_seen};
-ghost use Rattle.wf_tool.specs.Words.{command_of};
+ghost use Rattle.wf_tool.specs.Words.{command_of, is_package_name};
 
 use crate::ending::Ending;
+use crate::generating::{lower_package, write_unit};
 use crate::judging::{Ready, judge_package, ready_package};
 use crate::lines::{accepted_line, fault_line, refused_line, script_line, usage_line};
 use crate::taking::TakingFault;
@@ -26,6 +27,8 @@ use wf_tool_runs::run_source;
 /// to `out`.
 ///
 /// `check PACKAGE FILE...`: `ok N methods` and Done for a package that keeps every rule and so is never stuck.
+/// `gen PACKAGE FILE...`: the C text of such a package, in pieces of at most 4,096 bytes, and Done. It takes all memory before the
+/// first byte.
 /// `mean PACKAGE SCRIPT FILE...`: the report of the script by the package's source, in pieces of at most 4,096 bytes, and Done, or
 /// Turns where a call needs more turns; `script RULE line N` and ScriptRefused where the script breaks a rule. It takes all memory
 /// before the first byte. A package that breaks a rule: `refused RULE FILE:LINE:COL` and Refused. Other words: a line on usage, and
@@ -61,6 +64,7 @@ pub fn wuffs_tool<I: Inputs, O: Sink>(
 {
     match command_of(words) {
         Some(Command::Check(asked)) => tell(check(alloc, asked, inputs), out),
+        Some(Command::Gen(asked)) => generate(alloc, asked, inputs, out),
         Some(Command::Mean(asked, script)) => mean(alloc, asked, script, inputs, out),
         None => tell(Answer::of(Ending::Usage, usage_line(alloc)), out),
     }
@@ -129,7 +133,8 @@ fn check<I: Inputs>(
     asked: PackageWords<'_>,
     inputs: &mut I,
 ) -> Result<Answer, NoMemory>
-    requires { I.faults inputs.old < 2 ^ 64 - 1 }
+    requires named { is_package_name (words_seen asked).package_name ≡ true }
+    requires faults { I.faults inputs.old < 2 ^ 64 - 1 }
     ensures told { IfOk result (λ answer. CheckTold (I.held inputs.old) (I.last_failed inputs.new) (words_seen asked.entry) (I.faults inputs.old) (I.faults inputs.new) answer.ending (string_bytes answer.line)) }
     ensures counts { I.faults inputs.old ≤ I.faults inputs.new }
     ensures same { I.held inputs.new ≡ I.held inputs.old }
@@ -137,6 +142,29 @@ fn check<I: Inputs>(
     match judge_package(alloc, asked, inputs) {
         Ok(methods) => Answer::of(Ending::Done, accepted_line(alloc, methods)),
         Err(fault) => fault_answer(alloc, asked.files, "", fault),
+    }
+}
+
+// Answers `gen`.
+fn generate<I: Inputs, O: Sink>(
+    alloc: Global,
+    asked: PackageWords<'_>,
+    inputs: &mut I,
+    out: &mut O,
+) -> Ending
+    requires named { is_package_name (words_seen asked).package_name ≡ true }
+    requires inputs { I.faults inputs.old < 2 ^ 64 - 1 }
+    requires sink { O.faults out.old < 2 ^ 64 - 1 }
+    ensures written { Writes (GenTold (I.held inputs.old) (I.last_failed inputs.new) (words_seen asked.entry) (I.faults inputs.old) (I.faults inputs.new))
+        (O.written out.old) (O.written out.new) (O.room out.old) result }
+    ensures pieces { KeepsWholePieces result (O.longest out.old) (O.longest out.new) }
+    ensures counts { I.faults inputs.old ≤ I.faults inputs.new }
+    ensures sink { CountsSink (O.faults out.old) (O.faults out.new) result }
+    ensures same { I.held inputs.new ≡ I.held inputs.old }
+{
+    match lower_package(alloc, asked, inputs) {
+        Ok(unit) => write_unit(&unit, out),
+        Err(fault) => tell(fault_answer(alloc, asked.files, "", fault), out),
     }
 }
 
@@ -148,11 +176,12 @@ fn mean<I: Inputs, O: Sink>(
     inputs: &mut I,
     out: &mut O,
 ) -> Ending
+    requires named { is_package_name (words_seen asked).package_name ≡ true }
     requires inputs { I.faults inputs.old < 2 ^ 64 - 1 }
     requires sink { O.faults out.old < 2 ^ 64 - 1 }
     ensures written { Writes (MeanTold (I.held inputs.old) (I.last_failed inputs.new) (words_seen asked.entry) script.now (I.faults inputs.old) (I.faults inputs.new))
         (O.written out.old) (O.written out.new) (O.room out.old) result }
-    ensures pieces { KeepsRunPieces result (O.longest out.old) (O.longest out.new) }
+    ensures pieces { KeepsWholePieces result (O.longest out.old) (O.longest out.new) }
     ensures counts { I.faults inputs.old ≤ I.faults inputs.new }
     ensures sink { CountsSink (O.faults out.old) (O.faults out.new) result }
     ensures same { I.held inputs.new ≡ I.held inputs.old }
@@ -169,7 +198,7 @@ fn run_ready<O: Sink>(alloc: Global, ready: &Ready, out: &mut O) -> Ending
     requires sink { O.faults out.old < 2 ^ 64 - 1 }
     ensures written { Writes (RunCallsFor (surface_of (package_of ready.now.accepted.nodes)) (engine_report (package_of ready.now.accepted.nodes)) ready.now.script.items)
         (O.written out.old) (O.written out.new) (O.room out.old) result }
-    ensures pieces { KeepsRunPieces result (O.longest out.old) (O.longest out.new) }
+    ensures pieces { KeepsWholePieces result (O.longest out.old) (O.longest out.new) }
     ensures sink { CountsSink (O.faults out.old) (O.faults out.new) result }
 {
     match run_source(alloc, &ready.accepted, ready.script.as_slice(), out) {

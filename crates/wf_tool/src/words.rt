@@ -1,12 +1,12 @@
 // The words of a command.
 
-ghost use Rattle.std.specs.Prelude.{◌≡◌, ℕ, List, [], ◌∷◌, length, map, string_bytes};
+ghost use Rattle.std.specs.Prelude.{◌≡◌, ℕ, true, List, [], ◌∷◌, length, map, string_bytes, IfSome};
 ghost use Rattle.std.specs.List.{list_all};
 ghost use Rattle.std.specs.Option.{option_map};
-ghost use Rattle.wf_tool.specs.Answer.{file_name};
+ghost use Rattle.wf_tool.specs.Answer.{asked_package, file_name};
 ghost use Rattle.wf_tool.specs.Told.{input_name};
 ghost use Rattle.wf_tool.specs.Views.{command_seen};
-ghost use Rattle.wf_tool.specs.Words.{asked_of, command_of, is_between, is_package_byte, is_package_name, to_check, to_mean};
+ghost use Rattle.wf_tool.specs.Words.{asked_of, command_of, is_between, is_package_byte, is_package_name, to_check, to_gen, to_mean};
 
 /// A package by its words: its name, and the names of its files in order.
 #[derive(Clone, Copy)]
@@ -20,13 +20,17 @@ pub struct PackageWords<'a> {
 pub enum Command<'a> {
     /// A package is to be checked.
     Check(PackageWords<'a>),
+    /// Its C text is to be written.
+    Gen(PackageWords<'a>),
     /// Its source is to be run by the script with this name.
     Mean(PackageWords<'a>, &'a str),
 }
 
-/// What words ask for: `check PACKAGE FILE...` or `mean PACKAGE SCRIPT FILE...`. None for other words, which are no command form.
+/// What words ask for: `check PACKAGE FILE...`, `gen PACKAGE FILE...` or `mean PACKAGE SCRIPT FILE...`. None for other words, which
+/// are no command form.
 pub fn command_of(words: &[String]) -> Option<Command>
-    ensures { option_map command_seen result ≡ command_of (map (λ word. string_bytes word) words.now) }
+    ensures command { option_map command_seen result ≡ command_of (map (λ word. string_bytes word) words.now) }
+    ensures named { IfSome result (λ asked. is_package_name (asked_package (command_seen asked)).package_name ≡ true) }
 {
     match words {
         [command, name, rest @ ..] => {
@@ -42,10 +46,13 @@ pub fn command_of(words: &[String]) -> Option<Command>
 
 // What this command asks for of the package with this name, by the words after it.
 fn asked_of<'a>(command: &str, name: &'a str, rest: &'a [String]) -> Option<Command<'a>>
-    ensures { option_map command_seen result ≡ asked_of command.now name.now (map (λ word. string_bytes word) rest.now) }
+    ensures command { option_map command_seen result ≡ asked_of command.now name.now (map (λ word. string_bytes word) rest.now) }
+    ensures named { IfSome result (λ asked. (asked_package (command_seen asked)).package_name ≡ name.now) }
 {
     if command == "check" {
         to_check(name, rest)
+    } else if command == "gen" {
+        to_gen(name, rest)
     } else if command == "mean" {
         to_mean(name, rest)
     } else {
@@ -54,7 +61,8 @@ fn asked_of<'a>(command: &str, name: &'a str, rest: &'a [String]) -> Option<Comm
 }
 
 fn to_check<'a>(name: &'a str, files: &'a [String]) -> Option<Command<'a>>
-    ensures { option_map command_seen result ≡ to_check name.now (map (λ word. string_bytes word) files.now) }
+    ensures command { option_map command_seen result ≡ to_check name.now (map (λ word. string_bytes word) files.now) }
+    ensures named { IfSome result (λ asked. (asked_package (command_seen asked)).package_name ≡ name.now) }
 {
     match files {
         [] => None,
@@ -62,8 +70,19 @@ fn to_check<'a>(name: &'a str, files: &'a [String]) -> Option<Command<'a>>
     }
 }
 
+fn to_gen<'a>(name: &'a str, files: &'a [String]) -> Option<Command<'a>>
+    ensures command { option_map command_seen result ≡ to_gen name.now (map (λ word. string_bytes word) files.now) }
+    ensures named { IfSome result (λ asked. (asked_package (command_seen asked)).package_name ≡ name.now) }
+{
+    match files {
+        [] => None,
+        _ => Some(Command::Gen(PackageWords { name, files })),
+    }
+}
+
 fn to_mean<'a>(name: &'a str, rest: &'a [String]) -> Option<Command<'a>>
-    ensures { option_map command_seen result ≡ to_mean name.now (map (λ word. string_bytes word) rest.now) }
+    ensures command { option_map command_seen result ≡ to_mean name.now (map (λ word. string_bytes word) rest.now) }
+    ensures named { IfSome result (λ asked. (asked_package (command_seen asked)).package_name ≡ name.now) }
 {
     match rest {
         [script, files @ ..] => {

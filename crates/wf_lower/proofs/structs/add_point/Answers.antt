@@ -1,0 +1,7 @@
+use Rattle.std.proofs.Common.{◌∷◌, [], ap}
+use Rattle.wf_lower.specs.Unit.{field}
+use Rattle.wf_lower.proofs.Kept.{fields_after}
+use Rattle.wf_lower.proofs.structs.add_point.Goals as goal
+
+pub returns-clause-made : goal.returns-clause-made
+returns-clause-made c = fields_after _ _ _ _ _ _ _ c.add_named.result c.point_field.ensures.grows (ap (λ n. field _ n ∷ []) c.in_ok-name.ensures.made.is) c.add_named.ensures
