@@ -1,0 +1,10 @@
+pub mod AlikeLaws
+pub mod AwaitLaws
+pub mod BlockLaws
+pub mod ComesLaws
+pub mod CopyLaws
+pub mod KindLaws
+pub mod CallLaws
+pub mod NodeLaws
+pub mod ReturnLaws
+pub mod WidthLaws

@@ -1,0 +1,5 @@
+use Rattle.wf_exprs.proofs.Growing.{grows_on}
+use Rattle.wf_lower_blocks.proofs.awaiting.count_on.Goals as goal
+
+pub returns-clause-grows : goal.returns-clause-grows
+returns-clause-grows c = grows_on (grows_on (grows_on c.finish.ensures.grows c.one_more.ensures.grows) c.count.ensures.grows) c.assign.ensures.grows
