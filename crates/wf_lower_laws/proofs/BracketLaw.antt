@@ -109,11 +109,11 @@ body_locals_open f =
     (locals_both (only_read (body_code f) further_locals) _ (read_open (body_code f) further_locals (tt, (tt, (tt, (tt, (tt, tt))))))
     (locals_if (is_coroutine f.method.mark) (resume_of f.method ∷ []) [] (tt, tt) tt)))
 
-body_opens : (p : PackageTree) (m : MethodTree) → block_within 49 m.body ≡ true → ItemOpens (body_function (form_of p m))
+body_opens : (p : PackageTree) (m : MethodTree) → block_within 97 m.body ≡ true → ItemOpens (body_function (form_of p m))
 body_opens p m h =
     let f = form_of p m in
-    let own : CodeBy 257 (statements_of f) = block_by f (number_of m.body) 49 m.body (tail_of f top) h (top_by 257 f) in
-    (body_locals_open f, (touched_by 258 (own_names f) (body_code f) (body_code f) (omega arith) (body_by 257 258 f (omega arith) own)).by 1 (omega arith))
+    let own : CodeBy 497 (statements_of f) = block_by f (number_of m.body) 97 m.body (tail_of f top) h (top_by 497 f) in
+    (body_locals_open f, (touched_by 498 (own_names f) (body_code f) (body_code f) (omega arith) (body_by 497 498 f (omega arith) own)).by 1 (omega arith))
 
 -- ---- entries
 
@@ -265,13 +265,13 @@ helper_opens false bits = (tt, ((value bits).by 1 (omega arith), tt))
 
 -- ---- the text
 
-within_at : (ms : List MethodTree) (i : ℕ) (m : MethodTree) → list_all (λ m. block_within 49 m.body) ms ≡ true → slice_get ms i ≡ Some m → block_within 49 m.body ≡ true
+within_at : (ms : List MethodTree) (i : ℕ) (m : MethodTree) → list_all (λ m. block_within 97 m.body) ms ≡ true → slice_get ms i ≡ Some m → block_within 97 m.body ≡ true
 within_at [] i m h e = absurd (cc e)
 within_at (x ∷ ms) zero m h e =
     let same : x ≡ m = cc e in
-    let P : MethodTree → Type 0 = λ m. block_within 49 m.body ≡ true in
-    subst P same (both_true (block_within 49 x.body) (list_all (λ m. block_within 49 m.body) ms) h).0
-within_at (x ∷ ms) (suc i) m h e = within_at ms i m (both_true (block_within 49 x.body) (list_all (λ m. block_within 49 m.body) ms) h).1 e
+    let P : MethodTree → Type 0 = λ m. block_within 97 m.body ≡ true in
+    subst P same (both_true (block_within 97 x.body) (list_all (λ m. block_within 97 m.body) ms) h).0
+within_at (x ∷ ms) (suc i) m h e = within_at ms i m (both_true (block_within 97 x.body) (list_all (λ m. block_within 97 m.body) ms) h).1 e
 
 all_items : (items : List ItemTree) → Each ItemOpens items → AllByRecursion ItemOpens items
 all_items [] h = tt

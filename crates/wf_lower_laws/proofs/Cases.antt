@@ -4,7 +4,6 @@ use Rattle.std.specs.Prelude.{if◌then◌else◌, nat_le, slice_get}
 use Rattle.std.specs.List.{list_all, AllByRecursion}
 use Rattle.std.proofs.lemmas.Bool.Decides.{nat_tests}
 use Rattle.std.proofs.lemmas.List.{append-nil}
-use Rattle.wf_text.specs.declared.rules.Rule.TheVariants.{L9}
 use Rattle.wf_text.specs.Precedence.{Decides}
 use Rattle.wf_ast.specs.declared.typed_nodes.TypedNodes.{TypedNodes}
 use Rattle.wf_ast.specs.TypedTree.{Simple, break_from, continue_in, assign, await, perform, invoke, give_back, yield, claim, Site, Block, end, plain, choose, loop}
@@ -24,6 +23,7 @@ use Rattle.wf_lower_stmts.specs.Forms.{Form, resume_here}
 use Rattle.wf_lower_stmts.specs.Statements.{awoken, lower_point, lower_plain}
 use Rattle.wf_lower_stmts.specs.Lower.{lower, continues, again_here, behind_here, tail_of, top}
 use Rattle.wf_lower.specs.Bodies.{statements_of}
+use Rattle.wf_lower.proofs.Small.{few_points}
 use Rattle.wf_lower_laws.specs.LabelLaw.{IsCaseNumber, AreCases}
 use Rattle.wf_lower_laws.proofs.Straight.{Straight, over, assigned, calling, leaving, guarded, is_jump, plain_straight, begun_straight, awoken_straight, top_straight}
 
@@ -151,30 +151,6 @@ in_order n (x ∷ points) k h =
     let first : n x ≡ k = omega (arith, h 0 x refl) in
     let rest = in_order n points (suc k) (λ i site e. omega (arith, h (suc i) site e)) in
     ap (λ j. Int j ∷ map (λ site. Int (n site)) points) first ∙ ap (λ ns. Int k ∷ ns) rest
-
--- A method with no more points than it may have.
-few_points : (nodes : TypedNodes) → IsTyped nodes → Decides (HasTooMany (package_of nodes)) None → (i : ℕ) (m : MethodTree) → slice_get (package_of nodes).methods i ≡ Some m → length (points_in m.body) ≤ 1024
-few_points nodes typed few i m e = by (slice_get (points_in m.body) 1024) refl
-  where
-    by : (o : Option Site) → slice_get (points_in m.body) 1024 ≡ o → length (points_in m.body) ≤ 1024
-    by None g = past (points_in m.body) 1024 g
-      where
-        past : (xs : List Site) (j : ℕ) → slice_get xs j ≡ None → length xs ≤ j
-        past [] j h = omega arith
-        past (x ∷ xs) zero h = absurd (cc h)
-        past (x ∷ xs) (suc j) h = omega (arith, past xs j h)
-    by (Some point) g =
-        let ascend = points_ascend nodes typed i m e in
-        absurd (few (record { rule = L9; at = point.at }) (record {
-          number = i;
-          method = m;
-          place = 1024;
-          point = point;
-          known = e;
-          stands = g;
-          numbered = numbered (points_in m.body) ascend 1024 point g;
-          refused = refl;
-        }))
 
 pub switch_cases : (f : Form) (nodes : TypedNodes) → IsTyped nodes → Decides (HasTooMany (package_of nodes)) None → (i : ℕ) → slice_get (package_of nodes).methods i ≡ Some f.method
     → AreCases (cases_of (case_label (Int 0) (empty (statements_of f))))

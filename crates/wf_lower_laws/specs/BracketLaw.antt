@@ -99,6 +99,7 @@ block_within d (choose site chained c a b rest) =
     nat_le 1 d && (cond_within d c && (block_within (d - 1) a && (block_within (if is_chained b then d else d - 1) b && block_within d rest)))
 block_within d (loop site head body rest) = nat_le 1 d && (cond_within d head.cond && (block_within (d - 1) body && block_within d rest))
 
--- With 48 brackets open at most, 49 parts stand inside one another, and the text never opens a bracket where 512 are open.
+-- Where at most 97 parts stand inside one another, two for each of 48 brackets of a source and one, the text never opens a bracket
+-- where 512 are open: `x + a[x + a[..]]` has an operator and an element for each, and `not (not (..) and y)` a `not` and an `and`.
 abbrev pub TextsAreShallow : Type 0
-TextsAreShallow = (p : PackageTree) → list_all (λ m. block_within 49 m.body) p.methods ≡ true → IsShallow 0 (unit_tokens (lowered_unit p))
+TextsAreShallow = (p : PackageTree) → list_all (λ m. block_within 97 m.body) p.methods ≡ true → IsShallow 0 (unit_tokens (lowered_unit p))

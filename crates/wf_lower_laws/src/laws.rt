@@ -29,8 +29,8 @@ pub fn labels_and_cases_differ()
     ensures { TextsAreLabelled }
 {}
 
-/// No text opens a bracket where 512 are open, as the reader of C texts counts them: where in no method more than 49 parts stand
-/// inside one another, each but the outermost in brackets of its own, as 48 open brackets allow.
+/// No text opens a bracket where 512 are open, as the reader of C texts counts them: where in no method more than 97 parts stand
+/// inside one another, as 48 open brackets of a source allow.
 pub fn texts_open_few_brackets()
     ensures { TextsAreShallow }
 {}
