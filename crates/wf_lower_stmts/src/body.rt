@@ -7,7 +7,7 @@ ghost use Rattle.wf_ast.specs.TypedPackage.{package_of};
 ghost use Rattle.wf_ast.specs.WellTyped.{is_coroutine as is_marked_coroutine};
 ghost use Rattle.c_text.specs.CSpelling.{is_word_byte};
 ghost use Rattle.wf_exprs.specs.Scopes.{are_named};
-ghost use Rattle.wf_lower_stmts.specs.BodyNodes.{AreSmall, HasWords, form_in, point_at};
+ghost use Rattle.wf_lower_stmts.specs.BodyNodes.{AreSmall, HasWords, form_in, is_spelt_method, point_at};
 ghost use Rattle.wf_lower_stmts.specs.Forms.{counts_bytes, holds_something, keeps};
 
 use crate::walks::{keeps_count, keeps_held};
@@ -98,6 +98,14 @@ impl<'a> Body<'a> {
         ensures { result.now ≡ self.now.method }
     {
         self.method
+    }
+
+    /// The package keeps its rules, and the names of the method are there, and are words.
+    pub fn is_sound(&self)
+        ensures typed { IsTyped self.now.nodes }
+        ensures spelt { is_spelt_method self.now.nodes self.now.method ≡ true }
+    {
+        let _ = &self.method;
     }
 
     /// The statements of the method.
