@@ -24,11 +24,11 @@ use Rattle.wf_exprs.specs.Reads.{code_reads}
 use Rattle.wf_lower_stmts.specs.Forms.{Form, form_of, status_local, got_local, resume_local, when, when_some, is_io, place_in, end_of, restore_locals, restore_started}
 use Rattle.wf_lower_stmts.specs.Lower.{lower, ending, tail_of, top}
 
-abbrev declared : TypeTree → List ℕ → ExprTree → LocalTree
+abbrev pub declared : TypeTree → List ℕ → ExprTree → LocalTree
 declared type name initial = record { kind = type; name = name; initial = Some initial }
 
 -- Parameters: the receiver, and each argument as its public kind has it.
-abbrev public_args : List Variable → List PublicArg
+abbrev pub public_args : List Variable → List PublicArg
 public_args xs = map (λ x. record { name = x.name; kind = kind_of x.ty }) xs
 
 abbrev pub params_of : PackageTree → MethodTree → List ParamTree
@@ -121,10 +121,10 @@ refused_with surface.nothing n = None
 abbrev pub refuse : MethodTree → (status : ℕ) → Code
 refuse m n = leave (refused_with (answers_of m.mark m.gives) n) finish
 
-abbrev life : ExprTree
+abbrev pub life : ExprTree
 life = of_self (codes "life")
 
-abbrev active : ExprTree
+abbrev pub active : ExprTree
 active = of_self (codes "active")
 
 abbrev pub disable : (rest : Code) → Code

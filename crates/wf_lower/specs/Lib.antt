@@ -1,4 +1,10 @@
 pub mod Agreement
 pub mod Bodies
 pub mod DemoText
+pub mod Locals
+pub mod Made
+pub mod Methods
+pub mod Ordering
+pub mod Parts
+pub mod Structs
 pub mod Unit

@@ -21,7 +21,7 @@ use Rattle.wf_exprs.specs.Helpers.{all_saturating}
 use Rattle.wf_lower_stmts.specs.Forms.{is_kept, holds_something, counts_bytes, keeps, when}
 use Rattle.wf_lower.specs.Bodies.{functions_of}
 
-abbrev field : TypeTree → List ℕ → FieldTree
+abbrev pub field : TypeTree → List ℕ → FieldTree
 field type name = record { kind = plain type; name = name; count = None }
 
 -- typedef struct { uint8_t* ptr; size_t len; size_t wi; size_t ri; uint64_t pos; _Bool closed; } wuffs_base__io_buffer;

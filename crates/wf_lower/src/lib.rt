@@ -1,5 +1,15 @@
-// From an accepted package to the C text that carries it. So far the definition stands here, with worked examples.
-#![tactic(auto)]
+// From an accepted package to the C text that carries it: the definition, with worked examples, and the code that makes the text.
+#![tactic(auto, using(wf_exprs::proofs::Growing::grows_on))]
 
 pub mod agreement;
+mod bodies;
+mod declaring;
+mod entries;
 pub mod examples;
+mod initializing;
+mod locals;
+mod lowering;
+mod ordering;
+mod structs;
+
+pub use lowering::lower;

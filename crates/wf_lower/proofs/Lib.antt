@@ -1,0 +1,15 @@
+pub mod BodyLaws
+pub mod EntryLaws
+pub mod FieldLaws
+pub mod Functions
+pub mod InitLaws
+pub mod Kept
+pub mod KeptLaws
+pub mod Known
+pub mod LocalLaws
+pub mod PartLaws
+pub mod Placing
+pub mod Small
+pub mod Texts
+pub mod Walks
+pub mod Whole

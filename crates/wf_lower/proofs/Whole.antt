@@ -1,0 +1,76 @@
+-- The whole text of an accepted package.
+use Rattle.std.proofs.Common.{◌≡◌, ◌∙◌, ap, sym, subst, ℕ, Result, Ok, Err, OnOk, List, [], ◌∷◌, ◌++◌, refl}
+use Rattle.wf_text.specs.declared.faults.NoMemory.{NoMemory}
+use Rattle.wf_ast.specs.declared.typed_nodes.TypedNodes.{TypedNodes}
+use Rattle.wf_ast.specs.TypedPackage.{PackageTree, package_of}
+use Rattle.wf_points.specs.PointNumbers.{PointTable}
+use Rattle.wf_bounds.specs.Acceptance.{AcceptedPackage, IsAccepted}
+use Rattle.c_text.specs.declared.nodes.CItem.{CItem}
+use Rattle.c_text.specs.CNodes.{Nodes, no_nodes, unit_tree}
+use Rattle.c_text.specs.CUnit.{IsSound}
+use Rattle.c_text.specs.CTree.{ItemTree}
+use Rattle.wf_exprs.specs.Grown.{Grows}
+use Rattle.wf_exprs.specs.Helpers.{all_saturating}
+use Rattle.wf_exprs_nodes.specs.Growth.{GrowsBy}
+use Rattle.wf_exprs_nodes.proofs.ItemLaws.{by_after}
+use Rattle.wf_lower.specs.Made.{FitFunctions, HasFunctionTrees, IsReady, IsSpelt, item_trees}
+use Rattle.wf_lower.specs.Parts.{functions_in, items_before, items_in}
+use Rattle.wf_lower.specs.Unit.{io_buffer_item, lowered_unit, struct_items, struct_order, used_helpers, used_texts}
+use Rattle.wf_lower.proofs.Functions.{statuses_same}
+use Rattle.wf_lower.proofs.Kept.{keeps_by}
+use Rattle.wf_lower.proofs.Small.{points_small}
+use Rattle.wf_lower.proofs.Texts.{by_as, by_list, by_on, fit_grown, same_grown}
+
+ready_as : (a : AcceptedPackage) → IsAccepted a → IsSpelt a.nodes → IsReady a.nodes a.points.numbers
+ready_as a kept spelt = record { typed = kept.typed; spelt = spelt; small = points_small a.nodes kept.typed kept.few a.points.numbers kept.numbers; numbered = kept.numbers }
+
+pub ready : (a : AcceptedPackage) → IsAccepted a → IsSpelt a.nodes → (t : TypedNodes) (points : PointTable) → t ≡ a.nodes → points ≡ a.points → IsReady t points.numbers
+ready a kept spelt t points e f = subst (λ (n : TypedNodes). IsReady n points.numbers) (sym e) (subst (λ (q : PointTable). IsReady a.nodes q.numbers) (sym f) (ready_as a kept spelt))
+
+pub whole_text : (a b : Nodes) (items : List ItemTree) → a ≡ no_nodes → GrowsBy items a b → unit_tree b ≡ items
+unfolding unit_tree
+whole_text a b items e g = g.items ∙ ap (λ n. unit_tree n ++ items) e
+
+assoc : {A : Type 0} (xs ys zs : List A) → (xs ++ ys) ++ zs ≡ xs ++ (ys ++ zs)
+assoc [] ys zs = refl
+assoc (x ∷ xs) ys zs = ap (λ l. x ∷ l) (assoc xs ys zs)
+
+-- In the order of the definition the items are those of the definition.
+pub items_are : (p : PackageTree) → items_in p (struct_order p) ≡ lowered_unit p
+unfolding lowered_unit
+items_are p =
+    let fs = functions_in p (struct_order p) in
+    let ss = struct_items p (struct_order p) in
+    let texts = used_texts fs 0 p.statuses in
+    let helpers = used_helpers fs all_saturating in
+    ap (λ l. io_buffer_item ∷ l) (assoc ss (texts ++ helpers) fs ∙ ap (λ l. ss ++ l) (assoc texts helpers fs))
+
+pub items_lowered : (p : PackageTree) (order : List ℕ) (a b : Nodes) (r : Result (Unit {0}) NoMemory) → order ≡ struct_order p → OnOk r (GrowsBy (items_in p order) a b) → OnOk r (GrowsBy (lowered_unit p) a b)
+items_lowered p order a b r e h = by_as a b (items_in p order) (lowered_unit p) r (ap (items_in p) e ∙ items_are p) h
+
+-- The items before the functions, one kind after the other.
+pub before_all : (nodes : TypedNodes) (order : List ℕ) (a b c d e : Nodes) (fs : List CItem) (r : Result (Unit {0}) NoMemory) → FitFunctions a fs
+    → GrowsBy (io_buffer_item ∷ []) a b → GrowsBy (struct_items (package_of nodes) order) b c → GrowsBy (used_texts (item_trees c fs) 0 nodes.statuses) c d
+    → OnOk r (GrowsBy (used_helpers (item_trees d fs) all_saturating) d e) → OnOk r (GrowsBy (items_before (package_of nodes) order (item_trees a fs)) a e)
+before_all nodes order a b c d e fs (Ok u) fit buffer structs texts helpers =
+    let ss = struct_items (package_of nodes) order in
+    let front : GrowsBy (io_buffer_item ∷ ss) a c = by_on (io_buffer_item ∷ []) ss buffer structs in
+    let fit_c : FitFunctions c fs = fit_grown fs (keeps_by front) fit in
+    let same_c : item_trees c fs ≡ item_trees a fs = same_grown fs (keeps_by front) fit in
+    let same_d : item_trees d fs ≡ item_trees a fs = same_grown fs (keeps_by texts) fit_c ∙ same_c in
+    let ts = used_texts (item_trees a fs) 0 (package_of nodes).statuses in
+    let hs = used_helpers (item_trees a fs) all_saturating in
+    let texts_a : GrowsBy ts c d = by_list (ap (λ l. used_texts l 0 nodes.statuses) same_c ∙ ap (used_texts (item_trees a fs) 0) (sym (statuses_same nodes))) texts in
+    let helpers_a : GrowsBy hs d e = by_list (ap (λ l. used_helpers l all_saturating) same_d) helpers in
+    by_on (io_buffer_item ∷ ss) (ts ++ hs) front (by_on ts hs texts_a helpers_a)
+before_all nodes order a b c d e fs (Err refused) fit buffer structs texts helpers = helpers
+
+-- All items: those before the functions, and the functions.
+pub ordered_all : (p : PackageTree) (order : List ℕ) (a b c d : Nodes) (fs : List CItem) (r : Result (Unit {0}) NoMemory) → IsSound a → Grows a b → HasFunctionTrees b fs (functions_in p order)
+    → GrowsBy (items_before p order (item_trees b fs)) b c → OnOk r (GrowsBy (item_trees c fs) c d) → OnOk r (GrowsBy (items_in p order) a d)
+ordered_all p order a b c d fs (Ok u) sound g has before own =
+    let functions = functions_in p order in
+    let own_b : GrowsBy functions c d = by_list (same_grown fs (keeps_by before) has.there ∙ has.are) own in
+    let before_b : GrowsBy (items_before p order functions) b c = by_list (ap (items_before p order) has.are) before in
+    by_after a b d (items_in p order) sound g (by_on (items_before p order functions) functions before_b own_b)
+ordered_all p order a b c d fs (Err refused) sound g has before own = own

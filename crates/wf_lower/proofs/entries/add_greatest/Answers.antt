@@ -1,0 +1,7 @@
+use Rattle.std.proofs.Common.{◌^◌, ◌-◌, nat_lt, sym}
+use Rattle.wf_base.specs.BaseTable.{bits_of}
+use Rattle.wf_lower.proofs.EntryLaws.{pushed_if}
+use Rattle.wf_lower.proofs.entries.add_greatest.Goals as goal
+
+pub returns-in_ok-test-clause-made : goal.returns-in_ok-test-clause-made
+returns-in_ok-test-clause-made c = pushed_if _ _ _ _ _ _ c.push.result (nat_lt c.args.hi (2 ^ bits_of c.args.width - 1)) (sym c.if-has_greatest.ensures) c.bounded.ensures.grows c.in_ok-test.ensures.made c.push.ensures.ok

@@ -1,0 +1,352 @@
+// The whole text of a package: the io buffer, the structs, the statuses and helpers that are used, and the functions, each after
+// those that it calls.
+
+ghost use Rattle.std.specs.Prelude.{◌≡◌, ◌<◌, ◌++◌, ◌∷◌, [], ℕ, List, true, length, slice_get, Some, IfOk, OnOk};
+ghost use Rattle.wf_base.specs.BaseTable.{bits_of};
+ghost use Rattle.wf_ast.specs.TypedPackage.{MethodTree, package_of};
+ghost use Rattle.c_text.specs.CNodes.{bytes_at, made_item, unit_tree};
+ghost use Rattle.c_text.specs.CSpelling.{is_string};
+ghost use Rattle.c_text.specs.CTree.{text_item};
+ghost use Rattle.wf_exprs.specs.Grown.{Grows};
+ghost use Rattle.wf_exprs.specs.Helpers.{all_saturating, saturating};
+ghost use Rattle.wf_exprs_nodes.specs.Growth.{GrowsBy};
+ghost use Rattle.wf_lower_stmts.specs.Forms.{form_of};
+ghost use Rattle.wf_lower.specs.Bodies.{body_function as body_function_of, functions_of};
+ghost use Rattle.wf_lower.specs.Made.{AddsFunctions, FitFunctions, FitsFunction, HasFunctionTrees, IsReady, IsSpelt, item_trees};
+ghost use Rattle.wf_lower.specs.Ordering.{are_structs};
+ghost use Rattle.wf_lower.specs.Parts.{entry_functions, functions_in, items_before, items_in, saturating_widths};
+ghost use Rattle.wf_lower.specs.Unit.{initialize_function as initialize_function_of, initialize_functions, io_buffer_item, is_read_in as is_read_in_tree, is_used as is_used_in_trees, lowered_unit, method_functions, struct_items, used_helpers, used_texts};
+
+use crate::bodies::body_function;
+use crate::entries::entry_function;
+use crate::initializing::initialize_function;
+use crate::ordering::struct_order;
+use crate::structs::{io_buffer, struct_item};
+use c_text::{CItem, CNameId, Unit};
+use std::alloc::Global;
+use wf_ast::{StructId, Typed};
+use wf_base::Width;
+use wf_bounds::Accepted;
+use wf_exprs::names::put_numbered;
+use wf_exprs::rated::saturating_name;
+use wf_exprs_nodes::helpers::{put_item, put_saturating};
+use wf_exprs_nodes::reads::code_reads;
+use wf_lower_stmts::Body;
+use wf_points::table::Points;
+use wf_text::{MethodId, NoMemory, StatusId};
+
+/// Whether a function reads a name.
+fn is_read_in(u: &Unit, name: CNameId, item: &CItem) -> bool
+    requires name { name.0 < length u.now.names }
+    requires item { FitsFunction u.now item.now }
+    ensures { result ≡ is_read_in_tree (bytes_at u.now.names name.0) (made_item u.now item.now) }
+{
+    match item {
+        CItem::Function { body, .. } => code_reads(u, name, *body),
+        CItem::Struct { .. } | CItem::Text { .. } => false,
+    }
+}
+
+/// Whether one of these functions reads a name.
+fn is_used(u: &Unit, functions: &[CItem], name: CNameId) -> bool
+    requires name { name.0 < length u.now.names }
+    requires functions { FitFunctions u.now functions.now }
+    ensures { result ≡ is_used_in_trees (item_trees u.now functions.now) (bytes_at u.now.names name.0) }
+{
+    for item in functions {
+        if is_read_in(u, name, item) {
+            return true;
+        }
+    }
+    false
+}
+
+/// What is lowered.
+#[derive(Clone, Copy)]
+struct Source<'a> {
+    alloc: Global,
+    t: &'a Typed,
+    points: &'a Points,
+}
+
+/// The function that makes an object of a struct ready.
+fn add_initialize(
+    p: &Source,
+    u: &mut Unit,
+    s: u32,
+    functions: &mut Vec<CItem>,
+) -> Result<(), NoMemory>
+    requires ready { IsReady p.now.t.now p.now.points.now.numbers }
+    requires known { s < length p.now.t.now.structs }
+    ensures grows { Grows u.old u.new }
+    ensures made { OnOk result (AddsFunctions u.old u.new functions.old.items functions.new.items (initialize_function_of (package_of p.now.t.now) s ∷ [])) }
+{
+    let item = initialize_function(p.alloc, p.t, u, StructId(s))?;
+    put_into(functions, item)
+}
+
+/// Adds an item at the end.
+fn put_into(items: &mut Vec<CItem>, item: CItem) -> Result<(), NoMemory>
+    ensures { OnOk result (items.new.items ≡ items.old.items ++ item ∷ []) }
+{
+    match items.push(item) {
+        Ok(()) => Ok(()),
+        Err(_) => Err(NoMemory),
+    }
+}
+
+fn add_all_initialize(
+    p: &Source,
+    u: &mut Unit,
+    order: &[u32],
+    functions: &mut Vec<CItem>,
+) -> Result<(), NoMemory>
+    requires ready { IsReady p.now.t.now p.now.points.now.numbers }
+    requires known { are_structs (package_of p.now.t.now) order.now ≡ true }
+    ensures grows { Grows u.old u.new }
+    ensures made { OnOk result (AddsFunctions u.old u.new functions.old.items functions.new.items (initialize_functions (package_of p.now.t.now) order.now)) }
+{
+    for i in 0..order.len() {
+        add_initialize(p, u, order[i], functions)?;
+    }
+    Ok(())
+}
+
+/// The body of a method.
+fn add_body(
+    p: &Source,
+    u: &mut Unit,
+    m: MethodId,
+    functions: &mut Vec<CItem>,
+) -> Result<(), NoMemory>
+    requires ready { IsReady p.now.t.now p.now.points.now.numbers }
+    requires known { m.0 < length p.now.t.now.methods }
+    ensures grows { Grows u.old u.new }
+    ensures made { OnOk result ((method : MethodTree) → slice_get (package_of p.now.t.now).methods m.0 ≡ Some method → AddsFunctions u.old u.new functions.old.items functions.new.items (body_function_of (form_of (package_of p.now.t.now) method) ∷ [])) }
+{
+    let b = Body::new(p.alloc, p.t, p.points, m);
+    let item = body_function(&b, u, p.t.body(m))?;
+    put_into(functions, item)
+}
+
+/// The entry of a method, where it is public.
+fn add_entry(
+    p: &Source,
+    u: &mut Unit,
+    m: MethodId,
+    functions: &mut Vec<CItem>,
+) -> Result<(), NoMemory>
+    requires ready { IsReady p.now.t.now p.now.points.now.numbers }
+    requires known { m.0 < length p.now.t.now.methods }
+    ensures grows { Grows u.old u.new }
+    ensures made { OnOk result ((method : MethodTree) → slice_get (package_of p.now.t.now).methods m.0 ≡ Some method → AddsFunctions u.old u.new functions.old.items functions.new.items (entry_functions (package_of p.now.t.now) m.0 method)) }
+{
+    if p.t.method(m).public {
+        let item = entry_function(p.alloc, p.t, u, m)?;
+        put_into(functions, item)
+    } else {
+        Ok(())
+    }
+}
+
+/// The body of a method, and its entry where it is public.
+fn add_method(p: &Source, u: &mut Unit, m: u32, functions: &mut Vec<CItem>) -> Result<(), NoMemory>
+    requires ready { IsReady p.now.t.now p.now.points.now.numbers }
+    requires known { m < length p.now.t.now.methods }
+    ensures grows { Grows u.old u.new }
+    ensures made { OnOk result (AddsFunctions u.old u.new functions.old.items functions.new.items (functions_of (package_of p.now.t.now) m (slice_get (package_of p.now.t.now).methods m))) }
+{
+    add_body(p, u, MethodId(m), functions)?;
+    add_entry(p, u, MethodId(m), functions)
+}
+
+fn add_methods(p: &Source, u: &mut Unit, functions: &mut Vec<CItem>) -> Result<(), NoMemory>
+    requires { IsReady p.now.t.now p.now.points.now.numbers }
+    ensures grows { Grows u.old u.new }
+    ensures made { OnOk result (AddsFunctions u.old u.new functions.old.items functions.new.items (method_functions (package_of p.now.t.now) (package_of p.now.t.now).order)) }
+{
+    let order = p.t.order();
+    for i in 0..order.len() {
+        add_method(p, u, order[i], functions)?;
+    }
+    Ok(())
+}
+
+/// All functions, in the order of the text.
+fn all_functions(p: &Source, u: &mut Unit, order: &[u32]) -> Result<Vec<CItem>, NoMemory>
+    requires ready { IsReady p.now.t.now p.now.points.now.numbers }
+    requires known { are_structs (package_of p.now.t.now) order.now ≡ true }
+    ensures grows { Grows u.old u.new }
+    ensures made { IfOk result (λ functions. HasFunctionTrees u.new functions.items (functions_in (package_of p.now.t.now) order.now)) }
+{
+    let mut functions = Vec::new(p.alloc);
+    add_all_initialize(p, u, order, &mut functions)?;
+    add_methods(p, u, &mut functions)?;
+    Ok(functions)
+}
+
+fn add_buffer(p: &Source, u: &mut Unit) -> Result<(), NoMemory>
+    ensures { OnOk result (GrowsBy (io_buffer_item ∷ []) u.old u.new) }
+{
+    u.is_sound();
+    let item = io_buffer(p.alloc, u)?;
+    put_item(u, item)
+}
+
+fn add_struct(p: &Source, u: &mut Unit, s: u32) -> Result<(), NoMemory>
+    requires ready { IsReady p.now.t.now p.now.points.now.numbers }
+    requires known { s < length p.now.t.now.structs }
+    ensures { OnOk result (GrowsBy (struct_items (package_of p.now.t.now) (s ∷ [])) u.old u.new) }
+{
+    u.is_sound();
+    let item = struct_item(p.alloc, p.t, u, StructId(s))?;
+    put_item(u, item)
+}
+
+fn add_structs(p: &Source, u: &mut Unit, order: &[u32]) -> Result<(), NoMemory>
+    requires ready { IsReady p.now.t.now p.now.points.now.numbers }
+    requires known { are_structs (package_of p.now.t.now) order.now ≡ true }
+    ensures { OnOk result (GrowsBy (struct_items (package_of p.now.t.now) order.now) u.old u.new) }
+{
+    for i in 0..order.len() {
+        add_struct(p, u, order[i])?;
+    }
+    Ok(())
+}
+
+/// A string with a name that the unit has.
+fn put_text(u: &mut Unit, name: CNameId, bytes: &[u8]) -> Result<(), NoMemory>
+    requires name { name.0 < length u.old.names }
+    requires string { is_string bytes.now ≡ true }
+    ensures { OnOk result (GrowsBy (text_item (bytes_at u.old.names name.0) bytes.now ∷ []) u.old u.new) }
+{
+    u.is_sound();
+    let text = u.add_string(bytes)?;
+    put_item(u, CItem::Text { name, text })
+}
+
+/// A status, where a function reads it.
+fn add_text(p: &Source, u: &mut Unit, n: u32, functions: &[CItem]) -> Result<(), NoMemory>
+    requires ready { IsReady p.now.t.now p.now.points.now.numbers }
+    requires known { n < length p.now.t.now.statuses }
+    requires functions { FitFunctions u.old functions.now }
+    ensures { OnOk result ((text : List ℕ) → slice_get p.now.t.now.statuses n ≡ Some text → GrowsBy (used_texts (item_trees u.old functions.now) n (text ∷ [])) u.old u.new) }
+{
+    u.is_sound();
+    let name = put_numbered(p.alloc, u, b"status_", n as u64)?;
+    if is_used(u, functions, name) {
+        put_text(u, name, p.t.status_text(StatusId(n)))
+    } else {
+        Ok(())
+    }
+}
+
+fn add_texts(p: &Source, u: &mut Unit, functions: &[CItem]) -> Result<(), NoMemory>
+    requires ready { IsReady p.now.t.now p.now.points.now.numbers }
+    requires functions { FitFunctions u.old functions.now }
+    ensures { OnOk result (GrowsBy (used_texts (item_trees u.old functions.now) 0 p.now.t.now.statuses) u.old u.new) }
+{
+    for n in 0..p.t.statuses() {
+        add_text(p, u, n, functions)?;
+    }
+    Ok(())
+}
+
+/// A saturating function, where it is called.
+fn add_helper(
+    p: &Source,
+    u: &mut Unit,
+    is_sum: bool,
+    width: Width,
+    functions: &[CItem],
+) -> Result<(), NoMemory>
+    requires { FitFunctions u.old functions.now }
+    ensures { OnOk result (GrowsBy (used_helpers (item_trees u.old functions.now) (saturating is_sum (bits_of width) ∷ [])) u.old u.new) }
+{
+    u.is_sound();
+    let name = saturating_name(p.alloc, u, is_sum, width)?;
+    if is_used(u, functions, name) {
+        put_saturating(p.alloc, u, is_sum, width)
+    } else {
+        Ok(())
+    }
+}
+
+/// The functions of one saturating operator.
+fn add_widths(p: &Source, u: &mut Unit, is_sum: bool, functions: &[CItem]) -> Result<(), NoMemory>
+    requires { FitFunctions u.old functions.now }
+    ensures { OnOk result (GrowsBy (used_helpers (item_trees u.old functions.now) (saturating_widths is_sum)) u.old u.new) }
+{
+    add_helper(p, u, is_sum, Width::W8, functions)?;
+    add_helper(p, u, is_sum, Width::W16, functions)?;
+    add_helper(p, u, is_sum, Width::W32, functions)?;
+    add_helper(p, u, is_sum, Width::W64, functions)
+}
+
+fn add_helpers(p: &Source, u: &mut Unit, functions: &[CItem]) -> Result<(), NoMemory>
+    requires { FitFunctions u.old functions.now }
+    ensures { OnOk result (GrowsBy (used_helpers (item_trees u.old functions.now) all_saturating) u.old u.new) }
+{
+    add_widths(p, u, true, functions)?;
+    add_widths(p, u, false, functions)
+}
+
+fn add_functions(u: &mut Unit, functions: Vec<CItem>) -> Result<(), NoMemory>
+    requires { FitFunctions u.old functions.items }
+    ensures { OnOk result (GrowsBy (item_trees u.old functions.items) u.old u.new) }
+{
+    for item in functions {
+        put_item(u, item)?;
+    }
+    Ok(())
+}
+
+/// The items before the functions.
+fn add_before(p: &Source, u: &mut Unit, order: &[u32], functions: &[CItem]) -> Result<(), NoMemory>
+    requires ready { IsReady p.now.t.now p.now.points.now.numbers }
+    requires known { are_structs (package_of p.now.t.now) order.now ≡ true }
+    requires functions { FitFunctions u.old functions.now }
+    ensures { OnOk result (GrowsBy (items_before (package_of p.now.t.now) order.now (item_trees u.old functions.now)) u.old u.new) }
+{
+    add_buffer(p, u)?;
+    add_structs(p, u, order)?;
+    add_texts(p, u, functions)?;
+    add_helpers(p, u, functions)
+}
+
+/// The items, where the structs stand in this order.
+fn add_ordered(p: &Source, u: &mut Unit, order: &[u32]) -> Result<(), NoMemory>
+    requires ready { IsReady p.now.t.now p.now.points.now.numbers }
+    requires known { are_structs (package_of p.now.t.now) order.now ≡ true }
+    ensures { OnOk result (GrowsBy (items_in (package_of p.now.t.now) order.now) u.old u.new) }
+{
+    u.is_sound();
+    let functions = all_functions(p, u, order)?;
+    add_before(p, u, order, functions.as_slice())?;
+    add_functions(u, functions)
+}
+
+/// The items of the text.
+fn add_items(p: &Source, u: &mut Unit) -> Result<(), NoMemory>
+    requires { IsReady p.now.t.now p.now.points.now.numbers }
+    ensures { OnOk result (GrowsBy (lowered_unit (package_of p.now.t.now)) u.old u.new) }
+{
+    let order = struct_order(p.alloc, p.t)?;
+    add_ordered(p, u, order.as_slice())
+}
+
+/// The C text of an accepted package whose names and status texts are spelt as C spells names and strings. `Err` where memory was
+/// refused.
+pub fn lower(alloc: Global, a: &Accepted) -> Result<Unit, NoMemory>
+    requires { IsSpelt a.now.nodes }
+    ensures { IfOk result (λ u. unit_tree u ≡ lowered_unit (package_of a.now.nodes)) }
+{
+    let mut u = Unit::new(alloc);
+    let p = Source {
+        alloc,
+        t: a.typed(),
+        points: a.points(),
+    };
+    add_items(&p, &mut u)?;
+    Ok(u)
+}
