@@ -1,0 +1,4 @@
+pub mod DepthLaws
+pub mod Examples
+pub mod NamedDepth
+pub mod WrittenDepth
