@@ -1,0 +1,2 @@
+pub mod ExprLaws
+pub mod Typing

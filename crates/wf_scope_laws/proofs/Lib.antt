@@ -1,0 +1,9 @@
+pub mod Apart
+pub mod Callees
+pub mod Exprs
+pub mod Given
+pub mod Jumping
+pub mod Meanings
+pub mod Packages
+pub mod Stmts
+pub mod Variables
