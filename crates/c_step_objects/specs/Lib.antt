@@ -1,0 +1,4 @@
+pub mod Shapes
+pub mod Structs
+pub mod Texts
+pub mod Types
