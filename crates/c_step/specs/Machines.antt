@@ -7,12 +7,14 @@ use Rattle.wf_base.specs.LawfulActions.{struct_numbered, method_numbered, called
 use Rattle.wf_bufs.specs.SurfaceViews.{receiver_of}
 use Rattle.c_text.specs.CNodes.{Nodes, unit_tree}
 use Rattle.c_meaning.specs.CMemory.{Memory}
-use Rattle.c_meaning.specs.CCall.{program_of}
+use Rattle.c_meaning.specs.CCall.{Program, program_of}
 use Rattle.c_meaning.specs.CRun.{Loaded, loaded, struct_of, c_call, most_args, initialize_name}
 use Rattle.c_meaning.specs.UnitForm.{HasUnitForm}
 use Rattle.c_step_exprs.specs.Resolving.{function_number}
 use Rattle.c_step_run.specs.declared.store.Store.{Store}
 use Rattle.c_step_run.specs.Coding.{AreCoded}
+use Rattle.c_step_program.specs.Programs.{code_of}
+use Rattle.c_step_cells.specs.Chains.{frame_cells}
 use Rattle.c_step_engine.specs.Engines.{EngineState}
 use Rattle.c_step_engine.specs.Statuses.{AreStatuses}
 use Rattle.c_step_calls.specs.declared.calling.Called.{Called}
@@ -26,6 +28,10 @@ use Rattle.c_step_tables.specs.Tables.{IsMethod, AreStructs}
 abbrev pub loaded_of : Known → Loaded
 loaded_of k = loaded (program_of (unit_tree k.formed)) k.surface (map receiver_of k.receivers.items)
 
+-- The greatest number of parameters and locals along a chain of calls that begins at an external function of a program.
+abbrev pub program_cells : Program → ℕ
+program_cells p = frame_cells (code_of p p.functions) p.functions
+
 -- The tables are those of the text, which has the unit form for the package. The first status is ok.
 pub record IsKnown (k : Known) : Type 0 where
   pub form : HasUnitForm k.surface (unit_tree k.formed)
@@ -35,6 +41,7 @@ pub record IsKnown (k : Known) : Type 0 where
   pub structs : AreStructs (loaded_of k).program k.surface k.surface.structs k.structs.items
   pub statuses : AreStatuses (loaded_of k).program k.surface k.statuses.items
   pub functions : length k.code.functions ≡ length (loaded_of k).program.functions
+  pub cells : k.cells ≡ program_cells (loaded_of k).program
 
 -- The machine can begin an init or a call.
 pub record IsReady (k : Known) (room : Room) (st : Store) : Type 0 where

@@ -39,6 +39,8 @@ pub(crate) struct Known {
     pub(crate) statuses: Vec<Option<StatusId>>,
     /// The functions.
     pub(crate) code: Code,
+    /// The greatest number of parameters and locals along a chain of calls.
+    pub(crate) cells: u64,
 }
 
 impl Drop for Known {
@@ -51,6 +53,7 @@ impl Drop for Known {
             structs: _,
             statuses: _,
             code: _,
+            cells: _,
         } = self;
     }
 }

@@ -1,14 +1,32 @@
 // The engine that executes a text of C.
 
-ghost use Rattle.std.specs.Prelude.{◌≡◌, false, length, map, IfOk, OnOk, IfErr};
+ghost use Rattle.std.specs.Prelude.{◌≡◌, [], false, length, map, slice_get, Some, IfOk, OnOk, IfErr};
+ghost use Rattle.wf_ast.specs.TypedInvariant.{IsTyped};
+ghost use Rattle.wf_ast.specs.TypedPackage.{package_of, surface_of as surface_in};
+ghost use Rattle.wf_base.specs.LawfulActions.{AreDeclared};
 ghost use Rattle.wf_bufs.specs.EngineLaw.{stops as stops_at};
 ghost use Rattle.wf_bufs.specs.SurfaceViews.{receiver_of};
+ghost use Rattle.wf_surfaces.specs.Names.{HasNames};
+ghost use Rattle.c_text.specs.CNodes.{unit_tree};
+ghost use Rattle.c_meaning.specs.CCall.{program_of};
+ghost use Rattle.c_meaning.specs.UnitForm.{HasUnitForm};
+ghost use Rattle.c_form.specs.Formed.{Refuses};
+ghost use Rattle.c_step_engine.specs.Engines.{first_state};
+ghost use Rattle.c_step.specs.Machines.{state_of, program_cells};
 
 use crate::known::Known;
+use crate::loading::{Tables, copied, surface_for};
+use c_form::{Formed, LoadFault, formed};
 use c_step_calls::Room;
+use c_step_cells::frame_cells;
+use c_step_objects::{Started, start};
 use c_step_run::Store;
+use c_text::Unit;
+use std::alloc::Global;
 use std::marker::Model;
-use wf_bufs::{Bufs, Call, Engine, Reply};
+use wf_ast::Typed;
+use wf_bufs::{Bufs, Call, Engine, PublicSurface, ReceiverDecl, Reply};
+use wf_text::NoMemory;
 
 /// Executes a text of C that has the unit form for a package. It takes no memory while it runs.
 #[derive(Drop)]
@@ -30,6 +48,97 @@ impl Model for Machine {
     ghost view = { λ it. record { nodes = it.known.formed; surface = it.known.surface; receivers = map receiver_of it.known.receivers.items; memory = memory it.store.mem; stopped = it.stopped } };
 
     ghost invariant = { λ it. IsKnown it.known × ReadyUnless it.stopped it.known it.room it.store };
+}
+
+impl Machine {
+    /// The machine of a text for a package, before anything has run: the receivers, of public structs of `t`, are zero or
+    /// null. `NoSuchForm`: the text hasn't the unit form for `t`; its number is that of the first item that breaks it, or of
+    /// the items, where there is none or a public function is missing. `Memory`: memory was refused.
+    pub fn load(
+        alloc: Global,
+        u: Unit,
+        t: &Typed,
+        receivers: &[ReceiverDecl],
+    ) -> Result<Machine, LoadFault>
+        requires names { HasNames t.now }
+        requires typed { IsTyped t.now }
+        requires declared { AreDeclared (surface_in (package_of t.now)) (map receiver_of receivers.now) }
+        ensures form { OnOk result (HasUnitForm (surface_in (package_of t.now)) (unit_tree u)) }
+        ensures state { IfOk result (λ it. state_of it ≡ first_state (unit_tree u) (surface_in (package_of t.now)) (map receiver_of receivers.now)) }
+        ensures refused { IfErr result (Refuses (surface_in (package_of t.now)) (unit_tree u)) }
+    {
+        let surface = match surface_for(alloc, t) {
+            Ok(surface) => surface,
+            Err(fault) => return Err(fault),
+        };
+        let receivers = match copied(alloc, receivers) {
+            Ok(receivers) => receivers,
+            Err(_) => return Err(LoadFault::Memory),
+        };
+        let formed = match formed(alloc, u, &surface) {
+            Ok(formed) => formed,
+            Err(fault) => return Err(fault),
+        };
+        match Machine::begin(alloc, formed, surface, receivers) {
+            Ok(it) => Ok(it),
+            Err(_) => Err(LoadFault::Memory),
+        }
+    }
+
+    /// The machine of a text that has the unit form for the package with this surface, before anything has run.
+    fn begin(
+        alloc: Global,
+        formed: Formed,
+        surface: PublicSurface,
+        receivers: Vec<ReceiverDecl>,
+    ) -> Result<Machine, NoMemory>
+        requires form { HasUnitForm surface (unit_tree formed) }
+        requires ok { slice_get surface.statuses 0 ≡ Some [] }
+        requires declared { AreDeclared surface (map receiver_of receivers.items) }
+        ensures { IfOk result (λ it. state_of it ≡ first_state (unit_tree formed) surface (map receiver_of receivers.items)) }
+    {
+        let tables = match Tables::of(alloc, &formed, &surface) {
+            Ok(tables) => tables,
+            Err(fault) => return Err(fault),
+        };
+        let started = match start(alloc, &formed, &surface, receivers.as_slice()) {
+            Ok(started) => started,
+            Err(fault) => return Err(fault),
+        };
+        let cells = match frame_cells(alloc, &formed, &started.code) {
+            Ok(cells) => cells,
+            Err(fault) => return Err(fault),
+        };
+        let Started {
+            code,
+            pointers,
+            room,
+            store,
+        } = started;
+        Ok(Machine {
+            known: Known {
+                formed,
+                surface,
+                receivers,
+                pointers,
+                structs: tables.structs,
+                statuses: tables.statuses,
+                code,
+                cells,
+            },
+            room,
+            store,
+            stopped: false,
+        })
+    }
+
+    /// The greatest number of parameters and locals together along a chain of calls that begins at an external function of the
+    /// text.
+    pub fn frame_cells(&self) -> u64
+        ensures { result ≡ program_cells (program_of (unit_tree self.now.nodes)) }
+    {
+        self.known.cells
+    }
 }
 
 // Whether an engine has stopped after this reply.
