@@ -1,2 +1,4 @@
+pub mod Lowered
 pub mod Runs
 pub mod Sources
+pub mod Units

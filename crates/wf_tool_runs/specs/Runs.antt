@@ -1,5 +1,5 @@
 -- What comes of a script that is read over a package and driven over an engine.
-use Rattle.std.specs.Prelude.{◌≡◌, ℕ, List, Option, Result, Ok, Err}
+use Rattle.std.specs.Prelude.{◌≡◌, ℕ, List, length, Option, Result, Ok, Err}
 use Rattle.wf_text.specs.Surface.{Surface}
 use Rattle.wf_base.specs.HostRun.{Steps, empty_host, run}
 use Rattle.wf_script.specs.declared.faults.ScriptFault.{ScriptFault}
@@ -33,3 +33,15 @@ CountsRun before now (Err fault) = now ≡ before
 abbrev pub FitsRun : {F : Type 0} → (old new : Option ℕ) → Result DriveEnd F → (count : ℕ) → Type 0
 FitsRun old new (Ok end) count = FitsDrive old new end count
 FitsRun old new (Err fault) count = new ≡ old
+
+-- The bytes are this script over a surface, and its report was driven.
+pub record DrivesScript (surface : Surface) (report : Script → Report) (bytes : List ℕ) (old new : Option (List ℕ)) (room left : Option ℕ) (end : DriveEnd) : Type 0 where
+  pub script : Script
+  pub reads : script_of surface bytes ≡ Ok script
+  pub drives : Drives old new end (report script)
+  pub fits : FitsDrive room left end (length (report script).text)
+
+-- They are, or they are refused and nothing was written.
+abbrev pub RunsScript : Surface → (report : Script → Report) → (bytes : List ℕ) → (old new : Option (List ℕ)) → (room left : Option ℕ) → Result DriveEnd ScriptFault → Type 0
+RunsScript surface report bytes old new room left (Ok end) = DrivesScript surface report bytes old new room left end
+RunsScript surface report bytes old new room left (Err fault) = FailsScript fault (script_of surface bytes) × (new ≡ old) × (left ≡ room)

@@ -2,8 +2,13 @@
 // its receivers, and the script's report is written.
 #![tactic(auto)]
 
+pub mod lowered;
 pub mod prepared;
 pub mod source;
+pub mod texts;
+mod units;
 
+pub use lowered::run_lowered;
 pub use prepared::Prepared;
 pub use source::run_source;
+pub use texts::{RunFault, TextFault, run_text};

@@ -5,8 +5,8 @@ ghost use Rattle.pens.specs.Pens.{KeepsLongest};
 ghost use Rattle.wf_ast.specs.TypedPackage.{package_of, surface_of};
 ghost use Rattle.wf_script_drive.specs.Lawful.{IsScript};
 ghost use Rattle.wf_surfaces.specs.Names.{HasNames};
-ghost use Rattle.wf_tool_runs.specs.Runs.{CountsRun, FitsRun, WritesRun};
-ghost use Rattle.wf_tool_runs.specs.Sources.{RunsSource, engine_report};
+ghost use Rattle.wf_tool_runs.specs.Runs.{CountsRun, FitsRun, RunsScript, WritesRun};
+ghost use Rattle.wf_tool_runs.specs.Sources.{engine_report};
 
 use crate::prepared::Prepared;
 use std::alloc::Global;
@@ -27,7 +27,7 @@ pub fn run_source<O: Sink>(
 ) -> Result<DriveEnd, ScriptFault>
     requires names { HasNames a.now.nodes }
     requires countable { O.faults out.old < 2 ^ 64 - 1 }
-    ensures runs { RunsSource (package_of a.now.nodes) bytes.now (O.written out.old) (O.written out.new) (O.room out.old) (O.room out.new) result }
+    ensures runs { RunsScript (surface_of (package_of a.now.nodes)) (engine_report (package_of a.now.nodes)) bytes.now (O.written out.old) (O.written out.new) (O.room out.old) (O.room out.new) result }
     ensures count { CountsRun (O.faults out.old) (O.faults out.new) result }
     ensures longest { KeepsLongest (O.longest out.old) (O.longest out.new) }
 {
