@@ -3,19 +3,18 @@ use Rattle.std.proofs.Common.{◌≡◌, ◌<◌, ℕ, Bool, true, false, nat_le
 use Rattle.std.proofs.lemmas.Bool.Decides.{nat_tests}
 use Rattle.wf_text.specs.Surface.{Surface}
 use Rattle.wf_text.specs.declared.faults.NoMemory.{NoMemory as Wants}
-use Rattle.wf_ast.specs.TypedPackage.{PackageTree, surface_of}
 use Rattle.wf_script_rules.specs.declared.rules.XRule.{XRule}
 use Rattle.wf_script_rules.specs.Report.{Report, End, finished, out_of_turns, not_defined}
 use Rattle.wf_script_rules.specs.Scripts.{Script, script_of}
-use Rattle.wf_script_drive.specs.declared.driving.DriveEnd.TheVariants.{OutFailed}
+use Rattle.wf_script_drive.specs.declared.driving.DriveEnd.TheVariants.{Done, Turns, Undefined, OutFailed}
 use Rattle.wf_script_drive.specs.Driving.{FitsDrive}
-use Rattle.wf_tool_runs.specs.Sources.{DrivesScript, engine_report}
+use Rattle.wf_tool_runs.specs.Runs.{DrivesScript}
 use Rattle.wf_tool.specs.declared.ending.Ending.{Ending}
 use Rattle.wf_tool.specs.declared.ending.Ending.TheVariants as endings
 use Rattle.wf_tool.specs.declared.tool.Answer.{Answer}
-use Rattle.wf_tool.specs.Answer.{WritesPart}
+use Rattle.wf_tool.specs.Answer.{WritesPart, WritesText}
 use Rattle.wf_tool.specs.Lines.{script_line}
-use Rattle.wf_tool.specs.Runs.{IsReportOf, RunCallsFor}
+use Rattle.wf_tool.specs.Runs.{IsReportOf, ScriptCallsFor}
 use Rattle.wf_tool.specs.Told.{IsTold}
 
 no-room : (room left : Option ℕ) (count : ℕ) → FitsDrive room left OutFailed count → IfSome room (λ it. it < count)
@@ -29,7 +28,7 @@ no-room (Some room) left count fits = by_case (nat_le count room) refl
 -- The report that a run calls for, whatever its end.
 module _ (surface : Surface) (report : Script → Report) (bytes : List ℕ) (script : Script) (reads : script_of surface bytes ≡ Ok script) where
   abbrev CallsForIt : Type 0
-  CallsForIt = (ending : Ending) × RunCallsFor surface report bytes ending (report script).text
+  CallsForIt = (ending : Ending) × ScriptCallsFor surface report bytes ending (report script).text
 
   report-is : (end : End) → (report script).end ≡ end → IsReportOf surface report bytes (report script).text end
   report-is end e =
@@ -41,29 +40,37 @@ module _ (surface : Surface) (report : Script → Report) (bytes : List ℕ) (sc
   by-end (out_of_turns line) e = (endings.Turns, (line, report-is (out_of_turns line) e))
   by-end (not_defined line) e = (endings.Undefined, (line, report-is (not_defined line) e))
 
--- The sink failed.
-pub failed-run : (p : PackageTree) (taken bytes : List ℕ) (old new : Option (List ℕ)) (room left : Option ℕ) → taken ≡ bytes → DrivesScript p taken old new room left OutFailed
-    → WritesPart (RunCallsFor (surface_of p) (engine_report p) bytes) old new room
-failed-run p taken bytes old new room left same driven =
-    let reads : script_of (surface_of p) bytes ≡ Ok driven.script = ap (script_of (surface_of p)) (sym same) ∙ driven.reads in
-    let it = by-end (surface_of p) (engine_report p) bytes driven.script reads (engine_report p driven.script).end refl in
-    record {
-      ending = it.0;
-      text = (engine_report p driven.script).text;
-      gone = driven.drives.0;
-      called = it.1;
-      wrote = driven.drives.1;
-      lacking = no-room room left (length (engine_report p driven.script).text) driven.fits;
-    }
+-- What was driven is what the run calls for, whatever its end; or the sink failed.
+module _ (surface : Surface) (report : Script → Report) (bytes : List ℕ) (old new : Option (List ℕ)) (room left : Option ℕ) where
+  pub done-run : DrivesScript surface report bytes old new room left Done → WritesText (ScriptCallsFor surface report bytes) old new endings.Done
+  done-run d = record { text = (report d.script).text; called = report-is surface report bytes d.script d.reads finished d.drives.1; wrote = d.drives.0 }
+
+  pub turned-run : (line : ℕ) → DrivesScript surface report bytes old new room left (Turns line) → WritesText (ScriptCallsFor surface report bytes) old new endings.Turns
+  turned-run line d = record { text = (report d.script).text; called = (line, report-is surface report bytes d.script d.reads (out_of_turns line) d.drives.1); wrote = d.drives.0 }
+
+  pub undefined-run : (line : ℕ) → DrivesScript surface report bytes old new room left (Undefined line) → WritesText (ScriptCallsFor surface report bytes) old new endings.Undefined
+  undefined-run line d = record { text = (report d.script).text; called = (line, report-is surface report bytes d.script d.reads (not_defined line) d.drives.1); wrote = d.drives.0 }
+
+  pub failed-run : DrivesScript surface report bytes old new room left OutFailed → WritesPart (ScriptCallsFor surface report bytes) old new room
+  failed-run d =
+      let it = by-end surface report bytes d.script d.reads (report d.script).end refl in
+      record {
+        ending = it.0;
+        text = (report d.script).text;
+        gone = d.drives.0;
+        called = it.1;
+        wrote = d.drives.1;
+        lacking = no-room room left (length (report d.script).text) d.fits;
+      }
 
 -- The script was refused, and its line is told.
 pub refused-run : {S F : Type 0} (bytes : S → List ℕ) (surface : Surface) (report : Script → Report) (script : List ℕ) (rule : XRule) (number : ℕ) (line : Result S F) (text : Answer → S)
     (told : (it : Answer) → bytes (text it) ≡ string_bytes it.line) (r : Result Answer Wants)
     → script_of surface script ≡ Err (record { line = number; rule = rule }) → IfOk line (λ it. bytes it ≡ script_line rule number)
-    → MatchResult r (λ it. (it.ending ≡ endings.ScriptRefused) × (line ≡ Ok (text it))) (λ _. IsErr line) → (ending : Ending) (written : List ℕ) → IsTold r ending written → RunCallsFor surface report script ending written
+    → MatchResult r (λ it. (it.ending ≡ endings.ScriptRefused) × (line ≡ Ok (text it))) (λ _. IsErr line) → (ending : Ending) (written : List ℕ) → IsTold r ending written → ScriptCallsFor surface report script ending written
 refused-run bytes surface report script rule number line text told (Err fault) refused writes made ending written is = absurd is
 refused-run {S} {F} bytes surface report script rule number line text told (Ok it) refused writes made ending written is =
     let L : Result S F → Type 0 = λ found. IfOk found (λ l. bytes l ≡ script_line rule number) in
     let spelt : bytes (text it) ≡ script_line rule number = subst L made.1 writes in
-    let C : Ending → Type 0 = λ e. RunCallsFor surface report script e written in
+    let C : Ending → Type 0 = λ e. ScriptCallsFor surface report script e written in
     subst C (sym (is.0 ∙ made.0)) (record { refusal = record { line = number; rule = rule }; refused = refused; writes = is.1 ∙ sym (told it) ∙ spelt })

@@ -1,5 +1,7 @@
 -- From a package that is resolved to one that is read, and from this to the verdict on its files.
-use Rattle.std.proofs.Common.{◌≡◌, ◌⊎◌, ◌+◌, ℕ, suc, true, List, [], ◌∷◌, length, Option, None, Some, Result, Ok, Err, IfOk, IfErr, inl, inr, refl, sym, ap, ◌∙◌, subst}
+use Rattle.std.proofs.Common.{◌≡◌, ◌⊎◌, ◌+◌, ◌&&◌, ℕ, suc, Bool, true, false, not, bytes_eq, codes, List, [], ◌∷◌, length, Option, None, Some, Result, Ok, Err, IfOk, IfErr, inl, inr, refl, sym, ap, ◌∙◌, subst, arith}
+use Rattle.std.specs.List.{list_all}
+use Rattle.std.proofs.lemmas.Bool.Decides.{nat_tests}
 use Rattle.wf_text.specs.declared.faults.PhaseFault.{PhaseFault}
 use Rattle.wf_text.specs.declared.faults.PhaseFault.TheVariants as phase
 use Rattle.wf_text.specs.declared.rules.Refusal.{Refusal}
@@ -28,8 +30,15 @@ use Rattle.wf_types.specs.Typing.{IsMistyped, IsElaborated}
 use Rattle.wf_points.specs.PointNumbers.{HasTooMany}
 use Rattle.wf_bounds_stmts.specs.MethodRules.{facts_refusal}
 use Rattle.wf_bounds.specs.Acceptance.{AcceptedPackage, IsAccepted, IsRefusedFor}
-use Rattle.wf_typed_laws.specs.PlainNames.{HasPlainNames}
+use Rattle.wf_tokens.specs.Runs.{is_run}
+use Rattle.wf_formed_laws.proofs.AcceptedForm.{read_texts_are_formed}
+use Rattle.wf_depth_laws.proofs.ReadTexts.{read_texts_are_shallow}
+use Rattle.wf_tool_runs.specs.Lowered.{IsLowered}
+use Rattle.wf_lower_names.specs.SpeltNodes.{IsPlainPackage}
+use Rattle.wf_lower_names.proofs.SpeltNodes.{nodes_are_spelt}
 use Rattle.wf_typed_laws.proofs.NodeNames.{nodes_have_names}
+use Rattle.wf_typed_laws.proofs.Owners.{read_methods_have_owners}
+use Rattle.wf_typed_laws.proofs.StatusTexts.{read_statuses_are_plain}
 use Rattle.wf_typed_laws.proofs.TypedNames.{read_names_are_plain}
 use Rattle.wf_bounds_laws.specs.BoundsRules.{bounds_refusal, BreaksPoints}
 use Rattle.wf_bounds_laws.proofs.AnyOrder.{bounds_ignore_order, points_ignore_order}
@@ -40,6 +49,7 @@ use Rattle.wf_tool.specs.Taken.{Judges, RefusesTyped, JudgesNamed, JudgesRead}
 use Rattle.wf_tool.specs.Verdict as verdicts
 use Rattle.wf_tool.specs.Verdict.{BreaksTypes, resolved, misnamed, mistyped}
 use Rattle.wf_tool.specs.Soundness.{in_order}
+use Rattle.wf_tool.specs.Words.{is_package_byte, is_package_name}
 use Rattle.wf_tool.proofs.OrderLemmas.{any-order}
 use Rattle.wf_tool.proofs.SoundVerdicts.{accepted-runs}
 
@@ -159,10 +169,52 @@ unfolding typed_package
 typed-counted read order =
     typed-long (in_order read order) 0 (in_order read order).methods ∙ methods-counted (declared read.texts (decls_of read)) (decls_of read)
 
-pub read-judged : (name : List ℕ) (files : List (List ℕ)) (read : Parsed) (result : Result AcceptedPackage PhaseFault)
+typed-name : (read : Parsed) (order : List ℕ) → (typed_package (in_order read order)).package_name ≡ read.name
+unfolding typed_package
+typed-name read order = refl
+
+-- A package's name is made of letters, digits and `_`.
+and-both : (a b : Bool) → (a && b) ≡ true → (a ≡ true) × (b ≡ true)
+and-both true true h = (refl, refl)
+and-both true false h = absurd (cc h)
+and-both false b h = absurd (cc h)
+
+byte-run : (b : ℕ) → is_package_byte b ≡ true → is_run b ≡ true
+byte-run b h = grind (arith, nat_tests, h)
+
+bytes-run : (name : List ℕ) → list_all is_package_byte name ≡ true → list_all is_run name ≡ true
+bytes-run [] h = refl
+bytes-run (b ∷ name) h =
+    let both = and-both (is_package_byte b) (list_all is_package_byte name) h in
+    let first = byte-run b both.0 in
+    let others = bytes-run name both.1 in
+    rw (first, others) refl
+
+package-run : (name : List ℕ) → is_package_name name ≡ true → list_all is_run name ≡ true
+package-run name h = bytes-run name (and-both _ _ (and-both _ _ h).0).1
+
+not-false : (b : Bool) → not b ≡ true → b ≡ false
+not-false true h = absurd (cc h)
+not-false false h = refl
+
+not-base : (name : List ℕ) → is_package_name name ≡ true → bytes_eq name (codes "base") ≡ false
+not-base name h = not-false (bytes_eq name (codes "base")) (and-both _ _ h).1
+
+pub read-judged : (name : List ℕ) (files : List (List ℕ)) (read : Parsed) (result : Result AcceptedPackage PhaseFault) → is_package_name name ≡ true
     → too_large files ≡ None → IsParsed name files read → JudgesRead read result → Judges name files result
-read-judged name files read (Ok a) sized parsed h = (accepted_as, nodes_have_names a.nodes h.5 plain)
+read-judged name files read (Ok a) named sized parsed h = (accepted_as, nodes_have_names a.nodes h.5 plain.names, nodes_are_spelt a.nodes h.5 plain, lowered)
   where
+    few : Decides (HasTooMany (package_of a.nodes)) None
+    few = λ refusal broken.
+        let P : PackageTree → Type 0 = λ p. HasTooMany p refusal in
+        h.3 refusal (points_ignore_order (resolved read) h.4.order refusal (subst P h.4.tree broken))
+
+    lowered : IsLowered (package_of a.nodes)
+    lowered = record {
+      form = read_texts_are_formed name files read parsed h.0 (not-base name named) h.4.order a.nodes h.4.tree h.5 few;
+      shallow = read_texts_are_shallow name files read parsed h.4.order (package_of a.nodes) h.4.tree;
+    }
+
     accepted : verdicts.IsAccepted name files (length (package_of a.nodes).methods)
     accepted = record {
       sized = sized;
@@ -184,9 +236,18 @@ read-judged name files read (Ok a) sized parsed h = (accepted_as, nodes_have_nam
       tree = h.4.tree;
     }
 
-    plain : HasPlainNames (package_of a.nodes)
-    plain = subst HasPlainNames (sym h.4.tree) (read_names_are_plain name files read parsed h.0 h.4.order)
-read-judged name files read (Err (phase.Refused refusal)) sized parsed h = elim h [
+    plain : IsPlainPackage (package_of a.nodes)
+    plain =
+        let run = package-run name named in
+        let called : list_all is_run (typed_package (in_order read h.4.order)).package_name ≡ true = ap (list_all is_run) (typed-name read h.4.order ∙ parsed.named) ∙ run in
+        let typed : IsPlainPackage (typed_package (in_order read h.4.order)) = record {
+          name = called;
+          names = read_names_are_plain name files read parsed h.0 h.4.order;
+          texts = read_statuses_are_plain name files read parsed run h.1 h.4.order;
+          owners = read_methods_have_owners name files read parsed h.0 h.4.order;
+        } in
+        subst IsPlainPackage (sym h.4.tree) typed
+read-judged name files read (Err (phase.Refused refusal)) named sized parsed h = elim h [
   | inl first ↦ misnamed (record { sized = sized; read = read; parsed = parsed; decides = first })
   | inr other ↦ later-judged other
 ]
@@ -199,4 +260,4 @@ read-judged name files read (Err (phase.Refused refusal)) sized parsed h = elim 
     later-judged : ((verdicts.KeepsNames read × IsFirst (BreaksTypes read) refusal) ⊎ (verdicts.KeepsNames read × verdicts.KeepsTypes read × RefusesTyped (resolved read) refusal)) → verdicts.IsRefused name files refusal
     later-judged (inl t) = mistyped (record { sized = sized; read = read; parsed = parsed; names = t.0; decides = t.1 })
     later-judged (inr t) = typed-judged t.0 t.1 t.2
-read-judged name files read (Err phase.Memory) sized parsed h = tt
+read-judged name files read (Err phase.Memory) named sized parsed h = tt

@@ -1,5 +1,6 @@
 pub mod ByVerdict
 pub mod DrivenRuns
+pub mod EndedRuns
 pub mod FaultLines
 pub mod JudgingLemmas
 pub mod OrderLemmas
@@ -8,6 +9,7 @@ pub mod RunLemmas
 pub mod ScriptEnds
 pub mod SoundVerdicts
 pub mod TakingLemmas
+pub mod UnitTexts
 pub mod UsageLine
 pub mod VerdictLaws
 pub mod WholeVerdicts

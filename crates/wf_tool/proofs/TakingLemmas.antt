@@ -36,10 +36,10 @@ AreHeld-length held (name ∷ names) (file ∷ files) h = ap suc (AreHeld-length
 pub record HasTaken (held : List ℕ → Option (List ℕ)) (most : ℕ) (names : List (List ℕ)) (number left : ℕ) (files : List (List ℕ)) : Type 0 where
   pub hold : (rest : List (List ℕ)) → AreHeld held (drop number names) rest → AreHeld held names (files ++ rest)
   pub sizes : (rest : List (List ℕ)) → too_long 0 most (files ++ rest) ≡ too_long number left rest
-  pub fails : (index : ℕ) → FailsAt held left (drop number names) index → FailsAt held most names (number + index)
+  pub fails : (index : ℕ) → FailsAt held left (drop number names) [] index → FailsAt held most names [] (number + index)
 
 pub HasTaken-none : (held : List ℕ → Option (List ℕ)) (most : ℕ) (names : List (List ℕ)) → HasTaken held most names 0 most []
-HasTaken-none held most names = record { hold = λ rest h. h; sizes = λ rest. refl; fails = λ index h. subst (FailsAt held most names) (omega arith) h }
+HasTaken-none held most names = record { hold = λ rest h. h; sizes = λ rest. refl; fails = λ index h. subst (FailsAt held most names []) (omega arith) h }
 
 too_long-within : (number most : ℕ) (bytes : List ℕ) (rest : List (List ℕ)) → length bytes ≤ most → too_long number most (bytes ∷ rest) ≡ too_long (number + 1) (most - length bytes) rest
 too_long-within number most bytes rest within =
@@ -57,8 +57,8 @@ pub HasTaken-next : (held : List ℕ → Option (List ℕ)) (most : ℕ) (names 
 HasTaken-next held most names number left files name bytes had is takes =
     let H : List (List ℕ) → List (List ℕ) → Type 0 = λ rest ns. AreHeld held ns (bytes ∷ rest) in
     let G : List (List ℕ) → Type 0 = AreHeld held names in
-    let F : ℕ → List (List ℕ) → Type 0 = λ index ns. FailsAt held left ns (suc index) in
-    let N : ℕ → Type 0 = FailsAt held most names in
+    let F : ℕ → List (List ℕ) → Type 0 = λ index ns. FailsAt held left ns [] (suc index) in
+    let N : ℕ → Type 0 = FailsAt held most names [] in
     record {
       hold = λ rest h. subst G (sym (append_assoc files (bytes ∷ []) rest)) (had.hold (bytes ∷ rest) (subst (H rest) (sym is) (takes.0, h)));
       sizes = λ rest. ap (too_long 0 most) (append_assoc files (bytes ∷ []) rest) ∙ had.sizes (bytes ∷ rest) ∙ too_long-within number left bytes rest takes.1;
@@ -96,7 +96,7 @@ stops-at held most names number left files name (Refused refusal) had is (bytes,
     let H : List (List ℕ) → Type 0 = λ ns. AreHeld held ns (bytes ∷ behind) in
     (files ++ bytes ∷ behind, had.hold (bytes ∷ behind) (subst H (sym is) (told, told-hold held (drop (number + 1) names))), had.sizes (bytes ∷ behind) ∙ too_long-beyond number left bytes behind refusal more refused)
 stops-at held most names number left files name (Failed at) had is same =
-    let F : List (List ℕ) → Type 0 = λ ns. FailsAt held left ns 0 in
+    let F : List (List ℕ) → Type 0 = λ ns. FailsAt held left ns [] 0 in
     (number + 0, same ∙ omega arith, had.fails 0 (subst F (sym is) tt))
 stops-at held most names number left files name Memory had is stops = tt
 
@@ -173,7 +173,7 @@ stopped-package held names (Refused refusal) few (files, hold, long) = record {
 }
 stopped-package held names (Failed at) few (index, is, fails) =
     let spot : index ≡ at = sym (is ∙ omega arith) in
-    record { few = few; fails = subst (FailsAt held most_bytes names) spot fails }
+    record { few = few; fails = subst (FailsAt held most_bytes names []) spot fails }
 stopped-package held names Memory few stops = tt
 
 -- the same, of names and files as the program has them

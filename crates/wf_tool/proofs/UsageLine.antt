@@ -17,6 +17,6 @@ usage-told {S} {F} bytes asked faults line text told (Ok it) none writes made en
     let L : Result S F → Type 0 = λ found. IfOk found (λ l. bytes l ≡ usage_line) in
     let spelt : bytes (text it) ≡ usage_line = subst L made.1 writes in
     let ends : ending ≡ Usage = is.0 ∙ made.0 in
-    let A : Option Command → Type 0 = λ found. AskedFor asked.held asked.failed found ending written in
+    let A : Option Command → Type 0 = λ found. AskedFor asked.seen asked.held asked.failed found ending written in
     let E : Ending → Type 0 = λ e. CountsInputs faults faults e in
     (subst A none (ends, is.1 ∙ sym (told it) ∙ spelt), subst E (sym ends) refl)

@@ -2,6 +2,8 @@
 use Rattle.std.specs.Prelude.{ℕ, List, [], ◌∷◌, ◌++◌, codes, decimal}
 use Rattle.wf_text.specs.RuleNames.{name_of}
 use Rattle.wf_text.specs.declared.rules.Refusal.{Refusal}
+use Rattle.wf_tool_runs.specs.declared.texts.TextFault.{TextFault}
+use Rattle.wf_tool_runs.specs.declared.texts.TextFault.TheVariants.{TooLong, TooDeep, NotC, NoSuchForm}
 use Rattle.wf_script_rules.specs.declared.rules.XRule.{XRule}
 use Rattle.wf_script_rules.specs.declared.rules.XRule.TheVariants.{X1, X2, X3, X4, X5}
 
@@ -34,3 +36,10 @@ script_rule_name X5 = codes "X5"
 -- `script RULE line N`
 unfoldable pub script_line : XRule → (line : ℕ) → List ℕ
 script_line rule line = codes "script " ++ (script_rule_name rule ++ (codes " line " ++ (decimal line ++ line_end)))
+
+-- `text long`, `text deep AT`, `text notc AT` or `text form ITEM`
+unfoldable pub text_line : TextFault → List ℕ
+text_line TooLong = codes "text long" ++ line_end
+text_line (TooDeep at) = codes "text deep " ++ (decimal at ++ line_end)
+text_line (NotC at) = codes "text notc " ++ (decimal at ++ line_end)
+text_line (NoSuchForm item) = codes "text form " ++ (decimal item ++ line_end)

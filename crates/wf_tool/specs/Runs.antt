@@ -1,15 +1,21 @@
 -- What is answered where a script is run over a package that is accepted.
-use Rattle.std.specs.Prelude.{◌≡◌, ℕ, List, length, Ok, Err}
+use Rattle.std.specs.Prelude.{◌≡◌, ◌≤◌, ℕ, List, length, Ok, Err}
 use Rattle.wf_text.specs.Surface.{Surface}
 use Rattle.wf_ast.specs.TypedPackage.{PackageTree, surface_of}
 use Rattle.wf_typed_tree.specs.ElaboratedPackage.{typed_package}
 use Rattle.wf_names_laws.specs.Ordered.{HasOrder}
 use Rattle.wf_meaning.specs.SourceCall.{source_run}
+use Rattle.c_text.specs.CTree.{ItemTree}
+use Rattle.c_read_grammar.specs.Outcomes.{HasOutcome, whole}
+use Rattle.c_meaning.specs.UnitForm.{HasUnitForm}
+use Rattle.c_step.specs.Loading.{SeenOf}
 use Rattle.wf_script_rules.specs.Report.{Report, End, finished, out_of_turns, not_defined, report_of}
 use Rattle.wf_script_rules.specs.Scripts.{Script, Refusal, actions_of, script_of}
+use Rattle.wf_tool_runs.specs.declared.texts.TextFault.{TextFault}
+use Rattle.wf_tool_runs.specs.Units.{RefusesText, most_text, text_report}
 use Rattle.wf_tool.specs.declared.ending.Ending.{Ending}
 use Rattle.wf_tool.specs.declared.ending.Ending.TheVariants.{Done, Refused, Usage, InputFault, OutputFault, ScriptRefused, NoMemory, Turns, TextRefused, Undefined}
-use Rattle.wf_tool.specs.Lines.{script_line}
+use Rattle.wf_tool.specs.Lines.{script_line, text_line}
 use Rattle.wf_tool.specs.Soundness.{NeverStuck, in_order}
 use Rattle.wf_tool.specs.Verdict.{IsAccepted}
 
@@ -39,14 +45,44 @@ pub record IsRefusedAs (surface : Surface) (bytes text : List ℕ) : Type 0 wher
   pub writes : text ≡ script_line refusal.rule refusal.line
 
 -- Running a script with these bytes calls for this ending, with this text.
-abbrev pub RunCallsFor : Surface → (report : Script → Report) → (bytes : List ℕ) → Ending → (text : List ℕ) → Type 0
-RunCallsFor surface report bytes Done text = IsReportOf surface report bytes text finished
-RunCallsFor surface report bytes Refused text = ⊥
-RunCallsFor surface report bytes Usage text = ⊥
-RunCallsFor surface report bytes InputFault text = ⊥
-RunCallsFor surface report bytes OutputFault text = ⊥
-RunCallsFor surface report bytes ScriptRefused text = IsRefusedAs surface bytes text
-RunCallsFor surface report bytes NoMemory text = ⊥
-RunCallsFor surface report bytes Turns text = (line : ℕ) × IsReportOf surface report bytes text (out_of_turns line)
-RunCallsFor surface report bytes TextRefused text = ⊥
-RunCallsFor surface report bytes Undefined text = (line : ℕ) × IsReportOf surface report bytes text (not_defined line)
+abbrev pub ScriptCallsFor : Surface → (report : Script → Report) → (bytes : List ℕ) → Ending → (text : List ℕ) → Type 0
+ScriptCallsFor surface report bytes Done text = IsReportOf surface report bytes text finished
+ScriptCallsFor surface report bytes Refused text = ⊥
+ScriptCallsFor surface report bytes Usage text = ⊥
+ScriptCallsFor surface report bytes InputFault text = ⊥
+ScriptCallsFor surface report bytes OutputFault text = ⊥
+ScriptCallsFor surface report bytes ScriptRefused text = IsRefusedAs surface bytes text
+ScriptCallsFor surface report bytes NoMemory text = ⊥
+ScriptCallsFor surface report bytes Turns text = (line : ℕ) × IsReportOf surface report bytes text (out_of_turns line)
+ScriptCallsFor surface report bytes TextRefused text = ⊥
+ScriptCallsFor surface report bytes Undefined text = (line : ℕ) × IsReportOf surface report bytes text (not_defined line)
+
+-- The bytes of a text are that of these items, which have the unit form, and this is the report of a script with these bytes, with
+-- its end, by what is seen of the text.
+pub record IsTextReportOf (seen : SeenOf) (surface : Surface) (bytes text line : List ℕ) (end : End) : Type 0 where
+  pub short : length text ≤ most_text
+  pub items : List ItemTree
+  pub read : HasOutcome text (whole items)
+  pub form : HasUnitForm surface items
+  pub reported : IsReportOf surface (text_report seen items surface) bytes line end
+
+-- The script is read, and the text is refused: the line tells why.
+pub record IsTextRefusedAs (surface : Surface) (bytes text line : List ℕ) : Type 0 where
+  pub script : Script
+  pub reads : script_of surface bytes ≡ Ok script
+  pub fault : TextFault
+  pub refused : RefusesText surface text fault
+  pub writes : line ≡ text_line fault
+
+-- Running a script with these bytes over a text with these calls for this ending, with this line or report.
+abbrev pub TextCallsFor : SeenOf → Surface → (bytes text : List ℕ) → Ending → (line : List ℕ) → Type 0
+TextCallsFor seen surface bytes text Done line = IsTextReportOf seen surface bytes text line finished
+TextCallsFor seen surface bytes text Refused line = ⊥
+TextCallsFor seen surface bytes text Usage line = ⊥
+TextCallsFor seen surface bytes text InputFault line = ⊥
+TextCallsFor seen surface bytes text OutputFault line = ⊥
+TextCallsFor seen surface bytes text ScriptRefused line = IsRefusedAs surface bytes line
+TextCallsFor seen surface bytes text NoMemory line = ⊥
+TextCallsFor seen surface bytes text Turns line = (at : ℕ) × IsTextReportOf seen surface bytes text line (out_of_turns at)
+TextCallsFor seen surface bytes text TextRefused line = IsTextRefusedAs surface bytes text line
+TextCallsFor seen surface bytes text Undefined line = (at : ℕ) × IsTextReportOf seen surface bytes text line (not_defined at)

@@ -1,5 +1,5 @@
 -- What becomes of the files that the words name: they are taken one after the other, within a number of bytes.
-use Rattle.std.specs.Prelude.{ℕ, ◌+◌, ◌⊎◌, ⊤, List, [], ◌∷◌, ◌++◌, length, Option, None, Some, IfSome, Result, Ok, Err, ◌≡◌, ◌≤◌, ◌<◌}
+use Rattle.std.specs.Prelude.{ℕ, ◌+◌, ◌⊎◌, ⊤, List, [], ◌∷◌, length, Option, None, Some, IfSome, Result, Ok, Err, ◌≡◌, ◌≤◌, ◌<◌}
 use Rattle.wf_text.specs.declared.faults.PhaseFault.{PhaseFault}
 use Rattle.wf_text.specs.declared.faults.PhaseFault.TheVariants as phase
 use Rattle.wf_text.specs.declared.rules.Refusal.{Refusal}
@@ -15,8 +15,13 @@ use Rattle.wf_typed_tree.specs.ElaboratedPackage.{typed_package}
 use Rattle.wf_names_laws.specs.Ordered.{HasOrder}
 use Rattle.wf_bounds.specs.Acceptance.{AcceptedPackage}
 use Rattle.wf_surfaces.specs.Names.{HasNames}
+use Rattle.c_text.specs.CNodes.{Nodes, unit_tree}
+use Rattle.wf_lower.specs.Made.{IsSpelt}
+use Rattle.wf_lower.specs.Unit.{lowered_unit}
 use Rattle.wf_bounds_laws.specs.BoundsRules as bounds
+use Rattle.wf_tool_runs.specs.Lowered.{IsLowered}
 use Rattle.wf_tool.specs.declared.judging.Ready.{Ready}
+use Rattle.wf_tool.specs.declared.judging.ReadyText.{ReadyText}
 use Rattle.wf_tool.specs.declared.taking.TakingFault.{TakingFault}
 use Rattle.wf_tool.specs.declared.taking.TakingFault.TheVariants.{Refused, Failed, Memory}
 use Rattle.wf_tool.specs.Answer.{AreHeld, FailsAt, file_name}
@@ -43,7 +48,7 @@ TakesFiles held most names files = AreHeld held names files × (too_long 0 most 
 -- They hold more, or one of them isn't taken.
 abbrev pub StopsFiles : (held : List ℕ → Option (List ℕ)) → (most number : ℕ) → (names : List (List ℕ)) → TakingFault → Type 0
 StopsFiles held most number names (Refused refusal) = (files : List (List ℕ)) × AreHeld held names files × (too_long number most files ≡ Some refusal)
-StopsFiles held most number names (Failed at) = (index : ℕ) × (at ≡ number + index) × FailsAt held most names index
+StopsFiles held most number names (Failed at) = (index : ℕ) × (at ≡ number + index) × FailsAt held most names [] index
 StopsFiles held most number names Memory = ⊤
 
 -- The count of faults rises where a file couldn't be taken, and only there.
@@ -64,14 +69,14 @@ NamesFailed failed names (Refused refusal) = ⊤
 NamesFailed failed names (Failed at) = IfSome failed (λ last. last ≡ file_name names at)
 NamesFailed failed names Memory = ⊤
 
--- A script: its bytes, or, where it has more than a script may have, more than that.
+-- A script or a text: its bytes, or, where it has more than it may have, more than that.
 abbrev pub IsScriptOf : (told bytes : List ℕ) → Type 0
 IsScriptOf told bytes = (bytes ≡ told) ⊎ ((most_bytes < length told) × (most_bytes < length bytes))
 
 abbrev pub TakesScript : (held : List ℕ → Option (List ℕ)) → (name bytes : List ℕ) → Type 0
 TakesScript held name bytes = IfSome (held name) (λ told. IsScriptOf told bytes)
 
--- It isn't taken, after so many files.
+-- It isn't taken, after so many inputs.
 abbrev pub StopsScript : (number : ℕ) → TakingFault → Type 0
 StopsScript number (Refused refusal) = ⊥
 StopsScript number (Failed at) = at ≡ number
@@ -104,26 +109,32 @@ JudgesRead read (Err (phase.Refused refusal)) =
     ⊎ (KeepsNames read × KeepsTypes read × RefusesTyped (resolved read) refusal))
 JudgesRead read (Err phase.Memory) = ⊤
 
--- The verdict on files whose bytes are within the limits. An accepted package is never stuck, and its
--- nodes have texts for their names.
+-- The verdict on files whose bytes are within the limits. An accepted package is never stuck, its nodes have texts for their
+-- names, C can spell its names and texts, and its C text has the unit form and can be read back.
 abbrev pub Judges : (name : List ℕ) → (files : List (List ℕ)) → Result AcceptedPackage PhaseFault → Type 0
-Judges name files (Ok a) = IsAcceptedAs name files (package_of a.nodes) × HasNames a.nodes
+Judges name files (Ok a) = IsAcceptedAs name files (package_of a.nodes) × HasNames a.nodes × IsSpelt a.nodes × IsLowered (package_of a.nodes)
 Judges name files (Err (phase.Refused refusal)) = IsRefused name files refusal
 Judges name files (Err phase.Memory) = ⊤
 
 -- The same of files that have been taken.
 abbrev pub JudgesTaken : (name : List ℕ) → (files : List (List ℕ)) → Result AcceptedPackage TakingFault → Type 0
-JudgesTaken name files (Ok a) = IsAcceptedAs name files (package_of a.nodes) × HasNames a.nodes
+JudgesTaken name files (Ok a) = IsAcceptedAs name files (package_of a.nodes) × HasNames a.nodes × IsSpelt a.nodes × IsLowered (package_of a.nodes)
 JudgesTaken name files (Err (Refused refusal)) = IsRefused name files refusal
 JudgesTaken name files (Err (Failed at)) = ⊥
 JudgesTaken name files (Err Memory) = ⊤
 
 -- The same with the bytes of a script beside them.
 abbrev pub JudgesReady : (name : List ℕ) → (files : List (List ℕ)) → (script : List ℕ) → Result Ready TakingFault → Type 0
-JudgesReady name files script (Ok ready) = IsAcceptedAs name files (package_of ready.accepted.nodes) × HasNames ready.accepted.nodes × (ready.script.items ≡ script)
+JudgesReady name files script (Ok ready) =
+    IsAcceptedAs name files (package_of ready.accepted.nodes) × HasNames ready.accepted.nodes × IsSpelt ready.accepted.nodes × IsLowered (package_of ready.accepted.nodes) × (ready.script.items ≡ script)
 JudgesReady name files script (Err (Refused refusal)) = IsRefused name files refusal
 JudgesReady name files script (Err (Failed at)) = ⊥
 JudgesReady name files script (Err Memory) = ⊤
+
+-- And with those of a text.
+abbrev pub JudgesReadyText : (name : List ℕ) → (files : List (List ℕ)) → (script text : List ℕ) → Result ReadyText TakingFault → Type 0
+JudgesReadyText name files script text (Ok it) = JudgesReady name files script (Ok it.ready) × (it.text.items ≡ text)
+JudgesReadyText name files script text (Err fault) = JudgesReady name files script (Err fault)
 
 -- The files of a package are too many, or have too many bytes.
 pub record AreTooLarge (held : List ℕ → Option (List ℕ)) (names : List (List ℕ)) (refusal : Refusal) : Type 0 where
@@ -132,9 +143,9 @@ pub record AreTooLarge (held : List ℕ → Option (List ℕ)) (names : List (Li
   pub large : too_large files ≡ Some refusal
 
 -- One of these failed; the files of the package aren't too many.
-pub record FailsHeld (held : List ℕ → Option (List ℕ)) (count : ℕ) (names : List (List ℕ)) (number : ℕ) : Type 0 where
-  pub few : too_many count ≡ None
-  pub fails : FailsAt held most_bytes names number
+pub record FailsHeld (held : List ℕ → Option (List ℕ)) (names others : List (List ℕ)) (number : ℕ) : Type 0 where
+  pub few : too_many (length names) ≡ None
+  pub fails : FailsAt held most_bytes names others number
 
 -- What becomes of the files of a package.
 abbrev pub TakesPackage : (held : List ℕ → Option (List ℕ)) → (names files : List (List ℕ)) → Type 0
@@ -142,8 +153,25 @@ TakesPackage held names files = AreHeld held names files × (too_large files ≡
 
 abbrev pub StopsPackage : (held : List ℕ → Option (List ℕ)) → (names : List (List ℕ)) → TakingFault → Type 0
 StopsPackage held names (Refused refusal) = AreTooLarge held names refusal
-StopsPackage held names (Failed at) = FailsHeld held (length names) names at
+StopsPackage held names (Failed at) = FailsHeld held names [] at
 StopsPackage held names Memory = ⊤
+
+-- The package is accepted, for bytes that its files hold; its nodes have texts for their names, and C can spell its names and texts.
+pub record AcceptsHeldAs (held : List ℕ → Option (List ℕ)) (asked : PackageWords) (a : AcceptedPackage) : Type 0 where
+  pub files : List (List ℕ)
+  pub hold : AreHeld held asked.files files
+  pub accepted : IsAcceptedAs asked.package_name files (package_of a.nodes)
+  pub names : HasNames a.nodes
+  pub spelt : IsSpelt a.nodes
+  pub lowered : IsLowered (package_of a.nodes)
+
+-- It is accepted, and this is the unit of its C text.
+pub record LowersHeld (held : List ℕ → Option (List ℕ)) (asked : PackageWords) (u : Nodes) : Type 0 where
+  pub files : List (List ℕ)
+  pub tree : PackageTree
+  pub hold : AreHeld held asked.files files
+  pub accepted : IsAcceptedAs asked.package_name files tree
+  pub lowered : unit_tree u ≡ lowered_unit tree
 
 -- The package is accepted with so many methods, for bytes that its files hold, and it is never stuck.
 pub record AcceptsHeld (held : List ℕ → Option (List ℕ)) (asked : PackageWords) (methods : ℕ) : Type 0 where
@@ -158,16 +186,26 @@ pub record RefusesHeld (held : List ℕ → Option (List ℕ)) (asked : PackageW
   pub hold : AreHeld held asked.files files
   pub verdict : IsRefused asked.package_name files refusal
 
--- Why the package isn't accepted, or not all of these names are taken.
-abbrev pub FaultsPackage : (held : List ℕ → Option (List ℕ)) → PackageWords → (names : List (List ℕ)) → TakingFault → Type 0
-FaultsPackage held asked names (Refused refusal) = RefusesHeld held asked refusal
-FaultsPackage held asked names (Failed at) = FailsHeld held (length asked.files) names at
-FaultsPackage held asked names Memory = ⊤
+-- Why the package isn't accepted, or not all of its files are taken or not all of these others.
+abbrev pub FaultsPackage : (held : List ℕ → Option (List ℕ)) → PackageWords → (others : List (List ℕ)) → TakingFault → Type 0
+FaultsPackage held asked others (Refused refusal) = RefusesHeld held asked refusal
+FaultsPackage held asked others (Failed at) = FailsHeld held asked.files others at
+FaultsPackage held asked others Memory = ⊤
+
+-- What becomes of the package with these words.
+abbrev pub AcceptsPackage : (held : List ℕ → Option (List ℕ)) → PackageWords → Result AcceptedPackage TakingFault → Type 0
+AcceptsPackage held asked (Ok a) = AcceptsHeldAs held asked a
+AcceptsPackage held asked (Err fault) = FaultsPackage held asked [] fault
+
+-- What becomes of the package whose C text is to be written.
+abbrev pub LowersPackage : (held : List ℕ → Option (List ℕ)) → PackageWords → Result Nodes TakingFault → Type 0
+LowersPackage held asked (Ok u) = LowersHeld held asked u
+LowersPackage held asked (Err fault) = FaultsPackage held asked [] fault
 
 -- What becomes of the package that is to be checked.
 abbrev pub JudgesPackage : (held : List ℕ → Option (List ℕ)) → PackageWords → Result ℕ TakingFault → Type 0
 JudgesPackage held asked (Ok methods) = AcceptsHeld held asked methods
-JudgesPackage held asked (Err fault) = FaultsPackage held asked asked.files fault
+JudgesPackage held asked (Err fault) = FaultsPackage held asked [] fault
 
 -- A package that is accepted, for bytes that its files hold, with the bytes of a script.
 pub record IsReadied (held : List ℕ → Option (List ℕ)) (asked : PackageWords) (script : List ℕ) (ready : Ready) : Type 0 where
@@ -175,9 +213,20 @@ pub record IsReadied (held : List ℕ → Option (List ℕ)) (asked : PackageWor
   pub hold : AreHeld held asked.files files
   pub accepted : IsAcceptedAs asked.package_name files (package_of ready.accepted.nodes)
   pub names : HasNames ready.accepted.nodes
+  pub spelt : IsSpelt ready.accepted.nodes
+  pub lowered : IsLowered (package_of ready.accepted.nodes)
   pub taken : TakesScript held script ready.script.items
 
 -- What becomes of a package and a script that is to run over it.
 abbrev pub ReadiesPackage : (held : List ℕ → Option (List ℕ)) → PackageWords → (script : List ℕ) → Result Ready TakingFault → Type 0
 ReadiesPackage held asked script (Ok ready) = IsReadied held asked script ready
-ReadiesPackage held asked script (Err fault) = FaultsPackage held asked (asked.files ++ script ∷ []) fault
+ReadiesPackage held asked script (Err fault) = FaultsPackage held asked (script ∷ []) fault
+
+-- The same with the bytes of a text.
+pub record IsReadiedText (held : List ℕ → Option (List ℕ)) (asked : PackageWords) (script text : List ℕ) (it : ReadyText) : Type 0 where
+  pub readied : IsReadied held asked script it.ready
+  pub taken : TakesScript held text it.text.items
+
+abbrev pub ReadiesText : (held : List ℕ → Option (List ℕ)) → PackageWords → (script text : List ℕ) → Result ReadyText TakingFault → Type 0
+ReadiesText held asked script text (Ok it) = IsReadiedText held asked script text it
+ReadiesText held asked script text (Err fault) = FaultsPackage held asked (script ∷ text ∷ []) fault

@@ -9,11 +9,12 @@ ghost use Rattle.wf_names_resolve.specs.Package.{resolved_package};
 ghost use Rattle.wf_typed_tree.specs.ElaboratedPackage.{typed_package};
 ghost use Rattle.wf_typed_tree.specs.Grammar.{package_by_grammar};
 ghost use Rattle.wf_tool.specs.Sizes.{too_large, too_many};
-ghost use Rattle.wf_tool.specs.Taken.{CountsTaking, Judges, JudgesNamed, JudgesPackage, JudgesRead, JudgesReady, JudgesTaken, NamesFailed, ReadiesPackage, StopsPackage, TakesPackage};
+ghost use Rattle.wf_tool.specs.Taken.{AcceptsPackage, CountsTaking, Judges, JudgesNamed, JudgesPackage, JudgesRead, JudgesReady, JudgesReadyText, JudgesTaken, NamesFailed, ReadiesPackage, ReadiesText, StopsPackage, TakesPackage, TakesScript};
 ghost use Rattle.wf_tool.specs.Views.{words_seen};
+ghost use Rattle.wf_tool.specs.Words.{is_package_name};
 
-use crate::taking::{TakingFault, first_place, take_files, take_script};
-use crate::words::PackageWords;
+use crate::taking::{TakingFault, first_place, take_files, take_other};
+use crate::words::{PackageWords, TextWords};
 use std::alloc::Global;
 use wf_ast::Package;
 use wf_bounds::{Accepted, check};
@@ -69,7 +70,8 @@ fn judge_read(alloc: Global, parsed: Package) -> Result<Accepted, PhaseFault>
 
 /// Accepts a package whose files are within the limits, or answers the refusal that decides.
 pub fn judge_files(alloc: Global, name: &str, files: &[Vec<u8>]) -> Result<Accepted, PhaseFault>
-    requires { too_large (map (λ bytes. bytes.items) files.now) ≡ None }
+    requires named { is_package_name name.now ≡ true }
+    requires sized { too_large (map (λ bytes. bytes.items) files.now) ≡ None }
     ensures { Judges name.now (map (λ bytes. bytes.items) files.now) result }
 {
     match parse(alloc, name, files) {
@@ -80,7 +82,8 @@ pub fn judge_files(alloc: Global, name: &str, files: &[Vec<u8>]) -> Result<Accep
 
 /// The same of files that have been taken.
 fn judge_taken(alloc: Global, name: &str, files: &[Vec<u8>]) -> Result<Accepted, TakingFault>
-    requires { too_large (map (λ bytes. bytes.items) files.now) ≡ None }
+    requires named { is_package_name name.now ≡ true }
+    requires sized { too_large (map (λ bytes. bytes.items) files.now) ≡ None }
     ensures { JudgesTaken name.now (map (λ bytes. bytes.items) files.now) result }
 {
     match judge_files(alloc, name, files) {
@@ -116,23 +119,41 @@ fn number_of_methods(accepted: &Accepted) -> usize
     accepted.typed().methods() as usize
 }
 
+/// Accepts the package with these words, whose files are taken one after the other; or tells why it isn't accepted, or a file not
+/// taken.
+pub fn accept_package<I: Inputs>(
+    alloc: Global,
+    asked: PackageWords<'_>,
+    inputs: &mut I,
+) -> Result<Accepted, TakingFault>
+    requires named { is_package_name (words_seen asked).package_name ≡ true }
+    requires faults { I.faults inputs.old < 2 ^ 64 - 1 }
+    ensures verdict { AcceptsPackage (I.held inputs.old) (words_seen asked.entry) result }
+    ensures count { CountsTaking (I.faults inputs.old) (I.faults inputs.new) result }
+    ensures name { IfErr result (NamesFailed (I.last_failed inputs.new) (words_seen asked.entry).files) }
+    ensures same { I.held inputs.new ≡ I.held inputs.old }
+{
+    match take_package(alloc, asked.files, inputs) {
+        Ok(files) => judge_taken(alloc, asked.name, files.as_slice()),
+        Err(fault) => Err(fault),
+    }
+}
+
 /// Judges the package with these words. Ok is the number of its methods.
 pub fn judge_package<I: Inputs>(
     alloc: Global,
     asked: PackageWords<'_>,
     inputs: &mut I,
 ) -> Result<usize, TakingFault>
-    requires { I.faults inputs.old < 2 ^ 64 - 1 }
+    requires named { is_package_name (words_seen asked).package_name ≡ true }
+    requires faults { I.faults inputs.old < 2 ^ 64 - 1 }
     ensures verdict { JudgesPackage (I.held inputs.old) (words_seen asked.entry) result }
     ensures count { CountsTaking (I.faults inputs.old) (I.faults inputs.new) result }
     ensures name { IfErr result (NamesFailed (I.last_failed inputs.new) (words_seen asked.entry).files) }
     ensures same { I.held inputs.new ≡ I.held inputs.old }
 {
-    match take_package(alloc, asked.files, inputs) {
-        Ok(files) => match judge_taken(alloc, asked.name, files.as_slice()) {
-            Ok(accepted) => Ok(number_of_methods(&accepted)),
-            Err(fault) => Err(fault),
-        },
+    match accept_package(alloc, asked, inputs) {
+        Ok(accepted) => Ok(number_of_methods(&accepted)),
         Err(fault) => Err(fault),
     }
 }
@@ -151,7 +172,8 @@ fn readied(
     files: &[Vec<u8>],
     script: Vec<u8>,
 ) -> Result<Ready, TakingFault>
-    requires { too_large (map (λ bytes. bytes.items) files.now) ≡ None }
+    requires named { is_package_name name.now ≡ true }
+    requires sized { too_large (map (λ bytes. bytes.items) files.now) ≡ None }
     ensures verdict { JudgesReady name.now (map (λ bytes. bytes.items) files.now) script.items result }
 {
     match judge_taken(alloc, name, files) {
@@ -168,6 +190,7 @@ fn ready_taken<I: Inputs>(
     script: &str,
     inputs: &mut I,
 ) -> Result<Ready, TakingFault>
+    requires named { is_package_name (words_seen asked).package_name ≡ true }
     requires taken { TakesPackage (I.held inputs.old) (words_seen asked).files (map (λ bytes. bytes.items) files.now) }
     requires faults { I.faults inputs.old < 2 ^ 64 - 1 }
     ensures verdict { ReadiesPackage (I.held inputs.old) (words_seen asked.entry) script.now result }
@@ -175,7 +198,7 @@ fn ready_taken<I: Inputs>(
     ensures name { IfErr result (NamesFailed (I.last_failed inputs.new) ((words_seen asked.entry).files ++ script.now ∷ [])) }
     ensures same { I.held inputs.new ≡ I.held inputs.old }
 {
-    match take_script(alloc, script, asked.files.len(), inputs) {
+    match take_other(alloc, script, asked.files.len(), inputs) {
         Ok(script) => readied(alloc, asked.name, files, script),
         Err(fault) => Err(fault),
     }
@@ -189,7 +212,8 @@ pub fn ready_package<I: Inputs>(
     script: &str,
     inputs: &mut I,
 ) -> Result<Ready, TakingFault>
-    requires { I.faults inputs.old < 2 ^ 64 - 1 }
+    requires named { is_package_name (words_seen asked).package_name ≡ true }
+    requires faults { I.faults inputs.old < 2 ^ 64 - 1 }
     ensures verdict { ReadiesPackage (I.held inputs.old) (words_seen asked.entry) script.now result }
     ensures count { CountsTaking (I.faults inputs.old) (I.faults inputs.new) result }
     ensures name { IfErr result (NamesFailed (I.last_failed inputs.new) ((words_seen asked.entry).files ++ script.now ∷ [])) }
@@ -197,6 +221,100 @@ pub fn ready_package<I: Inputs>(
 {
     match take_package(alloc, asked.files, inputs) {
         Ok(files) => ready_taken(alloc, asked, files.as_slice(), script, inputs),
+        Err(fault) => Err(fault),
+    }
+}
+
+/// A package that is accepted, with the bytes of a script that is to run over these bytes as its C text.
+#[derive(Drop)]
+pub struct ReadyText {
+    pub ready: Ready,
+    pub text: Vec<u8>,
+}
+
+// Judges a package whose files have been taken, and a script and a text after them.
+fn readied_text(
+    alloc: Global,
+    name: &str,
+    files: &[Vec<u8>],
+    script: Vec<u8>,
+    text: Vec<u8>,
+) -> Result<ReadyText, TakingFault>
+    requires named { is_package_name name.now ≡ true }
+    requires sized { too_large (map (λ bytes. bytes.items) files.now) ≡ None }
+    ensures verdict { JudgesReadyText name.now (map (λ bytes. bytes.items) files.now) script.items text.items result }
+{
+    match readied(alloc, name, files, script) {
+        Ok(ready) => Ok(ReadyText { ready, text }),
+        Err(fault) => Err(fault),
+    }
+}
+
+// Takes a text after the files of a package and a script, and judges the package.
+fn text_taken<I: Inputs>(
+    alloc: Global,
+    asked: TextWords<'_>,
+    files: &[Vec<u8>],
+    script: Vec<u8>,
+    inputs: &mut I,
+) -> Result<ReadyText, TakingFault>
+    requires named { is_package_name (words_seen asked.package_words).package_name ≡ true }
+    requires taken { TakesPackage (I.held inputs.old) (words_seen asked.package_words).files (map (λ bytes. bytes.items) files.now) }
+    requires script { TakesScript (I.held inputs.old) asked.script.now script.items }
+    requires faults { I.faults inputs.old < 2 ^ 64 - 1 }
+    ensures verdict { ReadiesText (I.held inputs.old) (words_seen asked.entry.package_words) asked.entry.script.now asked.entry.text.now result }
+    ensures count { CountsTaking (I.faults inputs.old) (I.faults inputs.new) result }
+    ensures name { IfErr result (NamesFailed (I.last_failed inputs.new) ((words_seen asked.entry.package_words).files ++ asked.entry.script.now ∷ asked.entry.text.now ∷ [])) }
+    ensures same { I.held inputs.new ≡ I.held inputs.old }
+{
+    match take_other(
+        alloc,
+        asked.text,
+        asked.package_words.files.len() + 1,
+        inputs,
+    ) {
+        Ok(text) => readied_text(alloc, asked.package_words.name, files, script, text),
+        Err(fault) => Err(fault),
+    }
+}
+
+// Takes a script after the files of a package, then a text, and judges the package.
+fn script_taken<I: Inputs>(
+    alloc: Global,
+    asked: TextWords<'_>,
+    files: &[Vec<u8>],
+    inputs: &mut I,
+) -> Result<ReadyText, TakingFault>
+    requires named { is_package_name (words_seen asked.package_words).package_name ≡ true }
+    requires taken { TakesPackage (I.held inputs.old) (words_seen asked.package_words).files (map (λ bytes. bytes.items) files.now) }
+    requires faults { I.faults inputs.old < 2 ^ 64 - 1 }
+    ensures verdict { ReadiesText (I.held inputs.old) (words_seen asked.entry.package_words) asked.entry.script.now asked.entry.text.now result }
+    ensures count { CountsTaking (I.faults inputs.old) (I.faults inputs.new) result }
+    ensures name { IfErr result (NamesFailed (I.last_failed inputs.new) ((words_seen asked.entry.package_words).files ++ asked.entry.script.now ∷ asked.entry.text.now ∷ [])) }
+    ensures same { I.held inputs.new ≡ I.held inputs.old }
+{
+    match take_other(alloc, asked.script, asked.package_words.files.len(), inputs) {
+        Ok(script) => text_taken(alloc, asked, files, script, inputs),
+        Err(fault) => Err(fault),
+    }
+}
+
+/// Takes the files of the package with these words, then the script and then the text, and judges the package. Ok is the accepted
+/// package with the bytes of the script and of the text.
+pub fn ready_text<I: Inputs>(
+    alloc: Global,
+    asked: TextWords<'_>,
+    inputs: &mut I,
+) -> Result<ReadyText, TakingFault>
+    requires named { is_package_name (words_seen asked.package_words).package_name ≡ true }
+    requires faults { I.faults inputs.old < 2 ^ 64 - 1 }
+    ensures verdict { ReadiesText (I.held inputs.old) (words_seen asked.entry.package_words) asked.entry.script.now asked.entry.text.now result }
+    ensures count { CountsTaking (I.faults inputs.old) (I.faults inputs.new) result }
+    ensures name { IfErr result (NamesFailed (I.last_failed inputs.new) ((words_seen asked.entry.package_words).files ++ asked.entry.script.now ∷ asked.entry.text.now ∷ [])) }
+    ensures same { I.held inputs.new ≡ I.held inputs.old }
+{
+    match take_package(alloc, asked.package_words.files, inputs) {
+        Ok(files) => script_taken(alloc, asked, files.as_slice(), inputs),
         Err(fault) => Err(fault),
     }
 }

@@ -28,15 +28,16 @@ pub fn a_refusal_has_its_file()
 {}
 
 /// What the clause `answered` of `wuffs_tool` says is by the package's verdict, where the words are a command form, the inputs tell
-/// what the package's files hold, no fault is counted and memory isn't refused. To `check` the ending is the verdict's and its line
-/// is written. To `mean` it is so of a package that is refused; over one that is accepted, where the inputs tell the script, the
-/// ending is the script's and its report by the package's source is written, or the line of the script's own refusal.
+/// what the package's files hold, no fault is counted and memory isn't refused. A package that is refused ends so, and the line of its
+/// refusal is written. Over one that is accepted `check` writes its line and `gen` its C text. `run` and `mean`, where the inputs tell
+/// the script, and `exec`, where they tell the text too, end as the script does and write its report, or the line of the script's or
+/// the text's own refusal: `run` and `exec` by what is seen of the text's engine, `mean` by the package's source.
 pub fn an_answer_is_the_verdict()
     ensures { AnswersAreVerdicts }
 {}
 
-/// Words call for an ending and a text with no fault counted, where the inputs tell what the files and the script hold that they
-/// name. A script over an accepted package never comes to a reply that isn't defined.
+/// Words call for an ending and a text with no fault counted, where the inputs tell what the files, the script and the text hold that
+/// they name. By the source of an accepted package a script never comes to a reply that isn't defined.
 pub fn an_answer_exists()
     ensures { AnswersExist }
 {}

@@ -1,9 +1,11 @@
 // The program as one call: from the words of a command to what is written and how the program ends, over any
-// inputs and any sink. `check PACKAGE FILE...` is the one command. A package is read whole and judged by the rules of names, of
-// types and effects, of bounds and of suspension points.
+// inputs and any sink. A package is read whole and judged by the rules of names, of types and effects, of bounds and of
+// suspension points; `gen` writes the C text of one that is accepted, `run` runs a script over that text, `mean` over its source, and
+// `exec` over a text that is handed in.
 #![tactic(auto)]
 
 pub mod ending;
+mod generating;
 mod judging;
 mod laws;
 mod lines;

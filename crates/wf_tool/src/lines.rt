@@ -1,11 +1,12 @@
 // The lines that the program writes.
 
 ghost use Rattle.std.specs.Prelude.{◌≡◌, IfOk, string_bytes};
-ghost use Rattle.wf_tool.specs.Lines.{accepted_line, fault_line, refused_line, script_line, script_rule_name, usage_line};
+ghost use Rattle.wf_tool.specs.Lines.{accepted_line, fault_line, refused_line, script_line, script_rule_name, text_line, usage_line};
 
 use std::alloc::{AllocError, Global};
 use wf_script_rules::XRule;
 use wf_text::{Refusal, rule_name};
+use wf_tool_runs::TextFault;
 
 /// What words get that are no command form.
 pub fn usage_line(alloc: Global) -> Result<String, AllocError>
@@ -60,4 +61,17 @@ pub fn script_line(alloc: Global, rule: XRule, line: u32) -> Result<String, Allo
 {
     let name = script_rule_name(rule);
     format!(in alloc; "script {name} line {line}\n")
+}
+
+/// `text long`, `text deep AT`, `text notc AT` or `text form ITEM`
+#[tactic(auto, unfolding(crate::specs::Lines::text_line))]
+pub fn text_line(alloc: Global, fault: TextFault) -> Result<String, AllocError>
+    ensures { IfOk result (λ text. string_bytes text ≡ text_line fault) }
+{
+    match fault {
+        TextFault::TooLong => String::from_str(alloc, "text long\n"),
+        TextFault::TooDeep { at } => format!(in alloc; "text deep {at}\n"),
+        TextFault::NotC { at } => format!(in alloc; "text notc {at}\n"),
+        TextFault::NoSuchForm { item } => format!(in alloc; "text form {item}\n"),
+    }
 }

@@ -97,9 +97,9 @@ pub fn take_files<I: Inputs>(
     Ok(files)
 }
 
-/// Takes the script with this name. Of one that has more than 1,048,576 bytes, one byte more is taken. `before` is how many files
-/// were taken before it.
-pub fn take_script<I: Inputs>(
+/// Takes the script or the text with this name. Of one that has more than 1,048,576 bytes, one byte more is taken. `before` is how
+/// many inputs were taken before it.
+pub fn take_other<I: Inputs>(
     alloc: Global,
     name: &str,
     before: usize,

@@ -1,12 +1,12 @@
 // The words of a command.
 
-ghost use Rattle.std.specs.Prelude.{◌≡◌, ℕ, List, [], ◌∷◌, length, map, string_bytes};
+ghost use Rattle.std.specs.Prelude.{◌≡◌, true, [], length, map, string_bytes, IfSome};
 ghost use Rattle.std.specs.List.{list_all};
 ghost use Rattle.std.specs.Option.{option_map};
-ghost use Rattle.wf_tool.specs.Answer.{file_name};
+ghost use Rattle.wf_tool.specs.Answer.{asked_package, file_name};
 ghost use Rattle.wf_tool.specs.Told.{input_name};
-ghost use Rattle.wf_tool.specs.Views.{command_seen};
-ghost use Rattle.wf_tool.specs.Words.{asked_of, command_of, is_between, is_package_byte, is_package_name, to_check, to_mean};
+ghost use Rattle.wf_tool.specs.Views.{command_seen, words_seen};
+ghost use Rattle.wf_tool.specs.Words.{asked_of, command_of, is_between, is_package_byte, is_package_name, script_words, to_check, to_exec, to_gen, to_mean, to_run};
 
 /// A package by its words: its name, and the names of its files in order.
 #[derive(Clone, Copy)]
@@ -15,18 +15,34 @@ pub struct PackageWords<'a> {
     pub files: &'a [String],
 }
 
+/// A package, a script and a C text by their words.
+#[derive(Clone, Copy)]
+pub struct TextWords<'a> {
+    pub package_words: PackageWords<'a>,
+    pub script: &'a str,
+    pub text: &'a str,
+}
+
 /// What words ask for.
 #[derive(Clone, Copy)]
 pub enum Command<'a> {
     /// A package is to be checked.
     Check(PackageWords<'a>),
-    /// Its source is to be run by the script with this name.
+    /// Its C text is to be written.
+    Gen(PackageWords<'a>),
+    /// The script with this name is to be run over its C text.
+    Run(PackageWords<'a>, &'a str),
+    /// The script with this name is to be run over its source.
     Mean(PackageWords<'a>, &'a str),
+    /// A script is to be run over a C text that is handed in.
+    Exec(TextWords<'a>),
 }
 
-/// What words ask for: `check PACKAGE FILE...` or `mean PACKAGE SCRIPT FILE...`. None for other words, which are no command form.
+/// What words ask for: `check PACKAGE FILE...`, `gen PACKAGE FILE...`, `run PACKAGE SCRIPT FILE...`, `mean PACKAGE SCRIPT FILE...` or
+/// `exec PACKAGE SCRIPT TEXT FILE...`. None for other words, which are no command form.
 pub fn command_of(words: &[String]) -> Option<Command>
-    ensures { option_map command_seen result ≡ command_of (map (λ word. string_bytes word) words.now) }
+    ensures command { option_map command_seen result ≡ command_of (map (λ word. string_bytes word) words.now) }
+    ensures named { IfSome result (λ asked. is_package_name (asked_package (command_seen asked)).package_name ≡ true) }
 {
     match words {
         [command, name, rest @ ..] => {
@@ -42,19 +58,27 @@ pub fn command_of(words: &[String]) -> Option<Command>
 
 // What this command asks for of the package with this name, by the words after it.
 fn asked_of<'a>(command: &str, name: &'a str, rest: &'a [String]) -> Option<Command<'a>>
-    ensures { option_map command_seen result ≡ asked_of command.now name.now (map (λ word. string_bytes word) rest.now) }
+    ensures command { option_map command_seen result ≡ asked_of command.now name.now (map (λ word. string_bytes word) rest.now) }
+    ensures named { IfSome result (λ asked. (asked_package (command_seen asked)).package_name ≡ name.now) }
 {
     if command == "check" {
         to_check(name, rest)
+    } else if command == "gen" {
+        to_gen(name, rest)
+    } else if command == "run" {
+        to_run(name, rest)
     } else if command == "mean" {
         to_mean(name, rest)
+    } else if command == "exec" {
+        to_exec(name, rest)
     } else {
         None
     }
 }
 
 fn to_check<'a>(name: &'a str, files: &'a [String]) -> Option<Command<'a>>
-    ensures { option_map command_seen result ≡ to_check name.now (map (λ word. string_bytes word) files.now) }
+    ensures command { option_map command_seen result ≡ to_check name.now (map (λ word. string_bytes word) files.now) }
+    ensures named { IfSome result (λ asked. (asked_package (command_seen asked)).package_name ≡ name.now) }
 {
     match files {
         [] => None,
@@ -62,15 +86,67 @@ fn to_check<'a>(name: &'a str, files: &'a [String]) -> Option<Command<'a>>
     }
 }
 
-fn to_mean<'a>(name: &'a str, rest: &'a [String]) -> Option<Command<'a>>
-    ensures { option_map command_seen result ≡ to_mean name.now (map (λ word. string_bytes word) rest.now) }
+fn to_gen<'a>(name: &'a str, files: &'a [String]) -> Option<Command<'a>>
+    ensures command { option_map command_seen result ≡ to_gen name.now (map (λ word. string_bytes word) files.now) }
+    ensures named { IfSome result (λ asked. (asked_package (command_seen asked)).package_name ≡ name.now) }
+{
+    match files {
+        [] => None,
+        _ => Some(Command::Gen(PackageWords { name, files })),
+    }
+}
+
+// A package and a script before its files.
+fn script_words<'a>(name: &'a str, rest: &'a [String]) -> Option<(PackageWords<'a>, &'a str)>
+    ensures words { option_map (λ it. (words_seen it.0, it.1.now)) result ≡ script_words name.now (map (λ word. string_bytes word) rest.now) }
+    ensures named { IfSome result (λ it. (words_seen it.0).package_name ≡ name.now) }
 {
     match rest {
         [script, files @ ..] => {
             if files.is_empty() {
                 None
             } else {
-                Some(Command::Mean(PackageWords { name, files }, script.as_str()))
+                Some((PackageWords { name, files }, script.as_str()))
+            }
+        }
+        _ => None,
+    }
+}
+
+fn to_run<'a>(name: &'a str, rest: &'a [String]) -> Option<Command<'a>>
+    ensures command { option_map command_seen result ≡ to_run name.now (map (λ word. string_bytes word) rest.now) }
+    ensures named { IfSome result (λ asked. (asked_package (command_seen asked)).package_name ≡ name.now) }
+{
+    match script_words(name, rest) {
+        Some((asked, script)) => Some(Command::Run(asked, script)),
+        None => None,
+    }
+}
+
+fn to_mean<'a>(name: &'a str, rest: &'a [String]) -> Option<Command<'a>>
+    ensures command { option_map command_seen result ≡ to_mean name.now (map (λ word. string_bytes word) rest.now) }
+    ensures named { IfSome result (λ asked. (asked_package (command_seen asked)).package_name ≡ name.now) }
+{
+    match script_words(name, rest) {
+        Some((asked, script)) => Some(Command::Mean(asked, script)),
+        None => None,
+    }
+}
+
+fn to_exec<'a>(name: &'a str, rest: &'a [String]) -> Option<Command<'a>>
+    ensures command { option_map command_seen result ≡ to_exec name.now (map (λ word. string_bytes word) rest.now) }
+    ensures named { IfSome result (λ asked. (asked_package (command_seen asked)).package_name ≡ name.now) }
+{
+    match rest {
+        [script, text, files @ ..] => {
+            if files.is_empty() {
+                None
+            } else {
+                Some(Command::Exec(TextWords {
+                    package_words: PackageWords { name, files },
+                    script: script.as_str(),
+                    text: text.as_str(),
+                }))
             }
         }
         _ => None,
@@ -87,13 +163,13 @@ pub fn file_name(names: &[String], number: usize) -> &str
     }
 }
 
-/// The name of the file with this number, and the other name after the last one.
-pub fn input_name<'a>(names: &'a [String], other: &'a str, number: usize) -> &'a str
-    ensures { result.now ≡ input_name (map (λ name. string_bytes name) names.now) other.now number }
+/// The name of the input with this number: the files', and then these two.
+pub fn input_name<'a>(files: &'a [String], script: &'a str, text: &'a str, number: usize) -> &'a str
+    ensures { result.now ≡ input_name (map (λ name. string_bytes name) files.now) script.now text.now number }
 {
-    match names.get(number) {
+    match files.get(number) {
         Some(name) => name.as_str(),
-        None => other,
+        None => { if number == files.len() { script } else { text } }
     }
 }
 

@@ -7,7 +7,7 @@ use Rattle.wf_tool.proofs.TakingLemmas.{sized-bytes}
 use Rattle.wf_tool.proofs.judging.judge_files.Goals as goal
 
 pub parse-requires-clause-bytes : goal.parse-requires-clause-bytes
-parse-requires-clause-bytes c = sized-bytes (λ file. file.items) c.args.files.now c.requires
+parse-requires-clause-bytes c = sized-bytes (λ file. file.items) c.args.files.now c.requires.sized
 
 pub judge_read-requires-clause-few : goal.judge_read-requires-clause-few
 judge_read-requires-clause-few c =
@@ -24,4 +24,4 @@ judge_read-requires-clause-placed c =
 
 pub returns-in-Ok : goal.returns-in-Ok
 returns-in-Ok c =
-    read-judged c.args.name.now (map (λ file. file.items) c.args.files.now) c.in-Ok.parsed c.judge_read.result c.requires c.in-Ok.ensures c.judge_read.ensures
+    read-judged c.args.name.now (map (λ file. file.items) c.args.files.now) c.in-Ok.parsed c.judge_read.result c.requires.named c.requires.sized c.in-Ok.ensures c.judge_read.ensures

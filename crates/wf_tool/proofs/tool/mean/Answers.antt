@@ -1,10 +1,11 @@
+use Rattle.std.proofs.Common.{[]}
 use Rattle.wf_ast.specs.TypedPackage.{package_of, surface_of}
 use Rattle.wf_tool_runs.specs.Sources.{engine_report}
-use Rattle.wf_tool.specs.Runs.{RunCallsFor}
+use Rattle.wf_tool.specs.Runs.{ScriptCallsFor}
 use Rattle.wf_tool.specs.Told.{IsFaultTold, IsTold, MeanTold}
 use Rattle.wf_tool.specs.Views.{words_seen}
 use Rattle.wf_tool.proofs.FaultLines.{mean-fault-told, told-answer}
-use Rattle.wf_tool.proofs.RunLemmas.{run-told}
+use Rattle.wf_tool.proofs.RunLemmas.{mean-told}
 use Rattle.wf_tool.proofs.WritingLemmas.{writes-more}
 use Rattle.wf_tool.proofs.tool.mean.Goals as goal
 
@@ -18,8 +19,8 @@ returns-in-Ok-clause-written g c =
     let ready = c.in-Ok.ready in
     let p = package_of ready.accepted.nodes in
     let is = c.in-Ok.ensures.verdict in
-    writes-more (RunCallsFor (surface_of p) (engine_report p) ready.script.items) (MeanTold held failed asked c.args.script.now before now)
-    (run-told held failed asked c.args.script.now before now c.in-Ok.ensures.count is.files p ready.script.items is.hold is.accepted is.taken)
+    writes-more (ScriptCallsFor (surface_of p) (engine_report p) ready.script.items) (MeanTold held failed asked c.args.script.now before now)
+    (mean-told held failed asked c.args.script.now before now c.in-Ok.ensures.count is.files p ready.script.items is.hold is.accepted is.taken)
     (g.O.Sink.written c.args.out.now) (g.O.Sink.written c.run_ready.new.out) (g.O.Sink.room c.args.out.now) c.run_ready.result c.run_ready.ensures.written
 
 pub returns-in-Err-clause-written : goal.returns-in-Err-clause-written
@@ -32,5 +33,5 @@ returns-in-Err-clause-written g c =
     let fault = c.in-Err.fault in
     writes-more (IsTold c.fault_answer.result) (MeanTold held failed asked c.args.script.now before now)
     (λ ending text told. mean-fault-told held failed asked c.args.script.now before now fault c.in-Err.ensures.verdict c.in-Err.ensures.count c.in-Err.ensures.name ending text
-    (told-answer (IsFaultTold asked.files c.args.script.now fault) c.fault_answer.result c.fault_answer.ensures ending text told))
+    (told-answer (IsFaultTold asked.files c.args.script.now [] fault) c.fault_answer.result c.fault_answer.ensures ending text told))
     (g.O.Sink.written c.args.out.now) (g.O.Sink.written c.tell.new.out) (g.O.Sink.room c.args.out.now) c.tell.result c.tell.ensures.written

@@ -1,0 +1,53 @@
+// The C text of a package that is accepted: its unit, and its writing.
+
+ghost use Rattle.std.specs.Prelude.{◌≡◌, true, ◌-◌, ◌^◌, ◌<◌, IfErr};
+ghost use Rattle.wf_tool.specs.Answer.{CountsSink, KeepsWholePieces, Writes};
+ghost use Rattle.wf_tool.specs.Taken.{CountsTaking, LowersPackage, NamesFailed};
+ghost use Rattle.wf_tool.specs.Told.{IsTextOfUnit};
+ghost use Rattle.wf_tool.specs.Views.{words_seen};
+ghost use Rattle.wf_tool.specs.Words.{is_package_name};
+
+use crate::ending::Ending;
+use crate::judging::accept_package;
+use crate::taking::TakingFault;
+use crate::words::PackageWords;
+use c_text::{Unit, print};
+use std::alloc::Global;
+use wf_lower::lower;
+use wf_outside::{Inputs, Sink};
+use wf_text::NoMemory;
+
+/// Lowers the package with these words. Ok is the unit of its C text.
+pub fn lower_package<I: Inputs>(
+    alloc: Global,
+    asked: PackageWords<'_>,
+    inputs: &mut I,
+) -> Result<Unit, TakingFault>
+    requires named { is_package_name (words_seen asked).package_name ≡ true }
+    requires faults { I.faults inputs.old < 2 ^ 64 - 1 }
+    ensures verdict { LowersPackage (I.held inputs.old) (words_seen asked.entry) result }
+    ensures count { CountsTaking (I.faults inputs.old) (I.faults inputs.new) result }
+    ensures name { IfErr result (NamesFailed (I.last_failed inputs.new) (words_seen asked.entry).files) }
+    ensures same { I.held inputs.new ≡ I.held inputs.old }
+{
+    match accept_package(alloc, asked, inputs) {
+        Ok(accepted) => match lower(alloc, &accepted) {
+            Ok(unit) => Ok(unit),
+            Err(NoMemory) => Err(TakingFault::Memory),
+        },
+        Err(fault) => Err(fault),
+    }
+}
+
+/// Writes the text of a unit: Done, or OutputFault where the sink fails.
+pub fn write_unit<O: Sink>(u: &Unit, out: &mut O) -> Ending
+    requires { O.faults out.old < 2 ^ 64 - 1 }
+    ensures written { Writes (IsTextOfUnit u.now) (O.written out.old) (O.written out.new) (O.room out.old) result }
+    ensures pieces { KeepsWholePieces result (O.longest out.old) (O.longest out.new) }
+    ensures sink { CountsSink (O.faults out.old) (O.faults out.new) result }
+{
+    match print(u, out) {
+        Ok(()) => Ending::Done,
+        Err(_) => Ending::OutputFault,
+    }
+}
