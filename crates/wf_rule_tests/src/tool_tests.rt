@@ -1,5 +1,6 @@
 // The top call over inputs and sinks in memory that fail where they are told to, and the exit statuses.
 
+use c_step::ZeroLoader;
 use std::alloc::{AllocError, Global};
 use wf_outside::{MemInputs, MemSink, PureInputs, PureSink};
 use wf_text::NoMemory;
@@ -106,7 +107,13 @@ fn ends(alloc: Global, row: &Row) -> Result<bool, NoMemory> {
     let mut inputs = MemInputs::new(alloc, sample(alloc)?, failing);
     let gone = Vec::from_slice(alloc, row.2)?;
     let mut sink = MemSink::new(alloc, gone, 200)?;
-    let ending = wuffs_tool(alloc, words.as_slice(), &mut inputs, &mut sink);
+    let ending = wuffs_tool(
+        alloc,
+        words.as_slice(),
+        &mut inputs,
+        &mut sink,
+        &mut ZeroLoader,
+    );
     Ok(ending == row.3 && sink.written() == row.4)
 }
 
@@ -124,7 +131,13 @@ fn fills(alloc: Global, room: usize, ending: Ending, line: &[u8]) -> Result<bool
     let words = words_of(alloc, "check k k.wuffs")?;
     let mut inputs = PureInputs::new(sample(alloc)?);
     let mut sink = PureSink::with_room(alloc, room)?;
-    let came = wuffs_tool(alloc, words.as_slice(), &mut inputs, &mut sink);
+    let came = wuffs_tool(
+        alloc,
+        words.as_slice(),
+        &mut inputs,
+        &mut sink,
+        &mut ZeroLoader,
+    );
     Ok(came == ending && sink.written() == line)
 }
 

@@ -1,6 +1,7 @@
 // The program: real files, standard output, and the exit status that tells how it ended.
 #![tactic(auto)]
 
+use c_step::CMachine;
 use std::process::ExitCode;
 use std::{env, io};
 use wf_outside::{FileInputs, StdSink};
@@ -10,11 +11,18 @@ use wf_tool::{Ending, wuffs_tool};
 fn main(rt: HostRuntime) -> ExitCode {
     let mut inputs = FileInputs::new(&rt);
     let mut output = StdSink::new(&rt);
+    let mut loader = CMachine;
     let ending = match words_of(&rt) {
-        Ok(words) => wuffs_tool(rt.alloc(), words.as_slice(), &mut inputs, &mut output),
+        Ok(words) => wuffs_tool(
+            rt.alloc(),
+            words.as_slice(),
+            &mut inputs,
+            &mut output,
+            &mut loader,
+        ),
         Err(error) if error.kind() == io::ErrorKind::OutOfMemory => Ending::NoMemory,
         // Words that are no text are no command form, as no words are.
-        Err(_) => wuffs_tool(rt.alloc(), &[], &mut inputs, &mut output),
+        Err(_) => wuffs_tool(rt.alloc(), &[], &mut inputs, &mut output, &mut loader),
     };
     ExitCode::from(ending.status())
 }
