@@ -1,7 +1,7 @@
 #!/usr/bin/env python3
-"""Random scripts on random packages that are accepted: what a command of the program prints, against a second opinion.
+"""Random scripts on random packages that are accepted: what commands of the program print, against a second opinion.
 
-usage: random_reports.py PROGRAM [COUNT [SEED [COMMAND]]]    300 packages with the seed 1, and `mean`, are the default
+usage: random_reports.py PROGRAM [COUNT [SEED [COMMAND..]]]    300 packages with the seed 1, and `mean`, are the default
 Each package runs five scripts, of which two are changed at a few random bytes or cut, so that most of these are refused. The
 second opinion is second_opinion/scripts.py. Ends with how often each rule or ending decided. A script of which the two say
 different things is printed with its package, and fails.
@@ -113,7 +113,8 @@ def accepted(source):
 
 def main():
     program = os.path.abspath(sys.argv[1])
-    count, seed, command = (sys.argv[2:] + ["300", "1", "mean"][len(sys.argv) - 2:])[:3]
+    count, seed = sys.argv[2:4] + ["300", "1"][len(sys.argv[2:4]):]
+    commands = sys.argv[4:] or ["mean"]
     source, decided, differ = random.Random(int(seed)), collections.Counter(), 0
     with tempfile.TemporaryDirectory() as folder:
         for _ in range(int(count)):
@@ -123,15 +124,17 @@ def main():
             for number in range(5):
                 script = Writer(declarations, source).write(40)
                 script = changed(script, source) if number > 2 else script
-                said, wanted = ran(program, folder, command, script), report("k", [text], script)
+                wanted = report("k", [text], script)
                 first = wanted[0].split(" ")
                 decided[first[1] if first[0] == "script" else f"status {wanted[1]}"] += 1
-                if said != wanted:
-                    is_right = False
-                    print(f"the program: {said}\nthe second opinion: {wanted}\nthe script: {script}\nthe package:\n{text}")
+                for command in commands:
+                    said = ran(program, folder, command, script)
+                    if said != wanted:
+                        is_right = False
+                        print(f"{command}: {said}\nthe second opinion: {wanted}\nthe script: {script}\nthe package:\n{text}")
             differ += not is_right
     print(" ".join(f"{rule}:{times}" for rule, times in sorted(decided.items())))
-    print(f"random_reports.py: {int(count) - differ} passed, {differ} failed")
+    print(f"random_reports.py, {', '.join(commands)}: {int(count) - differ} passed, {differ} failed")
     return 1 if differ or not int(count) else 0
 
 

@@ -5,10 +5,12 @@ and where a sanitizer finds something, the machine has to say `undefined`.
 usage: random_texts.py PROGRAM [COUNT [SEED]]    300 texts with the seed 1 are the default
 
 Each text has the unit form for one small package: a struct with fields and arrays of each width, inline functions of numbers, static
-functions with loops, switches and jumps into blocks, and a public function that calls them. It is compiled by gcc and by clang
-with -fsanitize=address,undefined, where they are there, at -O0 and -O2. A text whose run needs more turns than the script gives isn't
-compiled. Prints what differs; the last line counts.
+functions with loops, switches, jumps into blocks and pointers to locals, and a public function that calls them. It is compiled by gcc
+and by clang with -fsanitize=address,undefined, where they are there, at -O0 and -O2, many texts in one file. A text whose run needs more
+turns than the script gives isn't compiled. Prints what differs; the last line counts, and says how many of the undefined texts a
+sanitizer found: it doesn't look at everything that C leaves undefined, such as a pointer that leaves its array and isn't used.
 """
+import os
 import pathlib
 import random
 import shutil
@@ -38,13 +40,21 @@ const char* wuffs_m__m__initialize(wuffs_m__m* self) {{
     memset(self, 0, sizeof(*self));
     return 0;
 }}
+
+static const char text[] = "A text: 0 ~";
+
+static void store(uint32_t* at, uint32_t to) {{ (*at) = to; }}
 """
 TYPES = {8: "uint8_t", 16: "uint16_t", 32: "uint32_t", 64: "uint64_t"}
+NUMBERS = [*TYPES.values()] * 3 + ["size_t", "_Bool"]
 LENGTHS = {"self": {8: 8, 16: 4, 32: 3, 64: 2}, "(&self->inner)": {8: 4, 16: 3, 32: 5, 64: 2}}
 EDGES = ["0", "1", "2", "7", "8", "31", "32", "63", "255", "256", "32767", "65535", "65536", "2147483647", "0u", "1u", "65535u", "2147483648u",
          "4294967295u", "1ull", "4294967296ull", "9223372036854775808ull", "18446744073709551615ull"]
 SANITIZERS = ["-fsanitize=address,undefined", "-fno-sanitize-recover=all"]
 BUILDS = [[cc, level, *SANITIZERS] for cc in ("gcc", "clang") for level in ("-O0", "-O2")]
+
+TOGETHER = 25
+NAMES = ["wuffs_base__io_buffer", "wuffs_m__m", "wuffs_m__m__initialize", "wuffs_m__m__f", "part", "part0", "part1", "part2", "help0", "help1", "text", "store"]
 
 
 class Function:
@@ -53,7 +63,7 @@ class Function:
 
     def __init__(self, random_, inlines, callees, loops, wild):
         self.random, self.inlines, self.callees, self.loops, self.wild = random_, inlines, callees, loops, wild
-        self.numbers, self.pointers, self.labels, self.targets, self.cases = [], {}, 0, [], []
+        self.numbers, self.words, self.pointers, self.labels, self.targets, self.cases = [], [], {}, 0, [], []
 
     def is_(self, chance):
         return self.random.random() < chance
@@ -82,6 +92,8 @@ class Function:
 
     def number(self, depth):
         if depth <= 0 or self.is_(0.2):
+            if self.is_(0.05):
+                return f"text[{self.index(12)}]"
             return self.place() if self.is_(0.6) else self.random.choice(EDGES)
         kind = self.random.randrange(12)
         a, b = self.number(depth - 1), self.number(depth - 1)
@@ -116,6 +128,11 @@ class Function:
             return f"({self.number(depth - 1)} {self.random.choice(['<', '<=', '>', '>=', '==', '!='])} {self.number(depth - 1)})"
         if kind < 6:
             return f"({self.condition(depth - 1)} {self.random.choice(['&&', '||'])} {self.condition(depth - 1)})"
+        if kind == 6 and self.pointers and self.is_(0.3):
+            # Two pointers are compared within one array: one past it C leaves open what is equal beyond.
+            base, bits = self.random.choice(list(LENGTHS)), self.random.choice(list(TYPES))
+            one, other = (f"({base}->a{bits} + {self.random.randrange(LENGTHS[base][bits] + 1)})" for _ in range(2))
+            return f"({one} {self.random.choice(['==', '!='])} {other})"
         if kind == 6 and self.pointers:
             return self.random.choice([f"(!{self.random.choice(list(self.pointers))})", f"({self.random.choice(list(self.pointers))} != 0)"])
         return f"(!{self.number(depth - 1)})"
@@ -148,6 +165,9 @@ class Function:
             name = self.random.choice(self.callees)
             given = f"{name}(self, {self.number(1)}, {self.number(1)})"
             return f"{self.random.choice(self.numbers)} = {given};" if self.is_(0.8) else f"{given};"
+        if kind == 6 and self.is_(0.4):
+            pointers = [self.cells(32)[0], *(f"(&{it})" for it in self.words), *(it for it, bits in self.pointers.items() if bits == 32)]
+            return f"store({self.random.choice(pointers)}, {self.number(2)});"
         if kind == 6:
             bits = self.random.choice(list(TYPES))
             (to, room), (of, there) = self.cells(bits), self.cells(bits)
@@ -181,7 +201,7 @@ class Function:
     def loop(self, depth, inside):
         count = self.random.choice(self.numbers)
         body = f"{count} = ({count} + 1u); {self.block(depth - 1, inside)}"
-        return f"while (({count} & {self.random.choice([3, 7, 15])}) != {self.random.randrange(3)}) {{ {body} }}"
+        return f"while ((({count} & {self.random.choice([3, 7, 15])}) != {self.random.randrange(3)})) {{ {body} }}"
 
     def switch(self, depth):
         numbers = self.random.sample(range(16), 8)
@@ -201,9 +221,11 @@ class Function:
         locals_ = []
         self.numbers += parameters
         for i in range(self.random.randrange(2, 5)):
-            bits = self.random.choice(list(TYPES))
-            locals_.append(f"{TYPES[bits]} v{i} = {self.number(1)};")
+            type_ = self.random.choice(NUMBERS)
+            locals_.append(f"{type_} v{i} = {self.number(1)};")
             self.numbers.append(f"v{i}")
+            if type_ == "uint32_t":
+                self.words.append(f"v{i}")
         pointers = {}
         for i, bits in enumerate(self.random.sample(list(TYPES), self.random.randrange(3))):
             base = self.random.choice(list(LENGTHS))
@@ -227,16 +249,17 @@ def text_of(random_):
         one = Function(random_, inlines, [], False, wild)
         one.numbers = [f"p{j}" for j in range(count)]
         one.place = lambda one=one: random_.choice(one.numbers)
-        bits = random_.choice(list(TYPES))
-        parameters = ", ".join(f"{TYPES[random_.choice(list(TYPES))]} p{j}" for j in range(count))
-        items.append(f"static inline {TYPES[bits]} help{i}({parameters}) {{ return {one.number(2)}; }}")
+        parameters = ", ".join(f"{random_.choice(NUMBERS)} p{j}" for j in range(count))
+        items.append(f"static inline {random_.choice(NUMBERS)} help{i}({parameters}) {{ return {one.number(2)}; }}")
         inlines = [*inlines, (f"help{i}", count)]
     for i in range(random_.randrange(1, 4)):
         one = Function(random_, inlines, callees, True, wild)
-        result = TYPES[random_.choice(list(TYPES))]
-        items.append(f"static {result} part{i}(wuffs_m__m* self, {TYPES[random_.choice(list(TYPES))]} p0, uint32_t p1) {{ {one.body(['p0', 'p1'])} }}")
+        one.words = ["p1"]
+        result = random_.choice(NUMBERS)
+        items.append(f"static {result} part{i}(wuffs_m__m* self, {random_.choice(NUMBERS)} p0, uint32_t p1) {{ {one.body(['p0', 'p1'])} }}")
         callees = [*callees, f"part{i}"]
     one = Function(random_, inlines, callees, False, wild)
+    one.words = ["a_c"]
     items.append(f"uint64_t wuffs_m__m__f(wuffs_m__m* self, uint8_t a_a, uint16_t a_b, uint32_t a_c, uint64_t a_d) {{ {one.body(['a_a', 'a_b', 'a_c', 'a_d'])} }}")
     return "\n\n".join(items) + "\n"
 
@@ -246,62 +269,81 @@ def calls_of(random_):
     return [{name: random_.choice([0, 1, 2 ** bits - 1, random_.getrandbits(bits)]) for name, bits in widths.items()} for _ in range(4)]
 
 
-def host_of(calls):
-    lines = ['puts("new r");', 'printf("init r "); puts(wuffs_m__m__initialize(&r) ? "?" : "ok");']
-    for it in calls:
-        lines.append(f'printf("call r.f %llu\\n", (unsigned long long)wuffs_m__m__f(&r, {it["a"]}, {it["b"]}, {it["c"]}u, {it["d"]}ull)); fflush(stdout);')
-    return "#include <stdio.h>\nint main(void) { static wuffs_m__m r; " + "\n".join(lines) + " return 0; }\n"
+def host_of(texts):
+    """A program of many texts, one after the other under names of its own, that runs the one with the number that it is given."""
+    lines = ["#include <stdio.h>", "#include <stdlib.h>"]
+    for it in texts:
+        lines += [f"#define {name} {name}_{it.number}" for name in NAMES]
+        lines += [it.text, f"static void run_{it.number}(void) {{ static wuffs_m__m r;", 'puts("new r");',
+                  'printf("init r "); puts(wuffs_m__m__initialize(&r) ? "?" : "ok"); fflush(stdout);']
+        for call in it.calls[:len(it.told) - 2]:
+            given = f'{call["a"]}, {call["b"]}, {call["c"]}u, {call["d"]}ull'
+            lines.append(f'printf("call r.f %llu\\n", (unsigned long long)wuffs_m__m__f(&r, {given})); fflush(stdout);')
+        lines += ["}", *(f"#undef {name}" for name in NAMES)]
+    cases = " ".join(f"case {it.number}: run_{it.number}(); break;" for it in texts)
+    return "\n".join([*lines, f"int main(int n, char** words) {{ switch (atoi(words[n - 1])) {{ {cases} }} return 0; }}"]) + "\n"
+
+
+class Text:
+    """A random text with its calls, and what `exec` said of it."""
+
+    def __init__(self, number, program, folder):
+        random_ = random.Random(number)
+        self.number, self.text, self.calls = number, text_of(random_), calls_of(random_)
+        (folder / "m.wuffs").write_text(PACKAGE)
+        (folder / "m.c").write_text(self.text)
+        calls = [f"call r.f {' '.join(f'{k}={v}' for k, v in it.items())}\n" for it in self.calls]
+        (folder / "script").write_text("new r m\ninit r\nturns 20000\n" + "".join(calls))
+        ran = subprocess.run([program, "exec", "m", "script", "m.c", "m.wuffs"], cwd=folder, capture_output=True, text=True)
+        self.told = [it for it in ran.stdout.splitlines() if not it.startswith("turns ")]
+        self.status = ran.returncode
+        self.is_undefined = self.status == 9
+        self.is_found, self.wrong = False, None
+        if self.status not in (0, 7, 9):
+            self.wrong = f"exec ended with {self.status}: {ran.stdout.strip()}"
+
+    def compare(self, folder, build):
+        """Runs the compiled text. A finding of the sanitizer, and a text that doesn't end, have to be undefined; what was printed before is the same."""
+        try:
+            ran = subprocess.run(["./host", str(self.number)], cwd=folder, capture_output=True, text=True, timeout=20)
+            has_found, printed = ran.returncode != 0, ran.stdout.splitlines()
+        except subprocess.TimeoutExpired as late:
+            has_found, printed = True, (late.stdout or b"").decode().splitlines()
+            ran = None
+        defined = self.told[:-1] if self.is_undefined else self.told
+        if has_found and not self.is_undefined:
+            self.wrong = f"{build}: {ran.stderr.strip().splitlines()[:1] if ran else 'it does not end'}"
+        elif printed[:len(defined)] != defined:
+            self.wrong = f"{build}: {printed} in place of {self.told}"
+        self.is_found |= has_found
 
 
 def main():
-    program, count, seed = sys.argv[1], int((sys.argv[2:] + ["300"])[0]), int((sys.argv[3:] + ["1"])[0])
+    program, count, seed = os.path.abspath(sys.argv[1]), int((sys.argv[2:] + ["300"])[0]), int((sys.argv[3:] + ["1"])[0])
     builds = [it for it in BUILDS if shutil.which(it[0])]
-    passed = failed = undefined = found = turns = 0
-    for number in range(seed, seed + count):
-        random_ = random.Random(number)
-        text, calls = text_of(random_), calls_of(random_)
+    texts = []
+    for first in range(seed, seed + count, TOGETHER):
         with tempfile.TemporaryDirectory() as at:
             folder = pathlib.Path(at)
-            (folder / "m.wuffs").write_text(PACKAGE)
-            (folder / "m.c").write_text(text)
-            script = "new r m\ninit r\nturns 20000\n" + "".join(f"call r.f {' '.join(f'{k}={v}' for k, v in it.items())}\n" for it in calls)
-            (folder / "script").write_text(script)
-            ran = subprocess.run([program, "exec", "m", "script", "m.c", "m.wuffs"], cwd=folder, capture_output=True, text=True)
-            told = [it for it in ran.stdout.splitlines() if not it.startswith("turns ")]
-            if not told or told[0] != "new r":
-                print(f"seed {number}: exec ended with {ran.returncode}: {ran.stdout.strip()}")
-                failed += 1
-                continue
-            if told[-1].endswith(" turns"):
-                turns += 1
-                continue
-            is_undefined = told[-1].endswith(" undefined")
-            undefined += is_undefined
-            (folder / "host.c").write_text(text + host_of(calls))
-            wrong = has_found = None
+            batch = [Text(number, program, folder) for number in range(first, min(first + TOGETHER, seed + count))]
+            compared = [it for it in batch if it.status in (0, 9)]
+            (folder / "host.c").write_text(host_of(compared))
             for words in builds:
                 subprocess.run([*words, "-std=c99", "-w", "-o", "host", "host.c"], cwd=folder, check=True)
-                try:
-                    compiled = subprocess.run(["./host"], cwd=folder, capture_output=True, text=True, timeout=20)
-                except subprocess.TimeoutExpired:
-                    wrong = None if is_undefined else "doesn't end"
-                    continue
-                has_finding = compiled.returncode != 0
-                has_found = has_found or has_finding
-                if is_undefined:
-                    continue
-                if has_finding:
-                    wrong = f"{' '.join(words[:2])}: {compiled.stderr.strip().splitlines()[:1]}"
-                elif compiled.stdout.splitlines() != told:
-                    wrong = f"{' '.join(words[:2])}: {compiled.stdout.splitlines()} in place of {told}"
-            found += bool(has_found)
-            if wrong:
-                print(f"seed {number}: {wrong}")
-                failed += 1
-            else:
-                passed += 1
-    print(f"random texts: {passed} passed, {failed} failed; {undefined} were undefined, a sanitizer found {found} of them, {turns} needed more turns")
-    return 1 if failed else 0
+                for it in compared:
+                    it.compare(folder, " ".join(words[:2]))
+            for it in batch:
+                if it.wrong:
+                    print(f"seed {it.number}: {it.wrong}")
+            texts += batch
+    failed = sum(it.wrong is not None for it in texts)
+    undefined = [it for it in texts if it.is_undefined]
+    alone = [str(it.number) for it in undefined if not it.is_found]
+    if alone:
+        print(f"undefined, without a sanitizer's finding: seeds {' '.join(alone)}")
+    print(f"random_texts.py: {len(texts) - failed} passed, {failed} failed, of {len(builds)} builds; {len(undefined)} were undefined, of which a sanitizer found "
+          f"{len(undefined) - len(alone)}; {sum(it.status == 7 for it in texts)} needed more turns")
+    return 1 if failed or not texts else 0
 
 
 if __name__ == "__main__":

@@ -1,8 +1,8 @@
 #!/usr/bin/env python3
-"""Runs scripts on small packages through the built program, by `mean`, and compares the lines of calls and shows with answers
-written by hand.
+"""Runs scripts on small packages through the built program, by `mean` or `run`, and compares the lines of calls and shows with
+answers written by hand.
 
-usage: report_answers.py PROGRAM [NAME]    only the answers whose name has NAME in it
+usage: report_answers.py PROGRAM [NAME [COMMAND]]    only the answers whose name has NAME in it; `mean` is the default
 A package is one of PACKAGES. In a script a bar ends a line; before its first line stand a receiver p of the package's first
 struct, which is initialized, and buffers b and c of four bytes. Of the report the lines that begin with `call` or `show` are
 compared, without that word. Each answer is compared with the second opinion's too (second_opinion/scripts.py). Prints what
@@ -516,7 +516,7 @@ def seen(text):
 
 def main():
     program = os.path.abspath(sys.argv[1])
-    only = sys.argv[2] if len(sys.argv) > 2 else ""
+    only, command = (sys.argv[2:] + ["", "mean"][len(sys.argv) - 2:])[:2]
     passed = failed = 0
     for name, package, lines, wanted in REPORTS:
         if only not in name:
@@ -524,13 +524,13 @@ def main():
         text = PACKAGES[package]
         script = script_of(package, lines)
         status = 7 if wanted.endswith(" turns") else 0
-        came, second = answer(program, package, [("f.wuffs", text)], script), report(package, [text], script)
+        came, second = answer(program, command, package, [("f.wuffs", text)], script), report(package, [text], script)
         is_right = came == second and seen(came[0]) == wanted and came[1] == status
         passed += is_right
         failed += not is_right
         if not is_right:
             print(f"{name}: the program says\n  {seen(came[0]) or came}\nthe second opinion\n  {seen(second[0]) or second}\nand wanted is\n  {wanted}")
-    print(f"report_answers.py: {passed} passed, {failed} failed")
+    print(f"report_answers.py, {command}: {passed} passed, {failed} failed")
     return 1 if failed or not passed else 0
 
 

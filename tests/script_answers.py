@@ -1,7 +1,7 @@
 #!/usr/bin/env python3
-"""Runs scripts through the built program, by `mean`, and compares what it writes and how it ends with answers written by hand.
+"""Runs scripts through the built program, by `mean` or `run`, and compares what it writes and how it ends with answers written by hand.
 
-usage: script_answers.py PROGRAM [NAME]    only the scripts whose name has NAME in it
+usage: script_answers.py PROGRAM [NAME [COMMAND]]    only the scripts whose name has NAME in it; `mean` is the default
 The scripts of examples/ have their reports beside them. REFUSED are scripts over the package KINDS, with the rule and the line of
 the refusal; LAWFUL are some that are just not refused, with their reports. A bar ends a line. Each answer is compared with the
 second opinion's too (second_opinion/scripts.py). Prints what differs; the last line counts.
@@ -239,13 +239,13 @@ LAWFUL = [
 ]
 
 
-def answer(program, package, files, script):
-    """What `mean` prints of files (pairs of a name and a text) on a script of bytes, and its exit status."""
+def answer(program, command, package, files, script):
+    """What a command prints of files (pairs of a name and a text) on a script of bytes, and its exit status."""
     with tempfile.TemporaryDirectory() as folder:
         for name, text in files:
             pathlib.Path(folder, name).write_text(text)
         pathlib.Path(folder, "s").write_bytes(script)
-        ended = subprocess.run([program, "mean", package, "s", *(name for name, _ in files)], cwd=folder, stdin=subprocess.DEVNULL,
+        ended = subprocess.run([program, command, package, "s", *(name for name, _ in files)], cwd=folder, stdin=subprocess.DEVNULL,
                                capture_output=True, timeout=120)
         return ended.stdout.decode(errors="replace"), ended.returncode
 
@@ -269,18 +269,18 @@ def cases():
 
 def main():
     program = os.path.abspath(sys.argv[1])
-    only = sys.argv[2] if len(sys.argv) > 2 else ""
+    only, command = (sys.argv[2:] + ["", "mean"][len(sys.argv) - 2:])[:2]
     passed = failed = 0
     for name, package, files, script, wanted in cases():
         if only not in name:
             continue
-        came, second = answer(program, package, files, script), report(package, [text for _, text in files], script)
+        came, second = answer(program, command, package, files, script), report(package, [text for _, text in files], script)
         is_right = came == wanted == second
         passed += is_right
         failed += not is_right
         if not is_right:
             print(f"{name}: the program says {came}, the second opinion {second}, and {wanted} is wanted")
-    print(f"script_answers.py: {passed} passed, {failed} failed")
+    print(f"script_answers.py, {command}: {passed} passed, {failed} failed")
     return 1 if failed or not passed else 0
 
 
