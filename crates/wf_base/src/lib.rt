@@ -7,5 +7,5 @@ pub mod marks;
 pub mod widths;
 
 pub use base_methods::{ArgTy, BaseSig, Gives, Kind, PeekForm, ReadForm, base_method};
-pub use marks::{Mark, may_call};
+pub use marks::Mark;
 pub use widths::Width;

@@ -2,5 +2,4 @@ pub mod Chains
 pub mod Junctions
 pub mod Quotients
 pub mod Spans
-pub mod Storing
 pub mod Variables

@@ -1,21 +1,12 @@
 // What a body does to its locals, and what is kept of them between calls.
 
 ghost use Rattle.std.specs.Prelude.{◌≡◌, ◌<◌, map, length};
-ghost use Rattle.wf_meaning.specs.World.{updated, kept_local as kept_value, kept_locals};
+ghost use Rattle.wf_meaning.specs.World.{kept_local as kept_value, kept_locals};
 ghost use Rattle.wf_meaning.specs.SourceCall.{fresh_local as fresh_value};
 ghost use Rattle.wf_mean_exprs.specs.MachineState.{slot_seen};
 
 use crate::values::{SliceSpan, SliceStore, Slot};
 use wf_ast::{Ty, Var};
-
-/// A value goes to the local with this number; there is one.
-#[tactic(auto, using(crate::proofs::Storing::set_seen))]
-pub fn set_local(locals: &mut [Slot], x: u32, v: Slot)
-    requires { x < length locals.old }
-    ensures { map slot_seen locals.new ≡ updated (λ _. slot_seen v) x (map slot_seen locals.old) }
-{
-    locals[x as usize] = v;
-}
 
 /// A method begins with its locals zero, false, ok and empty.
 pub fn begin_locals(types: &[Var], locals: &mut [Slot])

@@ -15,12 +15,15 @@ pub fn number_text(n: u64, into: &mut [u8; 20]) -> usize
     text.len()
 }
 
-/// Writes `bytes` as lower-case hexadecimal digits, two a byte, at the front of `into`. The bytes of `into`
-/// behind them stay.
-pub fn hex_text(bytes: &[u8], into: &mut [u8])
+/// Writes `bytes` as lower-case hexadecimal digits, two a byte, at the front of `into`, and answers how many bytes of `into`
+/// these are. The bytes after them stay.
+pub fn hex_text(bytes: &[u8], into: &mut [u8]) -> usize
     requires room { 2 * length bytes.now ≤ length into.old }
-    ensures { into.new ≡ encode_lower bytes.now ++ drop (2 * length bytes.now) into.old }
+    ensures count { result ≡ 2 * length bytes.now }
+    ensures digits { into.new ≡ encode_lower bytes.now ++ drop (2 * length bytes.now) into.old }
 {
-    let (front, _) = into.split_at_mut(2 * bytes.len());
+    let count = 2 * bytes.len();
+    let (front, _) = into.split_at_mut(count);
     let _written = hex::encode_to_slice(bytes, front);
+    count
 }
