@@ -1,9 +1,12 @@
 pub mod Accessors
 pub mod Arena
+pub mod BaseMethodExamples
+pub mod BoolLemmas
 pub mod Depends
-pub mod MentionLaws
 pub mod LocalNodes
+pub mod MentionLaws
 pub mod PlaceLemmas
+pub mod Rising
 pub mod SameChains
 pub mod SameLaws
 pub mod SameParts
@@ -11,4 +14,3 @@ pub mod SameValue
 pub mod TextLemmas
 pub mod TreeKinds
 pub mod TreeLemmas
-pub mod BaseMethodExamples

@@ -1,6 +1,9 @@
 pub mod ExampleNodes
 pub mod Examples
+pub mod Grammar
+pub mod NamedInvariant
 pub mod NamedParts
+pub mod NamedStatementPlaces
 pub mod NamedTree
 pub mod NamedTrees
 pub mod WellNamed

@@ -1,8 +1,7 @@
 // A package whose names are resolved: it keeps the rules of names.
 
-ghost use Rattle.std.specs.Prelude.{◌≡◌, true};
-ghost use Rattle.wf_named.specs.NamedParts.{named_package};
-ghost use Rattle.wf_named.specs.WellNamed.{well_named};
+ghost use Rattle.std.specs.Prelude.{◌≡◌};
+ghost use Rattle.wf_named.specs.NamedInvariant.{IsNamed};
 
 use crate::building::NamedNodes;
 use std::marker::Model;
@@ -14,30 +13,30 @@ pub struct Named {
 }
 
 impl Model for Named {
-    ghost use Rattle.std.specs.Prelude.{◌≡◌, true};
-    ghost use Rattle.wf_named.specs.NamedParts.{NamedParts, named_package};
-    ghost use Rattle.wf_named.specs.WellNamed.{well_named};
+    ghost use Rattle.wf_named.specs.NamedInvariant.{IsNamed};
+    ghost use Rattle.wf_named.specs.NamedParts.{NamedParts};
 
     ghost Value = { NamedParts };
 
     ghost view = { λ n. n.nodes };
 
-    ghost invariant = { λ n. well_named (named_package n.nodes) ≡ true };
+    ghost invariant = { λ n. IsNamed n.nodes };
 }
 
 impl Named {
     /// The package that these nodes make.
     pub fn new(nodes: NamedNodes) -> Named
-        requires { well_named (named_package nodes) ≡ true }
+        requires { IsNamed nodes }
         ensures { result ≡ nodes }
     {
         Named { nodes }
     }
 
-    /// What the package is made of. The rules of names hold of it.
+    /// What the package is made of. The rules of names hold of it, it is as the grammar gives, and its statements stand in
+    /// order.
     pub fn nodes(&self) -> &NamedNodes
         ensures same { result.now ≡ self.now }
-        ensures rules { well_named (named_package self.now) ≡ true }
+        ensures rules { IsNamed self.now }
     {
         &self.nodes
     }

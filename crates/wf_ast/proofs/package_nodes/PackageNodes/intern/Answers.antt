@@ -1,4 +1,4 @@
-use Rattle.wf_ast.proofs.parsed_package.Package.intern.Goals as goal
+use Rattle.wf_ast.proofs.package_nodes.PackageNodes.intern.Goals as goal
 
 pub invariant_of-self : goal.invariant_of-self
 invariant_of-self c = record {

@@ -2,7 +2,7 @@ use Rattle.std.proofs.Common.{refl, ◌+◌, ℕ, arith, ◌≡◌, subst}
 use Rattle.std.proofs.lemmas.Option.{slice_get_read}
 use Rattle.wf_ast.specs.ParsedParts.{ExprParts}
 use Rattle.wf_ast.proofs.TreeLemmas.{expr_trees-node, exprs_parts}
-use Rattle.wf_ast.proofs.parsed_package.Package.expr.Goals as goal
+use Rattle.wf_ast.proofs.package_nodes.PackageNodes.expr.Goals as goal
 
 pub returns-clause-made : goal.returns-clause-made
 returns-clause-made c =

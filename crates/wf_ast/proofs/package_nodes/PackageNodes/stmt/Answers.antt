@@ -2,7 +2,7 @@ use Rattle.std.proofs.Common.{refl, ◌+◌, ℕ, arith, ◌≡◌, subst, lengt
 use Rattle.std.proofs.lemmas.Option.{slice_get_read}
 use Rattle.wf_ast.specs.ParsedParts.{StmtParts}
 use Rattle.wf_ast.proofs.TreeLemmas.{stmt_trees-node, stmts_parts}
-use Rattle.wf_ast.proofs.parsed_package.Package.stmt.Goals as goal
+use Rattle.wf_ast.proofs.package_nodes.PackageNodes.stmt.Goals as goal
 
 pub returns-clause-made : goal.returns-clause-made
 returns-clause-made c =
