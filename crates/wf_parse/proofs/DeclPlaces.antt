@@ -2,13 +2,14 @@
 use Rattle.std.proofs.Common.{◌≡◌, ◌≤◌, ◌<◌, ◌+◌, ◌-◌, ℕ, List, [], ◌∷◌, ◌++◌, length, refl, sym, subst, arith}
 use Rattle.std.specs.List.{AllByRecursion}
 use Rattle.wf_ast.specs.ParsedTree.{DeclTree}
+use Rattle.wf_ast.specs.ReadPackage.{decls_of}
 use Rattle.wf_parse_grammar.specs.declared.tokens.Kind.TheVariants as kinds
 use Rattle.wf_parse_grammar.specs.declared.tokens.Token.{Token}
 use Rattle.wf_parse_grammar.specs.Grammar.{FileForm, NoDecl, ADecl, token, decl_before, file_before}
 use Rattle.wf_parse_grammar.specs.Meaning.{file_trees}
 use Rattle.wf_parse_grammar.proofs.CatenationMore.{more-decl}
 use Rattle.wf_parse.specs.OneReading.{IsOfFile, IsOfFiles, DeclsHaveFiles}
-use Rattle.wf_parse.specs.Parsing.{ReadsFiles, decls_of}
+use Rattle.wf_parse.specs.Parsing.{ReadsFiles}
 use Rattle.wf_parse.proofs.RefusalPlaces.{InFile, whole-file}
 
 split-file : (file : ℕ) (front back : List Token) → InFile file (front ++ back) → InFile file front × InFile file back

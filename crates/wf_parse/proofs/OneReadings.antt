@@ -8,6 +8,7 @@ use Rattle.wf_text.specs.declared.rules.Rule.TheVariants.{S5, S6, L3, L4, L5}
 use Rattle.wf_ast.specs.declared.numbers.TextId.{TextId}
 use Rattle.wf_ast.specs.ParsedParts.{AreDistinct}
 use Rattle.wf_ast.specs.ParsedTree.{DeclTree}
+use Rattle.wf_ast.specs.ReadPackage.{decls_of}
 use Rattle.wf_parse_grammar.specs.declared.tokens.Kind.{Kind}
 use Rattle.wf_parse_grammar.specs.declared.tokens.Kind.TheVariants as kinds
 use Rattle.wf_parse_grammar.specs.declared.tokens.Token.{Token}
@@ -25,7 +26,7 @@ use Rattle.wf_parse.specs.Kinds.{KindIs}
 use Rattle.wf_parse.specs.Lexing.{TokenIs, TokensAre, IsWholeFile, IsFileUpTo, AreTokensOf}
 use Rattle.wf_parse.specs.OneReading as law
 use Rattle.wf_parse.specs.OneReading.{TreesAreUnique, RefusalsAreUnique, TextsAreDistinct}
-use Rattle.wf_parse.specs.Parsing.{IsPastTokens, IsWrong, ReadsFile, RefusesFile, ReadsFiles, RefusesFiles, refusal_of, decls_of}
+use Rattle.wf_parse.specs.Parsing.{IsPastTokens, IsWrong, ReadsFile, RefusesFile, ReadsFiles, RefusesFiles, refusal_of}
 use Rattle.wf_parse.specs.Texts.{texts_behind}
 use Rattle.wf_parse.proofs.TextNumbers.{texts_behind-distinct, no_texts-distinct}
 

@@ -12,6 +12,7 @@ use Rattle.wf_text.specs.declared.rules.Rule.{Rule}
 use Rattle.wf_ast.specs.ParsedParts.{Parsed}
 use Rattle.wf_ast.specs.ParsedTree.{DeclTree}
 use Rattle.wf_ast.specs.ParsedTrees.{decl_trees}
+use Rattle.wf_ast.specs.ReadPackage.{decls_of}
 use Rattle.wf_parse_grammar.specs.declared.tokens.Token.{Token}
 use Rattle.wf_parse_grammar.specs.declared.symbols.Sym.TheVariants.{File}
 use Rattle.wf_parse_grammar.specs.declared.symbols.Want.TheVariants.{Read}
@@ -23,7 +24,7 @@ use Rattle.wf_parse_nodes.specs.declared.maker.Maker.{Maker}
 use Rattle.wf_parse_nodes.specs.declared.values.Value.{Value}
 use Rattle.wf_parse_nodes.specs.Makers.{KeepsTexts, IsSound, nodes}
 use Rattle.wf_parse_nodes.specs.Seen.{AreOf, IsOrdered}
-use Rattle.wf_parse.specs.Parsing.{RefusesFile, ReadsFiles, RefusesFiles, IsRefusedBy, AnswersParse, refusal_of, decls_of}
+use Rattle.wf_parse.specs.Parsing.{RefusesFile, ReadsFiles, RefusesFiles, IsRefusedBy, AnswersParse, refusal_of}
 use Rattle.wf_parse.specs.Reading.{ReadsOne, AnswersBytes, read_file}
 use Rattle.wf_parse.proofs.Outcomes.{bad_never_built}
 use Rattle.wf_parse.proofs.ReadingVerdicts.{refused_is_wrong, built_is_accepted}

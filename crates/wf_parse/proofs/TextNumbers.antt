@@ -53,6 +53,10 @@ joined old new text i joins found distinct = by_case (is_among old text) refl jo
     by_case false h (inl e) = true_or_false (is_among old text) (at_among old text i (ap (λ xs. slice_get xs i) (sym e) ∙ found)) h
     by_case false h (inr e) = rw h e
 
+-- A text that is known joins nothing.
+pub known_joins : (known : List (List ℕ)) (text : List ℕ) (i : ℕ) → slice_get known i ≡ Some text → known ≡ with_text known (Some text)
+known_joins known text i e = sym (ap (λ b. if b then known else known ++ text ∷ []) (at_among known text i e))
+
 -- Texts grow at their end.
 pub with_text-grows : (known : List (List ℕ)) (text : Option (List ℕ)) → (more : List (List ℕ)) × (with_text known text ≡ known ++ more)
 with_text-grows known None = ([], sym (append-nil known))

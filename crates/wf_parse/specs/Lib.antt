@@ -3,5 +3,7 @@ pub mod Lexing
 pub mod Machines
 pub mod OneReading
 pub mod Parsing
+pub mod ReadForms
 pub mod Reading
 pub mod Texts
+pub mod TokenForms

@@ -4,9 +4,10 @@ use Rattle.std.specs.List.{AllByRecursion}
 use Rattle.wf_text.specs.declared.rules.Refusal.{Refusal}
 use Rattle.wf_ast.specs.ParsedParts.{Parsed, AreDistinct}
 use Rattle.wf_ast.specs.ParsedTree.{DeclTree}
+use Rattle.wf_ast.specs.ReadPackage.{decls_of}
 use Rattle.wf_parse_grammar.specs.Grammar.{DeclForm, decl_before}
 use Rattle.wf_parse_grammar.specs.Meaning.{decl_tree}
-use Rattle.wf_parse.specs.Parsing.{IsParsed, IsRefusedBy, decls_of}
+use Rattle.wf_parse.specs.Parsing.{IsParsed, IsRefusedBy}
 
 -- Two packages are one tree.
 pub record IsSameTree (p q : Parsed) : Type 0 where

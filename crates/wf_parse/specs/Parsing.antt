@@ -9,16 +9,12 @@ use Rattle.wf_text.specs.declared.rules.Rule.{Rule}
 use Rattle.wf_text.specs.declared.rules.Rule.TheVariants.{S5, S6, L3, L4, L5}
 use Rattle.wf_ast.specs.ParsedParts.{Parsed}
 use Rattle.wf_ast.specs.ParsedTree.{DeclTree}
-use Rattle.wf_ast.specs.ParsedTrees.{decl_trees}
+use Rattle.wf_ast.specs.ReadPackage.{decls_of}
 use Rattle.wf_parse_grammar.specs.declared.tokens.Token.{Token}
 use Rattle.wf_parse_grammar.specs.Files.{IsLive}
 use Rattle.wf_parse_grammar.specs.Refusals.{IsWithin, IsAccepted, IsRefused}
 use Rattle.wf_tokens.specs.Places.{behind_bytes, first_place}
 use Rattle.wf_parse.specs.Lexing.{IsWholeFile, AreTokensOf}
-
--- The declarations of a package, as trees.
-abbrev pub decls_of : Parsed → List DeclTree
-decls_of p = decl_trees p.exprs p.stmts p.decls
 
 -- A file is read: its tokens, of which `most` may stand in the package, are those of a file of the grammar within
 -- the limits, and these are the trees of its declarations. `known` are the package's texts in front of it, and `texts`

@@ -5,6 +5,7 @@ use Rattle.wf_text.specs.declared.faults.PhaseFault.TheVariants as phase
 use Rattle.wf_text.specs.declared.rules.Rule.TheVariants.{L3}
 use Rattle.wf_ast.specs.ParsedParts.{Parsed}
 use Rattle.wf_ast.specs.ParsedTree.{DeclTree}
+use Rattle.wf_ast.specs.ReadPackage.{decls_of}
 use Rattle.wf_parse_grammar.specs.declared.symbols.Sym.TheVariants.{File}
 use Rattle.wf_parse_grammar.specs.declared.symbols.Want.{Want}
 use Rattle.wf_parse_grammar.specs.declared.symbols.Want.TheVariants.{Read}
@@ -14,7 +15,7 @@ use Rattle.wf_parse_grammar.specs.Values.{Made}
 use Rattle.wf_parse.specs.declared.parsing.FileFault.{FileFault}
 use Rattle.wf_parse.specs.declared.parsing.FileFault.TheVariants as file
 use Rattle.wf_parse.specs.Machines.{State}
-use Rattle.wf_parse.specs.Parsing.{ReadsFile, RefusesFile, decls_of}
+use Rattle.wf_parse.specs.Parsing.{ReadsFile, RefusesFile}
 
 -- The run of the machine within `most` tokens. The token that passes them is read without the limits of brackets and
 -- statements: where it can stand, the number of tokens refuses it.

@@ -4,9 +4,10 @@ ghost use Rattle.std.specs.Prelude.{◌≡◌, ◌+◌, ◌*◌, ◌<◌, ◌≤
 ghost use Rattle.wf_tokens.specs.Places.{behind_bytes, first_place};
 ghost use Rattle.wf_parse.specs.Lexing.{AreTokensOf, ChangesTexts};
 
+use crate::recent::Recent;
 use crate::token_kinds::kind_of;
 use std::alloc::{AllocError, Global};
-use wf_ast::Package;
+use wf_ast::PackageNodes;
 use wf_parse_grammar::{Kind, Token};
 use wf_text::{Place, Refusal};
 use wf_tokens::Lexer;
@@ -31,9 +32,9 @@ fn push(tokens: &mut Vec<Token>, kind: Kind, at: Place) -> Result<(), AllocError
 }
 
 /// Reads the bytes of the file with this number. Names and texts join the texts of the package.
-pub fn file_tokens(
+pub(crate) fn file_tokens(
     alloc: Global,
-    parsed: &mut Package,
+    parsed: &mut PackageNodes,
     file: u16,
     bytes: &[u8],
 ) -> Result<FileTokens, AllocError>
@@ -46,19 +47,19 @@ pub fn file_tokens(
     ensures room { OnOk result (length parsed.new.texts ≤ length parsed.old.texts + 2 * length bytes.now) }
 {
     let mut lexer = Lexer::new(file, bytes);
-    let end = lexer.end();
+    let mut recent = Recent::new(alloc)?;
     let mut tokens = Vec::new(alloc);
     while let Some(next) = lexer.next() {
         match next {
             Ok(token) => {
-                let kind = kind_of(parsed, token)?;
+                let kind = kind_of(&mut recent, parsed, token)?;
                 push(&mut tokens, kind, token.at)?;
             }
             Err(refusal) => {
                 push(&mut tokens, Kind::Bad, refusal.at)?;
                 return Ok(FileTokens {
                     tokens,
-                    end,
+                    end: lexer.end(),
                     refused: Some(refusal),
                 });
             }
@@ -66,7 +67,7 @@ pub fn file_tokens(
     }
     Ok(FileTokens {
         tokens,
-        end,
+        end: lexer.end(),
         refused: None,
     })
 }

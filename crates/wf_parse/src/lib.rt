@@ -2,10 +2,12 @@
 // what is still wanted stands on one stack, what is made of the tokens on another.
 #![tactic(auto)]
 
+pub mod forms;
 pub mod laws;
 pub mod lexing;
 pub mod machine;
 pub mod parsing;
+pub mod recent;
 pub mod token_kinds;
 
 pub use parsing::parse;

@@ -92,7 +92,7 @@ impl Machine {
         ensures err { IfErr result (λ stop. stop ≡ Memory) }
         ensures maker { self.new.maker ≡ self.old.maker }
     {
-        match self.wants.push_all(wants.as_slice()) {
+        match wants.push_on(&mut self.wants) {
             Ok(()) => Ok(true),
             Err(_) => Err(StepFault::Memory),
         }
@@ -184,15 +184,13 @@ impl Machine {
         ensures below { IfOk result (λ taken. taken ≡ false → self.new.wants ≡ self.old.wants) }
         ensures size { IfOk result (λ taken. size self.new ≤ size self.old + (if taken then 32 else 2)) }
     {
-        let Ok(build) = build(self.maker.alloc, symbol, token) else {
-            return Err(StepFault::Memory);
-        };
-        match build {
-            Build::Take(wants) => self.take(limited, symbol, token, &wants),
-            Build::Begin(wants) => self.begin(limited, symbol, token, &wants),
-            Build::Enter(wants) => self.enter(limited, symbol, token, &wants),
+        let told = build(symbol, token);
+        match &told {
+            Build::Take(wants) => self.take(limited, symbol, token, wants),
+            Build::Begin(wants) => self.begin(limited, symbol, token, wants),
+            Build::Enter(wants) => self.enter(limited, symbol, token, wants),
             Build::Pass => self.pass(limited, symbol, token),
-            Build::Stop(rule) => Err(StepFault::Refused(rule)),
+            Build::Stop(rule) => Err(StepFault::Refused(*rule)),
         }
     }
 

@@ -1,16 +1,17 @@
 // Reading a package.
 
 ghost use Rattle.std.specs.Prelude.{◌≡◌, ◌+◌, ◌*◌, ◌<◌, ◌≤◌, ◌^◌, ℕ, List, [], ◌∷◌, drop, length, map, sum_by, IfOk, IfErr, OnOk};
+ghost use Rattle.wf_ast.specs.ReadPackage.{decls_of};
 ghost use Rattle.wf_parse_nodes.specs.Makers.{nodes, IsSound, KeepsTexts};
 ghost use Rattle.wf_parse.specs.Machines.{size, state_of, file_start};
-ghost use Rattle.wf_parse.specs.Parsing.{AnswersParse, refusal_of, place_left, decls_of};
+ghost use Rattle.wf_parse.specs.Parsing.{AnswersParse, refusal_of, place_left};
 ghost use Rattle.wf_parse.specs.Reading.{AnswersOne, AnswersFile, AnswersBytes};
 
 use crate::lexing::{FileTokens, file_tokens};
 use crate::machine::{Machine, StepFault};
 use stacks::Stack;
 use std::alloc::{AllocError, Global};
-use wf_ast::Package;
+use wf_ast::{Package, PackageNodes};
 use wf_parse_grammar::{Sym, Token, Want};
 use wf_parse_nodes::Maker;
 use wf_text::{NoMemory, PhaseFault, Place, Refusal, Rule};
@@ -44,7 +45,7 @@ impl Machine {
         Ok(Machine {
             maker: Maker {
                 alloc,
-                package: Package::new(alloc, name)?,
+                package: PackageNodes::new(alloc, name)?,
                 values: Stack::new(alloc),
             },
             wants: Stack::new(alloc),
@@ -188,9 +189,8 @@ fn refusal_of(file: &FileTokens, rule: Rule, left: usize) -> Refusal
     }
 }
 
-/// Reads the files of the package with this name, in order. S1 to S6, L3, L4 and L5 where a file breaks them: the
-/// first token that does decides.
-pub fn parse(alloc: Global, name: &str, files: &[Vec<u8>]) -> Result<Package, PhaseFault>
+/// The nodes of the package with this name, from its files in order.
+fn read_nodes(alloc: Global, name: &str, files: &[Vec<u8>]) -> Result<PackageNodes, PhaseFault>
     requires count { length files.now ≤ 16 }
     requires bytes { sum_by (λ file. length file.items) files.now ≤ 1048576 }
     ensures { AnswersParse name.now (map (λ file. file.items) files.now) result }
@@ -205,4 +205,17 @@ pub fn parse(alloc: Global, name: &str, files: &[Vec<u8>]) -> Result<Package, Ph
         number += 1;
     }
     Ok(machine.maker.package)
+}
+
+/// Reads the files of the package with this name, in order. S1 to S6, L3, L4 and L5 where a file breaks them: the
+/// first token that does decides.
+pub fn parse(alloc: Global, name: &str, files: &[Vec<u8>]) -> Result<Package, PhaseFault>
+    requires count { length files.now ≤ 16 }
+    requires bytes { sum_by (λ file. length file.items) files.now ≤ 1048576 }
+    ensures { AnswersParse name.now (map (λ file. file.items) files.now) result }
+{
+    match read_nodes(alloc, name, files) {
+        Ok(nodes) => Ok(Package::new(nodes)),
+        Err(fault) => Err(fault),
+    }
 }

@@ -6,8 +6,9 @@ ghost use Rattle.wf_parse.specs.Kinds.{word_kind, operator_of, operator_kind, co
 ghost use Rattle.wf_parse.specs.Lexing.{ChangesTexts};
 ghost use Rattle.wf_parse.specs.Texts.{text_of, with_text};
 
+use crate::recent::Recent;
 use std::alloc::AllocError;
-use wf_ast::{Op, Package, TextId};
+use wf_ast::{Op, PackageNodes, TextId};
 use wf_parse_grammar::Kind;
 use wf_tokens::{Comparison, Operator, Symbol, Token, TokenKind, Word};
 
@@ -135,24 +136,33 @@ fn unquoted(text: &[u8]) -> &[u8]
 }
 
 /// The number of a text, which joins the package's texts at their end where it isn't among them.
-fn number_of(parsed: &mut Package, text: &[u8]) -> Result<TextId, AllocError>
+fn number_of(
+    recent: &mut Recent,
+    parsed: &mut PackageNodes,
+    text: &[u8],
+) -> Result<TextId, AllocError>
     requires { length parsed.old.texts < 2 ^ 32 }
     ensures number { IfOk result (λ number. slice_get parsed.new.texts number.0 ≡ Some text.now) }
     ensures texts { OnOk result (parsed.new.texts ≡ with_text parsed.old.texts (Some text.now)) }
     ensures same { OnOk result (ChangesTexts parsed.old parsed.new) }
 {
-    match parsed.intern(text) {
-        Ok(number) => {
-            // Equal texts have equal numbers.
-            let _count = parsed.texts();
-            Ok(number)
-        }
-        Err(fault) => Err(fault),
+    if let Some(number) = recent.find(parsed, text) {
+        return Ok(number);
     }
+    let number = parsed.intern(text)?;
+    recent.keep(text, number);
+    // Equal texts have equal numbers.
+    let _count = parsed.texts();
+    Ok(number)
 }
 
-/// What a token is for the grammar. Its text joins the package's texts.
-pub fn kind_of(parsed: &mut Package, token: Token<'_>) -> Result<Kind, AllocError>
+/// What a token is for the grammar. Its text joins the package's texts. `recent` makes that quicker where it was seen of
+/// late.
+pub fn kind_of(
+    recent: &mut Recent,
+    parsed: &mut PackageNodes,
+    token: Token<'_>,
+) -> Result<Kind, AllocError>
     requires room { length parsed.old.texts < 2 ^ 32 }
     requires quoted { IsReadable (item_of token) }
     ensures kind { IfOk result (λ kind. KindIs parsed.new.texts token.entry.kind token.entry.bytes.now kind) }
@@ -160,9 +170,9 @@ pub fn kind_of(parsed: &mut Package, token: Token<'_>) -> Result<Kind, AllocErro
     ensures same { OnOk result (ChangesTexts parsed.old parsed.new) }
 {
     match token.kind {
-        TokenKind::Name => Ok(Kind::Name(number_of(parsed, token.bytes)?)),
+        TokenKind::Name => Ok(Kind::Name(number_of(recent, parsed, token.bytes)?)),
         TokenKind::Number(value) => Ok(Kind::Number(value)),
-        TokenKind::Text => Ok(Kind::Text(number_of(parsed, unquoted(token.bytes))?)),
+        TokenKind::Text => Ok(Kind::Text(number_of(recent, parsed, unquoted(token.bytes))?)),
         TokenKind::Keyword(word) => Ok(word_kind(word)),
         TokenKind::Symbol(symbol) => Ok(symbol_kind(symbol)),
     }

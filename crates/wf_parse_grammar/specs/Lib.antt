@@ -10,4 +10,5 @@ pub mod Meaning
 pub mod Refusals
 pub mod Statements
 pub mod Values
+pub mod Wanted
 pub mod Words

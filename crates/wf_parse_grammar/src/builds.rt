@@ -1,16 +1,12 @@
 // What a token does to the symbol on top of the machine's stack.
 
-ghost use Rattle.std.specs.Prelude.{◌≡◌, List, [], ◌∷◌, ◌++◌, IfOk};
-ghost use Rattle.wf_parse_grammar.specs.declared.symbols.Action.{Action};
-ghost use Rattle.wf_parse_grammar.specs.declared.symbols.Want.{Want};
-ghost use Rattle.wf_parse_grammar.specs.declared.symbols.Want.TheVariants.{Make};
+ghost use Rattle.std.specs.Prelude.{◌≡◌, []};
 ghost use Rattle.wf_parse_grammar.specs.declared.builds.Build.{Build};
-ghost use Rattle.wf_parse_grammar.specs.declared.builds.Build.TheVariants.{Take, Begin, Enter};
-ghost use Rattle.wf_parse_grammar.specs.Building.{followed, led, or_pass};
+ghost use Rattle.wf_parse_grammar.specs.declared.builds.Build.TheVariants.{Take, Enter};
+ghost use Rattle.wf_parse_grammar.specs.Building.{or_pass};
 
-use crate::symbols::{Action, Want};
+use crate::symbols::Want;
 use crate::wants::Wants;
-use std::alloc::{AllocError, Global};
 use wf_text::Rule;
 
 /// What a token does to the symbol on top of the stack.
@@ -29,62 +25,29 @@ pub enum Build {
 }
 
 impl Build {
-    /// The token is read, and `wants` are wanted then.
-    pub fn take(alloc: Global, wants: &[Want]) -> Result<Build, AllocError>
-        ensures { IfOk result (λ b. b ≡ Take wants.now) }
+    /// The token is read, and these are wanted in place of the symbol.
+    pub fn take(wants: &'static [Want]) -> Build
+        ensures { result ≡ Take wants.now }
     {
-        Ok(Build::Take(Wants::of(alloc, wants)?))
+        Build::Take(Wants::of(wants, &[]))
+    }
+
+    /// The same, where the token begins the block of a method.
+    pub fn enter(wants: &'static [Want]) -> Build
+        ensures { result ≡ Enter wants.now }
+    {
+        Build::Enter(Wants::of(wants, &[]))
     }
 
     /// The token is read, and nothing is wanted in place of the symbol.
-    pub fn done(alloc: Global) -> Build
+    pub fn done() -> Build
         ensures { result ≡ Take [] }
     {
-        Build::Take(Wants::new(alloc))
-    }
-
-    /// The same as `take`, where the token begins a statement.
-    pub fn begin(alloc: Global, wants: &[Want]) -> Result<Build, AllocError>
-        ensures { IfOk result (λ b. b ≡ Begin wants.now) }
-    {
-        Ok(Build::Begin(Wants::of(alloc, wants)?))
-    }
-
-    /// The same as `take`, where the token begins the block of a method.
-    pub fn enter(alloc: Global, wants: &[Want]) -> Result<Build, AllocError>
-        ensures { IfOk result (λ b. b ≡ Enter wants.now) }
-    {
-        Ok(Build::Enter(Wants::of(alloc, wants)?))
-    }
-
-    /// The same move, with `wants` wanted behind what it wants.
-    pub fn followed(self, wants: &[Want]) -> Result<Build, AllocError>
-        ensures { IfOk result (λ b. b ≡ followed self wants.now) }
-    {
-        match self {
-            Build::Take(list) => Ok(Build::Take(list.followed(wants)?)),
-            Build::Begin(list) => Ok(Build::Begin(list.followed(wants)?)),
-            Build::Enter(list) => Ok(Build::Enter(list.followed(wants)?)),
-            Build::Pass => Ok(Build::Pass),
-            Build::Stop(rule) => Ok(Build::Stop(rule)),
-        }
-    }
-
-    /// The same move, with `action` in front of what it wants.
-    pub fn led(self, action: Action) -> Result<Build, AllocError>
-        ensures { IfOk result (λ b. b ≡ led action self) }
-    {
-        match self {
-            Build::Take(list) => Ok(Build::Take(list.led(Want::Make(action))?)),
-            Build::Begin(list) => Ok(Build::Begin(list.led(Want::Make(action))?)),
-            Build::Enter(list) => Ok(Build::Enter(list.led(Want::Make(action))?)),
-            Build::Pass => Ok(Build::Pass),
-            Build::Stop(rule) => Ok(Build::Stop(rule)),
-        }
+        Build::Take(Wants::of(&[], &[]))
     }
 
     /// The move where the symbol may be absent: a token that would be refused is for what stands below.
-    pub fn or_pass(self) -> Build
+    pub(crate) fn or_pass(self) -> Build
         ensures { result ≡ or_pass self }
     {
         match self {

@@ -21,4 +21,4 @@ pub mod wants;
 pub use builds::Build;
 pub use symbols::{Action, Sym, Want};
 pub use tokens::{Kind, Token};
-pub use wants::Wants;
+pub use wants::{Lead, Wants};

@@ -1,68 +1,114 @@
-// A list of wanted things, which contracts see as a list.
+// Wanted things, which contracts see as a list. The lists of the table stand in the program; what a token tells stands
+// beside them, so that nothing is allotted for a token.
 
-ghost use Rattle.std.specs.Prelude.{◌≡◌, ◌++◌, List, [], ◌∷◌, IfOk};
+ghost use Rattle.std.specs.Prelude.{◌≡◌, ◌++◌, List, ◌∷◌, OnOk};
 ghost use Rattle.wf_parse_grammar.specs.declared.symbols.Want.{Want};
+ghost use Rattle.wf_parse_grammar.specs.declared.symbols.Want.TheVariants.{Read};
+ghost use Rattle.wf_parse_grammar.specs.Wanted.{led_by, asked_by};
 
-use crate::symbols::Want;
-use std::alloc::{AllocError, Global};
+use crate::symbols::{Action, Sym, Want};
+use stacks::Stack;
 use std::marker::Model;
+use wf_text::NoMemory;
+
+/// The actions in front of a list of the table, the first one first.
+#[derive(Clone, Copy)]
+pub enum Lead {
+    Empty,
+    One(Action),
+    Two(Action, Action),
+    Three(Action, Action, Action),
+}
 
 /// Wanted things, the first one in front.
 #[derive(Drop)]
 pub struct Wants {
-    items: Vec<Want>,
+    lead: Lead,
+    rest: &'static [Want],
+    last: Option<Sym>,
+    after: &'static [Want],
 }
 
 impl Model for Wants {
     ghost Value = { List Want };
 
-    ghost view = { λ w. w.items.items };
+    ghost view = { λ w. led_by w.lead (w.rest.now ++ asked_by w.last w.after.now) };
 }
 
-// The longest list that the table has, so that no list is moved while it grows.
-const LONGEST: usize = 11;
+/// Puts the actions on the stack, the first of them topmost.
+fn push_lead(lead: Lead, stack: &mut Stack<Want>) -> Result<(), NoMemory>
+    ensures { OnOk result (stack.new ≡ led_by lead stack.old) }
+{
+    match lead {
+        Lead::Empty => Ok(()),
+        Lead::One(first) => stack.push(Want::Make(first)),
+        Lead::Two(first, second) => {
+            stack.push(Want::Make(second))?;
+            stack.push(Want::Make(first))
+        }
+        Lead::Three(first, second, third) => {
+            stack.push(Want::Make(third))?;
+            stack.push(Want::Make(second))?;
+            stack.push(Want::Make(first))
+        }
+    }
+}
+
+/// Puts the symbol on the stack, if there is one.
+fn push_last(last: Option<Sym>, stack: &mut Stack<Want>) -> Result<(), NoMemory>
+    ensures { OnOk result (stack.new ≡ asked_by last stack.old) }
+{
+    match last {
+        Some(symbol) => stack.push(Want::Read(symbol)),
+        None => Ok(()),
+    }
+}
 
 impl Wants {
-    /// Nothing.
-    pub fn new(alloc: Global) -> Self
-        ensures { result ≡ [] }
+    /// The wanted things of a list of the table, and then `after`.
+    pub fn of(rest: &'static [Want], after: &'static [Want]) -> Self
+        ensures { result ≡ rest.now ++ after.now }
     {
         Wants {
-            items: Vec::new(alloc),
+            lead: Lead::Empty,
+            rest,
+            last: None,
+            after,
         }
     }
 
-    /// These wanted things.
-    pub fn of(alloc: Global, wants: &[Want]) -> Result<Self, AllocError>
-        ensures { IfOk result (λ made. made ≡ wants.now) }
+    /// Actions that tell what the token says, then `rest` and `after`.
+    pub fn led(lead: Lead, rest: &'static [Want], after: &'static [Want]) -> Self
+        ensures { result ≡ led_by lead (rest.now ++ after.now) }
     {
-        let mut items = Vec::with_capacity(alloc, LONGEST)?;
-        items.extend_from_slice(wants)?;
-        Ok(Wants { items })
+        Wants {
+            lead,
+            rest,
+            last: None,
+            after,
+        }
     }
 
-    /// The same, and `wants` behind them.
-    pub fn followed(self, wants: &[Want]) -> Result<Self, AllocError>
-        ensures { IfOk result (λ longer. longer ≡ self ++ wants.now) }
+    /// The same, with a symbol between `rest` and `after`.
+    pub fn around(lead: Lead, rest: &'static [Want], last: Sym, after: &'static [Want]) -> Self
+        ensures { result ≡ led_by lead (rest.now ++ Read last ∷ after.now) }
     {
-        let mut items = self.items;
-        items.extend_from_slice(wants)?;
-        Ok(Wants { items })
+        Wants {
+            lead,
+            rest,
+            last: Some(last),
+            after,
+        }
     }
 
-    /// The same, and `want` in front of them.
-    pub fn led(self, want: Want) -> Result<Self, AllocError>
-        ensures { IfOk result (λ longer. longer ≡ want ∷ self) }
+    /// Puts the wanted things on the stack, the first of them topmost. After `NoMemory` some of the last of them are
+    /// on it.
+    pub fn push_on(&self, stack: &mut Stack<Want>) -> Result<(), NoMemory>
+        ensures { OnOk result (stack.new ≡ self.now ++ stack.old) }
     {
-        let mut items = self.items;
-        items.insert(0, want)?;
-        Ok(Wants { items })
-    }
-
-    /// The wanted things in order.
-    pub fn as_slice(&self) -> &[Want]
-        ensures { result.now ≡ self.now }
-    {
-        self.items.as_slice()
+        stack.push_all(self.after)?;
+        push_last(self.last, stack)?;
+        stack.push_all(self.rest)?;
+        push_lead(self.lead, stack)
     }
 }

@@ -5,6 +5,7 @@ use Rattle.std.specs.Str.{bytes_eq}
 use Rattle.std.proofs.lemmas.Slice.Eq.{bytes_eq-Decides}
 use Rattle.wf_text.specs.declared.rules.Refusal.{Refusal}
 use Rattle.wf_ast.specs.ParsedTree.{DeclTree}
+use Rattle.wf_ast.specs.ReadPackage.{decls_of}
 use Rattle.wf_ast.proofs.TreeLemmas.{slice_get-seam}
 use Rattle.wf_tokens.specs.declared.kinds.TokenKind.{TokenKind}
 use Rattle.wf_tokens.specs.declared.kinds.TokenKind.TheVariants as spelt
@@ -19,7 +20,7 @@ use Rattle.wf_parse_grammar.specs.Building.{Ending, Built, Refused}
 use Rattle.wf_parse_grammar.specs.Values.{Made}
 use Rattle.wf_parse.specs.Kinds.{KindIs, word_kind, symbol_kind, unquoted}
 use Rattle.wf_parse.specs.Lexing.{TokensAre, IsWholeFile, AreTokensOf}
-use Rattle.wf_parse.specs.Parsing.{ReadsFile, RefusesFile, ReadsFiles, RefusesFiles, refusal_of, decls_of}
+use Rattle.wf_parse.specs.Parsing.{ReadsFile, RefusesFile, ReadsFiles, RefusesFiles, refusal_of}
 use Rattle.wf_parse.specs.Reading.{read_file}
 use Rattle.wf_parse.specs.Texts.{text_of, is_among, with_text, texts_behind}
 use Rattle.wf_parse.proofs.Lexed.{tokens_stay}

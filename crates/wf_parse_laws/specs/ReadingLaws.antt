@@ -4,7 +4,8 @@ use Rattle.wf_text.specs.declared.rules.Refusal.{Refusal}
 use Rattle.wf_ast.specs.ParsedParts.{Parsed}
 use Rattle.wf_ast.specs.ParsedTree.{DeclTree}
 use Rattle.wf_tokens.specs.Spelling.{Item, IsTokensOf, StopsAt}
-use Rattle.wf_parse.specs.Parsing.{IsParsed, IsRefusedBy, decls_of}
+use Rattle.wf_ast.specs.ReadPackage.{decls_of}
+use Rattle.wf_parse.specs.Parsing.{IsParsed, IsRefusedBy}
 
 -- All bytes of a file are tokens, or there is a first place at which none can be read.
 abbrev pub BytesHaveTokens : Type 0

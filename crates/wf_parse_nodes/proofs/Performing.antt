@@ -1,5 +1,5 @@
 -- What is put on the stack and into the package is what the machine makes.
-use Rattle.std.proofs.Common.{◌≡◌, Bool, true, false, List, [], ◌∷◌, ◌++◌, length, sym, ◌∙◌, ap, subst}
+use Rattle.std.proofs.Common.{◌≡◌, Bool, true, false, List, [], ◌∷◌, ◌++◌, length, sym, ◌∙◌, ap, subst, refl}
 use Rattle.wf_ast.specs.declared.numbers.ExprId.{ExprId}
 use Rattle.wf_ast.specs.declared.numbers.StmtId.{StmtId}
 use Rattle.wf_ast.specs.declared.parsed.DeclNode.{DeclNode}
@@ -8,6 +8,7 @@ use Rattle.wf_ast.specs.declared.parsed.StmtNode.{StmtNode}
 use Rattle.wf_ast.specs.ParsedTrees.{expr_trees, stmt_trees, decl_trees}
 use Rattle.wf_ast.specs.ParsedParts.{Parsed, ExprParts, StmtParts, DeclParts}
 use Rattle.wf_parse_grammar.specs.declared.symbols.Action.{Action}
+use Rattle.wf_parse_grammar.specs.declared.symbols.Action.TheVariants as does
 use Rattle.wf_parse_grammar.specs.Values.{Made, perform}
 use Rattle.wf_parse_nodes.specs.declared.products.Product.{Product}
 use Rattle.wf_parse_nodes.specs.declared.products.Product.TheVariants as makes
@@ -18,7 +19,7 @@ use Rattle.wf_parse_nodes.specs.declared.maker.Maker.{Maker}
 use Rattle.wf_parse_nodes.specs.Makers.{IsSound}
 use Rattle.wf_parse_nodes.specs.Making.{Making, making}
 use Rattle.wf_parse_nodes.specs.Seen.{seen_values, AreOf, IsOrdered, ProductParts, made_of, made_with}
-use Rattle.wf_parse_nodes.specs.Shapes.{fits, takes}
+use Rattle.wf_parse_nodes.specs.Shapes.{fits, takes, pushes}
 use Rattle.wf_parse_nodes.proofs.ActionLaws.{action-made, action-below}
 use Rattle.wf_parse_nodes.proofs.Putting as putting
 
@@ -102,3 +103,32 @@ fit_below p vs a shapes fit m s f is e b =
     let fit_there : fits (takes a) vs ≡ true = ap (λ x. fits x vs) (sym s) ∙ sym f ∙ is in
     let P : Making → Type 0 = λ x. ProductParts (length p.exprs) (length p.stmts) x.product × AreOf p x.vals in
     subst P e (action-below (length p.exprs) (length p.stmts) a vs fit_there b)
+
+-- An action that pushes finds whatever it takes, which is nothing.
+push_fits : (a : Action) (vs : List Value) → pushes a ≡ true → fits (takes a) vs ≡ true
+push_fits (does.PushName _) vs h = refl
+push_fits (does.PushPlace _) vs h = refl
+push_fits (does.PushMark _) vs h = refl
+push_fits (does.PushPublic _) vs h = refl
+push_fits (does.PushSign _ _) vs h = refl
+push_fits (does.BarePath _) vs h = refl
+push_fits does.NoPart vs h = refl
+push_fits does.StartGivens vs h = refl
+push_fits does.StartType vs h = refl
+push_fits does.NoBounds vs h = refl
+push_fits does.StartItems vs h = refl
+push_fits does.StartArms vs h = refl
+push_fits does.NoElse vs h = refl
+push_fits does.StartClauses vs h = refl
+push_fits does.NoLabel vs h = refl
+push_fits does.NoVia vs h = refl
+push_fits does.StartFields vs h = refl
+push_fits _ vs h = absurd (cc h)
+
+-- What such an action pushes, put on what was there.
+module _ (old : Maker) (a : Action) (v : Value) (h : pushes a ≡ true) (e : (vs : List Value) → let pushed : Making = record { product = makes.Value v; vals = vs } in making a vs ≡ pushed) where
+  pub push_performed : put_on old (makes.Value v) ≡ perform a (made_of old.package old.values)
+  push_performed = fit_performed old.package old.values a (takes a) (fits (takes a) old.values) (record { product = makes.Value v; vals = old.values }) refl refl (push_fits a old.values h) (e old.values)
+
+  pub push_parts : AreOf old.package old.values → ProductParts (length old.package.exprs) (length old.package.stmts) (makes.Value v)
+  push_parts b = (fit_below old.package old.values a (takes a) (fits (takes a) old.values) (record { product = makes.Value v; vals = old.values }) refl refl (push_fits a old.values h) (e old.values) b).0

@@ -17,9 +17,28 @@ use wf_ast::parsed::{Path, Root};
 use wf_parse_grammar::Action;
 use wf_text::NoMemory;
 
-/// Takes the action's values from the stack, and answers what is made of them.
-pub fn make(alloc: Global, action: Action, values: &mut Stack<Value>) -> Result<Product, NoMemory>
-    requires { fits (takes action) values.old ≡ true }
+/// Whether an action adds to a list or pushes two values, and so may want memory.
+pub(crate) fn lets_grow(action: Action) -> bool
+    ensures { result ≡ lets_grow action }
+{
+    match action {
+        Action::ThisMethod
+        | Action::AddLink
+        | Action::AddGiven
+        | Action::AddSlice(_)
+        | Action::AddArray
+        | Action::AddStmt
+        | Action::AddArm
+        | Action::AddClause(_)
+        | Action::AddField => true,
+        _ => false,
+    }
+}
+
+/// What an action makes that lets something grow.
+pub fn grown(action: Action, values: &mut Stack<Value>) -> Result<Product, NoMemory>
+    requires fit { fits (takes action) values.old ≡ true }
+    requires grows { lets_grow action ≡ true }
     ensures { IfOk result (λ product. making action values.old ≡ record { product = product; vals = values.new }) }
 {
     match action {
@@ -32,35 +51,19 @@ pub fn make(alloc: Global, action: Action, values: &mut Stack<Value>) -> Result<
         Action::AddArm => branches::add_arm(values),
         Action::AddClause(kind) => branches::add_clause(kind, values),
         Action::AddField => declarations::add_field(values),
-        _ => Ok(made(alloc, action, values)),
+        _ => unreachable!(),
     }
 }
 
-/// What an action makes that lets nothing grow.
+/// What an action makes that takes values and lets nothing grow.
 #[inline(never)]
-fn made(alloc: Global, action: Action, values: &mut Stack<Value>) -> Product
+pub fn made(alloc: Global, action: Action, values: &mut Stack<Value>) -> Product
     requires fit { fits (takes action) values.old ≡ true }
+    requires takes { pushes action ≡ false }
     requires fixed { lets_grow action ≡ false }
     ensures { making action values.old ≡ record { product = result; vals = values.new } }
 {
     match action {
-        Action::PushName(_)
-        | Action::PushPlace(_)
-        | Action::PushMark(_)
-        | Action::PushPublic(_)
-        | Action::PushSign { .. }
-        | Action::BarePath(_)
-        | Action::NoPart
-        | Action::StartGivens
-        | Action::StartType
-        | Action::NoBounds
-        | Action::StartItems
-        | Action::StartArms
-        | Action::NoElse
-        | Action::StartClauses
-        | Action::NoLabel
-        | Action::NoVia
-        | Action::StartFields => Product::Value(pushed(alloc, action)),
         Action::ThisPath => paths::this_path(values),
         Action::ArgsPath => paths::args_path(values),
         Action::PathReceiver => paths::path_receiver(values),
@@ -108,21 +111,38 @@ fn made(alloc: Global, action: Action, values: &mut Stack<Value>) -> Product
         Action::ConstDecl => declarations::const_decl(values),
         Action::StructDecl => declarations::struct_decl(values),
         Action::MethodDecl => declarations::method_decl(values),
-        Action::ThisMethod
-        | Action::AddLink
-        | Action::AddGiven
-        | Action::AddSlice(_)
-        | Action::AddArray
-        | Action::AddStmt
-        | Action::AddArm
-        | Action::AddClause(_)
-        | Action::AddField => unreachable!(),
+        _ => unreachable!(),
+    }
+}
+
+/// Whether an action takes nothing from the stack and pushes one value.
+pub(crate) fn pushes(action: Action) -> bool
+    ensures { result ≡ pushes action }
+{
+    match action {
+        Action::PushName(_)
+        | Action::PushPlace(_)
+        | Action::PushMark(_)
+        | Action::PushPublic(_)
+        | Action::PushSign { .. }
+        | Action::BarePath(_)
+        | Action::NoPart
+        | Action::StartGivens
+        | Action::StartType
+        | Action::NoBounds
+        | Action::StartItems
+        | Action::StartArms
+        | Action::NoElse
+        | Action::StartClauses
+        | Action::NoLabel
+        | Action::NoVia
+        | Action::StartFields => true,
+        _ => false,
     }
 }
 
 /// What an action pushes that takes nothing from the stack.
-#[inline(never)]
-fn pushed(alloc: Global, action: Action) -> Value
+pub fn pushed(alloc: Global, action: Action) -> Value
     requires { pushes action ≡ true }
     ensures { (vs : List Value) → making action vs ≡ record { product = makes.Value result; vals = vs } }
 {

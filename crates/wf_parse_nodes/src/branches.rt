@@ -30,7 +30,7 @@ pub fn add_arm(values: &mut Stack<Value>) -> Result<Product, NoMemory>
 
 /// The block behind a last `else`.
 #[inline(never)]
-pub fn some_else(values: &mut Stack<Value>) -> Product
+pub(crate) fn some_else(values: &mut Stack<Value>) -> Product
     requires { fits (shapes.Block ∷ []) values.old ≡ true }
     ensures { making does.SomeElse values.old ≡ record { product = result; vals = values.new } }
 {
@@ -40,7 +40,7 @@ pub fn some_else(values: &mut Stack<Value>) -> Product
 
 /// A whole `if`.
 #[inline(never)]
-pub fn if_stmt(values: &mut Stack<Value>) -> Product
+pub(crate) fn if_stmt(values: &mut Stack<Value>) -> Product
     requires { fits (shapes.Otherwise ∷ shapes.Arms ∷ shapes.Place ∷ []) values.old ≡ true }
     ensures { making does.IfStmt values.old ≡ record { product = result; vals = values.new } }
 {
@@ -55,7 +55,7 @@ pub fn if_stmt(values: &mut Stack<Value>) -> Product
 
 /// One promise more of a loop.
 #[inline(never)]
-pub fn add_clause(kind: Clause, values: &mut Stack<Value>) -> Result<Product, NoMemory>
+pub(crate) fn add_clause(kind: Clause, values: &mut Stack<Value>) -> Result<Product, NoMemory>
     requires { fits (shapes.Expr ∷ shapes.Place ∷ shapes.Clauses ∷ []) values.old ≡ true }
     ensures { IfOk result (λ product. making (does.AddClause kind) values.old ≡ record { product = product; vals = values.new }) }
 {
@@ -72,7 +72,7 @@ pub fn add_clause(kind: Clause, values: &mut Stack<Value>) -> Result<Product, No
 
 /// A loop without a label.
 #[inline(never)]
-pub fn loop_stmt(values: &mut Stack<Value>) -> Product
+pub(crate) fn loop_stmt(values: &mut Stack<Value>) -> Product
     requires { fits (shapes.Block ∷ shapes.Clauses ∷ shapes.Expr ∷ shapes.Place ∷ []) values.old ≡ true }
     ensures { making does.LoopStmt values.old ≡ record { product = result; vals = values.new } }
 {
@@ -93,7 +93,7 @@ pub fn loop_stmt(values: &mut Stack<Value>) -> Product
 
 /// A loop with a label.
 #[inline(never)]
-pub fn labelled_stmt(values: &mut Stack<Value>) -> Product
+pub(crate) fn labelled_stmt(values: &mut Stack<Value>) -> Product
     requires { fits (shapes.Block ∷ shapes.Clauses ∷ shapes.Expr ∷ shapes.Name ∷ shapes.Place ∷ []) values.old ≡ true }
     ensures { making does.LabelledStmt values.old ≡ record { product = result; vals = values.new } }
 {
@@ -115,7 +115,7 @@ pub fn labelled_stmt(values: &mut Stack<Value>) -> Product
 
 /// The label of a jump.
 #[inline(never)]
-pub fn some_label(values: &mut Stack<Value>) -> Product
+pub(crate) fn some_label(values: &mut Stack<Value>) -> Product
     requires { fits (shapes.Name ∷ []) values.old ≡ true }
     ensures { making does.SomeLabel values.old ≡ record { product = result; vals = values.new } }
 {
@@ -125,7 +125,7 @@ pub fn some_label(values: &mut Stack<Value>) -> Product
 
 /// A `break`.
 #[inline(never)]
-pub fn break_stmt(values: &mut Stack<Value>) -> Product
+pub(crate) fn break_stmt(values: &mut Stack<Value>) -> Product
     requires { fits (shapes.Label ∷ shapes.Place ∷ []) values.old ≡ true }
     ensures { making does.BreakStmt values.old ≡ record { product = result; vals = values.new } }
 {
@@ -139,7 +139,7 @@ pub fn break_stmt(values: &mut Stack<Value>) -> Product
 
 /// A `continue`.
 #[inline(never)]
-pub fn continue_stmt(values: &mut Stack<Value>) -> Product
+pub(crate) fn continue_stmt(values: &mut Stack<Value>) -> Product
     requires { fits (shapes.Label ∷ shapes.Place ∷ []) values.old ≡ true }
     ensures { making does.ContinueStmt values.old ≡ record { product = result; vals = values.new } }
 {

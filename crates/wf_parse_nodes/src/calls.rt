@@ -15,7 +15,7 @@ use wf_text::NoMemory;
 
 /// One argument more.
 #[inline(never)]
-pub fn add_given(values: &mut Stack<Value>) -> Result<Product, NoMemory>
+pub(crate) fn add_given(values: &mut Stack<Value>) -> Result<Product, NoMemory>
     requires { fits (shapes.Expr ∷ shapes.Name ∷ shapes.Givens ∷ []) values.old ≡ true }
     ensures { IfOk result (λ product. making does.AddGiven values.old ≡ record { product = product; vals = values.new }) }
 {

@@ -31,7 +31,7 @@ pub fn add_field(values: &mut Stack<Value>) -> Result<Product, NoMemory>
 
 /// No result of a method.
 #[inline(never)]
-pub fn no_result(values: &mut Stack<Value>) -> Product
+pub(crate) fn no_result(values: &mut Stack<Value>) -> Product
     requires { fits (shapes.Prefixes ∷ []) values.old ≡ true }
     ensures { making does.NoResult values.old ≡ record { product = result; vals = values.new } }
 {
@@ -41,7 +41,7 @@ pub fn no_result(values: &mut Stack<Value>) -> Product
 
 /// The result of a method.
 #[inline(never)]
-pub fn some_result(values: &mut Stack<Value>) -> Product
+pub(crate) fn some_result(values: &mut Stack<Value>) -> Product
     requires { fits (shapes.Type ∷ []) values.old ≡ true }
     ensures { making does.SomeResult values.old ≡ record { product = result; vals = values.new } }
 {
@@ -51,7 +51,7 @@ pub fn some_result(values: &mut Stack<Value>) -> Product
 
 /// A status.
 #[inline(never)]
-pub fn status_decl(values: &mut Stack<Value>) -> Product
+pub(crate) fn status_decl(values: &mut Stack<Value>) -> Product
     requires { fits (shapes.Name ∷ shapes.Place ∷ shapes.Public ∷ []) values.old ≡ true }
     ensures { making does.StatusDecl values.old ≡ record { product = result; vals = values.new } }
 {

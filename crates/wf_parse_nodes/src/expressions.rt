@@ -21,7 +21,7 @@ use wf_text::{NoMemory, Place};
 
 /// A number.
 #[inline(never)]
-pub fn number_expr(value: u64, at: Place) -> Product
+pub(crate) fn number_expr(value: u64, at: Place) -> Product
     ensures { result ≡ makes.Expr (record { expr = exprs.Number value; at = at }) }
 {
     Product::Expr(ExprNode {
@@ -32,7 +32,7 @@ pub fn number_expr(value: u64, at: Place) -> Product
 
 /// A status of the package.
 #[inline(never)]
-pub fn own_status_expr(text: Name) -> Product
+pub(crate) fn own_status_expr(text: Name) -> Product
     ensures { result ≡ makes.Expr (record { expr = exprs.OwnStatus text; at = text.at }) }
 {
     Product::Expr(ExprNode {
@@ -43,7 +43,7 @@ pub fn own_status_expr(text: Name) -> Product
 
 /// `ok`
 #[inline(never)]
-pub fn fine_expr(at: Place) -> Product
+pub(crate) fn fine_expr(at: Place) -> Product
     ensures { result ≡ makes.Expr (record { expr = exprs.Fine; at = at }) }
 {
     Product::Expr(ExprNode {
@@ -54,7 +54,7 @@ pub fn fine_expr(at: Place) -> Product
 
 /// `true` or `false`
 #[inline(never)]
-pub fn truth_expr(value: bool, at: Place) -> Product
+pub(crate) fn truth_expr(value: bool, at: Place) -> Product
     ensures { result ≡ makes.Expr (record { expr = exprs.Truth value; at = at }) }
 {
     Product::Expr(ExprNode {
@@ -65,7 +65,7 @@ pub fn truth_expr(value: bool, at: Place) -> Product
 
 /// A status of the language.
 #[inline(never)]
-pub fn base_status_expr(values: &mut Stack<Value>) -> Product
+pub(crate) fn base_status_expr(values: &mut Stack<Value>) -> Product
     requires { fits (shapes.Name ∷ shapes.Place ∷ []) values.old ≡ true }
     ensures { making does.BaseStatusExpr values.old ≡ record { product = result; vals = values.new } }
 {
@@ -79,7 +79,7 @@ pub fn base_status_expr(values: &mut Stack<Value>) -> Product
 
 /// A path as an operand.
 #[inline(never)]
-pub fn path_expr(values: &mut Stack<Value>) -> Product
+pub(crate) fn path_expr(values: &mut Stack<Value>) -> Product
     requires { fits (shapes.Path ∷ []) values.old ≡ true }
     ensures { making does.PathExpr values.old ≡ record { product = result; vals = values.new } }
 {
@@ -92,7 +92,7 @@ pub fn path_expr(values: &mut Stack<Value>) -> Product
 
 /// An index.
 #[inline(never)]
-pub fn index_expr(values: &mut Stack<Value>) -> Product
+pub(crate) fn index_expr(values: &mut Stack<Value>) -> Product
     requires { fits (shapes.Expr ∷ shapes.Place ∷ shapes.Path ∷ []) values.old ≡ true }
     ensures { making does.IndexExpr values.old ≡ record { product = result; vals = values.new } }
 {
@@ -107,7 +107,7 @@ pub fn index_expr(values: &mut Stack<Value>) -> Product
 
 /// A slice.
 #[inline(never)]
-pub fn slice_expr(values: &mut Stack<Value>) -> Product
+pub(crate) fn slice_expr(values: &mut Stack<Value>) -> Product
     requires { fits (shapes.Part ∷ shapes.Part ∷ shapes.Place ∷ shapes.Path ∷ []) values.old ≡ true }
     ensures { making does.SliceExpr values.old ≡ record { product = result; vals = values.new } }
 {
@@ -123,7 +123,7 @@ pub fn slice_expr(values: &mut Stack<Value>) -> Product
 
 /// A call as an operand.
 #[inline(never)]
-pub fn call_expr(values: &mut Stack<Value>) -> Product
+pub(crate) fn call_expr(values: &mut Stack<Value>) -> Product
     requires { fits (shapes.Call ∷ []) values.old ≡ true }
     ensures { making does.CallExpr values.old ≡ record { product = result; vals = values.new } }
 {
@@ -137,7 +137,7 @@ pub fn call_expr(values: &mut Stack<Value>) -> Product
 
 /// A negation.
 #[inline(never)]
-pub fn not_expr(values: &mut Stack<Value>) -> Product
+pub(crate) fn not_expr(values: &mut Stack<Value>) -> Product
     requires { fits (shapes.Expr ∷ shapes.Place ∷ []) values.old ≡ true }
     ensures { making does.NotExpr values.old ≡ record { product = result; vals = values.new } }
 {
@@ -151,7 +151,7 @@ pub fn not_expr(values: &mut Stack<Value>) -> Product
 
 /// A conversion.
 #[inline(never)]
-pub fn convert_expr(values: &mut Stack<Value>) -> Product
+pub(crate) fn convert_expr(values: &mut Stack<Value>) -> Product
     requires { fits (shapes.Type ∷ shapes.Place ∷ shapes.Expr ∷ []) values.old ≡ true }
     ensures { making does.ConvertExpr values.old ≡ record { product = result; vals = values.new } }
 {
@@ -166,7 +166,7 @@ pub fn convert_expr(values: &mut Stack<Value>) -> Product
 
 /// A chain with its first operand.
 #[inline(never)]
-pub fn start_chain(alloc: Global, op: Op, at: Place, values: &mut Stack<Value>) -> Product
+pub(crate) fn start_chain(alloc: Global, op: Op, at: Place, values: &mut Stack<Value>) -> Product
     requires { fits (shapes.Expr ∷ []) values.old ≡ true }
     ensures { making (does.StartChain op at) values.old ≡ record { product = result; vals = values.new } }
 {
@@ -181,7 +181,7 @@ pub fn start_chain(alloc: Global, op: Op, at: Place, values: &mut Stack<Value>) 
 
 /// One operand more of a chain.
 #[inline(never)]
-pub fn add_link(values: &mut Stack<Value>) -> Result<Product, NoMemory>
+pub(crate) fn add_link(values: &mut Stack<Value>) -> Result<Product, NoMemory>
     requires { fits (shapes.Expr ∷ shapes.Place ∷ shapes.Chain ∷ []) values.old ≡ true }
     ensures { IfOk result (λ product. making does.AddLink values.old ≡ record { product = product; vals = values.new }) }
 {
@@ -200,7 +200,7 @@ pub fn add_link(values: &mut Stack<Value>) -> Result<Product, NoMemory>
 
 /// A whole chain.
 #[inline(never)]
-pub fn finish_chain(values: &mut Stack<Value>) -> Product
+pub(crate) fn finish_chain(values: &mut Stack<Value>) -> Product
     requires { fits (shapes.Chain ∷ []) values.old ≡ true }
     ensures { making does.FinishChain values.old ≡ record { product = result; vals = values.new } }
 {
@@ -217,7 +217,7 @@ pub fn finish_chain(values: &mut Stack<Value>) -> Product
 
 /// An expression that might be absent.
 #[inline(never)]
-pub fn some_part(values: &mut Stack<Value>) -> Product
+pub(crate) fn some_part(values: &mut Stack<Value>) -> Product
     requires { fits (shapes.Expr ∷ []) values.old ≡ true }
     ensures { making does.SomePart values.old ≡ record { product = result; vals = values.new } }
 {

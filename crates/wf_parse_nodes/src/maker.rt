@@ -1,19 +1,21 @@
 // The package that is made, with the values of what is read so far.
 
-ghost use Rattle.std.specs.Prelude.{◌≡◌, ◌+◌, ◌<◌, ◌≤◌, ◌^◌, ℕ, List, [], ◌∷◌, length, true, IfOk, OnOk};
+ghost use Rattle.std.specs.Prelude.{◌≡◌, ◌+◌, ◌<◌, ◌≤◌, ◌^◌, ℕ, List, [], ◌∷◌, length, true, false, IfOk, OnOk};
 ghost use Rattle.wf_ast.specs.ParsedTrees.{expr_trees, stmt_trees, decl_trees};
 ghost use Rattle.wf_parse_grammar.specs.Building.{all_performed};
 ghost use Rattle.wf_parse_grammar.specs.Values.{perform};
+ghost use Rattle.wf_parse_nodes.specs.Shapes.{pushes};
+ghost use Rattle.wf_parse_nodes.specs.declared.products.Product.TheVariants as makes;
 ghost use Rattle.wf_parse_nodes.specs.Seen.{ProductParts, made_with, seen_values};
 ghost use Rattle.wf_parse_nodes.specs.Makers.{made, nodes, IsSound, KeepsTexts};
 
-use crate::actions::make;
+use crate::actions::{grown, lets_grow, made, pushed, pushes};
 use crate::products::Product;
 use crate::shapes::{fits, takes};
 use crate::values::Value;
 use stacks::Stack;
 use std::alloc::Global;
-use wf_ast::Package;
+use wf_ast::PackageNodes;
 use wf_parse_grammar::Action;
 use wf_text::NoMemory;
 
@@ -21,7 +23,7 @@ use wf_text::NoMemory;
 #[derive(Drop)]
 pub struct Maker {
     pub alloc: Global,
-    pub package: Package,
+    pub package: PackageNodes,
     pub values: Stack<Value>,
 }
 
@@ -53,6 +55,17 @@ impl Maker {
         }
     }
 
+    /// Puts a value on the stack.
+    fn put_value(&mut self, value: Value) -> Result<(), NoMemory>
+        requires sound { IsSound self.old }
+        requires parts { ProductParts (length self.old.package.exprs) (length self.old.package.stmts) (makes.Value value) }
+        ensures made { OnOk result (made self.new ≡ made_with (expr_trees self.old.package.exprs) (stmt_trees self.old.package.exprs self.old.package.stmts) (makes.Value value) (seen_values (expr_trees self.old.package.exprs) (stmt_trees self.old.package.exprs self.old.package.stmts) self.old.values) (decl_trees self.old.package.exprs self.old.package.stmts self.old.package.decls)) }
+        ensures sound { OnOk result (IsSound self.new) }
+        ensures package { self.new.package ≡ self.old.package }
+    {
+        self.values.push(value)
+    }
+
     /// Performs an action. Where the topmost values are others than it takes, none are left; the actions of the
     /// grammar's table never come to that.
     pub fn perform(&mut self, action: Action) -> Result<(), NoMemory>
@@ -63,12 +76,47 @@ impl Maker {
         ensures grows { OnOk result (nodes self.new ≤ nodes self.old + 1) }
         ensures texts { OnOk result (KeepsTexts self.old.package self.new.package) }
     {
+        if pushes(action) {
+            self.push(action)
+        } else {
+            self.replace(action)
+        }
+    }
+
+    /// Performs an action that takes nothing from the stack. Its value is put there without a way through `Product`,
+    /// which has room for a node.
+    fn push(&mut self, action: Action) -> Result<(), NoMemory>
+        requires sound { IsSound self.old }
+        requires pushes { pushes action ≡ true }
+        ensures made { OnOk result (made self.new ≡ perform action (made self.old)) }
+        ensures sound { OnOk result (IsSound self.new) }
+        ensures package { self.new.package ≡ self.old.package }
+    {
+        let value = pushed(self.alloc, action);
+        self.put_value(value)
+    }
+
+    /// Performs an action on the values that it takes.
+    fn replace(&mut self, action: Action) -> Result<(), NoMemory>
+        requires sound { IsSound self.old }
+        requires room { nodes self.old < 2 ^ 32 }
+        requires pushes { pushes action ≡ false }
+        ensures made { OnOk result (made self.new ≡ perform action (made self.old)) }
+        ensures sound { OnOk result (IsSound self.new) }
+        ensures grows { OnOk result (nodes self.new ≤ nodes self.old + 1) }
+        ensures texts { OnOk result (KeepsTexts self.old.package self.new.package) }
+    {
         if !fits(takes(action), &self.values) {
             self.values.clear();
             return Ok(());
         }
-        let product = make(self.alloc, action, &mut self.values)?;
-        self.put(product)
+        if lets_grow(action) {
+            let product = grown(action, &mut self.values)?;
+            self.put(product)
+        } else {
+            let product = made(self.alloc, action, &mut self.values);
+            self.put(product)
+        }
     }
 
     /// Performs actions one after the other.

@@ -15,7 +15,7 @@ use wf_text::NoMemory;
 
 /// A name behind `this` and a dot.
 #[inline(never)]
-pub fn this_path(values: &mut Stack<Value>) -> Product
+pub(crate) fn this_path(values: &mut Stack<Value>) -> Product
     requires { fits (shapes.Name ∷ shapes.Place ∷ []) values.old ≡ true }
     ensures { making does.ThisPath values.old ≡ record { product = result; vals = values.new } }
 {
@@ -30,7 +30,7 @@ pub fn this_path(values: &mut Stack<Value>) -> Product
 
 /// A name behind `args` and a dot.
 #[inline(never)]
-pub fn args_path(values: &mut Stack<Value>) -> Product
+pub(crate) fn args_path(values: &mut Stack<Value>) -> Product
     requires { fits (shapes.Name ∷ shapes.Place ∷ []) values.old ≡ true }
     ensures { making does.ArgsPath values.old ≡ record { product = result; vals = values.new } }
 {
@@ -45,7 +45,7 @@ pub fn args_path(values: &mut Stack<Value>) -> Product
 
 /// A path that a call is made on.
 #[inline(never)]
-pub fn path_receiver(values: &mut Stack<Value>) -> Product
+pub(crate) fn path_receiver(values: &mut Stack<Value>) -> Product
     requires { fits (shapes.Path ∷ []) values.old ≡ true }
     ensures { making does.PathReceiver values.old ≡ record { product = result; vals = values.new } }
 {
@@ -55,7 +55,7 @@ pub fn path_receiver(values: &mut Stack<Value>) -> Product
 
 /// `this` that a call is made on, below the method's name.
 #[inline(never)]
-pub fn this_method(values: &mut Stack<Value>) -> Result<Product, NoMemory>
+pub(crate) fn this_method(values: &mut Stack<Value>) -> Result<Product, NoMemory>
     requires { fits (shapes.Name ∷ shapes.Place ∷ []) values.old ≡ true }
     ensures { IfOk result (λ product. making does.ThisMethod values.old ≡ record { product = product; vals = values.new }) }
 {

@@ -36,7 +36,7 @@ pub fn pop_name(values: &mut Stack<Value>) -> Name
 
 /// Takes a place from the top.
 #[inline(never)]
-pub fn pop_place(values: &mut Stack<Value>) -> Place
+pub(crate) fn pop_place(values: &mut Stack<Value>) -> Place
     requires { fits (shapes.Place ∷ []) values.old ≡ true }
     ensures { values.old ≡ vals.Place result ∷ values.new }
 {
@@ -51,7 +51,7 @@ pub fn pop_place(values: &mut Stack<Value>) -> Place
 
 /// Takes a mark from the top.
 #[inline(never)]
-pub fn pop_mark(values: &mut Stack<Value>) -> WrittenMark
+pub(crate) fn pop_mark(values: &mut Stack<Value>) -> WrittenMark
     requires { fits (shapes.Mark ∷ []) values.old ≡ true }
     ensures { values.old ≡ vals.Mark result ∷ values.new }
 {
@@ -66,7 +66,7 @@ pub fn pop_mark(values: &mut Stack<Value>) -> WrittenMark
 
 /// Takes whether a declaration is public from the top.
 #[inline(never)]
-pub fn pop_public(values: &mut Stack<Value>) -> bool
+pub(crate) fn pop_public(values: &mut Stack<Value>) -> bool
     requires { fits (shapes.Public ∷ []) values.old ≡ true }
     ensures { values.old ≡ vals.Public result ∷ values.new }
 {
@@ -81,7 +81,7 @@ pub fn pop_public(values: &mut Stack<Value>) -> bool
 
 /// Takes the sign of an assignment from the top.
 #[inline(never)]
-pub fn pop_sign(values: &mut Stack<Value>) -> Sign
+pub(crate) fn pop_sign(values: &mut Stack<Value>) -> Sign
     requires { fits (shapes.Sign ∷ []) values.old ≡ true }
     ensures { values.old ≡ vals.Sign result ∷ values.new }
 {
@@ -96,7 +96,7 @@ pub fn pop_sign(values: &mut Stack<Value>) -> Sign
 
 /// Takes a path from the top.
 #[inline(never)]
-pub fn pop_path(values: &mut Stack<Value>) -> Path
+pub(crate) fn pop_path(values: &mut Stack<Value>) -> Path
     requires { fits (shapes.Path ∷ []) values.old ≡ true }
     ensures { values.old ≡ vals.Path result ∷ values.new }
 {
@@ -111,7 +111,7 @@ pub fn pop_path(values: &mut Stack<Value>) -> Path
 
 /// Takes what a call is made on from the top.
 #[inline(never)]
-pub fn pop_receiver(values: &mut Stack<Value>) -> Receiver
+pub(crate) fn pop_receiver(values: &mut Stack<Value>) -> Receiver
     requires { fits (shapes.Receiver ∷ []) values.old ≡ true }
     ensures { values.old ≡ vals.Receiver result ∷ values.new }
 {
@@ -141,7 +141,7 @@ pub fn pop_expr(values: &mut Stack<Value>) -> ExprId
 
 /// Takes an expression that may be absent from the top.
 #[inline(never)]
-pub fn pop_part(values: &mut Stack<Value>) -> Option<ExprId>
+pub(crate) fn pop_part(values: &mut Stack<Value>) -> Option<ExprId>
     requires { fits (shapes.Part ∷ []) values.old ≡ true }
     ensures { values.old ≡ vals.Part result ∷ values.new }
 {
@@ -156,7 +156,7 @@ pub fn pop_part(values: &mut Stack<Value>) -> Option<ExprId>
 
 /// Takes a chain from the top.
 #[inline(never)]
-pub fn pop_chain(values: &mut Stack<Value>) -> OpenChain
+pub(crate) fn pop_chain(values: &mut Stack<Value>) -> OpenChain
     requires { fits (shapes.Chain ∷ []) values.old ≡ true }
     ensures { values.old ≡ vals.Chain result ∷ values.new }
 {
@@ -168,7 +168,7 @@ pub fn pop_chain(values: &mut Stack<Value>) -> OpenChain
 
 /// Takes arguments from the top.
 #[inline(never)]
-pub fn pop_givens(values: &mut Stack<Value>) -> Sequence<Given>
+pub(crate) fn pop_givens(values: &mut Stack<Value>) -> Sequence<Given>
     requires { fits (shapes.Givens ∷ []) values.old ≡ true }
     ensures { values.old ≡ vals.Givens result ∷ values.new }
 {
@@ -180,7 +180,7 @@ pub fn pop_givens(values: &mut Stack<Value>) -> Sequence<Given>
 
 /// Takes a call from the top.
 #[inline(never)]
-pub fn pop_call(values: &mut Stack<Value>) -> Call
+pub(crate) fn pop_call(values: &mut Stack<Value>) -> Call
     requires { fits (shapes.Call ∷ []) values.old ≡ true }
     ensures { values.old ≡ vals.Call result ∷ values.new }
 {
@@ -192,7 +192,7 @@ pub fn pop_call(values: &mut Stack<Value>) -> Call
 
 /// Takes the prefixes of a type from the top.
 #[inline(never)]
-pub fn pop_prefixes(values: &mut Stack<Value>) -> Sequence<Prefix>
+pub(crate) fn pop_prefixes(values: &mut Stack<Value>) -> Sequence<Prefix>
     requires { fits (shapes.Prefixes ∷ []) values.old ≡ true }
     ensures { values.old ≡ vals.Prefixes result ∷ values.new }
 {
@@ -204,7 +204,7 @@ pub fn pop_prefixes(values: &mut Stack<Value>) -> Sequence<Prefix>
 
 /// Takes what a type that begins with `base` names from the top.
 #[inline(never)]
-pub fn pop_core(values: &mut Stack<Value>) -> OpenCore
+pub(crate) fn pop_core(values: &mut Stack<Value>) -> OpenCore
     requires { fits (shapes.Core ∷ []) values.old ≡ true }
     ensures { values.old ≡ vals.Core result ∷ values.new }
 {
@@ -219,7 +219,7 @@ pub fn pop_core(values: &mut Stack<Value>) -> OpenCore
 
 /// Takes bounds from the top.
 #[inline(never)]
-pub fn pop_bounds(values: &mut Stack<Value>) -> Option<Bounds>
+pub(crate) fn pop_bounds(values: &mut Stack<Value>) -> Option<Bounds>
     requires { fits (shapes.Bounds ∷ []) values.old ≡ true }
     ensures { values.old ≡ vals.Bounds result ∷ values.new }
 {
@@ -246,7 +246,7 @@ pub fn pop_type(values: &mut Stack<Value>) -> TypeExpr
 
 /// Takes statements from the top.
 #[inline(never)]
-pub fn pop_items(values: &mut Stack<Value>) -> Sequence<StmtId>
+pub(crate) fn pop_items(values: &mut Stack<Value>) -> Sequence<StmtId>
     requires { fits (shapes.Items ∷ []) values.old ≡ true }
     ensures { values.old ≡ vals.Items result ∷ values.new }
 {
@@ -270,7 +270,7 @@ pub fn pop_block(values: &mut Stack<Value>) -> Block
 
 /// Takes a statement from the top.
 #[inline(never)]
-pub fn pop_stmt(values: &mut Stack<Value>) -> StmtId
+pub(crate) fn pop_stmt(values: &mut Stack<Value>) -> StmtId
     requires { fits (shapes.Stmt ∷ []) values.old ≡ true }
     ensures { values.old ≡ vals.Stmt result ∷ values.new }
 {
@@ -285,7 +285,7 @@ pub fn pop_stmt(values: &mut Stack<Value>) -> StmtId
 
 /// Takes a target from the top.
 #[inline(never)]
-pub fn pop_target(values: &mut Stack<Value>) -> Target
+pub(crate) fn pop_target(values: &mut Stack<Value>) -> Target
     requires { fits (shapes.Target ∷ []) values.old ≡ true }
     ensures { values.old ≡ vals.Target result ∷ values.new }
 {
@@ -300,7 +300,7 @@ pub fn pop_target(values: &mut Stack<Value>) -> Target
 
 /// Takes the arms of an `if` from the top.
 #[inline(never)]
-pub fn pop_arms(values: &mut Stack<Value>) -> Sequence<Arm>
+pub(crate) fn pop_arms(values: &mut Stack<Value>) -> Sequence<Arm>
     requires { fits (shapes.Arms ∷ []) values.old ≡ true }
     ensures { values.old ≡ vals.Arms result ∷ values.new }
 {
@@ -312,7 +312,7 @@ pub fn pop_arms(values: &mut Stack<Value>) -> Sequence<Arm>
 
 /// Takes the block behind a last `else` from the top.
 #[inline(never)]
-pub fn pop_otherwise(values: &mut Stack<Value>) -> Option<Block>
+pub(crate) fn pop_otherwise(values: &mut Stack<Value>) -> Option<Block>
     requires { fits (shapes.Otherwise ∷ []) values.old ≡ true }
     ensures { values.old ≡ vals.Otherwise result ∷ values.new }
 {
@@ -324,7 +324,7 @@ pub fn pop_otherwise(values: &mut Stack<Value>) -> Option<Block>
 
 /// Takes the promises of a loop from the top.
 #[inline(never)]
-pub fn pop_clauses(values: &mut Stack<Value>) -> Sequence<LoopClause>
+pub(crate) fn pop_clauses(values: &mut Stack<Value>) -> Sequence<LoopClause>
     requires { fits (shapes.Clauses ∷ []) values.old ≡ true }
     ensures { values.old ≡ vals.Clauses result ∷ values.new }
 {
@@ -336,7 +336,7 @@ pub fn pop_clauses(values: &mut Stack<Value>) -> Sequence<LoopClause>
 
 /// Takes a label from the top.
 #[inline(never)]
-pub fn pop_label(values: &mut Stack<Value>) -> Option<Name>
+pub(crate) fn pop_label(values: &mut Stack<Value>) -> Option<Name>
     requires { fits (shapes.Label ∷ []) values.old ≡ true }
     ensures { values.old ≡ vals.Label result ∷ values.new }
 {
@@ -351,7 +351,7 @@ pub fn pop_label(values: &mut Stack<Value>) -> Option<Name>
 
 /// Takes an axiom with what is given to it from the top.
 #[inline(never)]
-pub fn pop_via(values: &mut Stack<Value>) -> Option<Via>
+pub(crate) fn pop_via(values: &mut Stack<Value>) -> Option<Via>
     requires { fits (shapes.Via ∷ []) values.old ≡ true }
     ensures { values.old ≡ vals.Via result ∷ values.new }
 {
@@ -375,7 +375,7 @@ pub fn pop_fields(values: &mut Stack<Value>) -> Sequence<Field>
 
 /// Takes the result of a method from the top.
 #[inline(never)]
-pub fn pop_result(values: &mut Stack<Value>) -> Option<TypeExpr>
+pub(crate) fn pop_result(values: &mut Stack<Value>) -> Option<TypeExpr>
     requires { fits (shapes.Result ∷ []) values.old ≡ true }
     ensures { values.old ≡ vals.Result result ∷ values.new }
 {

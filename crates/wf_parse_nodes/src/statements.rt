@@ -40,7 +40,7 @@ pub fn close_block(close: Place, values: &mut Stack<Value>) -> Product
 
 /// A declaration of a local.
 #[inline(never)]
-pub fn var_stmt(values: &mut Stack<Value>) -> Product
+pub(crate) fn var_stmt(values: &mut Stack<Value>) -> Product
     requires { fits (shapes.Type ∷ shapes.Name ∷ shapes.Place ∷ []) values.old ≡ true }
     ensures { making does.VarStmt values.old ≡ record { product = result; vals = values.new } }
 {
@@ -65,7 +65,7 @@ pub fn path_target(values: &mut Stack<Value>) -> Product
 
 /// An element that is written to.
 #[inline(never)]
-pub fn element_target(values: &mut Stack<Value>) -> Product
+pub(crate) fn element_target(values: &mut Stack<Value>) -> Product
     requires { fits (shapes.Expr ∷ shapes.Place ∷ shapes.Path ∷ []) values.old ≡ true }
     ensures { making does.ElementTarget values.old ≡ record { product = result; vals = values.new } }
 {
@@ -77,7 +77,7 @@ pub fn element_target(values: &mut Stack<Value>) -> Product
 
 /// An assignment.
 #[inline(never)]
-pub fn assign_stmt(values: &mut Stack<Value>) -> Product
+pub(crate) fn assign_stmt(values: &mut Stack<Value>) -> Product
     requires { fits (shapes.Expr ∷ shapes.Sign ∷ shapes.Target ∷ shapes.Place ∷ []) values.old ≡ true }
     ensures { making does.AssignStmt values.old ≡ record { product = result; vals = values.new } }
 {
@@ -98,7 +98,7 @@ pub fn assign_stmt(values: &mut Stack<Value>) -> Product
 
 /// An assignment by `=?`.
 #[inline(never)]
-pub fn keep_stmt(values: &mut Stack<Value>) -> Product
+pub(crate) fn keep_stmt(values: &mut Stack<Value>) -> Product
     requires { fits (shapes.Call ∷ shapes.Target ∷ shapes.Place ∷ []) values.old ≡ true }
     ensures { making does.KeepStmt values.old ≡ record { product = result; vals = values.new } }
 {
@@ -113,7 +113,7 @@ pub fn keep_stmt(values: &mut Stack<Value>) -> Product
 
 /// A call as a statement.
 #[inline(never)]
-pub fn call_stmt(values: &mut Stack<Value>) -> Product
+pub(crate) fn call_stmt(values: &mut Stack<Value>) -> Product
     requires { fits (shapes.Call ∷ shapes.Place ∷ []) values.old ≡ true }
     ensures { making does.CallStmt values.old ≡ record { product = result; vals = values.new } }
 {
@@ -127,7 +127,7 @@ pub fn call_stmt(values: &mut Stack<Value>) -> Product
 
 /// A `return`.
 #[inline(never)]
-pub fn return_stmt(values: &mut Stack<Value>) -> Product
+pub(crate) fn return_stmt(values: &mut Stack<Value>) -> Product
     requires { fits (shapes.Part ∷ shapes.Place ∷ []) values.old ≡ true }
     ensures { making does.ReturnStmt values.old ≡ record { product = result; vals = values.new } }
 {
@@ -141,7 +141,7 @@ pub fn return_stmt(values: &mut Stack<Value>) -> Product
 
 /// A `yield`.
 #[inline(never)]
-pub fn yield_stmt(values: &mut Stack<Value>) -> Product
+pub(crate) fn yield_stmt(values: &mut Stack<Value>) -> Product
     requires { fits (shapes.Expr ∷ shapes.Place ∷ []) values.old ≡ true }
     ensures { making does.YieldStmt values.old ≡ record { product = result; vals = values.new } }
 {
@@ -155,7 +155,7 @@ pub fn yield_stmt(values: &mut Stack<Value>) -> Product
 
 /// An axiom with what is given to it.
 #[inline(never)]
-pub fn some_via(values: &mut Stack<Value>) -> Product
+pub(crate) fn some_via(values: &mut Stack<Value>) -> Product
     requires { fits (shapes.Givens ∷ shapes.Name ∷ []) values.old ≡ true }
     ensures { making does.SomeVia values.old ≡ record { product = result; vals = values.new } }
 {
@@ -166,7 +166,7 @@ pub fn some_via(values: &mut Stack<Value>) -> Product
 
 /// An assertion.
 #[inline(never)]
-pub fn assert_stmt(values: &mut Stack<Value>) -> Product
+pub(crate) fn assert_stmt(values: &mut Stack<Value>) -> Product
     requires { fits (shapes.Via ∷ shapes.Expr ∷ shapes.Place ∷ []) values.old ≡ true }
     ensures { making does.AssertStmt values.old ≡ record { product = result; vals = values.new } }
 {

@@ -63,7 +63,7 @@ pub fn struct_type(name: Name, values: &mut Stack<Value>) -> Product
 
 /// A type of the language, by its name.
 #[inline(never)]
-pub fn base_core(name: Name, values: &mut Stack<Value>) -> Product
+pub(crate) fn base_core(name: Name, values: &mut Stack<Value>) -> Product
     requires { fits (shapes.Place ∷ []) values.old ≡ true }
     ensures { making (does.BaseCore name) values.old ≡ record { product = result; vals = values.new } }
 {
@@ -73,7 +73,7 @@ pub fn base_core(name: Name, values: &mut Stack<Value>) -> Product
 
 /// The type of statuses.
 #[inline(never)]
-pub fn status_core(values: &mut Stack<Value>) -> Product
+pub(crate) fn status_core(values: &mut Stack<Value>) -> Product
     requires { fits (shapes.Place ∷ []) values.old ≡ true }
     ensures { making does.StatusCore values.old ≡ record { product = result; vals = values.new } }
 {
@@ -83,7 +83,7 @@ pub fn status_core(values: &mut Stack<Value>) -> Product
 
 /// The bounds of a refined type.
 #[inline(never)]
-pub fn some_bounds(values: &mut Stack<Value>) -> Product
+pub(crate) fn some_bounds(values: &mut Stack<Value>) -> Product
     requires { fits (shapes.Expr ∷ shapes.Part ∷ []) values.old ≡ true }
     ensures { making does.SomeBounds values.old ≡ record { product = result; vals = values.new } }
 {
@@ -94,7 +94,7 @@ pub fn some_bounds(values: &mut Stack<Value>) -> Product
 
 /// A type that ends with a type of the language.
 #[inline(never)]
-pub fn finish_type(values: &mut Stack<Value>) -> Product
+pub(crate) fn finish_type(values: &mut Stack<Value>) -> Product
     requires { fits (shapes.Bounds ∷ shapes.Core ∷ shapes.Prefixes ∷ []) values.old ≡ true }
     ensures { making does.FinishType values.old ≡ record { product = result; vals = values.new } }
 {

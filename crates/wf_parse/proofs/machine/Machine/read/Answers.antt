@@ -10,7 +10,7 @@ returns-in-Take-clause-sound c = sound_kept c.take.result c.args.self.now.maker 
 
 pub returns-in-Take-clause-size : goal.returns-in-Take-clause-size
 returns-in-Take-clause-size c =
-    let few : length (wanted c.in-Ok.build) ≤ 12 = few_wanted c.args.symbol c.args.token.kind c.args.token.at c.in-Ok.build c.in-Ok.ensures in
+    let few : length (wanted c.build-told.result) ≤ 12 = few_wanted c.args.symbol c.args.token.kind c.args.token.at c.build-told.result c.build-told.ensures in
     let P : Build → Type 0 = λ b. length (wanted b) ≤ 12 in
     taken_size c.take.result c.args.self.now c.take.new.self c.in-Take.wants (subst P c.in-Take.is few) c.take.ensures.same c.take.ensures.taken
 
@@ -19,7 +19,7 @@ returns-in-Begin-clause-sound c = sound_kept c.begin.result c.args.self.now.make
 
 pub returns-in-Begin-clause-size : goal.returns-in-Begin-clause-size
 returns-in-Begin-clause-size c =
-    let few : length (wanted c.in-Ok.build) ≤ 12 = few_wanted c.args.symbol c.args.token.kind c.args.token.at c.in-Ok.build c.in-Ok.ensures in
+    let few : length (wanted c.build-told.result) ≤ 12 = few_wanted c.args.symbol c.args.token.kind c.args.token.at c.build-told.result c.build-told.ensures in
     let P : Build → Type 0 = λ b. length (wanted b) ≤ 12 in
     taken_size c.begin.result c.args.self.now c.begin.new.self c.in-Begin.wants (subst P c.in-Begin.is few) c.begin.ensures.same c.begin.ensures.taken
 
@@ -28,6 +28,6 @@ returns-in-Enter-clause-sound c = sound_kept c.enter.result c.args.self.now.make
 
 pub returns-in-Enter-clause-size : goal.returns-in-Enter-clause-size
 returns-in-Enter-clause-size c =
-    let few : length (wanted c.in-Ok.build) ≤ 12 = few_wanted c.args.symbol c.args.token.kind c.args.token.at c.in-Ok.build c.in-Ok.ensures in
+    let few : length (wanted c.build-told.result) ≤ 12 = few_wanted c.args.symbol c.args.token.kind c.args.token.at c.build-told.result c.build-told.ensures in
     let P : Build → Type 0 = λ b. length (wanted b) ≤ 12 in
     taken_size c.enter.result c.args.self.now c.enter.new.self c.in-Enter.wants (subst P c.in-Enter.is few) c.enter.ensures.same c.enter.ensures.taken

@@ -1,7 +1,7 @@
 use Rattle.std.proofs.Common.{◌≡◌, ◌≤◌, ◌+◌, ◌-◌, ◌*◌, length, drop, map}
 use Rattle.wf_parse_nodes.specs.Makers.{nodes, IsSound}
 use Rattle.wf_parse.proofs.PackageReading.{Leads, bytes_from}
-use Rattle.wf_parse.proofs.parsing.parse.Given as goal
+use Rattle.wf_parse.proofs.parsing.read_nodes.Given as goal
 
 abbrev pub invariant-loop-bytes : goal.invariant-loop-bytes
 invariant-loop-bytes l = record {
