@@ -1,12 +1,16 @@
--- A package that breaks no rule of names has an order of its methods, and is well named.
+-- A package that breaks no rule of names has an order of its methods, and all holds of it that a resolved package keeps.
 use Rattle.std.proofs.Common.{◌≡◌, ℕ, true, List, None, length, sym, subst}
 use Rattle.wf_text.specs.Precedence.{Decides}
 use Rattle.wf_ast.specs.ParsedParts.{Parsed}
 use Rattle.wf_ast.specs.ParsedTree.{DeclTree}
 use Rattle.wf_ast.specs.ParsedTrees.{decl_trees}
+use Rattle.wf_ast.specs.ReadPackage.{IsRead, decls_of}
+use Rattle.wf_named.specs.NamedInvariant.{IsNamed}
 use Rattle.wf_named.specs.NamedParts.{NamedParts, named_package}
 use Rattle.wf_named.specs.NamedTree.{NamedPackageTree}
 use Rattle.wf_named.specs.WellNamed.{well_named}
+use Rattle.wf_named.specs.Grammar.{package_by_grammar}
+use Rattle.wf_named.specs.NamedStatementPlaces.{named_bodies_rise}
 use Rattle.wf_names_rules.specs.Declarations.{Declared, declared}
 use Rattle.wf_names_rules.specs.NameRules.{Breaks, by_use, by_circle}
 use Rattle.wf_names_scopes.specs.Agreeing.{package_of}
@@ -18,6 +22,8 @@ use Rattle.graphs.proofs.OrderLemmas.{order-open}
 use Rattle.wf_names_laws.proofs.FrontLemmas.{calls-open, circle-breaks, order-front, order-long}
 use Rattle.wf_names_laws.specs.Ordered.{HasOrder}
 use Rattle.wf_names_laws.proofs.PackageLaws.{package-named}
+use Rattle.wf_names_laws.proofs.PackageKept.{resolving_keeps_form}
+use Rattle.wf_names_laws.proofs.ResolvedOrder.{resolving_keeps_order}
 use Rattle.wf_names.specs.Naming.{IsResolved}
 
 -- The graph of its calls has no circle.
@@ -35,15 +41,22 @@ order-kept name texts decls order kept calls =
       in_front = order-front texts decls name order calls.rows calls.made ordered (calls-open d (λ s broken. kept s (by_use s broken)));
     }
 
--- The resolved tree of such a package, with such an order, is what its names stand for, and is well named.
+-- The resolved tree of such a package, with such an order, is what its names stand for. It is well named, as the grammar
+-- gives, and has its statements in order.
 pub tree-resolved : (p : Parsed) (nodes : NamedParts) (order : List ℕ) → Decides (Breaks (package_of p)) None → IsCallOrder (package_of p) order
     → named_package nodes ≡ resolved_package p.name p.texts (decl_trees p.exprs p.stmts p.decls) order → IsResolved p nodes
 tree-resolved p nodes order kept calls made =
     let ordered = order-kept p.name p.texts (decl_trees p.exprs p.stmts p.decls) order kept calls in
     record { kept = kept; order = order; tree = made; ordered = subst HasOrder (sym made) ordered }
 
-pub resolved-named : (p : Parsed) (nodes : NamedParts) → IsResolved p nodes → well_named (named_package nodes) ≡ true
-resolved-named p nodes resolved =
-    let ds = decl_trees p.exprs p.stmts p.decls in
-    let P : NamedPackageTree → Type 0 = λ t. well_named t ≡ true in
-    subst P (sym resolved.tree) (package-named p.name p.texts ds resolved.order resolved.kept (subst HasOrder resolved.tree resolved.ordered))
+pub resolved-named : (p : Parsed) (nodes : NamedParts) → IsRead p → IsResolved p nodes → IsNamed nodes
+resolved-named p nodes read resolved =
+    let ds = decls_of p in
+    let W : NamedPackageTree → Type 0 = λ t. well_named t ≡ true in
+    let G : NamedPackageTree → Type 0 = λ t. package_by_grammar t ≡ true in
+    let O : NamedPackageTree → Type 0 = λ t. named_bodies_rise t ≡ true in
+    record {
+      names = subst W (sym resolved.tree) (package-named p.name p.texts ds resolved.order resolved.kept (subst HasOrder resolved.tree resolved.ordered));
+      grammar = subst G (sym resolved.tree) (resolving_keeps_form (declared p.texts ds) p.name ds resolved.order read.formed);
+      rises = subst O (sym resolved.tree) (resolving_keeps_order p.name p.texts ds resolved.order read.rises);
+    }

@@ -9,7 +9,7 @@ ghost use Rattle.wf_names_cycles.specs.Circling.{AreStructCycles, AreMethodCycle
 ghost use Rattle.wf_names.specs.Naming.{AreFindings};
 
 use std::alloc::Global;
-use wf_ast::Package;
+use wf_ast::PackageNodes;
 use wf_names_cycles::circling::{NamedCycles, circle_breaks};
 use wf_names_cycles::methods::method_cycles;
 use wf_names_cycles::structs::struct_cycles;
@@ -36,7 +36,7 @@ pub struct Findings {
 // The refusal that decides: of what has the least place the rule that is named first.
 fn deciding(
     alloc: Global,
-    parsed: &Package,
+    parsed: &PackageNodes,
     tables: &Tables,
     structs: &NamedCycles,
     methods: &NamedCycles,
@@ -60,7 +60,7 @@ fn deciding(
 }
 
 /// Looks through a package for what it breaks of the rules of names. `Err` where memory was refused.
-pub fn look_through(alloc: Global, parsed: &Package) -> Result<Findings, NoMemory>
+pub(crate) fn look_through(alloc: Global, parsed: &PackageNodes) -> Result<Findings, NoMemory>
     requires few { length parsed.now.decls < 2 ^ 32 - 1 }
     ensures { IfOk result (AreFindings (package_of parsed.now)) }
 {

@@ -1,19 +1,24 @@
 // The resolved tree of a parsed package, where the package breaks no rule of names; else the refusal that decides.
 
-ghost use Rattle.std.specs.Prelude.{◌≡◌, ◌<◌, ◌-◌, ◌^◌, None, length, IfErr, IfOk};
+ghost use Rattle.std.specs.Prelude.{◌≡◌, None, IfErr, IfOk};
+ghost use Rattle.wf_ast.specs.ReadPackage.{IsRead};
 ghost use Rattle.wf_names_scopes.specs.Agreeing.{package_of};
 ghost use Rattle.wf_names.specs.Naming.{AreFindings, IsMisnamed, IsResolved};
 
 use crate::findings::{Findings, look_through};
 use std::alloc::Global;
-use wf_ast::Package;
+use wf_ast::{Package, PackageNodes};
 use wf_named::{Named, NamedNodes};
 use wf_names_nodes::packages::resolve_package;
 use wf_names_numbers::packages::number_package;
 use wf_text::faults::{NoMemory, PhaseFault};
 
 // The nodes of the resolved package of one that breaks no rule, by what was found of it.
-fn resolved_nodes(alloc: Global, parsed: &Package, found: Findings) -> Result<NamedNodes, NoMemory>
+fn resolved_nodes(
+    alloc: Global,
+    parsed: &PackageNodes,
+    found: Findings,
+) -> Result<NamedNodes, NoMemory>
     requires found { AreFindings (package_of parsed.now) found }
     requires kept { found.refusal ≡ None }
     ensures { IfOk result (IsResolved parsed.now) }
@@ -28,7 +33,8 @@ fn resolved_nodes(alloc: Global, parsed: &Package, found: Findings) -> Result<Na
 }
 
 // The same as a package that is known to be well named.
-fn resolved(alloc: Global, parsed: &Package, found: Findings) -> Result<Named, NoMemory>
+fn resolved(alloc: Global, parsed: &PackageNodes, found: Findings) -> Result<Named, NoMemory>
+    requires read { IsRead parsed.now }
     requires found { AreFindings (package_of parsed.now) found }
     requires kept { found.refusal ≡ None }
     ensures { IfOk result (IsResolved parsed.now) }
@@ -41,13 +47,13 @@ fn resolved(alloc: Global, parsed: &Package, found: Findings) -> Result<Named, N
 /// by what has the least place, and of one place by the rule that is named first. `Memory` where memory was refused, or
 /// more is named than there are numbers for.
 pub fn resolve(alloc: Global, parsed: Package) -> Result<Named, PhaseFault>
-    requires few { length parsed.decls < 2 ^ 32 - 1 }
     ensures refused { IfErr result (IsMisnamed parsed) }
     ensures resolved { IfOk result (IsResolved parsed) }
 {
-    let found = look_through(alloc, &parsed)?;
+    let nodes = parsed.nodes();
+    let found = look_through(alloc, nodes)?;
     match found.refusal {
         Some(refusal) => Err(PhaseFault::Refused(refusal)),
-        None => Ok(resolved(alloc, &parsed, found)?),
+        None => Ok(resolved(alloc, nodes, found)?),
     }
 }

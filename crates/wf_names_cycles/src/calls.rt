@@ -12,7 +12,7 @@ ghost use Rattle.wf_names_cycles.specs.Called.{called_in, node_uses, AreRows, Ar
 use crate::methods::method_row;
 use graphs::rows::Row;
 use std::alloc::Global;
-use wf_ast::Package;
+use wf_ast::PackageNodes;
 use wf_ast::parsed::{Block, Decl, DeclNode, Field, Name, TypeExpr};
 use wf_names_rules::tables::{Scope, Tables};
 use wf_names_scopes::scopes::{enter_method, outside};
@@ -22,7 +22,7 @@ use wf_text::faults::NoMemory;
 // The methods that a method of the struct with the name `owner` calls, by what is known in it.
 fn row_within(
     alloc: Global,
-    parsed: &Package,
+    parsed: &PackageNodes,
     tables: &Tables,
     scope: &mut Scope,
     owner: Name,
@@ -56,7 +56,7 @@ fn push_row(rows: &mut Vec<Row>, row: Row) -> Result<(), NoMemory>
 fn add_row(
     alloc: Global,
     rows: &mut Vec<Row>,
-    parsed: &Package,
+    parsed: &PackageNodes,
     tables: &Tables,
     scope: &mut Scope,
     node: &DeclNode,
@@ -97,7 +97,7 @@ fn add_row(
 // The rows of all methods, where the scope knows all constants.
 fn rows_within(
     alloc: Global,
-    parsed: &Package,
+    parsed: &PackageNodes,
     tables: &Tables,
     scope: &mut Scope,
 ) -> Result<Vec<Row>, NoMemory>
@@ -121,7 +121,7 @@ fn rows_within(
 // and each as often as it is called. `Err` where memory was refused. The time is that of one walk over the package.
 pub(crate) fn call_rows(
     alloc: Global,
-    parsed: &Package,
+    parsed: &PackageNodes,
     tables: &Tables,
 ) -> Result<Vec<Row>, NoMemory>
     requires { TellsPackage (package_of parsed.now) tables.now }

@@ -11,7 +11,7 @@ ghost use Rattle.wf_names_cycles.specs.Called.{with_callee, with_calls};
 
 use graphs::rows::Row;
 use wf_ast::parsed::{Bounds, Call, Core, Expr, Given, Link, Prefix, TypeExpr};
-use wf_ast::{ExprId, Package};
+use wf_ast::{ExprId, PackageNodes};
 use wf_names_rules::callees::Callee;
 use wf_names_rules::tables::{Scope, Tables, callee_on};
 use wf_text::faults::NoMemory;
@@ -41,9 +41,9 @@ fn add_callee(row: &mut Row, callee: Callee) -> Result<(), NoMemory>
 /// Joins at the end of a row the methods that an expression calls, by their numbers, in order and each as often as
 /// it is called. `Err` where memory was refused; the row may then have some of them.
 #[cycle(collect_exprs)]
-pub fn collect_expr(
+pub(crate) fn collect_expr(
     row: &mut Row,
-    parsed: &Package,
+    parsed: &PackageNodes,
     tables: &Tables,
     scope: &Scope,
     e: ExprId,
@@ -80,9 +80,9 @@ pub fn collect_expr(
 
 /// The same for an expression that may be absent.
 #[cycle(collect_exprs)]
-pub fn collect_part(
+pub(crate) fn collect_part(
     row: &mut Row,
-    parsed: &Package,
+    parsed: &PackageNodes,
     tables: &Tables,
     scope: &Scope,
     part: Option<ExprId>,
@@ -99,7 +99,7 @@ pub fn collect_part(
 #[cycle(collect_exprs)]
 fn collect_parts(
     row: &mut Row,
-    parsed: &Package,
+    parsed: &PackageNodes,
     tables: &Tables,
     scope: &Scope,
     from: Option<ExprId>,
@@ -118,7 +118,7 @@ fn collect_parts(
 #[cycle(collect_exprs)]
 fn collect_links(
     row: &mut Row,
-    parsed: &Package,
+    parsed: &PackageNodes,
     tables: &Tables,
     scope: &Scope,
     links: &[Link],
@@ -137,9 +137,9 @@ fn collect_links(
 
 /// The same for the values of arguments, or for what is given to an axiom.
 #[cycle(collect_exprs)]
-pub fn collect_given(
+pub(crate) fn collect_given(
     row: &mut Row,
-    parsed: &Package,
+    parsed: &PackageNodes,
     tables: &Tables,
     scope: &Scope,
     args: &[Given],
@@ -158,9 +158,9 @@ pub fn collect_given(
 
 /// The same for a call: those that its arguments' values call, and then its own method.
 #[cycle(collect_exprs)]
-pub fn collect_call(
+pub(crate) fn collect_call(
     row: &mut Row,
-    parsed: &Package,
+    parsed: &PackageNodes,
     tables: &Tables,
     scope: &Scope,
     call: &Call,
@@ -180,7 +180,7 @@ pub fn collect_call(
 #[cycle(collect_exprs)]
 fn collect_prefix(
     row: &mut Row,
-    parsed: &Package,
+    parsed: &PackageNodes,
     tables: &Tables,
     scope: &Scope,
     prefix: Prefix,
@@ -197,7 +197,7 @@ fn collect_prefix(
 #[cycle(collect_exprs)]
 fn collect_prefixes(
     row: &mut Row,
-    parsed: &Package,
+    parsed: &PackageNodes,
     tables: &Tables,
     scope: &Scope,
     prefixes: &[Prefix],
@@ -217,7 +217,7 @@ fn collect_prefixes(
 #[cycle(collect_exprs)]
 fn collect_bounds(
     row: &mut Row,
-    parsed: &Package,
+    parsed: &PackageNodes,
     tables: &Tables,
     scope: &Scope,
     bounds: Option<Bounds>,
@@ -234,7 +234,7 @@ fn collect_bounds(
 #[cycle(collect_exprs)]
 fn collect_core(
     row: &mut Row,
-    parsed: &Package,
+    parsed: &PackageNodes,
     tables: &Tables,
     scope: &Scope,
     core: Core,
@@ -252,9 +252,9 @@ fn collect_core(
 
 /// The same for a type: for its lengths and its bounds.
 #[cycle(collect_exprs)]
-pub fn collect_type(
+pub(crate) fn collect_type(
     row: &mut Row,
-    parsed: &Package,
+    parsed: &PackageNodes,
     tables: &Tables,
     scope: &Scope,
     of: &TypeExpr,

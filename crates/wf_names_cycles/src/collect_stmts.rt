@@ -11,13 +11,13 @@ ghost use Rattle.wf_names_cycles.specs.Called.{with_calls};
 use crate::collect_exprs::{collect_call, collect_expr, collect_given, collect_part, collect_type};
 use graphs::rows::Row;
 use wf_ast::parsed::{Arm, Block, LoopClause, Stmt, Target, Via};
-use wf_ast::{ExprId, Package, StmtId};
+use wf_ast::{ExprId, PackageNodes, StmtId};
 use wf_names_rules::tables::{Scope, Tables};
 use wf_text::faults::NoMemory;
 
 fn collect_target(
     row: &mut Row,
-    parsed: &Package,
+    parsed: &PackageNodes,
     tables: &Tables,
     scope: &Scope,
     target: Target,
@@ -33,7 +33,7 @@ fn collect_target(
 
 fn collect_clauses(
     row: &mut Row,
-    parsed: &Package,
+    parsed: &PackageNodes,
     tables: &Tables,
     scope: &Scope,
     clauses: &[LoopClause],
@@ -52,7 +52,7 @@ fn collect_clauses(
 
 fn collect_via(
     row: &mut Row,
-    parsed: &Package,
+    parsed: &PackageNodes,
     tables: &Tables,
     scope: &Scope,
     via: &Option<Via>,
@@ -69,7 +69,7 @@ fn collect_via(
 // The condition of a loop and its promises.
 fn collect_head(
     row: &mut Row,
-    parsed: &Package,
+    parsed: &PackageNodes,
     tables: &Tables,
     scope: &Scope,
     condition: ExprId,
@@ -88,7 +88,7 @@ fn collect_head(
 #[cycle(collect_stmts)]
 fn collect_stmt(
     row: &mut Row,
-    parsed: &Package,
+    parsed: &PackageNodes,
     tables: &Tables,
     scope: &Scope,
     s: StmtId,
@@ -142,9 +142,9 @@ fn collect_stmt(
 /// Joins at the end of a row the methods that the statements of a block call, by their numbers, in order and each as
 /// often as it is called. `Err` where memory was refused; the row may then have some of them.
 #[cycle(collect_stmts)]
-pub fn collect_block(
+pub(crate) fn collect_block(
     row: &mut Row,
-    parsed: &Package,
+    parsed: &PackageNodes,
     tables: &Tables,
     scope: &Scope,
     block: &Block,
@@ -164,7 +164,7 @@ pub fn collect_block(
 #[cycle(collect_stmts)]
 fn collect_arm(
     row: &mut Row,
-    parsed: &Package,
+    parsed: &PackageNodes,
     tables: &Tables,
     scope: &Scope,
     arm: &Arm,
@@ -182,7 +182,7 @@ fn collect_arm(
 #[cycle(collect_stmts)]
 fn collect_else(
     row: &mut Row,
-    parsed: &Package,
+    parsed: &PackageNodes,
     tables: &Tables,
     scope: &Scope,
     otherwise: &Option<Block>,
@@ -199,7 +199,7 @@ fn collect_else(
 #[cycle(collect_stmts)]
 fn collect_arms(
     row: &mut Row,
-    parsed: &Package,
+    parsed: &PackageNodes,
     tables: &Tables,
     scope: &Scope,
     arms: &[Arm],

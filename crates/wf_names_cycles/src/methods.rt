@@ -17,14 +17,14 @@ use crate::collect_stmts::collect_block;
 use graphs::circles::find_cycles;
 use graphs::rows::Row;
 use std::alloc::Global;
-use wf_ast::Package;
+use wf_ast::PackageNodes;
 use wf_ast::parsed::{Block, Decl, DeclNode, Field, Name, TypeExpr};
 use wf_names_rules::tables::{Scope, Tables};
 use wf_text::faults::NoMemory;
 
 fn collect_fields(
     row: &mut Row,
-    parsed: &Package,
+    parsed: &PackageNodes,
     tables: &Tables,
     scope: &Scope,
     fields: &[Field],
@@ -43,7 +43,7 @@ fn collect_fields(
 
 fn collect_result(
     row: &mut Row,
-    parsed: &Package,
+    parsed: &PackageNodes,
     tables: &Tables,
     scope: &Scope,
     gives: &Option<TypeExpr>,
@@ -62,7 +62,7 @@ fn collect_result(
 // where memory was refused. The time is that of one walk over the method.
 pub(crate) fn method_row(
     alloc: Global,
-    parsed: &Package,
+    parsed: &PackageNodes,
     tables: &Tables,
     scope: &Scope,
     args: &[Field],
@@ -122,7 +122,7 @@ fn method_names(alloc: Global, decls: &[DeclNode]) -> Result<Vec<Name>, NoMemory
 /// the package.
 pub fn method_cycles(
     alloc: Global,
-    parsed: &Package,
+    parsed: &PackageNodes,
     tables: &Tables,
 ) -> Result<NamedCycles, NoMemory>
     requires few { length parsed.now.decls < 2 ^ 32 - 1 }

@@ -13,7 +13,7 @@ use graphs::circles::find_cycles;
 use graphs::rows::Row;
 use indexmap::IndexMap;
 use std::alloc::Global;
-use wf_ast::Package;
+use wf_ast::PackageNodes;
 use wf_ast::parsed::{Core, Decl, DeclNode, Field, Name, TypeExpr};
 use wf_text::faults::NoMemory;
 
@@ -153,7 +153,7 @@ fn struct_rows(
 /// The structs that are declared, and the cycles of their graph, which lists for each those that it holds: the structs that
 /// are the whole types of its fields. `Err` where memory was refused. The time is in proportion to the structs and all
 /// their fields.
-pub fn struct_cycles(alloc: Global, parsed: &Package) -> Result<NamedCycles, NoMemory>
+pub fn struct_cycles(alloc: Global, parsed: &PackageNodes) -> Result<NamedCycles, NoMemory>
     requires { length parsed.now.decls < 2 ^ 32 - 1 }
     ensures { IfOk result (AreStructCycles (package_of parsed.now)) }
 {

@@ -15,7 +15,7 @@ use crate::gathering::{
 use crate::judging::{by_text, judge_args, judge_locals, judge_methods, judge_names};
 use indexmap::IndexMap;
 use std::alloc::Global;
-use wf_ast::Package;
+use wf_ast::PackageNodes;
 use wf_ast::parsed::{Block, Decl, Field, Name};
 use wf_names_rules::lists::doubles;
 use wf_text::faults::NoMemory;
@@ -24,7 +24,7 @@ use wf_text::rules::Refusal;
 fn judge_statuses(
     alloc: Global,
     found: Option<Refusal>,
-    parsed: &Package,
+    parsed: &PackageNodes,
 ) -> Result<Option<Refusal>, NoMemory>
     ensures { IfOk result (λ all. all ≡ statuses_found (declared parsed.now.texts (decl_trees parsed.now.exprs parsed.now.stmts parsed.now.decls)) found) }
 {
@@ -37,7 +37,7 @@ fn judge_statuses(
 fn judge_constants(
     alloc: Global,
     found: Option<Refusal>,
-    parsed: &Package,
+    parsed: &PackageNodes,
 ) -> Result<Option<Refusal>, NoMemory>
     ensures { IfOk result (λ all. all ≡ constants_found (declared parsed.now.texts (decl_trees parsed.now.exprs parsed.now.stmts parsed.now.decls)) found) }
 {
@@ -50,7 +50,7 @@ fn judge_constants(
 fn judge_structs(
     alloc: Global,
     found: Option<Refusal>,
-    parsed: &Package,
+    parsed: &PackageNodes,
 ) -> Result<Option<Refusal>, NoMemory>
     ensures { IfOk result (λ all. all ≡ structs_found (declared parsed.now.texts (decl_trees parsed.now.exprs parsed.now.stmts parsed.now.decls)) found) }
 {
@@ -63,7 +63,7 @@ fn judge_structs(
 fn judge_all_methods(
     alloc: Global,
     found: Option<Refusal>,
-    parsed: &Package,
+    parsed: &PackageNodes,
 ) -> Result<Option<Refusal>, NoMemory>
     ensures { IfOk result (λ all. all ≡ methods_found (declared parsed.now.texts (decl_trees parsed.now.exprs parsed.now.stmts parsed.now.decls)) found) }
 {
@@ -77,7 +77,7 @@ fn judge_all_methods(
 fn judge_package(
     alloc: Global,
     found: Option<Refusal>,
-    parsed: &Package,
+    parsed: &PackageNodes,
 ) -> Result<Option<Refusal>, NoMemory>
     ensures { IfOk result (λ all. all ≡ names_found (declared parsed.now.texts (decl_trees parsed.now.exprs parsed.now.stmts parsed.now.decls)) found) }
 {
@@ -98,7 +98,7 @@ fn judge_package(
 fn judge_fields(
     alloc: Global,
     found: Option<Refusal>,
-    parsed: &Package,
+    parsed: &PackageNodes,
     fields: &[Field],
 ) -> Result<Option<Refusal>, NoMemory>
     ensures { IfOk result (λ all. all ≡ names_judged parsed.now.texts found (names_of_fields fields.now)) }
@@ -113,7 +113,7 @@ fn judge_fields(
 fn judge_struct(
     alloc: Global,
     found: Option<Refusal>,
-    parsed: &Package,
+    parsed: &PackageNodes,
     decl: &Decl,
 ) -> Result<Option<Refusal>, NoMemory>
     ensures { (public : _) (at : _) → IfOk result (λ all. all ≡ fold (struct_judged parsed.now.texts) found (structs_of (decl_made (expr_trees parsed.now.exprs) (stmt_trees parsed.now.exprs parsed.now.stmts) public decl.now at ∷ []))) }
@@ -129,7 +129,7 @@ fn judge_struct(
 fn judge_all_fields(
     alloc: Global,
     found: Option<Refusal>,
-    parsed: &Package,
+    parsed: &PackageNodes,
 ) -> Result<Option<Refusal>, NoMemory>
     ensures { IfOk result (λ all. all ≡ fields_found (declared parsed.now.texts (decl_trees parsed.now.exprs parsed.now.stmts parsed.now.decls)) found) }
 {
@@ -146,7 +146,7 @@ fn judge_all_fields(
 fn judge_arg_list(
     alloc: Global,
     found: Option<Refusal>,
-    parsed: &Package,
+    parsed: &PackageNodes,
     args: &[Field],
 ) -> Result<Option<Refusal>, NoMemory>
     ensures { IfOk result (λ all. all ≡ args_judged parsed.now.texts found (names_of_fields args.now)) }
@@ -160,7 +160,7 @@ fn judge_arg_list(
 fn judge_body(
     alloc: Global,
     found: Option<Refusal>,
-    parsed: &Package,
+    parsed: &PackageNodes,
     constants: &IndexMap<u32, Name>,
     body: &Block,
 ) -> Result<Option<Refusal>, NoMemory>
@@ -176,7 +176,7 @@ fn judge_body(
 fn judge_variables(
     alloc: Global,
     found: Option<Refusal>,
-    parsed: &Package,
+    parsed: &PackageNodes,
     constants: &IndexMap<u32, Name>,
     args: &[Field],
     body: &Block,
@@ -194,7 +194,7 @@ fn judge_variables(
 fn judge_method(
     alloc: Global,
     found: Option<Refusal>,
-    parsed: &Package,
+    parsed: &PackageNodes,
     constants: &IndexMap<u32, Name>,
     decl: &Decl,
 ) -> Result<Option<Refusal>, NoMemory>
@@ -214,7 +214,7 @@ fn judge_method(
 fn judge_all_variables(
     alloc: Global,
     found: Option<Refusal>,
-    parsed: &Package,
+    parsed: &PackageNodes,
     constants: &IndexMap<u32, Name>,
 ) -> Result<Option<Refusal>, NoMemory>
     ensures { IfOk result (λ all. all ≡ fold (method_judged (get nat_eq constants.now) parsed.now.texts) found (methods_of (decl_trees parsed.now.exprs parsed.now.stmts parsed.now.decls))) }
@@ -229,7 +229,7 @@ fn judge_all_variables(
     Ok(found)
 }
 
-fn constants_by_text(alloc: Global, parsed: &Package) -> Result<IndexMap<u32, Name>, NoMemory>
+fn constants_by_text(alloc: Global, parsed: &PackageNodes) -> Result<IndexMap<u32, Name>, NoMemory>
     ensures { IfOk result (λ table. (text : ℕ) → get nat_eq table text ≡ first_spelt (constants_in (declared parsed.now.texts (decl_trees parsed.now.exprs parsed.now.stmts parsed.now.decls))) text) }
 {
     match constant_names(alloc, parsed) {
@@ -241,7 +241,7 @@ fn constants_by_text(alloc: Global, parsed: &Package) -> Result<IndexMap<u32, Na
 fn judge_methods_within(
     alloc: Global,
     found: Option<Refusal>,
-    parsed: &Package,
+    parsed: &PackageNodes,
 ) -> Result<Option<Refusal>, NoMemory>
     ensures { IfOk result (λ all. all ≡ variables_found (declared parsed.now.texts (decl_trees parsed.now.exprs parsed.now.stmts parsed.now.decls)) found) }
 {
@@ -257,7 +257,7 @@ fn judge_methods_within(
 pub fn declarations(
     alloc: Global,
     found: Option<Refusal>,
-    parsed: &Package,
+    parsed: &PackageNodes,
 ) -> Result<Option<Refusal>, NoMemory>
     ensures { IfOk result (λ all. all ≡ declarations_found (declared parsed.now.texts (decl_trees parsed.now.exprs parsed.now.stmts parsed.now.decls)) found) }
 {

@@ -8,7 +8,7 @@ ghost use Rattle.wf_names_rules.specs.NameRules.{variable_names};
 ghost use Rattle.wf_names_decls.specs.Gathering.{listed, constant_names as constants_in, struct_names as structs_in, owned as owned_as, owned_methods as methods_in, owned_names as names_of_owned, field_names as fields_in};
 
 use std::alloc::Global;
-use wf_ast::Package;
+use wf_ast::PackageNodes;
 use wf_ast::parsed::{Block, Decl, Field, Name, Stmt};
 use wf_text::faults::NoMemory;
 
@@ -110,7 +110,7 @@ fn push_owned(methods: &mut Vec<Owned>, method: Option<Owned>) -> Result<(), NoM
 }
 
 /// The statuses, in order.
-pub fn status_names(alloc: Global, parsed: &Package) -> Result<Vec<Name>, NoMemory>
+pub(crate) fn status_names(alloc: Global, parsed: &PackageNodes) -> Result<Vec<Name>, NoMemory>
     ensures { IfOk result (λ names. names.items ≡ statuses_of (decl_trees parsed.now.exprs parsed.now.stmts parsed.now.decls)) }
 {
     let mut names = Vec::new(alloc);
@@ -124,7 +124,7 @@ pub fn status_names(alloc: Global, parsed: &Package) -> Result<Vec<Name>, NoMemo
 }
 
 /// The names of the constants, in order.
-pub fn constant_names(alloc: Global, parsed: &Package) -> Result<Vec<Name>, NoMemory>
+pub(crate) fn constant_names(alloc: Global, parsed: &PackageNodes) -> Result<Vec<Name>, NoMemory>
     ensures { IfOk result (λ names. names.items ≡ constants_in (declared parsed.now.texts (decl_trees parsed.now.exprs parsed.now.stmts parsed.now.decls))) }
 {
     let mut names = Vec::new(alloc);
@@ -138,7 +138,7 @@ pub fn constant_names(alloc: Global, parsed: &Package) -> Result<Vec<Name>, NoMe
 }
 
 /// The names of the structs, in order.
-pub fn struct_names(alloc: Global, parsed: &Package) -> Result<Vec<Name>, NoMemory>
+pub fn struct_names(alloc: Global, parsed: &PackageNodes) -> Result<Vec<Name>, NoMemory>
     ensures { IfOk result (λ names. names.items ≡ structs_in (declared parsed.now.texts (decl_trees parsed.now.exprs parsed.now.stmts parsed.now.decls))) }
 {
     let mut names = Vec::new(alloc);
@@ -152,7 +152,7 @@ pub fn struct_names(alloc: Global, parsed: &Package) -> Result<Vec<Name>, NoMemo
 }
 
 /// The methods by their names and those of their structs, in order.
-pub fn owned_methods(alloc: Global, parsed: &Package) -> Result<Vec<Owned>, NoMemory>
+pub(crate) fn owned_methods(alloc: Global, parsed: &PackageNodes) -> Result<Vec<Owned>, NoMemory>
     ensures { IfOk result (λ methods. methods.items ≡ methods_in (declared parsed.now.texts (decl_trees parsed.now.exprs parsed.now.stmts parsed.now.decls))) }
 {
     let mut methods = Vec::new(alloc);
@@ -166,7 +166,7 @@ pub fn owned_methods(alloc: Global, parsed: &Package) -> Result<Vec<Owned>, NoMe
 }
 
 /// The names of methods alone.
-pub fn owned_names(alloc: Global, methods: &[Owned]) -> Result<Vec<Name>, NoMemory>
+pub(crate) fn owned_names(alloc: Global, methods: &[Owned]) -> Result<Vec<Name>, NoMemory>
     ensures { IfOk result (λ names. names.items ≡ names_of_owned methods.now) }
 {
     let mut names = Vec::new(alloc);
@@ -180,7 +180,7 @@ pub fn owned_names(alloc: Global, methods: &[Owned]) -> Result<Vec<Name>, NoMemo
 }
 
 /// The names of fields or arguments, in order.
-pub fn field_names(alloc: Global, fields: &[Field]) -> Result<Vec<Name>, NoMemory>
+pub(crate) fn field_names(alloc: Global, fields: &[Field]) -> Result<Vec<Name>, NoMemory>
     ensures { IfOk result (λ names. names.items ≡ fields_in fields.now) }
 {
     let mut names = Vec::new(alloc);
@@ -194,7 +194,11 @@ pub fn field_names(alloc: Global, fields: &[Field]) -> Result<Vec<Name>, NoMemor
 }
 
 /// The names of the locals that the statements of a body declare, in order.
-pub fn local_names(alloc: Global, parsed: &Package, body: &Block) -> Result<Vec<Name>, NoMemory>
+pub fn local_names(
+    alloc: Global,
+    parsed: &PackageNodes,
+    body: &Block,
+) -> Result<Vec<Name>, NoMemory>
     requires { BlockBelow (length parsed.now.stmts) body.now }
     ensures { IfOk result (λ names. names.items ≡ variable_names (locals_of (block_at (stmt_trees parsed.now.exprs parsed.now.stmts) body.now))) }
 {

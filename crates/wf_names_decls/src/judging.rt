@@ -11,7 +11,7 @@ ghost use Rattle.wf_names_decls.specs.DeclarationPass.{names_judged, owned_doubl
 use crate::gathering::{Owned, owned_names};
 use indexmap::{IndexMap, IndexSet};
 use std::alloc::Global;
-use wf_ast::Package;
+use wf_ast::PackageNodes;
 use wf_ast::parsed::Name;
 use wf_names_rules::lists::{beyond, doubles, initializes, reserved};
 use wf_text::faults::NoMemory;
@@ -19,10 +19,10 @@ use wf_text::precedence::{is_before, sooner};
 use wf_text::rules::{Refusal, Rule};
 
 /// Of a list of names those that are declared twice, and the reserved ones.
-pub fn judge_names(
+pub(crate) fn judge_names(
     alloc: Global,
     found: Option<Refusal>,
-    parsed: &Package,
+    parsed: &PackageNodes,
     names: &[Name],
 ) -> Result<Option<Refusal>, NoMemory>
     ensures { IfOk result (λ all. all ≡ names_judged parsed.now.texts found names.now) }
@@ -69,7 +69,7 @@ fn owned_doubles(
 pub fn judge_methods(
     alloc: Global,
     found: Option<Refusal>,
-    parsed: &Package,
+    parsed: &PackageNodes,
     methods: &[Owned],
 ) -> Result<Option<Refusal>, NoMemory>
     ensures { IfOk result (λ all. all ≡ methods_judged parsed.now.texts found methods.now) }
@@ -89,7 +89,7 @@ pub fn judge_methods(
 }
 
 /// Each name by its text; of names that are spelt alike the first.
-pub fn by_text(alloc: Global, names: &[Name]) -> Result<IndexMap<u32, Name>, NoMemory>
+pub(crate) fn by_text(alloc: Global, names: &[Name]) -> Result<IndexMap<u32, Name>, NoMemory>
     ensures { IfOk result (λ table. (text : ℕ) → get nat_eq table text ≡ first_spelt names.now text) }
 {
     let mut table = IndexMap::new(alloc);
@@ -150,7 +150,7 @@ fn hidden_locals(
 pub fn judge_args(
     alloc: Global,
     found: Option<Refusal>,
-    parsed: &Package,
+    parsed: &PackageNodes,
     args: &[Name],
 ) -> Result<Option<Refusal>, NoMemory>
     ensures { IfOk result (λ all. all ≡ args_judged parsed.now.texts found args.now) }
@@ -163,10 +163,10 @@ pub fn judge_args(
 
 /// The locals of a method: declared twice, reserved, named as a constant, and the one behind the 256 that a method
 /// may have.
-pub fn judge_locals(
+pub(crate) fn judge_locals(
     alloc: Global,
     found: Option<Refusal>,
-    parsed: &Package,
+    parsed: &PackageNodes,
     constants: &IndexMap<u32, Name>,
     locals: &[Name],
 ) -> Result<Option<Refusal>, NoMemory>

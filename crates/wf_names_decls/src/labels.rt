@@ -11,7 +11,7 @@ ghost use Rattle.wf_names_decls.specs.LabelPass.{method_labels, labels_found};
 
 use std::alloc::Global;
 use wf_ast::parsed::{Arm, Block, Decl, Name, Stmt};
-use wf_ast::{Package, StmtId, TextId};
+use wf_ast::{PackageNodes, StmtId, TextId};
 use wf_names_rules::lists::{refused_if, reserved_name};
 use wf_text::Place;
 use wf_text::faults::NoMemory;
@@ -36,7 +36,7 @@ fn has_label(loops: &[Option<Name>], text: TextId) -> bool
 
 fn judge_label(
     found: Option<Refusal>,
-    parsed: &Package,
+    parsed: &PackageNodes,
     loops: &[Option<Name>],
     label: Name,
 ) -> Option<Refusal>
@@ -48,7 +48,7 @@ fn judge_label(
 
 fn judge_loop(
     found: Option<Refusal>,
-    parsed: &Package,
+    parsed: &PackageNodes,
     loops: &[Option<Name>],
     label: Option<Name>,
 ) -> Option<Refusal>
@@ -62,7 +62,7 @@ fn judge_loop(
 
 fn judge_unlabelled(
     found: Option<Refusal>,
-    parsed: &Package,
+    parsed: &PackageNodes,
     loops: &[Option<Name>],
     at: Place,
 ) -> Option<Refusal>
@@ -76,7 +76,7 @@ fn judge_unlabelled(
 
 fn judge_jump(
     found: Option<Refusal>,
-    parsed: &Package,
+    parsed: &PackageNodes,
     loops: &[Option<Name>],
     label: Option<Name>,
     at: Place,
@@ -96,7 +96,7 @@ fn judge_jump(
 #[cycle(walk_labels)]
 fn walk_loop(
     found: Option<Refusal>,
-    parsed: &Package,
+    parsed: &PackageNodes,
     loops: &mut Vec<Option<Name>>,
     label: Option<Name>,
     body: &Block,
@@ -122,7 +122,7 @@ fn walk_loop(
 #[cycle(walk_labels)]
 fn walk_stmt(
     found: Option<Refusal>,
-    parsed: &Package,
+    parsed: &PackageNodes,
     loops: &mut Vec<Option<Name>>,
     s: StmtId,
 ) -> Result<Option<Refusal>, NoMemory>
@@ -151,7 +151,7 @@ fn walk_stmt(
 #[cycle(walk_labels)]
 fn walk_block(
     found: Option<Refusal>,
-    parsed: &Package,
+    parsed: &PackageNodes,
     loops: &mut Vec<Option<Name>>,
     block: &Block,
 ) -> Result<Option<Refusal>, NoMemory>
@@ -172,7 +172,7 @@ fn walk_block(
 #[cycle(walk_labels)]
 fn walk_else(
     found: Option<Refusal>,
-    parsed: &Package,
+    parsed: &PackageNodes,
     loops: &mut Vec<Option<Name>>,
     otherwise: &Option<Block>,
 ) -> Result<Option<Refusal>, NoMemory>
@@ -189,7 +189,7 @@ fn walk_else(
 #[cycle(walk_labels)]
 fn walk_arms(
     found: Option<Refusal>,
-    parsed: &Package,
+    parsed: &PackageNodes,
     loops: &mut Vec<Option<Name>>,
     arms: &[Arm],
     otherwise: &Option<Block>,
@@ -213,7 +213,7 @@ fn walk_arms(
 fn walk_decl(
     alloc: Global,
     found: Option<Refusal>,
-    parsed: &Package,
+    parsed: &PackageNodes,
     decl: &Decl,
 ) -> Result<Option<Refusal>, NoMemory>
     requires { DeclParts (length parsed.now.exprs) (length parsed.now.stmts) decl.now }
@@ -233,7 +233,7 @@ fn walk_decl(
 pub fn labels(
     alloc: Global,
     found: Option<Refusal>,
-    parsed: &Package,
+    parsed: &PackageNodes,
 ) -> Result<Option<Refusal>, NoMemory>
     ensures { IfOk result (λ all. all ≡ labels_found (declared parsed.now.texts (decl_trees parsed.now.exprs parsed.now.stmts parsed.now.decls)) found) }
 {

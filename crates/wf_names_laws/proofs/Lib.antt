@@ -4,6 +4,7 @@ pub mod CalleeLemmas
 pub mod CallingLemmas
 pub mod DeclLaws
 pub mod ExprLaws
+pub mod ExprsKept
 pub mod FewLemmas
 pub mod FrontLemmas
 pub mod HandedLemmas
@@ -11,9 +12,12 @@ pub mod KeptLaws
 pub mod KindLemmas
 pub mod ListLemmas
 pub mod LoopLemmas
+pub mod PackageKept
 pub mod PackageLaws
 pub mod PackageLemmas
+pub mod ResolvedOrder
 pub mod ScopeLemmas
 pub mod StmtLaws
+pub mod StmtsKept
 pub mod VariableLemmas
 pub mod WholeLaws

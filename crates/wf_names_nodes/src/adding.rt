@@ -10,61 +10,53 @@ ghost use Rattle.wf_names_resolve.specs.Resolved.{word_of};
 ghost use Rattle.wf_names_resolve.specs.Package.{resolved_const, resolved_struct, resolved_method};
 ghost use Rattle.wf_names_nodes.specs.Declaring.{method_parsed, with_consts, with_statuses, with_structs, with_methods};
 
-use crate::declarations::{resolve_const, resolve_method, resolve_struct};
+use crate::declarations::{
+    WrittenConst, WrittenMethod, resolve_const, resolve_method, resolve_struct,
+};
 use std::alloc::Global;
 use wf_ast::parsed::{Block, Field, Name, TypeExpr, WrittenMark};
-use wf_ast::{ExprId, Package};
+use wf_ast::{ExprId, PackageNodes};
 use wf_named::NamedNodes;
 use wf_names_resolve::numbers::{PackageNumbers, ScopeNumbers};
 use wf_names_resolve::words::named_word;
 use wf_text::faults::NoMemory;
 
 /// Adds a constant; `around` knows those in front of it.
-pub fn put_const(
+pub(crate) fn put_const(
     alloc: Global,
     nodes: &mut NamedNodes,
-    parsed: &Package,
+    parsed: &PackageNodes,
     numbers: &PackageNumbers,
     around: &ScopeNumbers,
-    name: Name,
-    of: &TypeExpr,
-    value: ExprId,
+    constant: WrittenConst<'_>,
 ) -> Result<(), NoMemory>
-    requires of { TypeBelow (length parsed.now.exprs) of.now }
-    requires value { value.0 < length parsed.now.exprs }
-    ensures { OnOk result (named_package nodes.new ≡ with_consts (named_package nodes.old) (resolved_const (standing_by parsed.now.texts numbers.now around.now) name (parsed_type_at (expr_trees parsed.now.exprs) of.now) (parsed_expr_at (expr_trees parsed.now.exprs) value) ∷ [])) }
+    requires of { TypeBelow (length parsed.now.exprs) constant.of.now }
+    requires value { constant.value.0 < length parsed.now.exprs }
+    ensures { OnOk result (named_package nodes.new ≡ with_consts (named_package nodes.old) (resolved_const (standing_by parsed.now.texts numbers.now around.now) constant.entry.name (parsed_type_at (expr_trees parsed.now.exprs) constant.entry.of.now) (parsed_expr_at (expr_trees parsed.now.exprs) constant.entry.value) ∷ [])) }
 {
-    match resolve_const(alloc, nodes, parsed, numbers, around, name, of, value) {
-        Ok(constant) => {
-            match nodes.push_const(constant) {
-                Ok(()) => Ok(()),
-                Err(_) => Err(NoMemory),
-            }
-        }
-        Err(fault) => Err(fault),
-    }
+    let made = resolve_const(alloc, nodes, parsed, numbers, around, constant)?;
+    nodes.push_const(made)?;
+    Ok(())
 }
 
 /// Adds a status of the package.
-pub fn put_status(nodes: &mut NamedNodes, parsed: &Package, text: Name) -> Result<(), NoMemory>
+pub(crate) fn put_status(
+    nodes: &mut NamedNodes,
+    parsed: &PackageNodes,
+    text: Name,
+) -> Result<(), NoMemory>
     ensures { OnOk result (named_package nodes.new ≡ with_statuses (named_package nodes.old) (word_of (bytes_of parsed.now.texts) text ∷ [])) }
 {
-    match named_word(nodes, parsed, text) {
-        Ok(text) => {
-            match nodes.push_status(text) {
-                Ok(()) => Ok(()),
-                Err(_) => Err(NoMemory),
-            }
-        }
-        Err(fault) => Err(fault),
-    }
+    let text = named_word(nodes, parsed, text)?;
+    nodes.push_status(text)?;
+    Ok(())
 }
 
 /// Adds a struct.
-pub fn put_struct(
+pub(crate) fn put_struct(
     alloc: Global,
     nodes: &mut NamedNodes,
-    parsed: &Package,
+    parsed: &PackageNodes,
     numbers: &PackageNumbers,
     around: &ScopeNumbers,
     public: bool,
@@ -74,47 +66,27 @@ pub fn put_struct(
     requires { FieldsBelow (length parsed.now.exprs) fields.now }
     ensures { OnOk result (named_package nodes.new ≡ with_structs (named_package nodes.old) (resolved_struct (standing_by parsed.now.texts numbers.now around.now) public name (variables (parsed_fields_at (expr_trees parsed.now.exprs) fields.now)) ∷ [])) }
 {
-    match resolve_struct(alloc, nodes, parsed, numbers, around, public, name, fields) {
-        Ok(structure) => {
-            match nodes.push_struct(structure) {
-                Ok(()) => Ok(()),
-                Err(_) => Err(NoMemory),
-            }
-        }
-        Err(fault) => Err(fault),
-    }
+    let structure = resolve_struct(alloc, nodes, parsed, numbers, around, public, name, fields)?;
+    nodes.push_struct(structure)?;
+    Ok(())
 }
 
 /// Adds a method; `around` knows its arguments and its locals.
-pub fn put_method(
+pub(crate) fn put_method(
     alloc: Global,
     nodes: &mut NamedNodes,
-    parsed: &Package,
+    parsed: &PackageNodes,
     numbers: &PackageNumbers,
     around: &ScopeNumbers,
-    public: bool,
-    owner: Name,
-    name: Name,
-    written: WrittenMark,
-    args: &[Field],
-    gives: &Option<TypeExpr>,
-    body: &Block,
+    method: WrittenMethod<'_>,
 ) -> Result<(), NoMemory>
-    requires args { FieldsBelow (length parsed.now.exprs) args.now }
-    requires gives { ResultBelow (length parsed.now.exprs) gives.now }
-    requires body { BlockBelow (length parsed.now.stmts) body.now }
-    ensures { OnOk result (named_package nodes.new ≡ with_methods (named_package nodes.old) (resolved_method (standing_by parsed.now.texts numbers.now around.now) written
-        (method_parsed (expr_trees parsed.now.exprs) (stmt_trees parsed.now.exprs parsed.now.stmts) public owner name args.now gives.now body.now) ∷ [])) }
+    requires args { FieldsBelow (length parsed.now.exprs) method.args.now }
+    requires gives { ResultBelow (length parsed.now.exprs) method.gives.now }
+    requires body { BlockBelow (length parsed.now.stmts) method.body.now }
+    ensures { OnOk result (named_package nodes.new ≡ with_methods (named_package nodes.old) (resolved_method (standing_by parsed.now.texts numbers.now around.now) method.entry.mark
+        (method_parsed (expr_trees parsed.now.exprs) (stmt_trees parsed.now.exprs parsed.now.stmts) method.entry.public method.entry.owner method.entry.name method.entry.args.now method.entry.gives.now method.entry.body.now) ∷ [])) }
 {
-    match resolve_method(
-        alloc, nodes, parsed, numbers, around, public, owner, name, written, args, gives, body,
-    ) {
-        Ok(method) => {
-            match nodes.push_method(method) {
-                Ok(()) => Ok(()),
-                Err(_) => Err(NoMemory),
-            }
-        }
-        Err(fault) => Err(fault),
-    }
+    let made = resolve_method(alloc, nodes, parsed, numbers, around, method)?;
+    nodes.push_method(made)?;
+    Ok(())
 }

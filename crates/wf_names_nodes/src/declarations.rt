@@ -17,7 +17,7 @@ ghost use Rattle.wf_names_nodes.specs.Declaring.{method_parsed};
 use crate::variables::{resolve_fields, resolve_locals, resolve_result, resolve_variable};
 use std::alloc::Global;
 use wf_ast::parsed::{Block, Field, Name, TypeExpr, WrittenMark};
-use wf_ast::{ExprId, Package, Sequence, StructId};
+use wf_ast::{ExprId, PackageNodes, Sequence, StructId};
 use wf_named::nodes::NamedType;
 use wf_named::{NamedConst, NamedMethod, NamedNodes, NamedStruct, NamedVar};
 use wf_names_resolve::numbers::{PackageNumbers, ScopeNumbers};
@@ -27,43 +27,51 @@ use wf_names_resolve::resolve_stmts::resolve_body;
 use wf_names_resolve::words::named_word;
 use wf_text::faults::NoMemory;
 
+/// What a constant's declaration says.
+#[derive(Clone, Copy)]
+pub(crate) struct WrittenConst<'a> {
+    pub name: Name,
+    pub of: &'a TypeExpr,
+    pub value: ExprId,
+}
+
 /// Adds the nodes of a constant's type and value, and answers the constant.
-pub fn resolve_const(
+pub(crate) fn resolve_const(
     alloc: Global,
     nodes: &mut NamedNodes,
-    parsed: &Package,
+    parsed: &PackageNodes,
     numbers: &PackageNumbers,
     around: &ScopeNumbers,
-    name: Name,
-    of: &TypeExpr,
-    value: ExprId,
+    constant: WrittenConst<'_>,
 ) -> Result<NamedConst, NoMemory>
-    requires of { TypeBelow (length parsed.now.exprs) of.now }
-    requires value { value.0 < length parsed.now.exprs }
+    requires of { TypeBelow (length parsed.now.exprs) constant.of.now }
+    requires value { constant.value.0 < length parsed.now.exprs }
     ensures grows { OnOk result (Grows nodes.old nodes.new) }
     ensures below { IfOk result (NamedConstBelow (length nodes.new.texts) (length nodes.new.exprs)) }
-    ensures made { IfOk result (λ r. const_made nodes.new.texts (exprs_of nodes.new) r ≡ resolved_const (standing_by parsed.now.texts numbers.now around.now) name (parsed_type_at (expr_trees parsed.now.exprs) of.now) (parsed_expr_at (expr_trees parsed.now.exprs) value)) }
+    ensures made { IfOk result (λ r. const_made nodes.new.texts (exprs_of nodes.new) r ≡ resolved_const (standing_by parsed.now.texts numbers.now around.now) constant.entry.name (parsed_type_at (expr_trees parsed.now.exprs) constant.entry.of.now) (parsed_expr_at (expr_trees parsed.now.exprs) constant.entry.value)) }
 {
-    match resolve_variable(alloc, nodes, parsed, numbers, around, name, of) {
-        Ok(declared) => {
-            match resolve_expr(alloc, nodes, parsed, numbers, around, value) {
-                Ok(value) => Ok(NamedConst {
-                    name: declared.name,
-                    of: declared.of,
-                    value,
-                }),
-                Err(fault) => Err(fault),
-            }
-        }
-        Err(fault) => Err(fault),
-    }
+    let declared = resolve_variable(
+        alloc,
+        nodes,
+        parsed,
+        numbers,
+        around,
+        constant.name,
+        constant.of,
+    )?;
+    let value = resolve_expr(alloc, nodes, parsed, numbers, around, constant.value)?;
+    Ok(NamedConst {
+        name: declared.name,
+        of: declared.of,
+        value,
+    })
 }
 
 // A name with fields or arguments.
 fn resolve_named(
     alloc: Global,
     nodes: &mut NamedNodes,
-    parsed: &Package,
+    parsed: &PackageNodes,
     numbers: &PackageNumbers,
     around: &ScopeNumbers,
     name: Name,
@@ -75,22 +83,16 @@ fn resolve_named(
     ensures word { IfOk result (λ r. word_at nodes.new.texts r.0 ≡ word_of (bytes_of parsed.now.texts) name) }
     ensures fields { IfOk result (λ r. map (var_made nodes.new.texts (exprs_of nodes.new)) r.1 ≡ map (resolved_variable (standing_by parsed.now.texts numbers.now around.now)) (variables (parsed_fields_at (expr_trees parsed.now.exprs) fields.now))) }
 {
-    match named_word(nodes, parsed, name) {
-        Ok(name) => {
-            match resolve_fields(alloc, nodes, parsed, numbers, around, fields) {
-                Ok(fields) => Ok((name, fields)),
-                Err(fault) => Err(fault),
-            }
-        }
-        Err(fault) => Err(fault),
-    }
+    let name = named_word(nodes, parsed, name)?;
+    let fields = resolve_fields(alloc, nodes, parsed, numbers, around, fields)?;
+    Ok((name, fields))
 }
 
 /// Adds the nodes of the types of a struct's fields, and answers the struct.
-pub fn resolve_struct(
+pub(crate) fn resolve_struct(
     alloc: Global,
     nodes: &mut NamedNodes,
-    parsed: &Package,
+    parsed: &PackageNodes,
     numbers: &PackageNumbers,
     around: &ScopeNumbers,
     public: bool,
@@ -102,21 +104,19 @@ pub fn resolve_struct(
     ensures below { IfOk result (NamedStructBelow (length nodes.new.texts) (length nodes.new.exprs)) }
     ensures made { IfOk result (λ r. struct_made nodes.new.texts (exprs_of nodes.new) r ≡ resolved_struct (standing_by parsed.now.texts numbers.now around.now) public name (variables (parsed_fields_at (expr_trees parsed.now.exprs) fields.now))) }
 {
-    match resolve_named(alloc, nodes, parsed, numbers, around, name, fields) {
-        Ok((name, fields)) => Ok(NamedStruct {
-            name,
-            public,
-            fields,
-        }),
-        Err(fault) => Err(fault),
-    }
+    let (name, fields) = resolve_named(alloc, nodes, parsed, numbers, around, name, fields)?;
+    Ok(NamedStruct {
+        name,
+        public,
+        fields,
+    })
 }
 
 // The locals of a method, and its body.
 fn resolve_inside(
     alloc: Global,
     nodes: &mut NamedNodes,
-    parsed: &Package,
+    parsed: &PackageNodes,
     numbers: &PackageNumbers,
     around: &ScopeNumbers,
     body: &Block,
@@ -127,22 +127,16 @@ fn resolve_inside(
     ensures locals { IfOk result (λ r. map (var_made nodes.new.texts (exprs_of nodes.new)) r.0 ≡ map (resolved_variable (standing_by parsed.now.texts numbers.now around.now)) (locals_of (parsed_block_at (stmt_trees parsed.now.exprs parsed.now.stmts) body.now))) }
     ensures body { IfOk result (λ r. block_at (stmts_of nodes.new) r.1 ≡ resolved_block (standing_by parsed.now.texts numbers.now around.now) [] (parsed_block_at (stmt_trees parsed.now.exprs parsed.now.stmts) body.now)) }
 {
-    match resolve_locals(alloc, nodes, parsed, numbers, around, body) {
-        Ok(locals) => {
-            match resolve_body(alloc, nodes, parsed, numbers, around, body) {
-                Ok(body) => Ok((locals, body)),
-                Err(fault) => Err(fault),
-            }
-        }
-        Err(fault) => Err(fault),
-    }
+    let locals = resolve_locals(alloc, nodes, parsed, numbers, around, body)?;
+    let body = resolve_body(alloc, nodes, parsed, numbers, around, body)?;
+    Ok((locals, body))
 }
 
 // What a method gives, then its locals and its body.
 fn resolve_behind(
     alloc: Global,
     nodes: &mut NamedNodes,
-    parsed: &Package,
+    parsed: &PackageNodes,
     numbers: &PackageNumbers,
     around: &ScopeNumbers,
     gives: &Option<TypeExpr>,
@@ -156,15 +150,9 @@ fn resolve_behind(
     ensures locals { IfOk result (λ r. map (var_made nodes.new.texts (exprs_of nodes.new)) r.1 ≡ map (resolved_variable (standing_by parsed.now.texts numbers.now around.now)) (locals_of (parsed_block_at (stmt_trees parsed.now.exprs parsed.now.stmts) body.now))) }
     ensures body { IfOk result (λ r. block_at (stmts_of nodes.new) r.2 ≡ resolved_block (standing_by parsed.now.texts numbers.now around.now) [] (parsed_block_at (stmt_trees parsed.now.exprs parsed.now.stmts) body.now)) }
 {
-    match resolve_result(alloc, nodes, parsed, numbers, around, gives) {
-        Ok(gives) => {
-            match resolve_inside(alloc, nodes, parsed, numbers, around, body) {
-                Ok((locals, body)) => Ok((gives, locals, body)),
-                Err(fault) => Err(fault),
-            }
-        }
-        Err(fault) => Err(fault),
-    }
+    let gives = resolve_result(alloc, nodes, parsed, numbers, around, gives)?;
+    let (locals, body) = resolve_inside(alloc, nodes, parsed, numbers, around, body)?;
+    Ok((gives, locals, body))
 }
 
 // The struct that a method's declaration names, by number.
@@ -174,46 +162,62 @@ fn owned_by(numbers: &PackageNumbers, owner: Name) -> StructId
     StructId(number_or(numbers.structs.get(&owner.text.0).copied()))
 }
 
+/// What a method's declaration says.
+#[derive(Clone, Copy)]
+pub(crate) struct WrittenMethod<'a> {
+    pub public: bool,
+    pub owner: Name,
+    pub name: Name,
+    pub mark: WrittenMark,
+    pub args: &'a [Field],
+    pub gives: &'a Option<TypeExpr>,
+    pub body: &'a Block,
+}
+
 /// Adds the nodes of a method's types and of its body, and answers the method. `around` knows its arguments and its
 /// locals.
-pub fn resolve_method(
+pub(crate) fn resolve_method(
     alloc: Global,
     nodes: &mut NamedNodes,
-    parsed: &Package,
+    parsed: &PackageNodes,
     numbers: &PackageNumbers,
     around: &ScopeNumbers,
-    public: bool,
-    owner: Name,
-    name: Name,
-    written: WrittenMark,
-    args: &[Field],
-    gives: &Option<TypeExpr>,
-    body: &Block,
+    method: WrittenMethod<'_>,
 ) -> Result<NamedMethod, NoMemory>
-    requires args { FieldsBelow (length parsed.now.exprs) args.now }
-    requires gives { ResultBelow (length parsed.now.exprs) gives.now }
-    requires body { BlockBelow (length parsed.now.stmts) body.now }
+    requires args { FieldsBelow (length parsed.now.exprs) method.args.now }
+    requires gives { ResultBelow (length parsed.now.exprs) method.gives.now }
+    requires body { BlockBelow (length parsed.now.stmts) method.body.now }
     ensures grows { OnOk result (Grows nodes.old nodes.new) }
     ensures below { IfOk result (NamedMethodBelow (length nodes.new.texts) (length nodes.new.exprs) (length nodes.new.stmts)) }
-    ensures made { IfOk result (λ r. method_made nodes.new.texts (exprs_of nodes.new) (stmts_of nodes.new) r ≡ resolved_method (standing_by parsed.now.texts numbers.now around.now) written
-        (method_parsed (expr_trees parsed.now.exprs) (stmt_trees parsed.now.exprs parsed.now.stmts) public owner name args.now gives.now body.now)) }
+    ensures made { IfOk result (λ r. method_made nodes.new.texts (exprs_of nodes.new) (stmts_of nodes.new) r ≡ resolved_method (standing_by parsed.now.texts numbers.now around.now) method.entry.mark
+        (method_parsed (expr_trees parsed.now.exprs) (stmt_trees parsed.now.exprs parsed.now.stmts) method.entry.public method.entry.owner method.entry.name method.entry.args.now method.entry.gives.now method.entry.body.now)) }
 {
-    match resolve_named(alloc, nodes, parsed, numbers, around, name, args) {
-        Ok((name, args)) => {
-            match resolve_behind(alloc, nodes, parsed, numbers, around, gives, body) {
-                Ok((gives, locals, body)) => Ok(NamedMethod {
-                    name,
-                    of: owned_by(numbers, owner),
-                    public,
-                    mark: mark(written),
-                    args,
-                    locals,
-                    gives,
-                    body,
-                }),
-                Err(fault) => Err(fault),
-            }
-        }
-        Err(fault) => Err(fault),
-    }
+    let (name, args) = resolve_named(
+        alloc,
+        nodes,
+        parsed,
+        numbers,
+        around,
+        method.name,
+        method.args,
+    )?;
+    let (gives, locals, body) = resolve_behind(
+        alloc,
+        nodes,
+        parsed,
+        numbers,
+        around,
+        method.gives,
+        method.body,
+    )?;
+    Ok(NamedMethod {
+        name,
+        of: owned_by(numbers, method.owner),
+        public: method.public,
+        mark: mark(method.mark),
+        args,
+        locals,
+        gives,
+        body,
+    })
 }

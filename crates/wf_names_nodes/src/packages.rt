@@ -13,9 +13,10 @@ ghost use Rattle.wf_names_resolve.specs.Package.{resolved_consts, struct_in, met
 ghost use Rattle.wf_names_nodes.specs.Declaring.{method_parsed, with_consts, with_structs, with_methods, with_others};
 
 use crate::adding::{put_const, put_method, put_status, put_struct};
+use crate::declarations::{WrittenConst, WrittenMethod};
 use std::alloc::Global;
 use wf_ast::parsed::{Block, Decl, DeclNode, Field, Name, TypeExpr, WrittenMark};
-use wf_ast::{ExprId, Package};
+use wf_ast::{ExprId, PackageNodes};
 use wf_named::NamedNodes;
 use wf_names_numbers::scopes::{add_constant, enter_method, enter_struct, outside};
 use wf_names_resolve::numbers::{PackageNumbers, ScopeNumbers};
@@ -25,33 +26,29 @@ use wf_text::faults::NoMemory;
 fn next_const(
     alloc: Global,
     nodes: &mut NamedNodes,
-    parsed: &Package,
+    parsed: &PackageNodes,
     numbers: &PackageNumbers,
     around: &mut ScopeNumbers,
-    name: Name,
-    of: &TypeExpr,
-    value: ExprId,
+    constant: WrittenConst<'_>,
     place: usize,
 ) -> Result<(), NoMemory>
-    requires of { TypeBelow (length parsed.now.exprs) of.now }
-    requires value { value.0 < length parsed.now.exprs }
+    requires of { TypeBelow (length parsed.now.exprs) constant.of.now }
+    requires value { constant.value.0 < length parsed.now.exprs }
     requires numbers { TellsNumbers (package_of parsed.now) numbers.now }
     ensures added { OnOk result ((known : List Variable) → TellsPlaces (package_of parsed.now) (constant_scope known) around.old
-        → named_package nodes.new ≡ with_consts (named_package nodes.old) (resolved_consts (package_of parsed.now) known (record { name = name; of = type_at (expr_trees parsed.now.exprs) of.now; value = expr_at (expr_trees parsed.now.exprs) value } ∷ []))) }
+        → named_package nodes.new ≡ with_consts (named_package nodes.old) (resolved_consts (package_of parsed.now) known (record { name = constant.entry.name; of = type_at (expr_trees parsed.now.exprs) constant.entry.of.now; value = expr_at (expr_trees parsed.now.exprs) constant.entry.value } ∷ []))) }
     ensures known { OnOk result ((known : List Variable) → place ≡ length known → TellsPlaces (package_of parsed.now) (constant_scope known) around.old
-        → TellsPlaces (package_of parsed.now) (constant_scope (known ++ record { name = name; of = type_at (expr_trees parsed.now.exprs) of.now } ∷ [])) around.new) }
+        → TellsPlaces (package_of parsed.now) (constant_scope (known ++ record { name = constant.entry.name; of = type_at (expr_trees parsed.now.exprs) constant.entry.of.now } ∷ [])) around.new) }
 {
-    match put_const(alloc, nodes, parsed, numbers, around, name, of, value) {
-        Ok(()) => add_constant(around, parsed, name, of, place),
-        Err(fault) => Err(fault),
-    }
+    put_const(alloc, nodes, parsed, numbers, around, constant)?;
+    add_constant(around, parsed, constant.name, constant.of, place)
 }
 
 // A declaration, which may be of a constant; how many constants are known behind it.
 fn const_decl(
     alloc: Global,
     nodes: &mut NamedNodes,
-    parsed: &Package,
+    parsed: &PackageNodes,
     numbers: &PackageNumbers,
     around: &mut ScopeNumbers,
     node: &DeclNode,
@@ -68,12 +65,13 @@ fn const_decl(
 {
     match &node.decl {
         Decl::Const { name, of, value } => {
-            match next_const(
-                alloc, nodes, parsed, numbers, around, *name, of, *value, place,
-            ) {
-                Ok(()) => Ok(place + 1),
-                Err(fault) => Err(fault),
-            }
+            let constant = WrittenConst {
+                name: *name,
+                of,
+                value: *value,
+            };
+            next_const(alloc, nodes, parsed, numbers, around, constant, place)?;
+            Ok(place + 1)
         }
         Decl::Status(_) => Ok(place),
         Decl::Struct { .. } => Ok(place),
@@ -85,7 +83,7 @@ fn const_decl(
 fn all_consts(
     alloc: Global,
     nodes: &mut NamedNodes,
-    parsed: &Package,
+    parsed: &PackageNodes,
     numbers: &PackageNumbers,
     around: &mut ScopeNumbers,
 ) -> Result<(), NoMemory>
@@ -97,7 +95,7 @@ fn all_consts(
     let mut place = 0;
     let mut number = 0;
     while number < parsed.decls().len() {
-        match const_decl(
+        place = const_decl(
             alloc,
             nodes,
             parsed,
@@ -105,10 +103,7 @@ fn all_consts(
             around,
             parsed.decl(number),
             place,
-        ) {
-            Ok(next) => place = next,
-            Err(fault) => return Err(fault),
-        }
+        )?;
         number += 1;
     }
     Ok(())
@@ -118,7 +113,7 @@ fn all_consts(
 fn next_struct(
     alloc: Global,
     nodes: &mut NamedNodes,
-    parsed: &Package,
+    parsed: &PackageNodes,
     numbers: &PackageNumbers,
     around: &mut ScopeNumbers,
     public: bool,
@@ -139,39 +134,36 @@ fn next_struct(
 fn next_method(
     alloc: Global,
     nodes: &mut NamedNodes,
-    parsed: &Package,
+    parsed: &PackageNodes,
     numbers: &PackageNumbers,
     around: &mut ScopeNumbers,
-    public: bool,
-    owner: Name,
-    name: Name,
-    written: WrittenMark,
-    args: &[Field],
-    gives: &Option<TypeExpr>,
-    body: &Block,
+    method: WrittenMethod<'_>,
 ) -> Result<(), NoMemory>
-    requires args { FieldsBelow (length parsed.now.exprs) args.now }
-    requires gives { ResultBelow (length parsed.now.exprs) gives.now }
-    requires body { BlockBelow (length parsed.now.stmts) body.now }
+    requires args { FieldsBelow (length parsed.now.exprs) method.args.now }
+    requires gives { ResultBelow (length parsed.now.exprs) method.gives.now }
+    requires body { BlockBelow (length parsed.now.stmts) method.body.now }
     requires numbers { TellsNumbers (package_of parsed.now) numbers.now }
     requires constants { TellsAllConstants (package_of parsed.now) around.old }
-    ensures added { OnOk result (named_package nodes.new ≡ with_methods (named_package nodes.old) (method_in (package_of parsed.now) written
-        (method_parsed (expr_trees parsed.now.exprs) (stmt_trees parsed.now.exprs parsed.now.stmts) public owner name args.now gives.now body.now) ∷ [])) }
+    ensures added { OnOk result (named_package nodes.new ≡ with_methods (named_package nodes.old) (method_in (package_of parsed.now) method.entry.mark
+        (method_parsed (expr_trees parsed.now.exprs) (stmt_trees parsed.now.exprs parsed.now.stmts) method.entry.public method.entry.owner method.entry.name method.entry.args.now method.entry.gives.now method.entry.body.now) ∷ [])) }
     ensures known { OnOk result (TellsAllConstants (package_of parsed.now) around.new) }
 {
-    match enter_method(alloc, around, parsed, owner, args, body) {
-        Ok(()) => put_method(
-            alloc, nodes, parsed, numbers, around, public, owner, name, written, args, gives, body,
-        ),
-        Err(fault) => Err(fault),
-    }
+    enter_method(
+        alloc,
+        around,
+        parsed,
+        method.owner,
+        method.args,
+        method.body,
+    )?;
+    put_method(alloc, nodes, parsed, numbers, around, method)
 }
 
 // A declaration, where all constants are known; those of constants are passed.
 fn other_decl(
     alloc: Global,
     nodes: &mut NamedNodes,
-    parsed: &Package,
+    parsed: &PackageNodes,
     numbers: &PackageNumbers,
     around: &mut ScopeNumbers,
     node: &DeclNode,
@@ -202,20 +194,18 @@ fn other_decl(
             args,
             gives,
             body,
-        } => next_method(
-            alloc,
-            nodes,
-            parsed,
-            numbers,
-            around,
-            node.public,
-            *of,
-            *name,
-            *mark,
-            args.as_slice(),
-            gives,
-            body,
-        ),
+        } => {
+            let method = WrittenMethod {
+                public: node.public,
+                owner: *of,
+                name: *name,
+                mark: *mark,
+                args: args.as_slice(),
+                gives,
+                body,
+            };
+            next_method(alloc, nodes, parsed, numbers, around, method)
+        }
     }
 }
 
@@ -223,7 +213,7 @@ fn other_decl(
 fn all_others(
     alloc: Global,
     nodes: &mut NamedNodes,
-    parsed: &Package,
+    parsed: &PackageNodes,
     numbers: &PackageNumbers,
     around: &mut ScopeNumbers,
 ) -> Result<(), NoMemory>
@@ -233,10 +223,7 @@ fn all_others(
 {
     let mut number = 0;
     while number < parsed.decls().len() {
-        match other_decl(alloc, nodes, parsed, numbers, around, parsed.decl(number)) {
-            Ok(()) => {}
-            Err(fault) => return Err(fault),
-        }
+        other_decl(alloc, nodes, parsed, numbers, around, parsed.decl(number))?;
         number += 1;
     }
     Ok(())
@@ -246,39 +233,30 @@ fn all_others(
 fn all_decls(
     alloc: Global,
     nodes: &mut NamedNodes,
-    parsed: &Package,
+    parsed: &PackageNodes,
     numbers: &PackageNumbers,
 ) -> Result<(), NoMemory>
     requires { TellsNumbers (package_of parsed.now) numbers.now }
     ensures { OnOk result (named_package nodes.new ≡ with_others (package_of parsed.now) (with_consts (named_package nodes.old) (resolved_consts (package_of parsed.now) [] (package_of parsed.now).constants)) (decl_trees parsed.now.exprs parsed.now.stmts parsed.now.decls)) }
 {
     let mut around = outside(alloc);
-    match all_consts(alloc, nodes, parsed, numbers, &mut around) {
-        Ok(()) => all_others(alloc, nodes, parsed, numbers, &mut around),
-        Err(fault) => Err(fault),
-    }
+    all_consts(alloc, nodes, parsed, numbers, &mut around)?;
+    all_others(alloc, nodes, parsed, numbers, &mut around)
 }
 
 /// The nodes of the resolved package. `numbers` are those of what the package declares; `order` has the numbers of all
 /// methods, each behind those that it calls. `Err` where memory was refused or no number is left.
 pub fn resolve_package(
     alloc: Global,
-    parsed: &Package,
+    parsed: &PackageNodes,
     numbers: &PackageNumbers,
     order: Vec<u32>,
 ) -> Result<NamedNodes, NoMemory>
     requires { TellsNumbers (package_of parsed.now) numbers.now }
     ensures { IfOk result (λ nodes. named_package nodes ≡ resolved_by (package_of parsed.now) parsed.now.name (decl_trees parsed.now.exprs parsed.now.stmts parsed.now.decls) order.items) }
 {
-    let mut nodes = match NamedNodes::new(alloc, parsed.name()) {
-        Ok(nodes) => nodes,
-        Err(_) => return Err(NoMemory),
-    };
-    match all_decls(alloc, &mut nodes, parsed, numbers) {
-        Ok(()) => {
-            nodes.set_order(order);
-            Ok(nodes)
-        }
-        Err(fault) => Err(fault),
-    }
+    let mut nodes = NamedNodes::new(alloc, parsed.name())?;
+    all_decls(alloc, &mut nodes, parsed, numbers)?;
+    nodes.set_order(order);
+    Ok(nodes)
 }

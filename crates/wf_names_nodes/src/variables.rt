@@ -14,7 +14,7 @@ ghost use Rattle.wf_names_resolve.specs.Statements.{listed};
 
 use std::alloc::Global;
 use wf_ast::parsed::{Block, Field, Name, Stmt, TypeExpr};
-use wf_ast::{Package, Sequence, StmtId};
+use wf_ast::{PackageNodes, Sequence, StmtId};
 use wf_named::nodes::NamedType;
 use wf_named::{NamedNodes, NamedVar};
 use wf_names_resolve::numbers::{PackageNumbers, ScopeNumbers};
@@ -23,10 +23,10 @@ use wf_names_resolve::words::named_word;
 use wf_text::faults::NoMemory;
 
 /// Adds the nodes of a variable's type, and answers the variable.
-pub fn resolve_variable(
+pub(crate) fn resolve_variable(
     alloc: Global,
     nodes: &mut NamedNodes,
-    parsed: &Package,
+    parsed: &PackageNodes,
     numbers: &PackageNumbers,
     around: &ScopeNumbers,
     name: Name,
@@ -37,22 +37,16 @@ pub fn resolve_variable(
     ensures below { IfOk result (NamedVarBelow (length nodes.new.texts) (length nodes.new.exprs)) }
     ensures made { IfOk result (λ r. var_made nodes.new.texts (exprs_of nodes.new) r ≡ resolved_variable (standing_by parsed.now.texts numbers.now around.now) (record { name = name; of = parsed_type_at (expr_trees parsed.now.exprs) of.now })) }
 {
-    match named_word(nodes, parsed, name) {
-        Ok(name) => {
-            match resolve_type(alloc, nodes, parsed, numbers, around, of) {
-                Ok(of) => Ok(NamedVar { name, of }),
-                Err(fault) => Err(fault),
-            }
-        }
-        Err(fault) => Err(fault),
-    }
+    let name = named_word(nodes, parsed, name)?;
+    let of = resolve_type(alloc, nodes, parsed, numbers, around, of)?;
+    Ok(NamedVar { name, of })
 }
 
 /// Adds the nodes of the types of fields or arguments, and answers these in their order.
-pub fn resolve_fields(
+pub(crate) fn resolve_fields(
     alloc: Global,
     nodes: &mut NamedNodes,
-    parsed: &Package,
+    parsed: &PackageNodes,
     numbers: &PackageNumbers,
     around: &ScopeNumbers,
     fields: &[Field],
@@ -64,15 +58,8 @@ pub fn resolve_fields(
 {
     let mut made = Sequence::new(alloc);
     for field in fields {
-        match resolve_variable(alloc, nodes, parsed, numbers, around, field.name, &field.of) {
-            Ok(one) => {
-                match made.push(one) {
-                    Ok(()) => {}
-                    Err(_) => return Err(NoMemory),
-                }
-            }
-            Err(fault) => return Err(fault),
-        }
+        let one = resolve_variable(alloc, nodes, parsed, numbers, around, field.name, &field.of)?;
+        made.push(one)?;
     }
     Ok(made)
 }
@@ -81,7 +68,7 @@ pub fn resolve_fields(
 fn resolve_local(
     alloc: Global,
     nodes: &mut NamedNodes,
-    parsed: &Package,
+    parsed: &PackageNodes,
     numbers: &PackageNumbers,
     around: &ScopeNumbers,
     s: StmtId,
@@ -93,10 +80,8 @@ fn resolve_local(
 {
     match &parsed.stmt(s).stmt {
         Stmt::Var { name, of } => {
-            match resolve_variable(alloc, nodes, parsed, numbers, around, *name, of) {
-                Ok(one) => Ok(Some(one)),
-                Err(fault) => Err(fault),
-            }
+            let one = resolve_variable(alloc, nodes, parsed, numbers, around, *name, of)?;
+            Ok(Some(one))
         }
         _ => Ok(None),
     }
@@ -107,10 +92,8 @@ fn add_variable(made: &mut Sequence<NamedVar>, one: Option<NamedVar>) -> Result<
 {
     match one {
         Some(one) => {
-            match made.push(one) {
-                Ok(()) => Ok(()),
-                Err(_) => Err(NoMemory),
-            }
+            made.push(one)?;
+            Ok(())
         }
         None => Ok(()),
     }
@@ -118,10 +101,10 @@ fn add_variable(made: &mut Sequence<NamedVar>, one: Option<NamedVar>) -> Result<
 
 /// Adds the nodes of the types of a method's locals, and answers these in their order: what the statements of its body
 /// declare, and not those of the blocks in it.
-pub fn resolve_locals(
+pub(crate) fn resolve_locals(
     alloc: Global,
     nodes: &mut NamedNodes,
-    parsed: &Package,
+    parsed: &PackageNodes,
     numbers: &PackageNumbers,
     around: &ScopeNumbers,
     body: &Block,
@@ -133,24 +116,17 @@ pub fn resolve_locals(
 {
     let mut made = Sequence::new(alloc);
     for s in body.items.as_slice() {
-        match resolve_local(alloc, nodes, parsed, numbers, around, *s) {
-            Ok(one) => {
-                match add_variable(&mut made, one) {
-                    Ok(()) => {}
-                    Err(fault) => return Err(fault),
-                }
-            }
-            Err(fault) => return Err(fault),
-        }
+        let one = resolve_local(alloc, nodes, parsed, numbers, around, *s)?;
+        add_variable(&mut made, one)?;
     }
     Ok(made)
 }
 
 /// Adds the nodes of what a method gives, if it gives something, and answers the type.
-pub fn resolve_result(
+pub(crate) fn resolve_result(
     alloc: Global,
     nodes: &mut NamedNodes,
-    parsed: &Package,
+    parsed: &PackageNodes,
     numbers: &PackageNumbers,
     around: &ScopeNumbers,
     gives: &Option<TypeExpr>,
@@ -162,10 +138,8 @@ pub fn resolve_result(
 {
     match gives {
         Some(of) => {
-            match resolve_type(alloc, nodes, parsed, numbers, around, of) {
-                Ok(of) => Ok(Some(of)),
-                Err(fault) => Err(fault),
-            }
+            let of = resolve_type(alloc, nodes, parsed, numbers, around, of)?;
+            Ok(Some(of))
         }
         None => Ok(None),
     }

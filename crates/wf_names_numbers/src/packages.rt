@@ -14,7 +14,7 @@ use crate::numbers::add_number;
 use crate::structs::struct_places;
 use indexmap::IndexMap;
 use std::alloc::Global;
-use wf_ast::Package;
+use wf_ast::PackageNodes;
 use wf_ast::parsed::{Decl, DeclNode};
 use wf_names_resolve::numbers::PackageNumbers;
 use wf_names_rules::tables::Tables;
@@ -40,7 +40,7 @@ fn add_status(
     }
 }
 
-fn status_numbers(alloc: Global, parsed: &Package) -> Result<IndexMap<u32, u32>, NoMemory>
+fn status_numbers(alloc: Global, parsed: &PackageNodes) -> Result<IndexMap<u32, u32>, NoMemory>
     ensures { IfOk result (λ table. (text : ℕ) → get nat_eq table text ≡ option_map (λ n. 10 + n) (status_named (package_of parsed.now) text)) }
 {
     let mut table = IndexMap::new(alloc);
@@ -57,7 +57,7 @@ fn status_numbers(alloc: Global, parsed: &Package) -> Result<IndexMap<u32, u32>,
 /// The numbers of a package, whose names `tables` knows. `Err` where memory was refused or no number is left.
 pub fn number_package(
     alloc: Global,
-    parsed: &Package,
+    parsed: &PackageNodes,
     tables: Tables,
 ) -> Result<PackageNumbers, NoMemory>
     requires { TellsPackage (package_of parsed.now) tables }

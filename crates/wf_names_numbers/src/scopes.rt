@@ -14,7 +14,7 @@ use crate::numbers::add_number;
 use crate::variables::{argument_places, local_places};
 use indexmap::IndexMap;
 use std::alloc::Global;
-use wf_ast::Package;
+use wf_ast::PackageNodes;
 use wf_ast::parsed::{Block, Field, Name, TypeExpr};
 use wf_names_resolve::numbers::ScopeNumbers;
 use wf_names_scopes::scopes;
@@ -36,7 +36,7 @@ pub fn outside(alloc: Global) -> ScopeNumbers
 /// number is left.
 pub fn add_constant(
     around: &mut ScopeNumbers,
-    parsed: &Package,
+    parsed: &PackageNodes,
     name: Name,
     of: &TypeExpr,
     place: usize,
@@ -68,7 +68,7 @@ pub fn enter_struct(alloc: Global, around: &mut ScopeNumbers, name: Name)
 pub fn enter_method(
     alloc: Global,
     around: &mut ScopeNumbers,
-    parsed: &Package,
+    parsed: &PackageNodes,
     owner: Name,
     args: &[Field],
     body: &Block,

@@ -15,7 +15,7 @@ use crate::numbers::{add_field, add_number};
 use indexmap::IndexMap;
 use std::alloc::Global;
 use wf_ast::parsed::{Decl, DeclNode, Field, Name};
-use wf_ast::{Package, TextId};
+use wf_ast::{PackageNodes, TextId};
 use wf_text::faults::NoMemory;
 
 /// Structs by their names, fields by their struct's name and their own.
@@ -80,7 +80,7 @@ fn add_decl(places: &mut StructPlaces, node: &DeclNode, next: usize) -> Result<u
 }
 
 /// The places of a package's structs and of their fields. `Err` where memory was refused or no number is left.
-pub fn struct_places(alloc: Global, parsed: &Package) -> Result<StructPlaces, NoMemory>
+pub(crate) fn struct_places(alloc: Global, parsed: &PackageNodes) -> Result<StructPlaces, NoMemory>
     ensures structs { IfOk result (λ places. (text : ℕ) → get nat_eq places.structs text ≡ struct_named (package_of parsed.now) text) }
     ensures fields { IfOk result (λ places. (owner text : ℕ) → get same_pair places.fields (owner, text) ≡ place_in (fields_of (package_of parsed.now) owner) text) }
 {

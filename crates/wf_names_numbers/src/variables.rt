@@ -13,11 +13,11 @@ use crate::numbers::add_number;
 use indexmap::IndexMap;
 use std::alloc::Global;
 use wf_ast::parsed::{Block, Field, Stmt};
-use wf_ast::{Package, StmtId};
+use wf_ast::{PackageNodes, StmtId};
 use wf_text::faults::NoMemory;
 
 /// The places of a method's arguments. `Err` where memory was refused or no number is left.
-pub fn argument_places(alloc: Global, args: &[Field]) -> Result<IndexMap<u32, u32>, NoMemory>
+pub(crate) fn argument_places(alloc: Global, args: &[Field]) -> Result<IndexMap<u32, u32>, NoMemory>
     ensures { IfOk result (λ table. (es : List ExprTree) → TellsPlacesOf (variables (fields_at es args.now)) table) }
 {
     let mut table = IndexMap::new(alloc);
@@ -34,7 +34,7 @@ pub fn argument_places(alloc: Global, args: &[Field]) -> Result<IndexMap<u32, u3
 // Adds the local that a statement declares, if it does, at the next place; the place that is next then.
 fn add_local(
     table: &mut IndexMap<u32, u32>,
-    parsed: &Package,
+    parsed: &PackageNodes,
     s: StmtId,
     next: usize,
 ) -> Result<usize, NoMemory>
@@ -50,9 +50,9 @@ fn add_local(
 
 /// The places of a method's locals: of what the statements of its body, and not of the blocks in it, declare. `Err`
 /// where memory was refused or no number is left.
-pub fn local_places(
+pub(crate) fn local_places(
     alloc: Global,
-    parsed: &Package,
+    parsed: &PackageNodes,
     body: &Block,
 ) -> Result<IndexMap<u32, u32>, NoMemory>
     requires { BlockBelow (length parsed.now.stmts) body.now }

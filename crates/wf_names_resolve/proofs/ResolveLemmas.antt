@@ -1,10 +1,12 @@
 -- The resolved trees of lists that are made one by one, and the arguments of calls.
 use Rattle.std.proofs.Common.{◌≡◌, ◌+◌, ◌<◌, ◌≤◌, ℕ, zero, suc, Bool, true, false, if◌then◌else◌, slice_get, List, [], ◌∷◌, ◌++◌, Option, Some, None, length, map, drop, slice_index_or, option_map, bytes_eq, refl, sym, ap, ◌∙◌, subst, arith}
 use Rattle.std.specs.List.{AllByRecursion, find}
+use Rattle.wf_text.specs.declared.place.Place.{Place}
 use Rattle.wf_base.specs.declared.base_methods.ArgTy.{ArgTy}
 use Rattle.wf_base.specs.declared.marks.Mark.{Mark}
 use Rattle.wf_base.specs.BaseTable.{row_of}
 use Rattle.wf_ast.specs.declared.numbers.ExprId.{ExprId}
+use Rattle.wf_ast.specs.declared.operators.Op.{Op}
 use Rattle.wf_ast.specs.declared.parsed.Bounds.{Bounds}
 use Rattle.wf_ast.specs.declared.parsed.Core.{Core}
 use Rattle.wf_ast.specs.declared.parsed.Core.TheVariants as cores
@@ -36,6 +38,12 @@ use Rattle.wf_names_resolve.specs.Ordered.{value_in, values_named, values_spelt,
 use Rattle.wf_names_resolve.specs.Growth.{Grows}
 use Rattle.wf_names_resolve.specs.Prefixes.{ResolvesPrefix, ResolvesPrefixes, resolved_core}
 use Rattle.wf_names_resolve.proofs.Growth.{grows_self, grows_more, links_kept, given_kept, prefixes_kept}
+
+pub chain_made : (op : Op) (a b : NamedExprTree) (ls ms : NamedLinkTrees) (at : Place) → a ≡ b → ls ≡ ms → tree.chain op a ls at ≡ tree.chain op b ms at
+chain_made op a b ls ms at e f = ap (λ x. tree.chain op x ls at) e ∙ ap (λ x. tree.chain op b x at) f
+
+pub conversion_made : (a b : NamedExprTree) (to' to : NamedTypeTree) (at : Place) → a ≡ b → to' ≡ to → tree.convert a to' at ≡ tree.convert b to at
+conversion_made a b to' to at e f = ap (λ x. tree.convert x to' at) e ∙ ap (λ x. tree.convert b x at) f
 
 append_end : {X : Type 0} (xs : List X) → xs ++ [] ≡ xs
 append_end [] = refl

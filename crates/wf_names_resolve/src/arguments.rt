@@ -10,7 +10,7 @@ ghost use Rattle.wf_names_resolve.specs.Ordered.{value_in, values_named, values_
 
 use std::alloc::Global;
 use wf_ast::parsed::Given;
-use wf_ast::{ExprId, Package, Sequence};
+use wf_ast::{ExprId, PackageNodes, Sequence};
 use wf_base::base_methods::BaseSig;
 use wf_names_rules::callees::Callee;
 use wf_names_rules::tables::{Tables, text_bytes};
@@ -28,14 +28,14 @@ fn given_named(given: &[Given], text: u32) -> Option<Given>
     None
 }
 
-fn has_bytes(parsed: &Package, one: Given, name: &[u8]) -> bool
+fn has_bytes(parsed: &PackageNodes, one: Given, name: &[u8]) -> bool
     ensures { result ≡ bytes_eq name.now (bytes_of parsed.now.texts one.name.text.0) }
 {
     name == text_bytes(parsed, one.name.text)
 }
 
 // What is given under the name with these bytes.
-fn given_spelt(parsed: &Package, given: &[Given], name: &[u8]) -> Option<Given>
+fn given_spelt(parsed: &PackageNodes, given: &[Given], name: &[u8]) -> Option<Given>
     ensures { result ≡ find (λ g. bytes_eq name.now (bytes_of parsed.now.texts g.name.text.0)) given.now }
 {
     for one in given {
@@ -51,10 +51,8 @@ fn add_value(values: &mut Sequence<ExprId>, one: Option<Given>) -> Result<(), No
 {
     match one {
         Some(one) => {
-            match values.push(one.value) {
-                Ok(()) => Ok(()),
-                Err(_) => Err(NoMemory),
-            }
+            values.push(one.value)?;
+            Ok(())
         }
         None => Ok(()),
     }
@@ -65,10 +63,7 @@ fn named_args(alloc: Global, given: &[Given], wanted: &[u32]) -> Result<Sequence
 {
     let mut values = Sequence::new(alloc);
     for text in wanted {
-        match add_value(&mut values, given_named(given, *text)) {
-            Ok(()) => {}
-            Err(fault) => return Err(fault),
-        }
+        add_value(&mut values, given_named(given, *text))?;
     }
     Ok(values)
 }
@@ -89,7 +84,7 @@ fn method_args(
 
 fn base_args(
     alloc: Global,
-    parsed: &Package,
+    parsed: &PackageNodes,
     sig: BaseSig,
     given: &[Given],
 ) -> Result<Sequence<ExprId>, NoMemory>
@@ -98,10 +93,8 @@ fn base_args(
     let mut values = Sequence::new(alloc);
     let mut i = 0;
     while let Some((arg, _)) = sig.arg(i) {
-        match add_value(&mut values, given_spelt(parsed, given, arg.as_bytes())) {
-            Ok(()) => i += 1,
-            Err(fault) => return Err(fault),
-        }
+        add_value(&mut values, given_spelt(parsed, given, arg.as_bytes()))?;
+        i += 1;
     }
     Ok(values)
 }
@@ -109,7 +102,7 @@ fn base_args(
 /// The values for the arguments of what is called, in order of declaration. An argument that isn't given has none.
 pub fn values(
     alloc: Global,
-    parsed: &Package,
+    parsed: &PackageNodes,
     tables: &Tables,
     callee: Callee,
     given: &[Given],

@@ -12,7 +12,9 @@ ghost use Rattle.wf_names_resolve.specs.Resolved.{number_or as or_zero, base_sta
 
 use crate::numbers::{PackageNumbers, ScopeNumbers};
 use wf_ast::parsed::{Core, Path, Receiver, Root, WrittenMark};
-use wf_ast::{ArgId, ConstId, FieldId, LocalId, MethodId, Package, StatusId, StructId, TextId};
+use wf_ast::{
+    ArgId, ConstId, FieldId, LocalId, MethodId, PackageNodes, StatusId, StructId, TextId,
+};
 use wf_base::Mark;
 use wf_base::base_methods::BaseSig;
 use wf_named::{BaseType, NamedCallee, NamedCore, NamedPath, Variable};
@@ -117,7 +119,7 @@ pub fn path(numbers: &PackageNumbers, around: &ScopeNumbers, path: Path) -> Name
 
 /// What the method name of a call stands for, as the rules of names say it.
 pub fn callee(
-    parsed: &Package,
+    parsed: &PackageNodes,
     numbers: &PackageNumbers,
     around: &ScopeNumbers,
     on: Receiver,
@@ -171,7 +173,7 @@ fn base_method(
 }
 
 /// What is called. `Err` where a method of the package has no number.
-pub fn named_callee(
+pub(crate) fn named_callee(
     numbers: &PackageNumbers,
     around: &ScopeNumbers,
     on: Receiver,
@@ -181,10 +183,8 @@ pub fn named_callee(
 {
     match callee {
         Callee::Own(m) => {
-            match numbered(m) {
-                Ok(m) => Ok(method(numbers, around, on, m)),
-                Err(fault) => Err(fault),
-            }
+            let m = numbered(m)?;
+            Ok(method(numbers, around, on, m))
         }
         Callee::Base(sig) => Ok(base_method(numbers, around, on, sig)),
         Callee::Hidden(_) => Ok(NamedCallee::Own(MethodId(0))),
@@ -229,7 +229,7 @@ fn base_type(name: &[u8]) -> Option<BaseType>
 }
 
 /// What a type ends with, behind its prefixes and in front of its bounds.
-pub fn core(parsed: &Package, numbers: &PackageNumbers, of: Core) -> NamedCore
+pub fn core(parsed: &PackageNodes, numbers: &PackageNumbers, of: Core) -> NamedCore
     ensures { result ≡ resolved_core (bytes_of parsed.now.texts) (get nat_eq numbers.now.structs) of }
 {
     match of {

@@ -17,7 +17,7 @@ use crate::numbers::{PackageNumbers, ScopeNumbers};
 use crate::parts::{base_status, callee, core, mark, named_callee, own_status, path};
 use std::alloc::Global;
 use wf_ast::parsed::{Bounds, Call, Expr, Given, Link, Prefix, TypeExpr};
-use wf_ast::{ExprId, Package, Sequence, StatusId};
+use wf_ast::{ExprId, PackageNodes, Sequence, StatusId};
 use wf_named::{NamedCall, NamedExpr, NamedExprNode, NamedNodes, NamedType};
 use wf_names_rules::tables::text_bytes;
 use wf_text::faults::NoMemory;
@@ -29,10 +29,8 @@ fn put(nodes: &mut NamedNodes, node: NamedExprNode) -> Result<ExprId, NoMemory>
     ensures below { IfOk result (λ e. e.0 < length nodes.new.exprs) }
     ensures made { IfOk result (λ e. expr_at (exprs_of nodes.new) e ≡ expr_made (exprs_of nodes.old) node.expr node.at) }
 {
-    match nodes.push_expr(node) {
-        Ok(e) => Ok(e),
-        Err(_) => Err(NoMemory),
-    }
+    let e = nodes.push_expr(node)?;
+    Ok(e)
 }
 
 /// Adds the nodes of an expression of the parsed package; what was there keeps its numbers and its trees. `Err` also comes
@@ -41,7 +39,7 @@ fn put(nodes: &mut NamedNodes, node: NamedExprNode) -> Result<ExprId, NoMemory>
 pub fn resolve_expr(
     alloc: Global,
     nodes: &mut NamedNodes,
-    parsed: &Package,
+    parsed: &PackageNodes,
     numbers: &PackageNumbers,
     around: &ScopeNumbers,
     e: ExprId,
@@ -51,10 +49,8 @@ pub fn resolve_expr(
     ensures below { IfOk result (λ r. r.0 < length nodes.new.exprs) }
     ensures made { IfOk result (λ r. expr_at (exprs_of nodes.new) r ≡ resolved_expr (standing_by parsed.now.texts numbers.now around.now) (parsed_expr_at (expr_trees parsed.now.exprs) e)) }
 {
-    match resolve_node(alloc, nodes, parsed, numbers, around, e) {
-        Ok(node) => put(nodes, node),
-        Err(fault) => Err(fault),
-    }
+    let node = resolve_node(alloc, nodes, parsed, numbers, around, e)?;
+    put(nodes, node)
 }
 
 // The node of an expression, whose parts are added.
@@ -62,7 +58,7 @@ pub fn resolve_expr(
 fn resolve_node(
     alloc: Global,
     nodes: &mut NamedNodes,
-    parsed: &Package,
+    parsed: &PackageNodes,
     numbers: &PackageNumbers,
     around: &ScopeNumbers,
     e: ExprId,
@@ -100,39 +96,33 @@ fn resolve_node(
         }),
         Expr::Index { base, index } => {
             let array = path(numbers, around, *base);
-            match resolve_expr(alloc, nodes, parsed, numbers, around, *index) {
-                Ok(index) => Ok(NamedExprNode {
-                    expr: NamedExpr::Index { base: array, index },
-                    at: node.at,
-                }),
-                Err(fault) => Err(fault),
-            }
+            let index = resolve_expr(alloc, nodes, parsed, numbers, around, *index)?;
+            Ok(NamedExprNode {
+                expr: NamedExpr::Index { base: array, index },
+                at: node.at,
+            })
         }
         Expr::Slice { base, from, to } => {
             let whole = path(numbers, around, *base);
-            match resolve_parts(alloc, nodes, parsed, numbers, around, *from, *to) {
-                Ok((from, to)) => Ok(NamedExprNode {
-                    expr: NamedExpr::Slice {
-                        base: whole,
-                        from,
-                        to,
-                    },
-                    at: node.at,
-                }),
-                Err(fault) => Err(fault),
-            }
+            let (from, to) = resolve_parts(alloc, nodes, parsed, numbers, around, *from, *to)?;
+            Ok(NamedExprNode {
+                expr: NamedExpr::Slice {
+                    base: whole,
+                    from,
+                    to,
+                },
+                at: node.at,
+            })
         }
         Expr::Call(call) => {
-            match resolve_call(alloc, nodes, parsed, numbers, around, call) {
-                Ok(call) => Ok(NamedExprNode {
-                    expr: NamedExpr::Call(call),
-                    at: node.at,
-                }),
-                Err(fault) => Err(fault),
-            }
+            let call = resolve_call(alloc, nodes, parsed, numbers, around, call)?;
+            Ok(NamedExprNode {
+                expr: NamedExpr::Call(call),
+                at: node.at,
+            })
         }
         Expr::Chain { op, first, links } => {
-            match resolve_chain(
+            let (first, links) = resolve_chain(
                 alloc,
                 nodes,
                 parsed,
@@ -140,45 +130,39 @@ fn resolve_node(
                 around,
                 *first,
                 links.as_slice(),
-            ) {
-                Ok((first, links)) => Ok(NamedExprNode {
-                    expr: NamedExpr::Chain {
-                        op: *op,
-                        first,
-                        links,
-                    },
-                    at: node.at,
-                }),
-                Err(fault) => Err(fault),
-            }
+            )?;
+            Ok(NamedExprNode {
+                expr: NamedExpr::Chain {
+                    op: *op,
+                    first,
+                    links,
+                },
+                at: node.at,
+            })
         }
         Expr::Convert { of, to } => {
-            match resolve_convert(alloc, nodes, parsed, numbers, around, *of, to) {
-                Ok((of, to)) => Ok(NamedExprNode {
-                    expr: NamedExpr::Convert { of, to },
-                    at: node.at,
-                }),
-                Err(fault) => Err(fault),
-            }
+            let (of, to) = resolve_convert(alloc, nodes, parsed, numbers, around, *of, to)?;
+            Ok(NamedExprNode {
+                expr: NamedExpr::Convert { of, to },
+                at: node.at,
+            })
         }
         Expr::Not(of) => {
-            match resolve_expr(alloc, nodes, parsed, numbers, around, *of) {
-                Ok(of) => Ok(NamedExprNode {
-                    expr: NamedExpr::Not(of),
-                    at: node.at,
-                }),
-                Err(fault) => Err(fault),
-            }
+            let of = resolve_expr(alloc, nodes, parsed, numbers, around, *of)?;
+            Ok(NamedExprNode {
+                expr: NamedExpr::Not(of),
+                at: node.at,
+            })
         }
     }
 }
 
 /// Adds the nodes of an expression that may be absent.
 #[cycle(resolve_exprs)]
-pub fn resolve_part(
+pub(crate) fn resolve_part(
     alloc: Global,
     nodes: &mut NamedNodes,
-    parsed: &Package,
+    parsed: &PackageNodes,
     numbers: &PackageNumbers,
     around: &ScopeNumbers,
     part: Option<ExprId>,
@@ -190,10 +174,8 @@ pub fn resolve_part(
 {
     match part {
         Some(e) => {
-            match resolve_expr(alloc, nodes, parsed, numbers, around, e) {
-                Ok(e) => Ok(Some(e)),
-                Err(fault) => Err(fault),
-            }
+            let e = resolve_expr(alloc, nodes, parsed, numbers, around, e)?;
+            Ok(Some(e))
         }
         None => Ok(None),
     }
@@ -203,7 +185,7 @@ pub fn resolve_part(
 fn resolve_parts(
     alloc: Global,
     nodes: &mut NamedNodes,
-    parsed: &Package,
+    parsed: &PackageNodes,
     numbers: &PackageNumbers,
     around: &ScopeNumbers,
     from: Option<ExprId>,
@@ -216,22 +198,16 @@ fn resolve_parts(
     ensures from { IfOk result (λ r. part_at (exprs_of nodes.new) r.0 ≡ resolved_part (standing_by parsed.now.texts numbers.now around.now) (parsed_part_at (expr_trees parsed.now.exprs) from)) }
     ensures to { IfOk result (λ r. part_at (exprs_of nodes.new) r.1 ≡ resolved_part (standing_by parsed.now.texts numbers.now around.now) (parsed_part_at (expr_trees parsed.now.exprs) to)) }
 {
-    match resolve_part(alloc, nodes, parsed, numbers, around, from) {
-        Ok(from) => {
-            match resolve_part(alloc, nodes, parsed, numbers, around, to) {
-                Ok(to) => Ok((from, to)),
-                Err(fault) => Err(fault),
-            }
-        }
-        Err(fault) => Err(fault),
-    }
+    let from = resolve_part(alloc, nodes, parsed, numbers, around, from)?;
+    let to = resolve_part(alloc, nodes, parsed, numbers, around, to)?;
+    Ok((from, to))
 }
 
 #[cycle(resolve_exprs)]
 fn resolve_chain(
     alloc: Global,
     nodes: &mut NamedNodes,
-    parsed: &Package,
+    parsed: &PackageNodes,
     numbers: &PackageNumbers,
     around: &ScopeNumbers,
     first: ExprId,
@@ -244,22 +220,16 @@ fn resolve_chain(
     ensures first { IfOk result (λ r. expr_at (exprs_of nodes.new) r.0 ≡ resolved_expr (standing_by parsed.now.texts numbers.now around.now) (parsed_expr_at (expr_trees parsed.now.exprs) first)) }
     ensures links { IfOk result (λ r. links_at (exprs_of nodes.new) r.1 ≡ resolved_links (standing_by parsed.now.texts numbers.now around.now) (parsed_links_at (expr_trees parsed.now.exprs) links.now)) }
 {
-    match resolve_expr(alloc, nodes, parsed, numbers, around, first) {
-        Ok(first) => {
-            match resolve_links(alloc, nodes, parsed, numbers, around, links) {
-                Ok(links) => Ok((first, links)),
-                Err(fault) => Err(fault),
-            }
-        }
-        Err(fault) => Err(fault),
-    }
+    let first = resolve_expr(alloc, nodes, parsed, numbers, around, first)?;
+    let links = resolve_links(alloc, nodes, parsed, numbers, around, links)?;
+    Ok((first, links))
 }
 
 #[cycle(resolve_exprs)]
 fn resolve_convert(
     alloc: Global,
     nodes: &mut NamedNodes,
-    parsed: &Package,
+    parsed: &PackageNodes,
     numbers: &PackageNumbers,
     around: &ScopeNumbers,
     of: ExprId,
@@ -272,22 +242,16 @@ fn resolve_convert(
     ensures of { IfOk result (λ r. expr_at (exprs_of nodes.new) r.0 ≡ resolved_expr (standing_by parsed.now.texts numbers.now around.now) (parsed_expr_at (expr_trees parsed.now.exprs) of)) }
     ensures to { IfOk result (λ r. type_at (exprs_of nodes.new) r.1 ≡ resolved_type (standing_by parsed.now.texts numbers.now around.now) (parsed_type_at (expr_trees parsed.now.exprs) to.now)) }
 {
-    match resolve_expr(alloc, nodes, parsed, numbers, around, of) {
-        Ok(of) => {
-            match resolve_type(alloc, nodes, parsed, numbers, around, to) {
-                Ok(to) => Ok((of, to)),
-                Err(fault) => Err(fault),
-            }
-        }
-        Err(fault) => Err(fault),
-    }
+    let of = resolve_expr(alloc, nodes, parsed, numbers, around, of)?;
+    let to = resolve_type(alloc, nodes, parsed, numbers, around, to)?;
+    Ok((of, to))
 }
 
 #[cycle(resolve_exprs)]
 fn resolve_links(
     alloc: Global,
     nodes: &mut NamedNodes,
-    parsed: &Package,
+    parsed: &PackageNodes,
     numbers: &PackageNumbers,
     around: &ScopeNumbers,
     links: &[Link],
@@ -299,28 +263,21 @@ fn resolve_links(
 {
     let mut made = Sequence::new(alloc);
     for link in links {
-        match resolve_expr(alloc, nodes, parsed, numbers, around, link.operand) {
-            Ok(operand) => {
-                match made.push(Link {
-                    sign: link.sign,
-                    operand,
-                }) {
-                    Ok(()) => {}
-                    Err(_) => return Err(NoMemory),
-                }
-            }
-            Err(fault) => return Err(fault),
-        }
+        let operand = resolve_expr(alloc, nodes, parsed, numbers, around, link.operand)?;
+        made.push(Link {
+            sign: link.sign,
+            operand,
+        })?;
     }
     Ok(made)
 }
 
 /// Adds the nodes of what is given to a call or to an axiom, and answers it in its order.
 #[cycle(resolve_exprs)]
-pub fn resolve_given(
+pub(crate) fn resolve_given(
     alloc: Global,
     nodes: &mut NamedNodes,
-    parsed: &Package,
+    parsed: &PackageNodes,
     numbers: &PackageNumbers,
     around: &ScopeNumbers,
     given: &[Given],
@@ -332,18 +289,11 @@ pub fn resolve_given(
 {
     let mut made = Sequence::new(alloc);
     for one in given {
-        match resolve_expr(alloc, nodes, parsed, numbers, around, one.value) {
-            Ok(value) => {
-                match made.push(Given {
-                    name: one.name,
-                    value,
-                }) {
-                    Ok(()) => {}
-                    Err(_) => return Err(NoMemory),
-                }
-            }
-            Err(fault) => return Err(fault),
-        }
+        let value = resolve_expr(alloc, nodes, parsed, numbers, around, one.value)?;
+        made.push(Given {
+            name: one.name,
+            value,
+        })?;
     }
     Ok(made)
 }
@@ -351,7 +301,7 @@ pub fn resolve_given(
 // A call, by what is given to it.
 fn finish_call(
     alloc: Global,
-    parsed: &Package,
+    parsed: &PackageNodes,
     numbers: &PackageNumbers,
     around: &ScopeNumbers,
     call: &Call,
@@ -361,28 +311,22 @@ fn finish_call(
     ensures made { (ts : _) (es : _) → given_trees ts given.now ≡ resolved_given (standing_by parsed.now.texts numbers.now around.now) (parsed_given_at es call.now.args) → IfOk result (λ r. call_at ts r ≡ resolved_call (standing_by parsed.now.texts numbers.now around.now) (parsed_call_at es call.now)) }
 {
     let on = callee(parsed, numbers, around, call.on, call.method.text);
-    match values(alloc, parsed, &numbers.tables, on, given.as_slice()) {
-        Ok(args) => {
-            match named_callee(numbers, around, call.on, on) {
-                Ok(callee) => Ok(NamedCall {
-                    callee,
-                    at: call.method.at,
-                    mark: mark(call.mark),
-                    args,
-                }),
-                Err(fault) => Err(fault),
-            }
-        }
-        Err(fault) => Err(fault),
-    }
+    let args = values(alloc, parsed, &numbers.tables, on, given.as_slice())?;
+    let callee = named_callee(numbers, around, call.on, on)?;
+    Ok(NamedCall {
+        callee,
+        at: call.method.at,
+        mark: mark(call.mark),
+        args,
+    })
 }
 
 /// Adds the nodes of a call's arguments, and answers the call.
 #[cycle(resolve_exprs)]
-pub fn resolve_call(
+pub(crate) fn resolve_call(
     alloc: Global,
     nodes: &mut NamedNodes,
-    parsed: &Package,
+    parsed: &PackageNodes,
     numbers: &PackageNumbers,
     around: &ScopeNumbers,
     call: &Call,
@@ -392,17 +336,15 @@ pub fn resolve_call(
     ensures below { IfOk result (λ r. ArgsBelow (length nodes.new.exprs) r.args) }
     ensures made { IfOk result (λ r. call_at (exprs_of nodes.new) r ≡ resolved_call (standing_by parsed.now.texts numbers.now around.now) (parsed_call_at (expr_trees parsed.now.exprs) call.now)) }
 {
-    match resolve_given(alloc, nodes, parsed, numbers, around, call.args.as_slice()) {
-        Ok(given) => finish_call(alloc, parsed, numbers, around, call, &given),
-        Err(fault) => Err(fault),
-    }
+    let given = resolve_given(alloc, nodes, parsed, numbers, around, call.args.as_slice())?;
+    finish_call(alloc, parsed, numbers, around, call, &given)
 }
 
 #[cycle(resolve_exprs)]
 fn resolve_prefix(
     alloc: Global,
     nodes: &mut NamedNodes,
-    parsed: &Package,
+    parsed: &PackageNodes,
     numbers: &PackageNumbers,
     around: &ScopeNumbers,
     prefix: Prefix,
@@ -415,10 +357,8 @@ fn resolve_prefix(
     match prefix {
         Prefix::Slice(at) => Ok(Prefix::Slice(at)),
         Prefix::Array { length, at } => {
-            match resolve_expr(alloc, nodes, parsed, numbers, around, length) {
-                Ok(length) => Ok(Prefix::Array { length, at }),
-                Err(fault) => Err(fault),
-            }
+            let length = resolve_expr(alloc, nodes, parsed, numbers, around, length)?;
+            Ok(Prefix::Array { length, at })
         }
     }
 }
@@ -427,7 +367,7 @@ fn resolve_prefix(
 fn resolve_prefixes(
     alloc: Global,
     nodes: &mut NamedNodes,
-    parsed: &Package,
+    parsed: &PackageNodes,
     numbers: &PackageNumbers,
     around: &ScopeNumbers,
     prefixes: &[Prefix],
@@ -439,15 +379,8 @@ fn resolve_prefixes(
 {
     let mut made = Sequence::new(alloc);
     for prefix in prefixes {
-        match resolve_prefix(alloc, nodes, parsed, numbers, around, *prefix) {
-            Ok(next) => {
-                match made.push(next) {
-                    Ok(()) => {}
-                    Err(_) => return Err(NoMemory),
-                }
-            }
-            Err(fault) => return Err(fault),
-        }
+        let next = resolve_prefix(alloc, nodes, parsed, numbers, around, *prefix)?;
+        made.push(next)?;
     }
     Ok(made)
 }
@@ -456,7 +389,7 @@ fn resolve_prefixes(
 fn resolve_bounds(
     alloc: Global,
     nodes: &mut NamedNodes,
-    parsed: &Package,
+    parsed: &PackageNodes,
     numbers: &PackageNumbers,
     around: &ScopeNumbers,
     bounds: Option<Bounds>,
@@ -468,15 +401,9 @@ fn resolve_bounds(
 {
     match bounds {
         Some(bounds) => {
-            match resolve_part(alloc, nodes, parsed, numbers, around, bounds.low) {
-                Ok(low) => {
-                    match resolve_expr(alloc, nodes, parsed, numbers, around, bounds.high) {
-                        Ok(high) => Ok(Some(Bounds { low, high })),
-                        Err(fault) => Err(fault),
-                    }
-                }
-                Err(fault) => Err(fault),
-            }
+            let low = resolve_part(alloc, nodes, parsed, numbers, around, bounds.low)?;
+            let high = resolve_expr(alloc, nodes, parsed, numbers, around, bounds.high)?;
+            Ok(Some(Bounds { low, high }))
         }
         None => Ok(None),
     }
@@ -487,7 +414,7 @@ fn resolve_bounds(
 pub fn resolve_type(
     alloc: Global,
     nodes: &mut NamedNodes,
-    parsed: &Package,
+    parsed: &PackageNodes,
     numbers: &PackageNumbers,
     around: &ScopeNumbers,
     of: &TypeExpr,
@@ -497,24 +424,18 @@ pub fn resolve_type(
     ensures below { IfOk result (λ r. NamedTypeBelow (length nodes.new.exprs) r) }
     ensures made { IfOk result (λ r. type_at (exprs_of nodes.new) r ≡ resolved_type (standing_by parsed.now.texts numbers.now around.now) (parsed_type_at (expr_trees parsed.now.exprs) of.now)) }
 {
-    match resolve_prefixes(
+    let prefixes = resolve_prefixes(
         alloc,
         nodes,
         parsed,
         numbers,
         around,
         of.prefixes.as_slice(),
-    ) {
-        Ok(prefixes) => {
-            match resolve_bounds(alloc, nodes, parsed, numbers, around, of.bounds) {
-                Ok(bounds) => Ok(NamedType {
-                    prefixes,
-                    core: core(parsed, numbers, of.core),
-                    bounds,
-                }),
-                Err(fault) => Err(fault),
-            }
-        }
-        Err(fault) => Err(fault),
-    }
+    )?;
+    let bounds = resolve_bounds(alloc, nodes, parsed, numbers, around, of.bounds)?;
+    Ok(NamedType {
+        prefixes,
+        core: core(parsed, numbers, of.core),
+        bounds,
+    })
 }

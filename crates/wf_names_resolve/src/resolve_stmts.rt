@@ -19,7 +19,7 @@ use crate::simple_stmts::resolve_simple;
 use crate::stmt_parts::resolve_head;
 use std::alloc::Global;
 use wf_ast::parsed::{Arm, Block, LoopClause, Name, Stmt};
-use wf_ast::{ExprId, Package, Sequence, StmtId};
+use wf_ast::{ExprId, PackageNodes, Sequence, StmtId};
 use wf_named::{NamedNodes, NamedStmt, NamedStmtNode};
 use wf_text::Place;
 use wf_text::faults::NoMemory;
@@ -31,10 +31,8 @@ fn put(nodes: &mut NamedNodes, stmt: NamedStmt, at: Place) -> Result<StmtId, NoM
     ensures below { IfOk result (λ s. s.0 < length nodes.new.stmts) }
     ensures made { IfOk result (λ s. stmt_at (stmts_of nodes.new) s ≡ stmt_made nodes.old.texts (exprs_of nodes.old) (stmts_of nodes.old) stmt at) }
 {
-    match nodes.push_stmt(NamedStmtNode { stmt, at }) {
-        Ok(s) => Ok(s),
-        Err(_) => Err(NoMemory),
-    }
+    let s = nodes.push_stmt(NamedStmtNode { stmt, at })?;
+    Ok(s)
 }
 
 // Adds a statement, if there is one.
@@ -50,10 +48,8 @@ fn put_made(
 {
     match stmt {
         Some(stmt) => {
-            match put(nodes, stmt, at) {
-                Ok(s) => Ok(Some(s)),
-                Err(fault) => Err(fault),
-            }
+            let s = put(nodes, stmt, at)?;
+            Ok(Some(s))
         }
         None => Ok(None),
     }
@@ -64,10 +60,8 @@ fn add_stmt(made: &mut Sequence<StmtId>, one: Option<StmtId>) -> Result<(), NoMe
 {
     match one {
         Some(s) => {
-            match made.push(s) {
-                Ok(()) => Ok(()),
-                Err(_) => Err(NoMemory),
-            }
+            made.push(s)?;
+            Ok(())
         }
         None => Ok(()),
     }
@@ -79,7 +73,7 @@ fn add_stmt(made: &mut Sequence<StmtId>, one: Option<StmtId>) -> Result<(), NoMe
 fn resolve_stmt(
     alloc: Global,
     nodes: &mut NamedNodes,
-    parsed: &Package,
+    parsed: &PackageNodes,
     numbers: &PackageNumbers,
     around: &ScopeNumbers,
     labels: &mut Vec<Option<Name>>,
@@ -92,10 +86,8 @@ fn resolve_stmt(
     ensures made { IfOk result (λ r. stmt_in (stmts_of nodes.new) r ≡ resolved_stmt (standing_by parsed.now.texts numbers.now around.now) labels.old.items (parsed_stmt_at (stmt_trees parsed.now.exprs parsed.now.stmts) s)) }
 {
     let node = parsed.stmt(s);
-    match resolve_parts(alloc, nodes, parsed, numbers, around, labels, &node.stmt) {
-        Ok(stmt) => put_made(nodes, stmt, node.at),
-        Err(fault) => Err(fault),
-    }
+    let stmt = resolve_parts(alloc, nodes, parsed, numbers, around, labels, &node.stmt)?;
+    put_made(nodes, stmt, node.at)
 }
 
 // Adds the nodes of a statement's parts, and answers what it makes.
@@ -103,7 +95,7 @@ fn resolve_stmt(
 fn resolve_parts(
     alloc: Global,
     nodes: &mut NamedNodes,
-    parsed: &Package,
+    parsed: &PackageNodes,
     numbers: &PackageNumbers,
     around: &ScopeNumbers,
     labels: &mut Vec<Option<Name>>,
@@ -117,7 +109,7 @@ fn resolve_parts(
 {
     match stmt {
         Stmt::If { arms, otherwise } => {
-            match resolve_if(
+            let stmt = resolve_if(
                 alloc,
                 nodes,
                 parsed,
@@ -126,10 +118,8 @@ fn resolve_parts(
                 labels,
                 arms.as_slice(),
                 otherwise,
-            ) {
-                Ok(stmt) => Ok(Some(stmt)),
-                Err(fault) => Err(fault),
-            }
+            )?;
+            Ok(Some(stmt))
         }
         Stmt::While {
             label,
@@ -137,21 +127,14 @@ fn resolve_parts(
             clauses,
             body,
         } => {
-            match resolve_loop(
-                alloc,
-                nodes,
-                parsed,
-                numbers,
-                around,
-                labels,
-                *label,
-                *condition,
-                clauses.as_slice(),
+            let it = Loop {
+                label: *label,
+                condition: *condition,
+                clauses: clauses.as_slice(),
                 body,
-            ) {
-                Ok(stmt) => Ok(Some(stmt)),
-                Err(fault) => Err(fault),
-            }
+            };
+            let stmt = resolve_loop(alloc, nodes, parsed, numbers, around, labels, it)?;
+            Ok(Some(stmt))
         }
         _ => resolve_simple(
             alloc,
@@ -169,7 +152,7 @@ fn resolve_parts(
 fn resolve_block(
     alloc: Global,
     nodes: &mut NamedNodes,
-    parsed: &Package,
+    parsed: &PackageNodes,
     numbers: &PackageNumbers,
     around: &ScopeNumbers,
     labels: &mut Vec<Option<Name>>,
@@ -183,15 +166,8 @@ fn resolve_block(
 {
     let mut made = Sequence::new(alloc);
     for s in block.items.as_slice() {
-        match resolve_stmt(alloc, nodes, parsed, numbers, around, labels, *s) {
-            Ok(one) => {
-                match add_stmt(&mut made, one) {
-                    Ok(()) => {}
-                    Err(fault) => return Err(fault),
-                }
-            }
-            Err(fault) => return Err(fault),
-        }
+        let one = resolve_stmt(alloc, nodes, parsed, numbers, around, labels, *s)?;
+        add_stmt(&mut made, one)?;
     }
     Ok(Block {
         items: made,
@@ -203,7 +179,7 @@ fn resolve_block(
 fn resolve_arm(
     alloc: Global,
     nodes: &mut NamedNodes,
-    parsed: &Package,
+    parsed: &PackageNodes,
     numbers: &PackageNumbers,
     around: &ScopeNumbers,
     labels: &mut Vec<Option<Name>>,
@@ -217,15 +193,9 @@ fn resolve_arm(
     ensures condition { IfOk result (λ r. expr_at (exprs_of nodes.new) r.condition ≡ resolved_expr (standing_by parsed.now.texts numbers.now around.now) (parsed_expr_at (expr_trees parsed.now.exprs) arm.now.condition)) }
     ensures body { IfOk result (λ r. block_at (stmts_of nodes.new) r.body ≡ resolved_block (standing_by parsed.now.texts numbers.now around.now) labels.old.items (parsed_block_at (stmt_trees parsed.now.exprs parsed.now.stmts) arm.now.body)) }
 {
-    match resolve_expr(alloc, nodes, parsed, numbers, around, arm.condition) {
-        Ok(condition) => {
-            match resolve_block(alloc, nodes, parsed, numbers, around, labels, &arm.body) {
-                Ok(body) => Ok(Arm { condition, body }),
-                Err(fault) => Err(fault),
-            }
-        }
-        Err(fault) => Err(fault),
-    }
+    let condition = resolve_expr(alloc, nodes, parsed, numbers, around, arm.condition)?;
+    let body = resolve_block(alloc, nodes, parsed, numbers, around, labels, &arm.body)?;
+    Ok(Arm { condition, body })
 }
 
 // The arms of an `if`, which make the same in front of whatever stands behind them.
@@ -233,7 +203,7 @@ fn resolve_arm(
 fn resolve_arms(
     alloc: Global,
     nodes: &mut NamedNodes,
-    parsed: &Package,
+    parsed: &PackageNodes,
     numbers: &PackageNumbers,
     around: &ScopeNumbers,
     labels: &mut Vec<Option<Name>>,
@@ -247,15 +217,8 @@ fn resolve_arms(
 {
     let mut made = Sequence::new(alloc);
     for arm in arms {
-        match resolve_arm(alloc, nodes, parsed, numbers, around, labels, arm) {
-            Ok(one) => {
-                match made.push(one) {
-                    Ok(()) => {}
-                    Err(_) => return Err(NoMemory),
-                }
-            }
-            Err(fault) => return Err(fault),
-        }
+        let one = resolve_arm(alloc, nodes, parsed, numbers, around, labels, arm)?;
+        made.push(one)?;
     }
     Ok(made)
 }
@@ -264,7 +227,7 @@ fn resolve_arms(
 fn resolve_else(
     alloc: Global,
     nodes: &mut NamedNodes,
-    parsed: &Package,
+    parsed: &PackageNodes,
     numbers: &PackageNumbers,
     around: &ScopeNumbers,
     labels: &mut Vec<Option<Name>>,
@@ -278,10 +241,8 @@ fn resolve_else(
 {
     match otherwise {
         Some(block) => {
-            match resolve_block(alloc, nodes, parsed, numbers, around, labels, block) {
-                Ok(block) => Ok(Some(block)),
-                Err(fault) => Err(fault),
-            }
+            let block = resolve_block(alloc, nodes, parsed, numbers, around, labels, block)?;
+            Ok(Some(block))
         }
         None => Ok(None),
     }
@@ -292,7 +253,7 @@ fn resolve_else(
 fn resolve_if(
     alloc: Global,
     nodes: &mut NamedNodes,
-    parsed: &Package,
+    parsed: &PackageNodes,
     numbers: &PackageNumbers,
     around: &ScopeNumbers,
     labels: &mut Vec<Option<Name>>,
@@ -306,15 +267,9 @@ fn resolve_if(
     ensures below { IfOk result (λ r. NamedStmtParts (length nodes.new.texts) (length nodes.new.exprs) (length nodes.new.stmts) r) }
     ensures made { IfOk result (λ r. (at : _) → stmt_made nodes.new.texts (exprs_of nodes.new) (stmts_of nodes.new) r at ≡ named_tree.branch (resolved_arms (standing_by parsed.now.texts numbers.now around.now) labels.old.items (parsed_arms_at (expr_trees parsed.now.exprs) (stmt_trees parsed.now.exprs parsed.now.stmts) arms.now (parsed_else_at (stmt_trees parsed.now.exprs parsed.now.stmts) otherwise.now))) at) }
 {
-    match resolve_arms(alloc, nodes, parsed, numbers, around, labels, arms) {
-        Ok(arms) => {
-            match resolve_else(alloc, nodes, parsed, numbers, around, labels, otherwise) {
-                Ok(otherwise) => Ok(NamedStmt::If { arms, otherwise }),
-                Err(fault) => Err(fault),
-            }
-        }
-        Err(fault) => Err(fault),
-    }
+    let arms = resolve_arms(alloc, nodes, parsed, numbers, around, labels, arms)?;
+    let otherwise = resolve_else(alloc, nodes, parsed, numbers, around, labels, otherwise)?;
+    Ok(NamedStmt::If { arms, otherwise })
 }
 
 // The body of a loop, whose label is among those round it.
@@ -322,7 +277,7 @@ fn resolve_if(
 fn resolve_inside(
     alloc: Global,
     nodes: &mut NamedNodes,
-    parsed: &Package,
+    parsed: &PackageNodes,
     numbers: &PackageNumbers,
     around: &ScopeNumbers,
     labels: &mut Vec<Option<Name>>,
@@ -335,17 +290,19 @@ fn resolve_inside(
     ensures below { IfOk result (λ r. BlockBelow (length nodes.new.stmts) r) }
     ensures made { IfOk result (λ r. block_at (stmts_of nodes.new) r ≡ resolved_block (standing_by parsed.now.texts numbers.now around.now) (labels.old.items ++ label ∷ []) (parsed_block_at (stmt_trees parsed.now.exprs parsed.now.stmts) body.now)) }
 {
-    match labels.push(label) {
-        Ok(()) => {}
-        Err(_) => return Err(NoMemory),
-    }
-    match resolve_block(alloc, nodes, parsed, numbers, around, labels, body) {
-        Ok(block) => {
-            labels.pop();
-            Ok(block)
-        }
-        Err(fault) => Err(fault),
-    }
+    labels.push(label)?;
+    let block = resolve_block(alloc, nodes, parsed, numbers, around, labels, body)?;
+    labels.pop();
+    Ok(block)
+}
+
+// A loop as it is written.
+#[derive(Clone, Copy)]
+struct Loop<'a> {
+    label: Option<Name>,
+    condition: ExprId,
+    clauses: &'a [LoopClause],
+    body: &'a Block,
 }
 
 // A loop: its condition and its promises, then its body.
@@ -353,43 +310,44 @@ fn resolve_inside(
 fn resolve_loop(
     alloc: Global,
     nodes: &mut NamedNodes,
-    parsed: &Package,
+    parsed: &PackageNodes,
     numbers: &PackageNumbers,
     around: &ScopeNumbers,
     labels: &mut Vec<Option<Name>>,
-    label: Option<Name>,
-    condition: ExprId,
-    clauses: &[LoopClause],
-    body: &Block,
+    it: Loop<'_>,
 ) -> Result<NamedStmt, NoMemory>
-    requires condition { condition.0 < length parsed.now.exprs }
-    requires clauses { AllByRecursion (λ c. c.condition.0 < length parsed.now.exprs) clauses.now }
-    requires body { BlockBelow (length parsed.now.stmts) body.now }
+    requires condition { it.condition.0 < length parsed.now.exprs }
+    requires clauses { AllByRecursion (λ c. c.condition.0 < length parsed.now.exprs) it.clauses.now }
+    requires body { BlockBelow (length parsed.now.stmts) it.body.now }
     ensures grows { OnOk result (Grows nodes.old nodes.new) }
     ensures labels { OnOk result (labels.new.items ≡ labels.old.items) }
     ensures below { IfOk result (λ r. NamedStmtParts (length nodes.new.texts) (length nodes.new.exprs) (length nodes.new.stmts) r) }
-    ensures made { IfOk result (λ r. (at : _) → stmt_made nodes.new.texts (exprs_of nodes.new) (stmts_of nodes.new) r at ≡ named_tree.loop (resolved_expr (standing_by parsed.now.texts numbers.now around.now) (parsed_expr_at (expr_trees parsed.now.exprs) condition)) (resolved_clauses (standing_by parsed.now.texts numbers.now around.now) (parsed_clauses_at (expr_trees parsed.now.exprs) clauses.now)) (resolved_block (standing_by parsed.now.texts numbers.now around.now) (labels.old.items ++ label ∷ []) (parsed_block_at (stmt_trees parsed.now.exprs parsed.now.stmts) body.now)) at) }
+    ensures made { IfOk result (λ r. (at : _) → stmt_made nodes.new.texts (exprs_of nodes.new) (stmts_of nodes.new) r at ≡ named_tree.loop (resolved_expr (standing_by parsed.now.texts numbers.now around.now) (parsed_expr_at (expr_trees parsed.now.exprs) it.entry.condition)) (resolved_clauses (standing_by parsed.now.texts numbers.now around.now) (parsed_clauses_at (expr_trees parsed.now.exprs) it.entry.clauses.now)) (resolved_block (standing_by parsed.now.texts numbers.now around.now) (labels.old.items ++ it.entry.label ∷ []) (parsed_block_at (stmt_trees parsed.now.exprs parsed.now.stmts) it.entry.body.now)) at) }
 {
-    match resolve_head(alloc, nodes, parsed, numbers, around, condition, clauses) {
-        Ok((condition, clauses)) => {
-            match resolve_inside(alloc, nodes, parsed, numbers, around, labels, label, body) {
-                Ok(body) => Ok(NamedStmt::While {
-                    condition,
-                    clauses,
-                    body,
-                }),
-                Err(fault) => Err(fault),
-            }
-        }
-        Err(fault) => Err(fault),
-    }
+    let (condition, clauses) = resolve_head(
+        alloc,
+        nodes,
+        parsed,
+        numbers,
+        around,
+        it.condition,
+        it.clauses,
+    )?;
+    let body = resolve_inside(
+        alloc, nodes, parsed, numbers, around, labels, it.label, it.body,
+    )?;
+    Ok(NamedStmt::While {
+        condition,
+        clauses,
+        body,
+    })
 }
 
 /// Adds the nodes of a method's body, and answers the block. `Err` also comes where no number is left.
 pub fn resolve_body(
     alloc: Global,
     nodes: &mut NamedNodes,
-    parsed: &Package,
+    parsed: &PackageNodes,
     numbers: &PackageNumbers,
     around: &ScopeNumbers,
     body: &Block,

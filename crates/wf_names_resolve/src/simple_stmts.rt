@@ -14,17 +14,17 @@ use crate::resolve_exprs::{resolve_call, resolve_expr, resolve_part};
 use crate::stmt_parts::{outwards, resolve_assign, resolve_keep};
 use crate::words::resolve_assert;
 use std::alloc::Global;
-use wf_ast::Package;
+use wf_ast::PackageNodes;
 use wf_ast::parsed::{Name, Stmt};
 use wf_named::{NamedNodes, NamedStmt};
 use wf_text::faults::NoMemory;
 
 /// Adds the nodes of a statement's parts and answers what it makes, None where it declares a local. `labels` are those
 /// of the loops round it, the outermost first.
-pub fn resolve_simple(
+pub(crate) fn resolve_simple(
     alloc: Global,
     nodes: &mut NamedNodes,
-    parsed: &Package,
+    parsed: &PackageNodes,
     numbers: &PackageNumbers,
     around: &ScopeNumbers,
     labels: &[Option<Name>],
@@ -44,57 +44,45 @@ pub fn resolve_simple(
             sign,
             value,
         } => {
-            match resolve_assign(alloc, nodes, parsed, numbers, around, *target, *value) {
-                Ok((target, value)) => Ok(Some(NamedStmt::Assign {
-                    target,
-                    op: *op,
-                    sign: *sign,
-                    value,
-                })),
-                Err(fault) => Err(fault),
-            }
+            let (target, value) = resolve_assign(
+                alloc, nodes, parsed, numbers, around, *target, *value,
+            )?;
+            Ok(Some(NamedStmt::Assign {
+                target,
+                op: *op,
+                sign: *sign,
+                value,
+            }))
         }
         Stmt::Keep { target, call } => {
-            match resolve_keep(alloc, nodes, parsed, numbers, around, *target, call) {
-                Ok((target, call)) => Ok(Some(NamedStmt::Keep { target, call })),
-                Err(fault) => Err(fault),
-            }
+            let (target, call) = resolve_keep(
+                alloc, nodes, parsed, numbers, around, *target, call,
+            )?;
+            Ok(Some(NamedStmt::Keep { target, call }))
         }
         Stmt::Call(call) => {
-            match resolve_call(alloc, nodes, parsed, numbers, around, call) {
-                Ok(call) => Ok(Some(NamedStmt::Call(call))),
-                Err(fault) => Err(fault),
-            }
+            let call = resolve_call(alloc, nodes, parsed, numbers, around, call)?;
+            Ok(Some(NamedStmt::Call(call)))
         }
         Stmt::Break(label) => {
-            match outwards(labels, *label) {
-                Ok(count) => Ok(Some(NamedStmt::Break(count))),
-                Err(fault) => Err(fault),
-            }
+            let count = outwards(labels, *label)?;
+            Ok(Some(NamedStmt::Break(count)))
         }
         Stmt::Continue(label) => {
-            match outwards(labels, *label) {
-                Ok(count) => Ok(Some(NamedStmt::Continue(count))),
-                Err(fault) => Err(fault),
-            }
+            let count = outwards(labels, *label)?;
+            Ok(Some(NamedStmt::Continue(count)))
         }
         Stmt::Return(value) => {
-            match resolve_part(alloc, nodes, parsed, numbers, around, *value) {
-                Ok(value) => Ok(Some(NamedStmt::Return(value))),
-                Err(fault) => Err(fault),
-            }
+            let value = resolve_part(alloc, nodes, parsed, numbers, around, *value)?;
+            Ok(Some(NamedStmt::Return(value)))
         }
         Stmt::Yield(value) => {
-            match resolve_expr(alloc, nodes, parsed, numbers, around, *value) {
-                Ok(value) => Ok(Some(NamedStmt::Yield(value))),
-                Err(fault) => Err(fault),
-            }
+            let value = resolve_expr(alloc, nodes, parsed, numbers, around, *value)?;
+            Ok(Some(NamedStmt::Yield(value)))
         }
         Stmt::Assert { goal, via } => {
-            match resolve_assert(alloc, nodes, parsed, numbers, around, *goal, via) {
-                Ok((goal, via)) => Ok(Some(NamedStmt::Assert { goal, via })),
-                Err(fault) => Err(fault),
-            }
+            let (goal, via) = resolve_assert(alloc, nodes, parsed, numbers, around, *goal, via)?;
+            Ok(Some(NamedStmt::Assert { goal, via }))
         }
         _ => unreachable!(),
     }

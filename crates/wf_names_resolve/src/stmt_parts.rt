@@ -15,7 +15,7 @@ use crate::parts::path;
 use crate::resolve_exprs::{resolve_call, resolve_expr};
 use std::alloc::Global;
 use wf_ast::parsed::{Call, LoopClause, Name, Target};
-use wf_ast::{ExprId, Package, Sequence};
+use wf_ast::{ExprId, PackageNodes, Sequence};
 use wf_named::{NamedCall, NamedNodes, NamedTarget};
 use wf_text::faults::NoMemory;
 
@@ -64,10 +64,10 @@ pub fn outwards(labels: &[Option<Name>], label: Option<Name>) -> Result<u32, NoM
 }
 
 /// Adds the nodes of what is written to, and answers it.
-pub fn resolve_target(
+pub(crate) fn resolve_target(
     alloc: Global,
     nodes: &mut NamedNodes,
-    parsed: &Package,
+    parsed: &PackageNodes,
     numbers: &PackageNumbers,
     around: &ScopeNumbers,
     target: Target,
@@ -81,23 +81,21 @@ pub fn resolve_target(
         Target::Path(of) => Ok(NamedTarget::Path(path(numbers, around, of))),
         Target::Element { base, index, at } => {
             let array = path(numbers, around, base);
-            match resolve_expr(alloc, nodes, parsed, numbers, around, index) {
-                Ok(index) => Ok(NamedTarget::Element {
-                    base: array,
-                    index,
-                    at,
-                }),
-                Err(fault) => Err(fault),
-            }
+            let index = resolve_expr(alloc, nodes, parsed, numbers, around, index)?;
+            Ok(NamedTarget::Element {
+                base: array,
+                index,
+                at,
+            })
         }
     }
 }
 
 /// Adds the nodes of a loop's promises, and answers these in their order.
-pub fn resolve_clauses(
+pub(crate) fn resolve_clauses(
     alloc: Global,
     nodes: &mut NamedNodes,
-    parsed: &Package,
+    parsed: &PackageNodes,
     numbers: &PackageNumbers,
     around: &ScopeNumbers,
     clauses: &[LoopClause],
@@ -109,28 +107,21 @@ pub fn resolve_clauses(
 {
     let mut made = Sequence::new(alloc);
     for clause in clauses {
-        match resolve_expr(alloc, nodes, parsed, numbers, around, clause.condition) {
-            Ok(condition) => {
-                match made.push(LoopClause {
-                    kind: clause.kind,
-                    condition,
-                    at: clause.at,
-                }) {
-                    Ok(()) => {}
-                    Err(_) => return Err(NoMemory),
-                }
-            }
-            Err(fault) => return Err(fault),
-        }
+        let condition = resolve_expr(alloc, nodes, parsed, numbers, around, clause.condition)?;
+        made.push(LoopClause {
+            kind: clause.kind,
+            condition,
+            at: clause.at,
+        })?;
     }
     Ok(made)
 }
 
 /// Adds the nodes of what is written to and of a value, and answers both.
-pub fn resolve_assign(
+pub(crate) fn resolve_assign(
     alloc: Global,
     nodes: &mut NamedNodes,
-    parsed: &Package,
+    parsed: &PackageNodes,
     numbers: &PackageNumbers,
     around: &ScopeNumbers,
     target: Target,
@@ -143,22 +134,16 @@ pub fn resolve_assign(
     ensures target { IfOk result (λ r. target_at (exprs_of nodes.new) r.0 ≡ resolved_target (standing_by parsed.now.texts numbers.now around.now) (parsed_target_at (expr_trees parsed.now.exprs) target)) }
     ensures value { IfOk result (λ r. expr_at (exprs_of nodes.new) r.1 ≡ resolved_expr (standing_by parsed.now.texts numbers.now around.now) (parsed_expr_at (expr_trees parsed.now.exprs) value)) }
 {
-    match resolve_target(alloc, nodes, parsed, numbers, around, target) {
-        Ok(target) => {
-            match resolve_expr(alloc, nodes, parsed, numbers, around, value) {
-                Ok(value) => Ok((target, value)),
-                Err(fault) => Err(fault),
-            }
-        }
-        Err(fault) => Err(fault),
-    }
+    let target = resolve_target(alloc, nodes, parsed, numbers, around, target)?;
+    let value = resolve_expr(alloc, nodes, parsed, numbers, around, value)?;
+    Ok((target, value))
 }
 
 /// Adds the nodes of what is written to and of a call's arguments, and answers both.
-pub fn resolve_keep(
+pub(crate) fn resolve_keep(
     alloc: Global,
     nodes: &mut NamedNodes,
-    parsed: &Package,
+    parsed: &PackageNodes,
     numbers: &PackageNumbers,
     around: &ScopeNumbers,
     target: Target,
@@ -171,22 +156,16 @@ pub fn resolve_keep(
     ensures target { IfOk result (λ r. target_at (exprs_of nodes.new) r.0 ≡ resolved_target (standing_by parsed.now.texts numbers.now around.now) (parsed_target_at (expr_trees parsed.now.exprs) target)) }
     ensures call { IfOk result (λ r. call_at (exprs_of nodes.new) r.1 ≡ resolved_call (standing_by parsed.now.texts numbers.now around.now) (parsed_call_at (expr_trees parsed.now.exprs) call.now)) }
 {
-    match resolve_target(alloc, nodes, parsed, numbers, around, target) {
-        Ok(target) => {
-            match resolve_call(alloc, nodes, parsed, numbers, around, call) {
-                Ok(call) => Ok((target, call)),
-                Err(fault) => Err(fault),
-            }
-        }
-        Err(fault) => Err(fault),
-    }
+    let target = resolve_target(alloc, nodes, parsed, numbers, around, target)?;
+    let call = resolve_call(alloc, nodes, parsed, numbers, around, call)?;
+    Ok((target, call))
 }
 
 /// Adds the nodes of a loop's condition and of its promises, and answers both.
-pub fn resolve_head(
+pub(crate) fn resolve_head(
     alloc: Global,
     nodes: &mut NamedNodes,
-    parsed: &Package,
+    parsed: &PackageNodes,
     numbers: &PackageNumbers,
     around: &ScopeNumbers,
     condition: ExprId,
@@ -199,13 +178,7 @@ pub fn resolve_head(
     ensures condition { IfOk result (λ r. expr_at (exprs_of nodes.new) r.0 ≡ resolved_expr (standing_by parsed.now.texts numbers.now around.now) (parsed_expr_at (expr_trees parsed.now.exprs) condition)) }
     ensures clauses { IfOk result (λ r. clauses_at (exprs_of nodes.new) r.1 ≡ resolved_clauses (standing_by parsed.now.texts numbers.now around.now) (parsed_clauses_at (expr_trees parsed.now.exprs) clauses.now)) }
 {
-    match resolve_expr(alloc, nodes, parsed, numbers, around, condition) {
-        Ok(condition) => {
-            match resolve_clauses(alloc, nodes, parsed, numbers, around, clauses) {
-                Ok(clauses) => Ok((condition, clauses)),
-                Err(fault) => Err(fault),
-            }
-        }
-        Err(fault) => Err(fault),
-    }
+    let condition = resolve_expr(alloc, nodes, parsed, numbers, around, condition)?;
+    let clauses = resolve_clauses(alloc, nodes, parsed, numbers, around, clauses)?;
+    Ok((condition, clauses))
 }

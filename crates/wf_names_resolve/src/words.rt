@@ -16,27 +16,29 @@ use crate::numbers::{PackageNumbers, ScopeNumbers};
 use crate::resolve_exprs::{resolve_expr, resolve_given};
 use std::alloc::Global;
 use wf_ast::parsed::{Given, Name, Via};
-use wf_ast::{ExprId, Package, Sequence};
+use wf_ast::{ExprId, PackageNodes, Sequence};
 use wf_named::NamedNodes;
 use wf_names_rules::tables::text_bytes;
 use wf_text::faults::NoMemory;
 
 /// A name whose text is one of the resolved package, which it joins where it isn't.
-pub fn named_word(nodes: &mut NamedNodes, parsed: &Package, name: Name) -> Result<Name, NoMemory>
+pub fn named_word(
+    nodes: &mut NamedNodes,
+    parsed: &PackageNodes,
+    name: Name,
+) -> Result<Name, NoMemory>
     ensures grows { OnOk result (Grows nodes.old nodes.new) }
     ensures below { IfOk result (λ r. r.text.0 < length nodes.new.texts) }
     ensures made { IfOk result (λ r. word_at nodes.new.texts r ≡ word_of (bytes_of parsed.now.texts) name) }
 {
-    match nodes.intern(text_bytes(parsed, name.text)) {
-        Ok(text) => Ok(Name { text, at: name.at }),
-        Err(_) => Err(NoMemory),
-    }
+    let text = nodes.intern(text_bytes(parsed, name.text))?;
+    Ok(Name { text, at: name.at })
 }
 
 fn named_letters(
     alloc: Global,
     nodes: &mut NamedNodes,
-    parsed: &Package,
+    parsed: &PackageNodes,
     given: &[Given],
 ) -> Result<Sequence<Given>, NoMemory>
     requires { GivenBelow (length nodes.old.exprs) given.now }
@@ -46,18 +48,11 @@ fn named_letters(
 {
     let mut made = Sequence::new(alloc);
     for one in given {
-        match named_word(nodes, parsed, one.name) {
-            Ok(name) => {
-                match made.push(Given {
-                    name,
-                    value: one.value,
-                }) {
-                    Ok(()) => {}
-                    Err(_) => return Err(NoMemory),
-                }
-            }
-            Err(fault) => return Err(fault),
-        }
+        let name = named_word(nodes, parsed, one.name)?;
+        made.push(Given {
+            name,
+            value: one.value,
+        })?;
     }
     Ok(made)
 }
@@ -66,7 +61,7 @@ fn named_letters(
 fn finish_via(
     alloc: Global,
     nodes: &mut NamedNodes,
-    parsed: &Package,
+    parsed: &PackageNodes,
     name: Name,
     given: &Sequence<Given>,
 ) -> Result<Via, NoMemory>
@@ -76,22 +71,16 @@ fn finish_via(
     ensures word { IfOk result (λ r. word_at nodes.new.texts r.axiom ≡ word_of (bytes_of parsed.now.texts) name) }
     ensures given { IfOk result (λ r. letters_at nodes.new.texts (exprs_of nodes.new) r.given ≡ letters_by (bytes_of parsed.now.texts) (given_trees (exprs_of nodes.old) given.now)) }
 {
-    match named_letters(alloc, nodes, parsed, given.as_slice()) {
-        Ok(given) => {
-            match named_word(nodes, parsed, name) {
-                Ok(name) => Ok(Via { axiom: name, given }),
-                Err(fault) => Err(fault),
-            }
-        }
-        Err(fault) => Err(fault),
-    }
+    let given = named_letters(alloc, nodes, parsed, given.as_slice())?;
+    let name = named_word(nodes, parsed, name)?;
+    Ok(Via { axiom: name, given })
 }
 
 // Adds the nodes of what is given to an axiom, and answers it.
 fn resolve_named(
     alloc: Global,
     nodes: &mut NamedNodes,
-    parsed: &Package,
+    parsed: &PackageNodes,
     numbers: &PackageNumbers,
     around: &ScopeNumbers,
     via: &Via,
@@ -101,22 +90,16 @@ fn resolve_named(
     ensures below { IfOk result (λ r. AxiomBelow (length nodes.new.texts) (length nodes.new.exprs) r) }
     ensures made { IfOk result (λ r. via_at nodes.new.texts (exprs_of nodes.new) r ≡ resolved_via (standing_by parsed.now.texts numbers.now around.now) (parsed_via_at (expr_trees parsed.now.exprs) (Some via.now))) }
 {
-    match resolve_given(alloc, nodes, parsed, numbers, around, via.given.as_slice()) {
-        Ok(given) => {
-            match finish_via(alloc, nodes, parsed, via.axiom, &given) {
-                Ok(via) => Ok(Some(via)),
-                Err(fault) => Err(fault),
-            }
-        }
-        Err(fault) => Err(fault),
-    }
+    let given = resolve_given(alloc, nodes, parsed, numbers, around, via.given.as_slice())?;
+    let via = finish_via(alloc, nodes, parsed, via.axiom, &given)?;
+    Ok(Some(via))
 }
 
 /// Adds the nodes of what is given to an axiom, if an assertion names one, and answers it.
-pub fn resolve_via(
+pub(crate) fn resolve_via(
     alloc: Global,
     nodes: &mut NamedNodes,
-    parsed: &Package,
+    parsed: &PackageNodes,
     numbers: &PackageNumbers,
     around: &ScopeNumbers,
     via: &Option<Via>,
@@ -133,10 +116,10 @@ pub fn resolve_via(
 }
 
 /// Adds the nodes of an assertion's goal and of what is given to its axiom, and answers both.
-pub fn resolve_assert(
+pub(crate) fn resolve_assert(
     alloc: Global,
     nodes: &mut NamedNodes,
-    parsed: &Package,
+    parsed: &PackageNodes,
     numbers: &PackageNumbers,
     around: &ScopeNumbers,
     goal: ExprId,
@@ -149,13 +132,7 @@ pub fn resolve_assert(
     ensures goal { IfOk result (λ r. expr_at (exprs_of nodes.new) r.0 ≡ resolved_expr (standing_by parsed.now.texts numbers.now around.now) (parsed_expr_at (expr_trees parsed.now.exprs) goal)) }
     ensures via { IfOk result (λ r. via_at nodes.new.texts (exprs_of nodes.new) r.1 ≡ resolved_via (standing_by parsed.now.texts numbers.now around.now) (parsed_via_at (expr_trees parsed.now.exprs) via.now)) }
 {
-    match resolve_expr(alloc, nodes, parsed, numbers, around, goal) {
-        Ok(goal) => {
-            match resolve_via(alloc, nodes, parsed, numbers, around, via) {
-                Ok(via) => Ok((goal, via)),
-                Err(fault) => Err(fault),
-            }
-        }
-        Err(fault) => Err(fault),
-    }
+    let goal = resolve_expr(alloc, nodes, parsed, numbers, around, goal)?;
+    let via = resolve_via(alloc, nodes, parsed, numbers, around, via)?;
+    Ok((goal, via))
 }

@@ -21,7 +21,7 @@ use crate::tables::{Scope, Tables, text_bytes};
 use indexmap::IndexSet;
 use std::alloc::Global;
 use wf_ast::parsed::{Expr, Given, Name, Path, Root};
-use wf_ast::{ExprId, Package, TextId};
+use wf_ast::{ExprId, PackageNodes, TextId};
 use wf_base::base_methods::{BaseSig, Kind};
 use wf_text::faults::NoMemory;
 use wf_text::precedence::sooner;
@@ -57,7 +57,7 @@ fn is_io_arg(scope: &Scope, text: TextId) -> bool
 }
 
 // The argument of the calling method that a value is, where it is nothing else.
-fn passed(parsed: &Package, value: ExprId) -> Option<Path>
+fn passed(parsed: &PackageNodes, value: ExprId) -> Option<Path>
     requires { value.0 < length parsed.now.exprs }
     ensures { result ≡ arg_path (expr_at (expr_trees parsed.now.exprs) value) }
 {
@@ -106,7 +106,7 @@ fn passed_again(
 fn passed_twice(
     alloc: Global,
     found: Option<Refusal>,
-    parsed: &Package,
+    parsed: &PackageNodes,
     scope: &Scope,
     args: &[Given],
 ) -> Result<Option<Refusal>, NoMemory>
@@ -124,14 +124,14 @@ fn passed_twice(
     Ok(found)
 }
 
-fn is_spelt(parsed: &Package, name: &[u8], text: TextId) -> bool
+fn is_spelt(parsed: &PackageNodes, name: &[u8], text: TextId) -> bool
     ensures { result ≡ bytes_eq name.now (bytes_of parsed.now.texts text.0) }
 {
     name == text_bytes(parsed, text)
 }
 
 // Whether a base method has an argument of this name.
-fn base_has(parsed: &Package, sig: BaseSig, text: TextId) -> bool
+fn base_has(parsed: &PackageNodes, sig: BaseSig, text: TextId) -> bool
     ensures { result ≡ has_parameter (bytes_of parsed.now.texts) (of_base (map (λ arg. arg.0) (row_of sig).args)) text.0 }
 {
     let mut i = 0;
@@ -145,7 +145,7 @@ fn base_has(parsed: &Package, sig: BaseSig, text: TextId) -> bool
 }
 
 // Whether what is given lacks an argument of a base method.
-fn base_lacks(parsed: &Package, sig: BaseSig, names: &[Name]) -> bool
+fn base_lacks(parsed: &PackageNodes, sig: BaseSig, names: &[Name]) -> bool
     ensures { result ≡ lacks (bytes_of parsed.now.texts) (of_base (map (λ arg. arg.0) (row_of sig).args)) (map (λ n. n.text.0) names.now) }
 {
     let mut i = 0;
@@ -159,7 +159,7 @@ fn base_lacks(parsed: &Package, sig: BaseSig, names: &[Name]) -> bool
 }
 
 // Whether a name of these bytes is given.
-fn gives_bytes(parsed: &Package, names: &[Name], wanted: &[u8]) -> bool
+fn gives_bytes(parsed: &PackageNodes, names: &[Name], wanted: &[u8]) -> bool
     ensures { result ≡ list_any (λ text. bytes_eq wanted.now (bytes_in (slice_get parsed.now.texts text))) (map (λ n. n.text.0) names.now) }
 {
     for name in names {
@@ -180,7 +180,7 @@ fn has_arg(tables: &Tables, m: usize, text: TextId) -> bool
 }
 
 // Whether a method has an argument of this name.
-fn is_parameter(parsed: &Package, tables: &Tables, callee: Callee, text: TextId) -> bool
+fn is_parameter(parsed: &PackageNodes, tables: &Tables, callee: Callee, text: TextId) -> bool
     ensures { result ≡ has_parameter (bytes_of parsed.now.texts) (parameters_of (args_at tables.now) callee) text.0 }
 {
     match callee {
@@ -193,7 +193,12 @@ fn is_parameter(parsed: &Package, tables: &Tables, callee: Callee, text: TextId)
     }
 }
 
-fn unknown_arg(parsed: &Package, tables: &Tables, callee: Callee, name: Name) -> Option<Refusal>
+fn unknown_arg(
+    parsed: &PackageNodes,
+    tables: &Tables,
+    callee: Callee,
+    name: Name,
+) -> Option<Refusal>
     ensures { result ≡ unknown_item (bytes_of parsed.now.texts) (parameters_of (args_at tables.now) callee) name }
 {
     refused_if(
@@ -205,7 +210,7 @@ fn unknown_arg(parsed: &Package, tables: &Tables, callee: Callee, name: Name) ->
 
 fn unknown_args(
     found: Option<Refusal>,
-    parsed: &Package,
+    parsed: &PackageNodes,
     tables: &Tables,
     callee: Callee,
     names: &[Name],
@@ -266,7 +271,7 @@ fn lacks_arg(alloc: Global, tables: &Tables, m: usize, names: &[Name]) -> Result
 // Whether an argument of the method isn't among the given names.
 fn lacks_one(
     alloc: Global,
-    parsed: &Package,
+    parsed: &PackageNodes,
     tables: &Tables,
     callee: Callee,
     names: &[Name],
@@ -287,7 +292,7 @@ fn lacks_one(
 pub fn arguments(
     alloc: Global,
     found: Option<Refusal>,
-    parsed: &Package,
+    parsed: &PackageNodes,
     tables: &Tables,
     scope: &Scope,
     callee: Callee,

@@ -9,7 +9,7 @@ use crate::reserved::{is_initialize, is_reserved};
 use crate::tables::text_bytes;
 use indexmap::IndexSet;
 use std::alloc::Global;
-use wf_ast::Package;
+use wf_ast::PackageNodes;
 use wf_ast::parsed::Name;
 use wf_text::Place;
 use wf_text::faults::NoMemory;
@@ -60,7 +60,7 @@ pub fn doubles(
 }
 
 /// A name that nothing may be declared under.
-pub fn reserved_name(parsed: &Package, name: Name) -> Option<Refusal>
+pub fn reserved_name(parsed: &PackageNodes, name: Name) -> Option<Refusal>
     ensures { result ≡ reserved_item parsed.now.texts name }
 {
     refused_if(
@@ -71,7 +71,7 @@ pub fn reserved_name(parsed: &Package, name: Name) -> Option<Refusal>
 }
 
 /// Names that nothing may be declared under.
-pub fn reserved(found: Option<Refusal>, parsed: &Package, names: &[Name]) -> Option<Refusal>
+pub fn reserved(found: Option<Refusal>, parsed: &PackageNodes, names: &[Name]) -> Option<Refusal>
     ensures { result ≡ soonest found (reserved_of parsed.now.texts names.now) }
 {
     let mut found = found;
@@ -81,7 +81,7 @@ pub fn reserved(found: Option<Refusal>, parsed: &Package, names: &[Name]) -> Opt
     found
 }
 
-fn initialize_name(parsed: &Package, name: Name) -> Option<Refusal>
+fn initialize_name(parsed: &PackageNodes, name: Name) -> Option<Refusal>
     ensures { result ≡ initialize_item parsed.now.texts name }
 {
     refused_if(
@@ -92,7 +92,7 @@ fn initialize_name(parsed: &Package, name: Name) -> Option<Refusal>
 }
 
 /// Methods of the name `initialize`.
-pub fn initializes(found: Option<Refusal>, parsed: &Package, names: &[Name]) -> Option<Refusal>
+pub fn initializes(found: Option<Refusal>, parsed: &PackageNodes, names: &[Name]) -> Option<Refusal>
     ensures { result ≡ soonest found (initializes_of parsed.now.texts names.now) }
 {
     let mut found = found;

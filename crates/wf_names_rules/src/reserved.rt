@@ -78,7 +78,7 @@ fn is_among(words: &[&str], name: &[u8]) -> bool
 }
 
 /// Whether it is the name that every struct's own method for its start has.
-pub fn is_initialize(name: &[u8]) -> bool
+pub(crate) fn is_initialize(name: &[u8]) -> bool
     ensures { result ≡ initializes name.now }
 {
     name == b"initialize".as_slice()

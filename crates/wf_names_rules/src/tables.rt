@@ -12,7 +12,7 @@ use crate::callees::Callee;
 use crate::sorts::Sort;
 use indexmap::{IndexMap, IndexSet};
 use wf_ast::parsed::{Path, Receiver, Root};
-use wf_ast::{Package, TextId};
+use wf_ast::{PackageNodes, TextId};
 use wf_base::base_methods::{Kind, base_method};
 
 /// What the whole package knows. Names stand by their texts, methods by their numbers in order.
@@ -64,7 +64,7 @@ impl Drop for Scope {
 }
 
 /// The bytes of a text, none where the package doesn't have it.
-pub fn text_bytes(parsed: &Package, text: TextId) -> &[u8]
+pub fn text_bytes(parsed: &PackageNodes, text: TextId) -> &[u8]
     ensures { result.now ≡ bytes_in (slice_get parsed.now.texts text.0) }
 {
     if (text.0 as usize) < parsed.texts() {
@@ -102,7 +102,12 @@ fn bare(scope: &Scope, text: TextId) -> Option<Sort>
 }
 
 /// What may be called on what a path stands for, None where it stands for nothing.
-pub fn path_sort(parsed: &Package, tables: &Tables, scope: &Scope, path: Path) -> Option<Sort>
+pub(crate) fn path_sort(
+    parsed: &PackageNodes,
+    tables: &Tables,
+    scope: &Scope,
+    path: Path,
+) -> Option<Sort>
     ensures { result ≡ sort_of_path (known_by parsed.now.texts tables.now scope.now) path }
 {
     match path.root {
@@ -137,7 +142,7 @@ fn this_callee(tables: &Tables, scope: &Scope, text: TextId) -> Callee
 }
 
 fn struct_callee(
-    parsed: &Package,
+    parsed: &PackageNodes,
     tables: &Tables,
     scope: &Scope,
     owner: TextId,
@@ -160,7 +165,7 @@ fn struct_callee(
     }
 }
 
-fn base_callee(parsed: &Package, kind: Kind, text: TextId) -> Callee
+fn base_callee(parsed: &PackageNodes, kind: Kind, text: TextId) -> Callee
     ensures { result ≡ found_base (method_named kind (bytes_in (slice_get parsed.now.texts text.0))) }
 {
     match base_method(kind, text_bytes(parsed, text)) {
@@ -170,7 +175,7 @@ fn base_callee(parsed: &Package, kind: Kind, text: TextId) -> Callee
 }
 
 fn part_callee(
-    parsed: &Package,
+    parsed: &PackageNodes,
     tables: &Tables,
     scope: &Scope,
     root: Root,
@@ -186,7 +191,13 @@ fn part_callee(
     }
 }
 
-fn path_callee(parsed: &Package, tables: &Tables, scope: &Scope, path: Path, text: TextId) -> Callee
+fn path_callee(
+    parsed: &PackageNodes,
+    tables: &Tables,
+    scope: &Scope,
+    path: Path,
+    text: TextId,
+) -> Callee
     ensures { result ≡ callee_by_sort (known_by parsed.now.texts tables.now scope.now) path.root (sort_of_path (known_by parsed.now.texts tables.now scope.now) path) text.0 }
 {
     match path_sort(parsed, tables, scope, path) {
@@ -199,7 +210,7 @@ fn path_callee(parsed: &Package, tables: &Tables, scope: &Scope, path: Path, tex
 
 /// What the method name of a call on this stands for.
 pub fn callee_on(
-    parsed: &Package,
+    parsed: &PackageNodes,
     tables: &Tables,
     scope: &Scope,
     on: Receiver,

@@ -7,7 +7,7 @@ ghost use Rattle.wf_names_rules.specs.Meanings.{width_named as width_by_name, wi
 
 use crate::sorts::Sort;
 use crate::tables::text_bytes;
-use wf_ast::Package;
+use wf_ast::PackageNodes;
 use wf_ast::parsed::{Core, Prefix, TypeExpr};
 use wf_base::base_methods::Kind;
 use wf_base::widths::Width;
@@ -30,7 +30,7 @@ pub fn width_named(name: &[u8]) -> Option<Width>
 }
 
 /// The width of a type that has no prefix in front of its core.
-pub fn width(parsed: &Package, core: Core) -> Option<Width>
+pub fn width(parsed: &PackageNodes, core: Core) -> Option<Width>
     ensures { (es : _) (bounds : _) → result ≡ width_of (bytes_of parsed.now.texts) (core_at es core bounds) }
 {
     match core {
@@ -52,7 +52,7 @@ fn sort_named(name: &[u8]) -> Sort
     }
 }
 
-fn core_sort(parsed: &Package, core: Core) -> Sort
+fn core_sort(parsed: &PackageNodes, core: Core) -> Sort
     ensures { (es : _) (bounds : _) → result ≡ sort_of_type (bytes_of parsed.now.texts) (core_at es core bounds) }
 {
     match core {
@@ -81,7 +81,7 @@ fn array_sort(element: Option<Width>) -> Sort
 }
 
 /// What may be called on values of a type.
-pub fn sort(parsed: &Package, of: &TypeExpr) -> Sort
+pub fn sort(parsed: &PackageNodes, of: &TypeExpr) -> Sort
     ensures { (es : _) → result ≡ sort_of_type (bytes_of parsed.now.texts) (type_at es of.now) }
 {
     match of.prefixes.as_slice() {

@@ -19,7 +19,7 @@ use std::alloc::Global;
 use wf_ast::parsed::{
     Bounds, Call, Core, Expr, Given, Link, Name, Path, Prefix, Receiver, TypeExpr,
 };
-use wf_ast::{ExprId, Package};
+use wf_ast::{ExprId, PackageNodes};
 use wf_text::Place;
 use wf_text::faults::NoMemory;
 use wf_text::precedence::sooner;
@@ -44,7 +44,7 @@ fn is_among(words: &[&str], name: &[u8]) -> bool
 }
 
 /// Whether a status of the language is written so behind `base.`.
-pub fn is_base_status(text: &[u8]) -> bool
+pub(crate) fn is_base_status(text: &[u8]) -> bool
     ensures { result ≡ is_of_language text.now }
 {
     is_among(&BASE_STATUSES, text)
@@ -66,14 +66,20 @@ fn walk_own_status(seen: Seen, tables: &Tables, text: Name) -> Seen
     used(seen, tables.statuses.contains(&text.text.0), text.at)
 }
 
-fn walk_base_status(seen: Seen, parsed: &Package, text: Name) -> Seen
+fn walk_base_status(seen: Seen, parsed: &PackageNodes, text: Name) -> Seen
     ensures { (tables : _) (scope : _) → result ≡ walked_one (known_by parsed.now.texts tables scope) seen (base_status text) }
 {
     used(seen, is_base_status(text_bytes(parsed, text.text)), text.at)
 }
 
 /// A use of a path.
-pub fn walk_path(seen: Seen, parsed: &Package, tables: &Tables, scope: &Scope, path: Path) -> Seen
+pub(crate) fn walk_path(
+    seen: Seen,
+    parsed: &PackageNodes,
+    tables: &Tables,
+    scope: &Scope,
+    path: Path,
+) -> Seen
     ensures { result ≡ walked_one (known_by parsed.now.texts tables.now scope.now) seen (variable path) }
 {
     used(
@@ -90,7 +96,13 @@ pub fn walk_struct(seen: Seen, tables: &Tables, name: Name) -> Seen
     used(seen, tables.structs.contains(&name.text.0), name.at)
 }
 
-fn walk_receiver(seen: Seen, parsed: &Package, tables: &Tables, scope: &Scope, on: Receiver) -> Seen
+fn walk_receiver(
+    seen: Seen,
+    parsed: &PackageNodes,
+    tables: &Tables,
+    scope: &Scope,
+    on: Receiver,
+) -> Seen
     ensures { result ≡ walked (known_by parsed.now.texts tables.now scope.now) seen (receiver_uses on) }
 {
     match on {
@@ -145,7 +157,7 @@ fn arguments_if(
     alloc: Global,
     known: bool,
     found: Option<Refusal>,
-    parsed: &Package,
+    parsed: &PackageNodes,
     tables: &Tables,
     scope: &Scope,
     callee: Callee,
@@ -175,7 +187,7 @@ fn arguments_if(
 fn finish_call(
     alloc: Global,
     given: Seen,
-    parsed: &Package,
+    parsed: &PackageNodes,
     tables: &Tables,
     scope: &Scope,
     call: &Call,
@@ -197,7 +209,7 @@ fn finish_call(
 pub fn walk_expr(
     alloc: Global,
     seen: Seen,
-    parsed: &Package,
+    parsed: &PackageNodes,
     tables: &Tables,
     scope: &Scope,
     e: ExprId,
@@ -240,10 +252,10 @@ pub fn walk_expr(
 
 /// A walk past an expression that may be absent.
 #[cycle(walk_exprs)]
-pub fn walk_part(
+pub(crate) fn walk_part(
     alloc: Global,
     seen: Seen,
-    parsed: &Package,
+    parsed: &PackageNodes,
     tables: &Tables,
     scope: &Scope,
     part: Option<ExprId>,
@@ -261,7 +273,7 @@ pub fn walk_part(
 fn walk_parts(
     alloc: Global,
     seen: Seen,
-    parsed: &Package,
+    parsed: &PackageNodes,
     tables: &Tables,
     scope: &Scope,
     from: Option<ExprId>,
@@ -281,7 +293,7 @@ fn walk_parts(
 fn walk_links(
     alloc: Global,
     seen: Seen,
-    parsed: &Package,
+    parsed: &PackageNodes,
     tables: &Tables,
     scope: &Scope,
     links: &[Link],
@@ -301,10 +313,10 @@ fn walk_links(
 
 /// A walk past the values of arguments, or past what is given to an axiom.
 #[cycle(walk_exprs)]
-pub fn walk_given(
+pub(crate) fn walk_given(
     alloc: Global,
     seen: Seen,
-    parsed: &Package,
+    parsed: &PackageNodes,
     tables: &Tables,
     scope: &Scope,
     args: &[Given],
@@ -324,10 +336,10 @@ pub fn walk_given(
 
 /// A walk past a call.
 #[cycle(walk_exprs)]
-pub fn walk_call(
+pub(crate) fn walk_call(
     alloc: Global,
     seen: Seen,
-    parsed: &Package,
+    parsed: &PackageNodes,
     tables: &Tables,
     scope: &Scope,
     call: &Call,
@@ -378,7 +390,7 @@ fn joined(before: Seen, since: Seen) -> Seen
 fn walk_prefix(
     alloc: Global,
     seen: Seen,
-    parsed: &Package,
+    parsed: &PackageNodes,
     tables: &Tables,
     scope: &Scope,
     prefix: Prefix,
@@ -396,7 +408,7 @@ fn walk_prefix(
 fn walk_prefixes(
     alloc: Global,
     seen: Seen,
-    parsed: &Package,
+    parsed: &PackageNodes,
     tables: &Tables,
     scope: &Scope,
     prefixes: &[Prefix],
@@ -418,7 +430,7 @@ fn walk_prefixes(
 fn walk_bounds(
     alloc: Global,
     seen: Seen,
-    parsed: &Package,
+    parsed: &PackageNodes,
     tables: &Tables,
     scope: &Scope,
     bounds: Option<Bounds>,
@@ -444,7 +456,7 @@ fn walk_bounds(
 fn walk_core(
     alloc: Global,
     seen: Seen,
-    parsed: &Package,
+    parsed: &PackageNodes,
     tables: &Tables,
     scope: &Scope,
     core: Core,
@@ -465,7 +477,7 @@ fn walk_core(
 pub fn walk_type(
     alloc: Global,
     seen: Seen,
-    parsed: &Package,
+    parsed: &PackageNodes,
     tables: &Tables,
     scope: &Scope,
     of: &TypeExpr,

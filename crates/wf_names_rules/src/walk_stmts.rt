@@ -13,13 +13,13 @@ use crate::tables::{Scope, Tables};
 use crate::walk_exprs::{walk_call, walk_expr, walk_given, walk_part, walk_path, walk_type};
 use std::alloc::Global;
 use wf_ast::parsed::{Arm, Block, LoopClause, Stmt, Target, Via};
-use wf_ast::{ExprId, Package, StmtId};
+use wf_ast::{ExprId, PackageNodes, StmtId};
 use wf_text::faults::NoMemory;
 
 fn walk_target(
     alloc: Global,
     seen: Seen,
-    parsed: &Package,
+    parsed: &PackageNodes,
     tables: &Tables,
     scope: &Scope,
     target: Target,
@@ -39,7 +39,7 @@ fn walk_target(
 fn walk_clauses(
     alloc: Global,
     seen: Seen,
-    parsed: &Package,
+    parsed: &PackageNodes,
     tables: &Tables,
     scope: &Scope,
     clauses: &[LoopClause],
@@ -60,7 +60,7 @@ fn walk_clauses(
 fn walk_via(
     alloc: Global,
     seen: Seen,
-    parsed: &Package,
+    parsed: &PackageNodes,
     tables: &Tables,
     scope: &Scope,
     via: &Option<Via>,
@@ -78,7 +78,7 @@ fn walk_via(
 fn walk_head(
     alloc: Global,
     seen: Seen,
-    parsed: &Package,
+    parsed: &PackageNodes,
     tables: &Tables,
     scope: &Scope,
     condition: ExprId,
@@ -98,7 +98,7 @@ fn walk_head(
 fn walk_stmt(
     alloc: Global,
     seen: Seen,
-    parsed: &Package,
+    parsed: &PackageNodes,
     tables: &Tables,
     scope: &Scope,
     s: StmtId,
@@ -168,7 +168,7 @@ fn walk_stmt(
 pub fn walk_block(
     alloc: Global,
     seen: Seen,
-    parsed: &Package,
+    parsed: &PackageNodes,
     tables: &Tables,
     scope: &Scope,
     block: &Block,
@@ -190,7 +190,7 @@ pub fn walk_block(
 fn walk_arm(
     alloc: Global,
     seen: Seen,
-    parsed: &Package,
+    parsed: &PackageNodes,
     tables: &Tables,
     scope: &Scope,
     arm: &Arm,
@@ -209,7 +209,7 @@ fn walk_arm(
 fn walk_else(
     alloc: Global,
     seen: Seen,
-    parsed: &Package,
+    parsed: &PackageNodes,
     tables: &Tables,
     scope: &Scope,
     otherwise: &Option<Block>,
@@ -227,7 +227,7 @@ fn walk_else(
 fn walk_arms(
     alloc: Global,
     seen: Seen,
-    parsed: &Package,
+    parsed: &PackageNodes,
     tables: &Tables,
     scope: &Scope,
     arms: &[Arm],

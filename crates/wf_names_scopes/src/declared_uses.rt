@@ -10,7 +10,7 @@ ghost use Rattle.wf_names_rules.specs.Judged.{walked};
 
 use std::alloc::Global;
 use wf_ast::parsed::{Block, Field, Name, TypeExpr};
-use wf_ast::{ExprId, Package};
+use wf_ast::{ExprId, PackageNodes};
 use wf_names_rules::seen::Seen;
 use wf_names_rules::tables::{Scope, Tables};
 use wf_names_rules::walk_exprs::{walk_expr, walk_struct, walk_type};
@@ -18,10 +18,10 @@ use wf_names_rules::walk_stmts::walk_block;
 use wf_text::faults::NoMemory;
 
 /// A walk past the types of fields or arguments.
-pub fn walk_fields(
+pub(crate) fn walk_fields(
     alloc: Global,
     seen: Seen,
-    parsed: &Package,
+    parsed: &PackageNodes,
     tables: &Tables,
     scope: &Scope,
     fields: &[Field],
@@ -31,10 +31,7 @@ pub fn walk_fields(
 {
     let mut seen = seen;
     for field in fields {
-        match walk_type(alloc, seen, parsed, tables, scope, &field.of) {
-            Ok(next) => seen = next,
-            Err(fault) => return Err(fault),
-        }
+        seen = walk_type(alloc, seen, parsed, tables, scope, &field.of)?;
     }
     Ok(seen)
 }
@@ -42,7 +39,7 @@ pub fn walk_fields(
 fn walk_result(
     alloc: Global,
     seen: Seen,
-    parsed: &Package,
+    parsed: &PackageNodes,
     tables: &Tables,
     scope: &Scope,
     gives: &Option<TypeExpr>,
@@ -57,10 +54,10 @@ fn walk_result(
 }
 
 /// A walk past the type of a constant and its value.
-pub fn walk_constant(
+pub(crate) fn walk_constant(
     alloc: Global,
     seen: Seen,
-    parsed: &Package,
+    parsed: &PackageNodes,
     tables: &Tables,
     scope: &Scope,
     of: &TypeExpr,
@@ -70,17 +67,15 @@ pub fn walk_constant(
     requires value { value.0 < length parsed.now.exprs }
     ensures { IfOk result (λ all. all ≡ walked (known_by parsed.now.texts tables.now scope.now) seen (type_uses (type_at (expr_trees parsed.now.exprs) of.now) ++ uses_of (expr_at (expr_trees parsed.now.exprs) value))) }
 {
-    match walk_type(alloc, seen, parsed, tables, scope, of) {
-        Ok(seen) => walk_expr(alloc, seen, parsed, tables, scope, value),
-        Err(fault) => Err(fault),
-    }
+    let seen = walk_type(alloc, seen, parsed, tables, scope, of)?;
+    walk_expr(alloc, seen, parsed, tables, scope, value)
 }
 
 // A walk past what a method gives and its body.
 fn walk_inside(
     alloc: Global,
     seen: Seen,
-    parsed: &Package,
+    parsed: &PackageNodes,
     tables: &Tables,
     scope: &Scope,
     gives: &Option<TypeExpr>,
@@ -90,33 +85,43 @@ fn walk_inside(
     requires body { BlockBelow (length parsed.now.stmts) body.now }
     ensures { IfOk result (λ all. all ≡ walked (known_by parsed.now.texts tables.now scope.now) seen (result_uses (result_at (expr_trees parsed.now.exprs) gives.now) ++ block_uses (block_at (stmt_trees parsed.now.exprs parsed.now.stmts) body.now))) }
 {
-    match walk_result(alloc, seen, parsed, tables, scope, gives) {
-        Ok(seen) => walk_block(alloc, seen, parsed, tables, scope, body),
-        Err(fault) => Err(fault),
-    }
+    let seen = walk_result(alloc, seen, parsed, tables, scope, gives)?;
+    walk_block(alloc, seen, parsed, tables, scope, body)
+}
+
+/// What a method's declaration says of what it uses: the struct that it is a method of, its arguments, its result and its body.
+#[derive(Clone, Copy)]
+pub struct WrittenMethod<'a> {
+    pub owner: Name,
+    pub args: &'a [Field],
+    pub gives: &'a Option<TypeExpr>,
+    pub body: &'a Block,
 }
 
 /// A walk past a method: its owner, its arguments, what it gives, and its body.
 pub fn walk_method(
     alloc: Global,
     seen: Seen,
-    parsed: &Package,
+    parsed: &PackageNodes,
     tables: &Tables,
     scope: &Scope,
-    owner: Name,
-    args: &[Field],
-    gives: &Option<TypeExpr>,
-    body: &Block,
+    method: WrittenMethod<'_>,
 ) -> Result<Seen, NoMemory>
-    requires args { FieldsBelow (length parsed.now.exprs) args.now }
-    requires gives { ResultBelow (length parsed.now.exprs) gives.now }
-    requires body { BlockBelow (length parsed.now.stmts) body.now }
-    ensures { IfOk result (λ all. all ≡ walked (known_by parsed.now.texts tables.now scope.now) seen (structure owner
-        ∷ (variable_uses (variables (fields_at (expr_trees parsed.now.exprs) args.now)) ++ (result_uses (result_at (expr_trees parsed.now.exprs) gives.now) ++ block_uses (block_at (stmt_trees parsed.now.exprs parsed.now.stmts) body.now))))) }
+    requires args { FieldsBelow (length parsed.now.exprs) method.args.now }
+    requires gives { ResultBelow (length parsed.now.exprs) method.gives.now }
+    requires body { BlockBelow (length parsed.now.stmts) method.body.now }
+    ensures { IfOk result (λ all. all ≡ walked (known_by parsed.now.texts tables.now scope.now) seen (structure method.entry.owner
+        ∷ (variable_uses (variables (fields_at (expr_trees parsed.now.exprs) method.entry.args.now)) ++ (result_uses (result_at (expr_trees parsed.now.exprs) method.entry.gives.now) ++ block_uses (block_at (stmt_trees parsed.now.exprs parsed.now.stmts) method.entry.body.now))))) }
 {
-    let owned = walk_struct(seen, tables, owner);
-    match walk_fields(alloc, owned, parsed, tables, scope, args) {
-        Ok(seen) => walk_inside(alloc, seen, parsed, tables, scope, gives, body),
-        Err(fault) => Err(fault),
-    }
+    let owned = walk_struct(seen, tables, method.owner);
+    let seen = walk_fields(alloc, owned, parsed, tables, scope, method.args)?;
+    walk_inside(
+        alloc,
+        seen,
+        parsed,
+        tables,
+        scope,
+        method.gives,
+        method.body,
+    )
 }

@@ -12,7 +12,7 @@ ghost use Rattle.wf_names_scopes.specs.Growing.{scope_in};
 use crate::variables::{add_variable, arguments, locals};
 use indexmap::IndexMap;
 use std::alloc::Global;
-use wf_ast::Package;
+use wf_ast::PackageNodes;
 use wf_ast::parsed::{Block, Field, Name, TypeExpr};
 use wf_names_rules::tables::Scope;
 use wf_text::faults::NoMemory;
@@ -32,7 +32,7 @@ pub fn outside(alloc: Global) -> Scope
 /// Adds the constant behind those that are known.
 pub fn add_constant(
     scope: &mut Scope,
-    parsed: &Package,
+    parsed: &PackageNodes,
     name: Name,
     of: &TypeExpr,
 ) -> Result<(), NoMemory>
@@ -55,7 +55,7 @@ pub fn enter_struct(alloc: Global, scope: &mut Scope, name: Name)
 pub fn enter_method(
     alloc: Global,
     scope: &mut Scope,
-    parsed: &Package,
+    parsed: &PackageNodes,
     owner: Name,
     args: &[Field],
     body: &Block,
@@ -64,14 +64,8 @@ pub fn enter_method(
     ensures { OnOk result (TellsConstants (package_of parsed.now) scope.old
         → TellsScope (package_of parsed.now) (scope_in (package_of parsed.now) owner (variables (fields_at (expr_trees parsed.now.exprs) args.now)) (locals_of (block_at (stmt_trees parsed.now.exprs parsed.now.stmts) body.now))) scope.new) }
 {
-    let args = match arguments(alloc, parsed, args) {
-        Ok(args) => args,
-        Err(fault) => return Err(fault),
-    };
-    let locals = match locals(alloc, parsed, body) {
-        Ok(locals) => locals,
-        Err(fault) => return Err(fault),
-    };
+    let args = arguments(alloc, parsed, args)?;
+    let locals = locals(alloc, parsed, body)?;
     scope.this = Some(owner.text.0);
     scope.args = args;
     scope.locals = locals;

@@ -14,7 +14,7 @@ ghost use Rattle.wf_names_scopes.specs.Growing.{with_first, with_fields, with_st
 use indexmap::{IndexMap, IndexSet};
 use std::alloc::Global;
 use wf_ast::parsed::{Decl, DeclNode, Field, Name};
-use wf_ast::{Package, TextId};
+use wf_ast::{PackageNodes, TextId};
 use wf_names_rules::sorts::Sort;
 use wf_names_rules::tables::Tables;
 use wf_names_rules::types::sort;
@@ -40,10 +40,8 @@ fn add_name(names: &mut IndexSet<u32>, name: Name) -> Result<bool, NoMemory>
     ensures fresh { IfOk result (λ fresh. fresh ≡ not (contains nat_eq names.old name.text.0)) }
     ensures names { OnOk result ((text : ℕ) → contains nat_eq names.new text ≡ (contains nat_eq names.old text || nat_eq name.text.0 text)) }
 {
-    match names.insert(name.text.0) {
-        Ok(fresh) => Ok(fresh),
-        Err(_) => Err(NoMemory),
-    }
+    let fresh = names.insert(name.text.0)?;
+    Ok(fresh)
 }
 
 fn add_field(
@@ -57,16 +55,14 @@ fn add_field(
     if fields.contains_key(&(owner.0, name.0)) {
         return Ok(());
     }
-    match fields.insert((owner.0, name.0), sort) {
-        Ok(_) => Ok(()),
-        Err(_) => Err(NoMemory),
-    }
+    fields.insert((owner.0, name.0), sort)?;
+    Ok(())
 }
 
 // The fields of a struct whose name is new.
 fn add_fields(
     table: &mut IndexMap<(u32, u32), Sort>,
-    parsed: &Package,
+    parsed: &PackageNodes,
     owner: TextId,
     fields: &[Field],
 ) -> Result<(), NoMemory>
@@ -74,10 +70,7 @@ fn add_fields(
         ≡ with_fields parsed.now.texts (get same_pair table.old) owner.0 (variables (fields_at (expr_trees parsed.now.exprs) fields.now)) other text) }
 {
     for field in fields {
-        match add_field(table, owner, field.name.text, sort(parsed, &field.of)) {
-            Ok(()) => {}
-            Err(fault) => return Err(fault),
-        }
+        add_field(table, owner, field.name.text, sort(parsed, &field.of))?;
     }
     Ok(())
 }
@@ -93,10 +86,8 @@ fn add_number(
     if methods.contains_key(&(owner.0, name.0)) {
         return Ok(());
     }
-    match methods.insert((owner.0, name.0), m) {
-        Ok(_) => Ok(()),
-        Err(_) => Err(NoMemory),
-    }
+    methods.insert((owner.0, name.0), m)?;
+    Ok(())
 }
 
 // The names of a method's arguments, each once.
@@ -105,10 +96,7 @@ fn arg_names(alloc: Global, args: &[Field]) -> Result<IndexSet<u32>, NoMemory>
 {
     let mut names = IndexSet::new(alloc);
     for arg in args {
-        match names.insert(arg.name.text.0) {
-            Ok(_) => {}
-            Err(_) => return Err(NoMemory),
-        }
+        names.insert(arg.name.text.0)?;
     }
     Ok(names)
 }
@@ -116,15 +104,13 @@ fn arg_names(alloc: Global, args: &[Field]) -> Result<IndexSet<u32>, NoMemory>
 fn add_status(tables: &mut Tables, name: Name) -> Result<(), NoMemory>
     ensures { OnOk result ((d : Declared) → TellsPackage d tables.old → TellsPackage (with_status d name) tables.new) }
 {
-    match add_name(&mut tables.statuses, name) {
-        Ok(_) => Ok(()),
-        Err(fault) => Err(fault),
-    }
+    add_name(&mut tables.statuses, name)?;
+    Ok(())
 }
 
 fn add_struct(
     tables: &mut Tables,
-    parsed: &Package,
+    parsed: &PackageNodes,
     name: Name,
     fields: &[Field],
 ) -> Result<(), NoMemory>
@@ -150,34 +136,19 @@ fn add_method(
     ensures { OnOk result ((d : Declared) (m : Method) → m.public ≡ public → m.owner ≡ owner → m.name ≡ name
         → (es : _) → m.args ≡ variables (fields_at es args.now) → TellsPackage d tables.old → TellsPackage (with_method d m) tables.new) }
 {
-    let names = match arg_names(alloc, args) {
-        Ok(names) => names,
-        Err(fault) => return Err(fault),
-    };
+    let names = arg_names(alloc, args)?;
     let m = tables.publics.len();
-    match add_number(&mut tables.methods, owner.text, name.text, m) {
-        Ok(()) => {}
-        Err(fault) => return Err(fault),
-    }
-    match add_name(&mut tables.method_names, name) {
-        Ok(_) => {}
-        Err(fault) => return Err(fault),
-    }
-    match tables.publics.push(public) {
-        Ok(()) => {}
-        Err(_) => return Err(NoMemory),
-    }
-    match tables.args.push(names) {
-        Ok(()) => {}
-        Err(_) => return Err(NoMemory),
-    }
+    add_number(&mut tables.methods, owner.text, name.text, m)?;
+    add_name(&mut tables.method_names, name)?;
+    tables.publics.push(public)?;
+    tables.args.push(names)?;
     Ok(())
 }
 
 fn add_decl(
     alloc: Global,
     tables: &mut Tables,
-    parsed: &Package,
+    parsed: &PackageNodes,
     node: &DeclNode,
 ) -> Result<(), NoMemory>
     ensures { OnOk result ((ds : List DeclTree) → TellsPackage (declared parsed.now.texts ds) tables.old
@@ -194,15 +165,12 @@ fn add_decl(
 }
 
 /// The tables of a package.
-pub fn tables(alloc: Global, parsed: &Package) -> Result<Tables, NoMemory>
+pub fn tables(alloc: Global, parsed: &PackageNodes) -> Result<Tables, NoMemory>
     ensures { IfOk result (λ tables. TellsPackage (package_of parsed.now) tables) }
 {
     let mut tables = empty(alloc);
     for node in parsed.decls() {
-        match add_decl(alloc, &mut tables, parsed, node) {
-            Ok(()) => {}
-            Err(fault) => return Err(fault),
-        }
+        add_decl(alloc, &mut tables, parsed, node)?;
     }
     Ok(tables)
 }

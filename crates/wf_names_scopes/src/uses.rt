@@ -11,11 +11,11 @@ ghost use Rattle.wf_names_scopes.specs.Agreeing.{package_of, TellsPackage, Tells
 ghost use Rattle.wf_names_scopes.specs.Growing.{scope_in};
 ghost use Rattle.wf_names_scopes.specs.UsesFound.{sites_judged, uses_found};
 
-use crate::declared_uses::{walk_constant, walk_fields, walk_method};
+use crate::declared_uses::{WrittenMethod, walk_constant, walk_fields, walk_method};
 use crate::scopes::{add_constant, enter_method, enter_struct, outside};
 use std::alloc::Global;
-use wf_ast::parsed::{Block, Decl, DeclNode, Field, Name, TypeExpr};
-use wf_ast::{ExprId, Package};
+use wf_ast::parsed::{Decl, DeclNode, Field, Name, TypeExpr};
+use wf_ast::{ExprId, PackageNodes};
 use wf_names_rules::seen::Seen;
 use wf_names_rules::tables::{Scope, Tables};
 use wf_text::faults::NoMemory;
@@ -31,7 +31,7 @@ fn begin(found: Option<Refusal>) -> Seen
 fn constant_uses(
     alloc: Global,
     found: Option<Refusal>,
-    parsed: &Package,
+    parsed: &PackageNodes,
     tables: &Tables,
     scope: &Scope,
     of: &TypeExpr,
@@ -43,17 +43,15 @@ fn constant_uses(
     ensures { IfOk result (λ all. (known : List Variable) → TellsScope (package_of parsed.now) (constant_scope known) scope.now
         → all ≡ sites_judged (package_of parsed.now) found (sites_in (constant_scope known) (type_uses (type_at (expr_trees parsed.now.exprs) of.now) ++ uses_of (expr_at (expr_trees parsed.now.exprs) value)))) }
 {
-    match walk_constant(alloc, begin(found), parsed, tables, scope, of, value) {
-        Ok(seen) => Ok(seen.found),
-        Err(fault) => Err(fault),
-    }
+    let seen = walk_constant(alloc, begin(found), parsed, tables, scope, of, value)?;
+    Ok(seen.found)
 }
 
 // A constant's declaration: what it uses, and the constant behind those that are known.
 fn constant_next(
     alloc: Global,
     found: Option<Refusal>,
-    parsed: &Package,
+    parsed: &PackageNodes,
     tables: &Tables,
     scope: &mut Scope,
     name: Name,
@@ -68,21 +66,15 @@ fn constant_next(
     ensures constants { OnOk result ((known : List Variable) → TellsScope (package_of parsed.now) (constant_scope known) scope.old
         → TellsScope (package_of parsed.now) (constant_scope (known ++ record { name = name; of = type_at (expr_trees parsed.now.exprs) of.now } ∷ [])) scope.new) }
 {
-    match constant_uses(alloc, found, parsed, tables, scope, of, value) {
-        Ok(all) => {
-            match add_constant(scope, parsed, name, of) {
-                Ok(()) => Ok(all),
-                Err(fault) => Err(fault),
-            }
-        }
-        Err(fault) => Err(fault),
-    }
+    let all = constant_uses(alloc, found, parsed, tables, scope, of, value)?;
+    add_constant(scope, parsed, name, of)?;
+    Ok(all)
 }
 
 fn constant_decl(
     alloc: Global,
     found: Option<Refusal>,
-    parsed: &Package,
+    parsed: &PackageNodes,
     tables: &Tables,
     scope: &mut Scope,
     node: &DeclNode,
@@ -110,7 +102,7 @@ fn constant_decl(
 pub fn constants(
     alloc: Global,
     found: Option<Refusal>,
-    parsed: &Package,
+    parsed: &PackageNodes,
     tables: &Tables,
     scope: &mut Scope,
 ) -> Result<Option<Refusal>, NoMemory>
@@ -122,10 +114,7 @@ pub fn constants(
     let mut found = found;
     let mut number = 0;
     while number < parsed.decls().len() {
-        match constant_decl(alloc, found, parsed, tables, scope, parsed.decl(number)) {
-            Ok(next) => found = next,
-            Err(fault) => return Err(fault),
-        }
+        found = constant_decl(alloc, found, parsed, tables, scope, parsed.decl(number))?;
         number += 1;
     }
     Ok(found)
@@ -134,7 +123,7 @@ pub fn constants(
 fn struct_uses(
     alloc: Global,
     found: Option<Refusal>,
-    parsed: &Package,
+    parsed: &PackageNodes,
     tables: &Tables,
     scope: &mut Scope,
     name: Name,
@@ -147,16 +136,14 @@ fn struct_uses(
     ensures constants { TellsConstants (package_of parsed.now) scope.new }
 {
     enter_struct(alloc, scope, name);
-    match walk_fields(alloc, begin(found), parsed, tables, scope, fields) {
-        Ok(seen) => Ok(seen.found),
-        Err(fault) => Err(fault),
-    }
+    let seen = walk_fields(alloc, begin(found), parsed, tables, scope, fields)?;
+    Ok(seen.found)
 }
 
 fn struct_decl(
     alloc: Global,
     found: Option<Refusal>,
-    parsed: &Package,
+    parsed: &PackageNodes,
     tables: &Tables,
     scope: &mut Scope,
     node: &DeclNode,
@@ -188,7 +175,7 @@ fn struct_decl(
 fn structs(
     alloc: Global,
     found: Option<Refusal>,
-    parsed: &Package,
+    parsed: &PackageNodes,
     tables: &Tables,
     scope: &mut Scope,
 ) -> Result<Option<Refusal>, NoMemory>
@@ -200,10 +187,7 @@ fn structs(
     let mut found = found;
     let mut number = 0;
     while number < parsed.decls().len() {
-        match struct_decl(alloc, found, parsed, tables, scope, parsed.decl(number)) {
-            Ok(next) => found = next,
-            Err(fault) => return Err(fault),
-        }
+        found = struct_decl(alloc, found, parsed, tables, scope, parsed.decl(number))?;
         number += 1;
     }
     Ok(found)
@@ -212,47 +196,29 @@ fn structs(
 fn method_uses(
     alloc: Global,
     found: Option<Refusal>,
-    parsed: &Package,
+    parsed: &PackageNodes,
     tables: &Tables,
     scope: &mut Scope,
-    owner: Name,
-    args: &[Field],
-    gives: &Option<TypeExpr>,
-    body: &Block,
+    method: WrittenMethod<'_>,
 ) -> Result<Option<Refusal>, NoMemory>
-    requires args { FieldsBelow (length parsed.now.exprs) args.now }
-    requires gives { ResultBelow (length parsed.now.exprs) gives.now }
-    requires body { BlockBelow (length parsed.now.stmts) body.now }
+    requires args { FieldsBelow (length parsed.now.exprs) method.args.now }
+    requires gives { ResultBelow (length parsed.now.exprs) method.gives.now }
+    requires body { BlockBelow (length parsed.now.stmts) method.body.now }
     requires tables { TellsPackage (package_of parsed.now) tables.now }
     requires constants { TellsConstants (package_of parsed.now) scope.old }
-    ensures found { IfOk result (λ all. all ≡ sites_judged (package_of parsed.now) found (sites_in (scope_in (package_of parsed.now) owner (variables (fields_at (expr_trees parsed.now.exprs) args.now)) (locals_of (block_at (stmt_trees parsed.now.exprs parsed.now.stmts) body.now)))
-        (structure owner ∷ (variable_uses (variables (fields_at (expr_trees parsed.now.exprs) args.now)) ++ (result_uses (result_at (expr_trees parsed.now.exprs) gives.now) ++ block_uses (block_at (stmt_trees parsed.now.exprs parsed.now.stmts) body.now)))))) }
+    ensures found { IfOk result (λ all. all ≡ sites_judged (package_of parsed.now) found (sites_in (scope_in (package_of parsed.now) method.entry.owner (variables (fields_at (expr_trees parsed.now.exprs) method.entry.args.now)) (locals_of (block_at (stmt_trees parsed.now.exprs parsed.now.stmts) method.entry.body.now)))
+        (structure method.entry.owner ∷ (variable_uses (variables (fields_at (expr_trees parsed.now.exprs) method.entry.args.now)) ++ (result_uses (result_at (expr_trees parsed.now.exprs) method.entry.gives.now) ++ block_uses (block_at (stmt_trees parsed.now.exprs parsed.now.stmts) method.entry.body.now)))))) }
     ensures constants { OnOk result (TellsConstants (package_of parsed.now) scope.new) }
 {
-    match enter_method(alloc, scope, parsed, owner, args, body) {
-        Ok(()) => {}
-        Err(fault) => return Err(fault),
-    }
-    match walk_method(
-        alloc,
-        begin(found),
-        parsed,
-        tables,
-        scope,
-        owner,
-        args,
-        gives,
-        body,
-    ) {
-        Ok(seen) => Ok(seen.found),
-        Err(fault) => Err(fault),
-    }
+    enter_method(alloc, scope, parsed, method.owner, method.args, method.body)?;
+    let seen = walk_method(alloc, begin(found), parsed, tables, scope, method)?;
+    Ok(seen.found)
 }
 
 fn method_decl(
     alloc: Global,
     found: Option<Refusal>,
-    parsed: &Package,
+    parsed: &PackageNodes,
     tables: &Tables,
     scope: &mut Scope,
     node: &DeclNode,
@@ -270,17 +236,15 @@ fn method_decl(
             gives,
             body,
             ..
-        } => method_uses(
-            alloc,
-            found,
-            parsed,
-            tables,
-            scope,
-            *of,
-            args.as_slice(),
-            gives,
-            body,
-        ),
+        } => {
+            let method = WrittenMethod {
+                owner: *of,
+                args: args.as_slice(),
+                gives,
+                body,
+            };
+            method_uses(alloc, found, parsed, tables, scope, method)
+        }
         Decl::Status(_) => Ok(found),
         Decl::Const { .. } => Ok(found),
         Decl::Struct { .. } => Ok(found),
@@ -290,7 +254,7 @@ fn method_decl(
 fn methods(
     alloc: Global,
     found: Option<Refusal>,
-    parsed: &Package,
+    parsed: &PackageNodes,
     tables: &Tables,
     scope: &mut Scope,
 ) -> Result<Option<Refusal>, NoMemory>
@@ -301,10 +265,7 @@ fn methods(
     let mut found = found;
     let mut number = 0;
     while number < parsed.decls().len() {
-        match method_decl(alloc, found, parsed, tables, scope, parsed.decl(number)) {
-            Ok(next) => found = next,
-            Err(fault) => return Err(fault),
-        }
+        found = method_decl(alloc, found, parsed, tables, scope, parsed.decl(number))?;
         number += 1;
     }
     Ok(found)
@@ -314,20 +275,14 @@ fn methods(
 pub fn uses(
     alloc: Global,
     found: Option<Refusal>,
-    parsed: &Package,
+    parsed: &PackageNodes,
     tables: &Tables,
 ) -> Result<Option<Refusal>, NoMemory>
     requires { TellsPackage (package_of parsed.now) tables.now }
     ensures { IfOk result (λ all. all ≡ uses_found (package_of parsed.now) found) }
 {
     let mut scope = outside(alloc);
-    match constants(alloc, found, parsed, tables, &mut scope) {
-        Ok(first) => {
-            match structs(alloc, first, parsed, tables, &mut scope) {
-                Ok(second) => methods(alloc, second, parsed, tables, &mut scope),
-                Err(fault) => Err(fault),
-            }
-        }
-        Err(fault) => Err(fault),
-    }
+    let first = constants(alloc, found, parsed, tables, &mut scope)?;
+    let second = structs(alloc, first, parsed, tables, &mut scope)?;
+    methods(alloc, second, parsed, tables, &mut scope)
 }

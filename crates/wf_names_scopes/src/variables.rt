@@ -12,7 +12,7 @@ ghost use Rattle.wf_names_scopes.specs.Growing.{with_first};
 use indexmap::IndexMap;
 use std::alloc::Global;
 use wf_ast::parsed::{Block, Field, Name, Stmt, TypeExpr};
-use wf_ast::{Package, StmtId, TextId};
+use wf_ast::{PackageNodes, StmtId, TextId};
 use wf_names_rules::sorts::Sort;
 use wf_names_rules::types::sort;
 use wf_text::faults::NoMemory;
@@ -23,16 +23,14 @@ fn add_sort(table: &mut IndexMap<u32, Sort>, name: TextId, sort: Sort) -> Result
     if table.contains_key(&name.0) {
         return Ok(());
     }
-    match table.insert(name.0, sort) {
-        Ok(_) => Ok(()),
-        Err(_) => Err(NoMemory),
-    }
+    table.insert(name.0, sort)?;
+    Ok(())
 }
 
 /// Adds a variable behind those that the table tells.
 pub fn add_variable(
     table: &mut IndexMap<u32, Sort>,
-    parsed: &Package,
+    parsed: &PackageNodes,
     name: Name,
     of: &TypeExpr,
 ) -> Result<(), NoMemory>
@@ -45,23 +43,24 @@ pub fn add_variable(
 /// The table of a method's arguments.
 pub fn arguments(
     alloc: Global,
-    parsed: &Package,
+    parsed: &PackageNodes,
     args: &[Field],
 ) -> Result<IndexMap<u32, Sort>, NoMemory>
     ensures { IfOk result (λ table. TellsVariables parsed.now.texts (variables (fields_at (expr_trees parsed.now.exprs) args.now)) table) }
 {
     let mut table = IndexMap::new(alloc);
     for arg in args {
-        match add_variable(&mut table, parsed, arg.name, &arg.of) {
-            Ok(()) => {}
-            Err(fault) => return Err(fault),
-        }
+        add_variable(&mut table, parsed, arg.name, &arg.of)?;
     }
     Ok(table)
 }
 
 // Adds the local that a statement declares, if it does.
-fn add_local(table: &mut IndexMap<u32, Sort>, parsed: &Package, s: StmtId) -> Result<(), NoMemory>
+fn add_local(
+    table: &mut IndexMap<u32, Sort>,
+    parsed: &PackageNodes,
+    s: StmtId,
+) -> Result<(), NoMemory>
     requires { s.0 < length parsed.now.stmts }
     ensures { OnOk result ((front : List Variable) → TellsVariables parsed.now.texts front table.old
         → TellsVariables parsed.now.texts (front ++ local_of (stmt_at (stmt_trees parsed.now.exprs parsed.now.stmts) s)) table.new) }
@@ -75,7 +74,7 @@ fn add_local(table: &mut IndexMap<u32, Sort>, parsed: &Package, s: StmtId) -> Re
 /// The table of a method's locals: what the statements of its body, and not of the blocks in it, declare.
 pub fn locals(
     alloc: Global,
-    parsed: &Package,
+    parsed: &PackageNodes,
     body: &Block,
 ) -> Result<IndexMap<u32, Sort>, NoMemory>
     requires { BlockBelow (length parsed.now.stmts) body.now }
@@ -83,10 +82,7 @@ pub fn locals(
 {
     let mut table = IndexMap::new(alloc);
     for s in body.items.as_slice() {
-        match add_local(&mut table, parsed, *s) {
-            Ok(()) => {}
-            Err(fault) => return Err(fault),
-        }
+        add_local(&mut table, parsed, *s)?;
     }
     Ok(table)
 }

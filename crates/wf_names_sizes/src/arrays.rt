@@ -20,7 +20,7 @@ use crate::values::value;
 use indexmap::{IndexMap, IndexSet};
 use std::alloc::Global;
 use wf_ast::parsed::{Block, Decl, Field, Prefix, Stmt, TypeExpr};
-use wf_ast::{ExprId, Package, StmtId};
+use wf_ast::{ExprId, PackageNodes, StmtId};
 use wf_names_rules::lists::refused_if;
 use wf_text::faults::NoMemory;
 use wf_text::precedence::sooner;
@@ -30,7 +30,7 @@ use wf_text::rules::{Refusal, Rule};
 const MOST_ELEMENTS: u64 = 65_536;
 
 fn is_long(
-    parsed: &Package,
+    parsed: &PackageNodes,
     constants: &IndexMap<u32, Option<Value>>,
     hidden: &IndexSet<u32>,
     elements: ExprId,
@@ -46,7 +46,7 @@ fn is_long(
 
 // Whether a prefix of a type is an array that is too long.
 fn is_long_prefix(
-    parsed: &Package,
+    parsed: &PackageNodes,
     constants: &IndexMap<u32, Option<Value>>,
     hidden: &IndexSet<u32>,
     prefix: Prefix,
@@ -62,7 +62,7 @@ fn is_long_prefix(
 
 // Whether a type has an array, nested ones too, that is too long.
 fn is_too_long(
-    parsed: &Package,
+    parsed: &PackageNodes,
     constants: &IndexMap<u32, Option<Value>>,
     hidden: &IndexSet<u32>,
     of: &TypeExpr,
@@ -81,7 +81,7 @@ fn is_too_long(
 // Fields or arguments with arrays that are too long.
 fn long_fields(
     found: Option<Refusal>,
-    parsed: &Package,
+    parsed: &PackageNodes,
     constants: &IndexMap<u32, Option<Value>>,
     hidden: &IndexSet<u32>,
     fields: &[Field],
@@ -100,7 +100,7 @@ fn long_fields(
 // A local, if the statement declares one, with an array that is too long.
 fn long_local(
     found: Option<Refusal>,
-    parsed: &Package,
+    parsed: &PackageNodes,
     constants: &IndexMap<u32, Option<Value>>,
     hidden: &IndexSet<u32>,
     s: StmtId,
@@ -130,7 +130,7 @@ fn long_local(
 // Locals with arrays that are too long.
 fn long_locals(
     found: Option<Refusal>,
-    parsed: &Package,
+    parsed: &PackageNodes,
     constants: &IndexMap<u32, Option<Value>>,
     hidden: &IndexSet<u32>,
     body: &Block,
@@ -146,7 +146,7 @@ fn long_locals(
 }
 
 // Adds the name of a local, if the statement declares one.
-fn add_local(hidden: &mut IndexSet<u32>, parsed: &Package, s: StmtId) -> Result<(), NoMemory>
+fn add_local(hidden: &mut IndexSet<u32>, parsed: &PackageNodes, s: StmtId) -> Result<(), NoMemory>
     requires { s.0 < length parsed.now.stmts }
     ensures { OnOk result (hidden.new.keys ≡ insert_all nat_eq hidden.old.keys (map (λ v. v.name.text.0) (local_of (stmt_at (stmt_trees parsed.now.exprs parsed.now.stmts) s)))) }
 {
@@ -172,7 +172,11 @@ fn add_local(hidden: &mut IndexSet<u32>, parsed: &Package, s: StmtId) -> Result<
 }
 
 // The names of the locals that a body declares.
-fn local_names(alloc: Global, parsed: &Package, body: &Block) -> Result<IndexSet<u32>, NoMemory>
+fn local_names(
+    alloc: Global,
+    parsed: &PackageNodes,
+    body: &Block,
+) -> Result<IndexSet<u32>, NoMemory>
     requires { BlockBelow (length parsed.now.stmts) body.now }
     ensures { IfOk result (λ set. set.keys ≡ insert_all nat_eq [] (map (λ v. v.name.text.0) (locals_of (block_at (stmt_trees parsed.now.exprs parsed.now.stmts) body.now)))) }
 {
@@ -189,7 +193,7 @@ fn local_names(alloc: Global, parsed: &Package, body: &Block) -> Result<IndexSet
 // Fields with arrays that are too long, of the struct that a declaration declares, if it declares one.
 fn long_in_struct(
     found: Option<Refusal>,
-    parsed: &Package,
+    parsed: &PackageNodes,
     constants: &IndexMap<u32, Option<Value>>,
     nothing: &IndexSet<u32>,
     number: usize,
@@ -213,7 +217,7 @@ fn long_in_struct(
 // Fields with arrays that are too long.
 fn long_in_structs(
     found: Option<Refusal>,
-    parsed: &Package,
+    parsed: &PackageNodes,
     constants: &IndexMap<u32, Option<Value>>,
     nothing: &IndexSet<u32>,
 ) -> Option<Refusal>
@@ -232,7 +236,7 @@ fn long_in_structs(
 fn long_variables(
     alloc: Global,
     found: Option<Refusal>,
-    parsed: &Package,
+    parsed: &PackageNodes,
     constants: &IndexMap<u32, Option<Value>>,
     args: &[Field],
     body: &Block,
@@ -255,7 +259,7 @@ fn long_variables(
 fn long_in_method(
     alloc: Global,
     found: Option<Refusal>,
-    parsed: &Package,
+    parsed: &PackageNodes,
     constants: &IndexMap<u32, Option<Value>>,
     number: usize,
 ) -> Result<Option<Refusal>, NoMemory>
@@ -278,7 +282,7 @@ fn long_in_method(
 fn long_in_methods(
     alloc: Global,
     found: Option<Refusal>,
-    parsed: &Package,
+    parsed: &PackageNodes,
     constants: &IndexMap<u32, Option<Value>>,
 ) -> Result<Option<Refusal>, NoMemory>
     requires { Knows constants.now (known_constants (of_package parsed.now)) }
@@ -296,10 +300,10 @@ fn long_in_methods(
 
 /// Variables whose types have arrays of more than 65,536 elements, each refused by L7 at its name, and what decides
 /// of these and of what was found before, by the values of the constants. `Err` where memory was refused.
-pub fn long_by_constants(
+pub(crate) fn long_by_constants(
     alloc: Global,
     found: Option<Refusal>,
-    parsed: &Package,
+    parsed: &PackageNodes,
     constants: &IndexMap<u32, Option<Value>>,
 ) -> Result<Option<Refusal>, NoMemory>
     requires { Knows constants.now (known_constants (of_package parsed.now)) }

@@ -18,7 +18,7 @@ use crate::values::{numeric_width, value};
 use indexmap::{IndexMap, IndexSet};
 use std::alloc::Global;
 use wf_ast::parsed::{Bounds, Decl, TypeExpr};
-use wf_ast::{ExprId, Package};
+use wf_ast::{ExprId, PackageNodes};
 use wf_base::widths::Width;
 use wf_text::faults::NoMemory;
 
@@ -51,7 +51,7 @@ fn bounded(
 }
 
 fn low_value(
-    parsed: &Package,
+    parsed: &PackageNodes,
     constants: &IndexMap<u32, Option<Value>>,
     hidden: &IndexSet<u32>,
     low: Option<ExprId>,
@@ -70,7 +70,7 @@ fn low_value(
 
 // The number of a constant as its type has it.
 fn refined(
-    parsed: &Package,
+    parsed: &PackageNodes,
     constants: &IndexMap<u32, Option<Value>>,
     hidden: &IndexSet<u32>,
     width: Width,
@@ -96,7 +96,7 @@ fn refined(
 
 // The value of a constant by those in front of it. Nothing is hidden.
 fn constant_value(
-    parsed: &Package,
+    parsed: &PackageNodes,
     constants: &IndexMap<u32, Option<Value>>,
     nothing: &IndexSet<u32>,
     of: &TypeExpr,
@@ -141,7 +141,7 @@ fn note(
 fn note_decl(
     constants: &mut IndexMap<u32, Option<Value>>,
     nothing: &IndexSet<u32>,
-    parsed: &Package,
+    parsed: &PackageNodes,
     number: usize,
 ) -> Result<(), NoMemory>
     requires number { number < length parsed.now.decls }
@@ -163,7 +163,7 @@ fn note_decl(
 fn noted(
     alloc: Global,
     nothing: &IndexSet<u32>,
-    parsed: &Package,
+    parsed: &PackageNodes,
 ) -> Result<IndexMap<u32, Option<Value>>, NoMemory>
     requires { nothing.now.keys ≡ [] }
     ensures { IfOk result (λ table. Knows table (known_constants (of_package parsed.now))) }
@@ -179,7 +179,10 @@ fn noted(
 }
 
 /// The values of a package's constants by their names; of constants of one name that of the first.
-pub fn constants(alloc: Global, parsed: &Package) -> Result<IndexMap<u32, Option<Value>>, NoMemory>
+pub fn constants(
+    alloc: Global,
+    parsed: &PackageNodes,
+) -> Result<IndexMap<u32, Option<Value>>, NoMemory>
     ensures { IfOk result (λ table. Knows table (known_constants (of_package parsed.now))) }
 {
     let nothing = IndexSet::new(alloc);

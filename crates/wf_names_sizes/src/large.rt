@@ -23,7 +23,7 @@ use crate::struct_sizes::{added, part_bytes, sizes};
 use crate::tables::{numbers, rows};
 use indexmap::{IndexMap, IndexSet};
 use std::alloc::Global;
-use wf_ast::Package;
+use wf_ast::PackageNodes;
 use wf_ast::parsed::{Decl, Field};
 use wf_names_rules::lists::refused_if;
 use wf_text::faults::NoMemory;
@@ -46,7 +46,7 @@ fn passes(before: Option<u32>, since: Option<u32>) -> bool
 // The field that passes the limit.
 fn large_field(
     found: Option<Refusal>,
-    parsed: &Package,
+    parsed: &PackageNodes,
     constants: &IndexMap<u32, Option<Value>>,
     nothing: &IndexSet<u32>,
     structs: &IndexMap<u32, usize>,
@@ -77,7 +77,7 @@ fn large_field(
 // The same in the struct that a declaration declares, if it declares one.
 fn large_in_struct(
     found: Option<Refusal>,
-    parsed: &Package,
+    parsed: &PackageNodes,
     constants: &IndexMap<u32, Option<Value>>,
     nothing: &IndexSet<u32>,
     structs: &IndexMap<u32, usize>,
@@ -111,7 +111,7 @@ fn large_in_struct(
 
 fn large_in_structs(
     found: Option<Refusal>,
-    parsed: &Package,
+    parsed: &PackageNodes,
     constants: &IndexMap<u32, Option<Value>>,
     nothing: &IndexSet<u32>,
     structs: &IndexMap<u32, usize>,
@@ -135,7 +135,7 @@ fn large_in_structs(
 // The sizes of all structs.
 fn known_sizes(
     alloc: Global,
-    parsed: &Package,
+    parsed: &PackageNodes,
     constants: &IndexMap<u32, Option<Value>>,
     nothing: &IndexSet<u32>,
     structs: &IndexMap<u32, usize>,
@@ -159,10 +159,10 @@ fn known_sizes(
 /// Structs whose fields take more than 1,048,576 bytes together, each refused by L7 at the field that passes this
 /// limit, and what decides of these and of what was found before. A flag tells of each struct whether it holds itself;
 /// `order` has the numbers of all structs, each behind those that it holds, but for those that hold themselves.
-pub fn large_structs(
+pub(crate) fn large_structs(
     alloc: Global,
     found: Option<Refusal>,
-    parsed: &Package,
+    parsed: &PackageNodes,
     constants: &IndexMap<u32, Option<Value>>,
     nothing: &IndexSet<u32>,
     flags: &[bool],
@@ -198,7 +198,7 @@ pub fn large_structs(
 pub fn size_breaks(
     alloc: Global,
     found: Option<Refusal>,
-    parsed: &Package,
+    parsed: &PackageNodes,
     flags: &[bool],
     order: &[u32],
 ) -> Result<Option<Refusal>, NoMemory>

@@ -193,7 +193,7 @@ fn large_joined(op: Op, b: u64) -> Option<Option<u64>>
 
 /// What an operator makes of the number of a chain so far, None beyond 64 bits, and of the next operand. The outer
 /// None: it makes none at all.
-pub fn joined_number(
+pub(crate) fn joined_number(
     op: Op,
     width: Option<Width>,
     so_far: Option<u64>,
@@ -254,7 +254,7 @@ fn large_shifted(op: Op) -> Option<Option<u64>>
 }
 
 /// What a shift makes of the number of a chain so far, as above.
-pub fn shifted_number(
+pub(crate) fn shifted_number(
     op: Op,
     width: Option<Width>,
     so_far: Option<u64>,

@@ -17,7 +17,7 @@ use indexmap::{IndexMap, IndexSet};
 use std::alloc::Global;
 use wf_ast::parsed::{Core, Field, Prefix, TypeExpr};
 use wf_ast::sequences::Sequence;
-use wf_ast::{ExprId, Package};
+use wf_ast::{ExprId, PackageNodes};
 use wf_base::widths::Width;
 use wf_names_rules::tables::text_bytes;
 use wf_names_rules::types::{width, width_named};
@@ -60,7 +60,7 @@ fn named_bytes(name: &[u8]) -> u64
 }
 
 // The bytes of a field that isn't an array.
-fn core_bytes(parsed: &Package, core: Core) -> u64
+fn core_bytes(parsed: &PackageNodes, core: Core) -> u64
     ensures bytes { (es : _) (bounds : _) → result ≡ bytes_of_type (of_package parsed.now) (core_at es core bounds) }
     ensures most { result ≤ 8 }
 {
@@ -79,7 +79,7 @@ fn product(count: u64, bytes: u64) -> u32
 }
 
 fn count(
-    parsed: &Package,
+    parsed: &PackageNodes,
     constants: &IndexMap<u32, Option<Value>>,
     nothing: &IndexSet<u32>,
     elements: ExprId,
@@ -97,7 +97,7 @@ fn count(
 
 // The bytes of a field that holds no struct.
 fn plain_bytes(
-    parsed: &Package,
+    parsed: &PackageNodes,
     constants: &IndexMap<u32, Option<Value>>,
     nothing: &IndexSet<u32>,
     of: &TypeExpr,
@@ -119,7 +119,11 @@ fn plain_bytes(
 }
 
 // The struct that a field holds.
-fn struct_held(parsed: &Package, structs: &IndexMap<u32, usize>, of: &TypeExpr) -> Option<usize>
+fn struct_held(
+    parsed: &PackageNodes,
+    structs: &IndexMap<u32, usize>,
+    of: &TypeExpr,
+) -> Option<usize>
     requires { AreNumbers structs.now (of_package parsed.now).structs }
     ensures { (es : _) → result ≡ held_by_type (of_package parsed.now) (type_at es of.now) }
 {
@@ -129,7 +133,7 @@ fn struct_held(parsed: &Package, structs: &IndexMap<u32, usize>, of: &TypeExpr) 
     }
 }
 
-fn core_held(parsed: &Package, structs: &IndexMap<u32, usize>, core: Core) -> Option<usize>
+fn core_held(parsed: &PackageNodes, structs: &IndexMap<u32, usize>, core: Core) -> Option<usize>
     requires { AreNumbers structs.now (of_package parsed.now).structs }
     ensures { (es : _) (bounds : _) → result ≡ held_by_type (of_package parsed.now) (core_at es core bounds) }
 {
@@ -141,8 +145,8 @@ fn core_held(parsed: &Package, structs: &IndexMap<u32, usize>, core: Core) -> Op
 }
 
 /// A field by its bytes, or by the struct that it holds.
-pub fn field_part(
-    parsed: &Package,
+pub(crate) fn field_part(
+    parsed: &PackageNodes,
     constants: &IndexMap<u32, Option<Value>>,
     nothing: &IndexSet<u32>,
     structs: &IndexMap<u32, usize>,
@@ -163,7 +167,7 @@ pub fn field_part(
 /// The fields of a struct in order.
 pub fn row(
     alloc: Global,
-    parsed: &Package,
+    parsed: &PackageNodes,
     constants: &IndexMap<u32, Option<Value>>,
     nothing: &IndexSet<u32>,
     structs: &IndexMap<u32, usize>,

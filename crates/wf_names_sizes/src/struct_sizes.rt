@@ -61,7 +61,7 @@ fn struct_bytes(flag: bool, inner: Option<u32>) -> Option<u32>
 }
 
 /// The bytes of a field, where they are known.
-pub fn part_bytes(part: Part, flags: &[bool], sizes: &[Option<u32>]) -> Option<u32>
+pub(crate) fn part_bytes(part: Part, flags: &[bool], sizes: &[Option<u32>]) -> Option<u32>
     ensures { result ≡ bytes_of_part flags.now sizes.now part }
 {
     match part {

@@ -16,7 +16,7 @@ use crate::numbers::Value;
 use crate::parts::{Part, row};
 use indexmap::{IndexMap, IndexSet};
 use std::alloc::Global;
-use wf_ast::Package;
+use wf_ast::PackageNodes;
 use wf_ast::parsed::Decl;
 use wf_ast::sequences::Sequence;
 use wf_text::faults::NoMemory;
@@ -38,7 +38,7 @@ fn note(structs: &mut IndexMap<u32, usize>, text: u32, number: usize) -> Result<
 // more than `limit`.
 fn note_decl(
     structs: &mut IndexMap<u32, usize>,
-    parsed: &Package,
+    parsed: &PackageNodes,
     number: usize,
     count: usize,
     limit: usize,
@@ -65,7 +65,7 @@ fn note_decl(
 }
 
 /// The numbers of the structs by their names; of structs of one name that of the first.
-pub fn numbers(alloc: Global, parsed: &Package) -> Result<IndexMap<u32, usize>, NoMemory>
+pub fn numbers(alloc: Global, parsed: &PackageNodes) -> Result<IndexMap<u32, usize>, NoMemory>
     ensures { IfOk result (λ table. AreNumbers table (of_package parsed.now).structs) }
 {
     let mut structs = IndexMap::new(alloc);
@@ -83,7 +83,7 @@ pub fn numbers(alloc: Global, parsed: &Package) -> Result<IndexMap<u32, usize>, 
 fn add_row(
     alloc: Global,
     rows: &mut Vec<Sequence<Part>>,
-    parsed: &Package,
+    parsed: &PackageNodes,
     constants: &IndexMap<u32, Option<Value>>,
     nothing: &IndexSet<u32>,
     structs: &IndexMap<u32, usize>,
@@ -125,7 +125,7 @@ fn add_row(
 /// The fields of each struct, by number.
 pub fn rows(
     alloc: Global,
-    parsed: &Package,
+    parsed: &PackageNodes,
     constants: &IndexMap<u32, Option<Value>>,
     nothing: &IndexSet<u32>,
     structs: &IndexMap<u32, usize>,

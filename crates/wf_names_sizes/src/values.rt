@@ -14,12 +14,12 @@ use crate::numbers::{Value, fitted};
 use indexmap::{IndexMap, IndexSet};
 use wf_ast::operators::Op;
 use wf_ast::parsed::{Expr, Link, Path, Root, TypeExpr};
-use wf_ast::{ExprId, Package};
+use wf_ast::{ExprId, PackageNodes};
 use wf_base::widths::Width;
 use wf_names_rules::types::width;
 
 /// The width of a type that is numeric, refined or not.
-pub fn numeric_width(parsed: &Package, of: &TypeExpr) -> Option<Width>
+pub(crate) fn numeric_width(parsed: &PackageNodes, of: &TypeExpr) -> Option<Width>
     ensures { (es : _) → result ≡ width_of (bytes_of parsed.now.texts) (type_at es of.now) }
 {
     match of.prefixes.as_slice() {
@@ -29,7 +29,7 @@ pub fn numeric_width(parsed: &Package, of: &TypeExpr) -> Option<Width>
 }
 
 // The width of a numeric type without bounds.
-fn plain_width(parsed: &Package, of: &TypeExpr) -> Option<Width>
+fn plain_width(parsed: &PackageNodes, of: &TypeExpr) -> Option<Width>
     ensures { (es : _) → result ≡ plain_by (bytes_of parsed.now.texts) (type_at es of.now) }
 {
     match of.bounds {
@@ -76,7 +76,7 @@ fn converted(width: Option<Width>, of: Option<Value>) -> Option<Value>
 /// None where it isn't constant, or breaks a rule of values.
 #[cycle(values)]
 pub fn value(
-    parsed: &Package,
+    parsed: &PackageNodes,
     constants: &IndexMap<u32, Option<Value>>,
     hidden: &IndexSet<u32>,
     e: ExprId,
@@ -110,7 +110,7 @@ pub fn value(
 // The value of a chain whose first operand has this one.
 #[cycle(values)]
 fn chain_value(
-    parsed: &Package,
+    parsed: &PackageNodes,
     constants: &IndexMap<u32, Option<Value>>,
     hidden: &IndexSet<u32>,
     op: Op,

@@ -14,8 +14,8 @@ loop-number-preserved c =
     let ts = stmt_trees c.args.parsed.now.exprs c.args.parsed.now.stmts in
     let few = at_most_one es ts c.decl.result.now in (
       const_next es ts c.args.parsed.now.decls c.loop-number.number c.decl.result.now c.decl.ensures.node (package_of c.args.parsed.now) (named_package c.args.nodes.now) (named_package c.loop-number.nodes) (named_package c.const_decl.new.nodes)
-          c.loop-number.place c.in-Ok.next c.loop-number.around c.const_decl.new.around c.loop-number.invariant.0 c.in-Ok.ensures.added c.in-Ok.ensures.known c.in-Ok.ensures.count,
-      omega (arith, c.loop-number.invariant.1, c.in-Ok.ensures.count, few),
+          c.loop-number.place _ c.loop-number.around c.const_decl.new.around c.loop-number.invariant.0 c.in_ok-place.ensures.added c.in_ok-place.ensures.known c.in_ok-place.ensures.count,
+      omega (arith, c.loop-number.invariant.1, c.in_ok-place.ensures.count, few),
     )
 
 pub returns-clause-added : goal.returns-clause-added

@@ -8,7 +8,7 @@ use Rattle.wf_names_nodes.proofs.packages.all_decls.Goals as goal
 pub all_consts-requires-clause-outside : goal.all_consts-requires-clause-outside
 all_consts-requires-clause-outside c = c.outside-around.ensures (package_of c.args.parsed.now)
 
-pub returns-in-Ok : goal.returns-in-Ok
-returns-in-Ok c =
+pub returns : goal.returns
+returns c =
     let decls = decl_trees c.args.parsed.now.exprs c.args.parsed.now.stmts c.args.parsed.now.decls in
-    ok_equal_more c.all_others.result _ _ _ (ap (λ t. with_others (package_of c.args.parsed.now) t decls) c.in-Ok.ensures.added) c.all_others.ensures
+    ok_equal_more c.all_others.result _ _ _ (ap (λ t. with_others (package_of c.args.parsed.now) t decls) c.in_ok-all_consts.ensures.added) c.all_others.ensures

@@ -14,8 +14,8 @@ pub loop-number-preserved : goal.loop-number-preserved
 loop-number-preserved c =
     let es = expr_trees c.args.parsed.now.exprs in
     let ts = stmt_trees c.args.parsed.now.exprs c.args.parsed.now.stmts in
-    let step = other_next es ts c.args.parsed.now.decls c.loop-number.number c.decl.result.now c.decl.ensures.node (package_of c.args.parsed.now) (named_package c.loop-number.nodes) (named_package c.other_decl.new.nodes) c.in-Ok.ensures.added in
-    (c.in-Ok.ensures.known, step ∙ c.loop-number.invariant.1)
+    let step = other_next es ts c.args.parsed.now.decls c.loop-number.number c.decl.result.now c.decl.ensures.node (package_of c.args.parsed.now) (named_package c.loop-number.nodes) (named_package c.other_decl.new.nodes) c.in_ok-other_decl.ensures.added in
+    (c.in_ok-other_decl.ensures.known, step ∙ c.loop-number.invariant.1)
 
 pub returns : goal.returns
 returns c =

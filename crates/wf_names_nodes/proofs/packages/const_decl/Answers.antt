@@ -4,14 +4,14 @@ use Rattle.wf_names_scopes.specs.Agreeing.{package_of}
 use Rattle.wf_names_nodes.proofs.PackageLemmas.{no_consts, no_const_known}
 use Rattle.wf_names_nodes.proofs.packages.const_decl.Goals as goal
 
-pub returns-in-Ok-clause-added : goal.returns-in-Ok-clause-added
-returns-in-Ok-clause-added c = rw c.in-Const.is c.in-Ok.ensures.added
+pub returns-in_ok-next_const-in-Const-clause-added : goal.returns-in_ok-next_const-in-Const-clause-added
+returns-in_ok-next_const-in-Const-clause-added c = rw c.in-Const.is c.in_ok-next_const-in-Const.ensures.added
 
-pub returns-in-Ok-clause-known : goal.returns-in-Ok-clause-known
-returns-in-Ok-clause-known c = rw c.in-Const.is c.in-Ok.ensures.known
+pub returns-in_ok-next_const-in-Const-clause-known : goal.returns-in_ok-next_const-in-Const-clause-known
+returns-in_ok-next_const-in-Const-clause-known c = rw c.in-Const.is c.in_ok-next_const-in-Const.ensures.known
 
-pub returns-in-Ok-clause-count : goal.returns-in-Ok-clause-count
-returns-in-Ok-clause-count c = rw c.in-Const.is refl
+pub returns-in_ok-next_const-in-Const-clause-count : goal.returns-in_ok-next_const-in-Const-clause-count
+returns-in_ok-next_const-in-Const-clause-count c = rw c.in-Const.is refl
 
 pub returns-in-Status-clause-added : goal.returns-in-Status-clause-added
 returns-in-Status-clause-added c = rw c.in-Status.is (λ known h. no_consts (named_package c.args.nodes.now))

@@ -11,16 +11,16 @@ use Rattle.wf_names_nodes.specs.Declaring.{method_parsed, with_methods}
 use Rattle.wf_names_nodes.proofs.PackageLemmas.{ok_equal_more}
 use Rattle.wf_names_nodes.proofs.packages.next_method.Goals as goal
 
-pub returns-in-Ok-clause-added : goal.returns-in-Ok-clause-added
-returns-in-Ok-clause-added c =
+pub returns-clause-added : goal.returns-clause-added
+returns-clause-added c =
     let d = package_of c.args.parsed.now in
     let es = expr_trees c.args.parsed.now.exprs in
     let ts = stmt_trees c.args.parsed.now.exprs c.args.parsed.now.stmts in
-    let args = variables (fields_at es c.args.args.now) in
-    let locals = locals_of (block_at ts c.args.body.now) in
-    let m = method_parsed es ts c.args.public c.args.owner c.args.name c.args.args.now c.args.gives.now c.args.body.now in
-    let stands = standing_same d (scope_in d c.args.owner args locals) c.args.numbers.now c.enter_method.new.around c.requires.numbers (c.in-Ok.ensures.places c.requires.constants) in
-    ok_equal_more c.put_method.result _ _ _ (ap (λ k. with_methods (named_package c.args.nodes.now) (resolved_method k c.args.written m ∷ [])) stands) c.put_method.ensures
+    let args = variables (fields_at es c.args.method.args.now) in
+    let locals = locals_of (block_at ts c.args.method.body.now) in
+    let m = method_parsed es ts c.args.method.public c.args.method.owner c.args.method.name c.args.method.args.now c.args.method.gives.now c.args.method.body.now in
+    let stands = standing_same d (scope_in d c.args.method.owner args locals) c.args.numbers.now c.enter_method.new.around c.requires.numbers (c.in_ok-enter_method.ensures.places c.requires.constants) in
+    ok_equal_more c.put_method.result _ _ _ (ap (λ k. with_methods (named_package c.args.nodes.now) (resolved_method k c.args.method.mark m ∷ [])) stands) c.put_method.ensures
 
-pub returns-in-Ok-clause-known : goal.returns-in-Ok-clause-known
-returns-in-Ok-clause-known c = ok_still c.put_method.result _ (c.in-Ok.ensures.constants c.requires.constants)
+pub returns-clause-known : goal.returns-clause-known
+returns-clause-known c = ok_still c.put_method.result _ (c.in_ok-enter_method.ensures.constants c.requires.constants)

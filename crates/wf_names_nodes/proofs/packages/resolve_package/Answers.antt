@@ -2,6 +2,6 @@ use Rattle.wf_named.specs.NamedParts.{named_package}
 use Rattle.wf_names_nodes.proofs.PackageLemmas.{package_made}
 use Rattle.wf_names_nodes.proofs.packages.resolve_package.Goals as goal
 
-pub returns-in-Ok-all_decls : goal.returns-in-Ok-all_decls
-returns-in-Ok-all_decls c =
-    package_made c.args.parsed.now c.in-Ok.nodes c.name.result.now c.args.order.items (named_package c.all_decls.new.nodes) (named_package c.set_order.new.self) c.name.ensures c.in-Ok.ensures c.in-Ok-all_decls.ensures c.set_order.ensures.«package»
+pub returns : goal.returns
+returns c =
+    package_made c.args.parsed.now c.in_ok-nodes.nodes c.name.result.now c.args.order.items (named_package c.all_decls.new.nodes) (named_package c.set_order.new.self) c.name.ensures c.in_ok-nodes.ensures c.in_ok-all_decls.ensures c.set_order.ensures.«package»

@@ -16,8 +16,8 @@ loop-field-preserved c =
     let k = standing_by c.args.parsed.now.texts c.args.numbers.now c.args.around.now in
     let es = expr_trees c.args.parsed.now.exprs in
     let whole = variables (fields_at es c.args.fields.now) in
-    rw c.in-Ok-push.ensures.ok (field_added k whole c.args.nodes.now c.loop-field.nodes c.resolve_variable.new.nodes c.loop-field.made es c.args.fields.now c.loop-field.field-index c.field-item.result c.in-Ok.one c.field-item.is c.loop-field-test.true
-    c.loop-field.invariant c.in-Ok.ensures.grows c.in-Ok.ensures.below c.in-Ok.ensures.made)
+    rw c.in_ok-push.ensures.ok (field_added k whole c.args.nodes.now c.loop-field.nodes c.resolve_variable.new.nodes c.loop-field.made es c.args.fields.now c.loop-field.field-index c.field-item.result c.in_ok-one.one c.field-item.is c.loop-field-test.true
+    c.loop-field.invariant c.in_ok-one.ensures.grows c.in_ok-one.ensures.below c.in_ok-one.ensures.made)
 
 pub returns-clause-grows : goal.returns-clause-grows
 returns-clause-grows c = c.loop-field.invariant.grows

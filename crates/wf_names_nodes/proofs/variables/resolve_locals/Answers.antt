@@ -19,9 +19,9 @@ loop-s-preserved c =
     let items = c.args.body.now.items in
     let close = c.args.body.now.close in
     let inside : c.loop-s.s-index < length items = rw (← c.as_slice-s-items.ensures) c.loop-s-test.true in
-    let one = rw c.as_slice-s-items.ensures at c.in-Ok.ensures.made in
-    rw c.in-Ok-add_variable.ensures (local_added k (locals_of (items_at ts items close)) c.args.nodes.now c.loop-s.nodes c.resolve_local.new.nodes c.loop-s.made ts items close c.loop-s.s-index (record { 0 = 0 }) _ inside
-    c.loop-s.invariant c.in-Ok.ensures.grows c.in-Ok.ensures.below one)
+    let one = rw c.as_slice-s-items.ensures at c.in_ok-one.ensures.made in
+    rw c.in_ok-add_variable.ensures (local_added k (locals_of (items_at ts items close)) c.args.nodes.now c.loop-s.nodes c.resolve_local.new.nodes c.loop-s.made ts items close c.loop-s.s-index (record { 0 = 0 }) _ inside
+    c.loop-s.invariant c.in_ok-one.ensures.grows c.in_ok-one.ensures.below one)
 
 pub returns-clause-grows : goal.returns-clause-grows
 returns-clause-grows c = c.loop-s.invariant.grows

@@ -22,20 +22,20 @@ resolve_stmt-resolve_parts-requires t c =
     let node = c.stmt-node.result.now.stmt in
     (omega (arith, stmt_above (length c.args.parsed.now.exprs) c.args.s.0 node c.stmt-node.ensures.parts, c.decreases), stmt_more (length c.args.parsed.now.exprs) c.args.s.0 (length c.args.parsed.now.stmts) (omega (arith, c.requires)) node c.stmt-node.ensures.parts)
 
-pub resolve_stmt-returns-in-Ok-clause-grows : goal.resolve_stmt-returns-in-Ok-clause-grows
-resolve_stmt-returns-in-Ok-clause-grows t c =
-    ok_grows c.args.nodes.now c.resolve_parts.new.nodes c.put_made.new.nodes c.put_made.result c.in-Ok.ensures.grows c.put_made.ensures.grows
+pub resolve_stmt-returns-clause-grows : goal.resolve_stmt-returns-clause-grows
+resolve_stmt-returns-clause-grows t c =
+    ok_grows c.args.nodes.now c.resolve_parts.new.nodes c.put_made.new.nodes c.put_made.result c.in_ok-stmt.ensures.grows c.put_made.ensures.grows
 
-pub resolve_stmt-returns-in-Ok-clause-labels : goal.resolve_stmt-returns-in-Ok-clause-labels
-resolve_stmt-returns-in-Ok-clause-labels t c =
-    ok_still c.put_made.result _ c.in-Ok.ensures.labels
+pub resolve_stmt-returns-clause-labels : goal.resolve_stmt-returns-clause-labels
+resolve_stmt-returns-clause-labels t c =
+    ok_still c.put_made.result _ c.in_ok-stmt.ensures.labels
 
-pub resolve_stmt-returns-in-Ok-clause-made : goal.resolve_stmt-returns-in-Ok-clause-made
-resolve_stmt-returns-in-Ok-clause-made t c =
+pub resolve_stmt-returns-clause-made : goal.resolve_stmt-returns-clause-made
+resolve_stmt-returns-clause-made t c =
     let k = standing_by c.args.parsed.now.texts c.args.numbers.now c.args.around.now in
     let es = expr_trees c.args.parsed.now.exprs in
     let ts = stmt_trees c.args.parsed.now.exprs c.args.parsed.now.stmts in
-    let is = c.in-Ok.ensures.made c.stmt-node.result.now.at ∙ ap (resolved_stmt k c.args.labels.now.items) (sym c.stmt-node.ensures.made) in
+    let is = c.in_ok-stmt.ensures.made c.stmt-node.result.now.at ∙ ap (resolved_stmt k c.args.labels.now.items) (sym c.stmt-node.ensures.made) in
     ok_is (λ r. stmt_in (stmts_of c.put_made.new.nodes) r) _ _ c.put_made.result is c.put_made.ensures.made
 
 pub resolve_parts-resolve_if-requires : goal.resolve_parts-resolve_if-requires
@@ -46,9 +46,9 @@ resolve_parts-resolve_if-requires t c =
     let same = ap above_arms c.as_slice.ensures in
     (omega (arith, c.decreases, whole, same), (arms, parts.1))
 
-pub resolve_parts-returns-in-Ok-clause-made : goal.resolve_parts-returns-in-Ok-clause-made
-resolve_parts-returns-in-Ok-clause-made t c =
-    λ at. rw c.in-If.is (ap Some (rw c.as_slice.ensures at (c.in-Ok.ensures.made at)))
+pub resolve_parts-returns-in_ok-stmt-in-If-clause-made : goal.resolve_parts-returns-in_ok-stmt-in-If-clause-made
+resolve_parts-returns-in_ok-stmt-in-If-clause-made t c =
+    λ at. rw c.in-If.is (ap Some (rw c.as_slice.ensures at (c.in_ok-stmt-in-If.ensures.made at)))
 
 pub resolve_parts-resolve_loop-requires : goal.resolve_parts-resolve_loop-requires
 resolve_parts-resolve_loop-requires t c =
@@ -57,9 +57,9 @@ resolve_parts-resolve_loop-requires t c =
     let whole = ap above_stmt c.in-While.is in
     (omega (arith, c.decreases, whole), (parts.0, (clauses, parts.2)))
 
-pub resolve_parts-returns-in-Ok-resolve_loop-clause-made : goal.resolve_parts-returns-in-Ok-resolve_loop-clause-made
-resolve_parts-returns-in-Ok-resolve_loop-clause-made t c =
-    λ at. rw c.in-While.is (ap Some (rw c.as_slice-in-While.ensures at (c.in-Ok-resolve_loop.ensures.made at)))
+pub resolve_parts-returns-in_ok-stmt-in-While-clause-made : goal.resolve_parts-returns-in_ok-stmt-in-While-clause-made
+resolve_parts-returns-in_ok-stmt-in-While-clause-made t c =
+    λ at. rw c.in-While.is (ap Some (rw c.as_slice-in-While.ensures at (c.in_ok-stmt-in-While.ensures.made at)))
 
 pub resolve_block-loop-s-init : goal.resolve_block-loop-s-init
 resolve_block-loop-s-init t c =
@@ -82,9 +82,9 @@ resolve_block-loop-s-preserved t c =
     let es = expr_trees c.args.parsed.now.exprs in
     let ts = stmt_trees c.args.parsed.now.exprs c.args.parsed.now.stmts in
     let inside : c.loop-s.s-index < length c.args.block.now.items = rw (← c.as_slice-s-items.ensures) c.loop-s-test.true in
-    let one = rw (c.as_slice-s-items.ensures, c.loop-s.invariant.1) at c.in-Ok.ensures.made in
-    let added = stmt_added k c.args.labels.now.items es ts c.args.nodes.now c.loop-s.nodes c.resolve_stmt.new.nodes c.loop-s.s-index c.args.block.now.close c.args.block.now.items c.loop-s.made (record { 0 = 0 }) c.in-Ok.one inside c.loop-s.invariant.0 c.in-Ok.ensures.grows c.in-Ok.ensures.below one in
-    (rw c.in-Ok-add_stmt.ensures added, c.in-Ok.ensures.labels ∙ c.loop-s.invariant.1)
+    let one = rw (c.as_slice-s-items.ensures, c.loop-s.invariant.1) at c.in_ok-one.ensures.made in
+    let added = stmt_added k c.args.labels.now.items es ts c.args.nodes.now c.loop-s.nodes c.resolve_stmt.new.nodes c.loop-s.s-index c.args.block.now.close c.args.block.now.items c.loop-s.made (record { 0 = 0 }) c.in_ok-one.one inside c.loop-s.invariant.0 c.in_ok-one.ensures.grows c.in_ok-one.ensures.below one in
+    (rw c.in_ok-add_stmt.ensures added, c.in_ok-one.ensures.labels ∙ c.loop-s.invariant.1)
 
 pub resolve_block-returns-clause-grows : goal.resolve_block-returns-clause-grows
 resolve_block-returns-clause-grows t c =
@@ -107,17 +107,17 @@ resolve_block-returns-clause-made t c =
     let over : drop c.loop-s.s-index items ≡ [] = drop_all c.loop-s.s-index items (omega (arith, c.loop-s-test.false, ap length c.as_slice-s-items.ensures)) in
     stmts_all_made k c.args.labels.now.items es ts c.args.nodes.now c.loop-s.nodes c.loop-s.nodes c.loop-s.s-index c.args.block.now.close items c.loop-s.made over c.loop-s.invariant.0
 
-pub resolve_arm-returns-in-Ok-resolve_block-clause-grows : goal.resolve_arm-returns-in-Ok-resolve_block-clause-grows
-resolve_arm-returns-in-Ok-resolve_block-clause-grows t c =
-    grows_more c.args.nodes.now c.resolve_expr.new.nodes c.resolve_block.new.nodes c.in-Ok.ensures.grows c.in-Ok-resolve_block.ensures.grows
+pub resolve_arm-returns-clause-grows : goal.resolve_arm-returns-clause-grows
+resolve_arm-returns-clause-grows t c =
+    grows_more c.args.nodes.now c.resolve_expr.new.nodes c.resolve_block.new.nodes c.in_ok-condition.ensures.grows c.in_ok-body.ensures.grows
 
-pub resolve_arm-returns-in-Ok-resolve_block-clause-below : goal.resolve_arm-returns-in-Ok-resolve_block-clause-below
-resolve_arm-returns-in-Ok-resolve_block-clause-below t c =
-    (omega (arith, c.in-Ok.ensures.below, c.in-Ok-resolve_block.ensures.grows.exprs), c.in-Ok-resolve_block.ensures.below)
+pub resolve_arm-returns-clause-below : goal.resolve_arm-returns-clause-below
+resolve_arm-returns-clause-below t c =
+    (omega (arith, c.in_ok-condition.ensures.below, c.in_ok-body.ensures.grows.exprs), c.in_ok-body.ensures.below)
 
-pub resolve_arm-returns-in-Ok-resolve_block-clause-condition : goal.resolve_arm-returns-in-Ok-resolve_block-clause-condition
-resolve_arm-returns-in-Ok-resolve_block-clause-condition t c =
-    expr_kept c.resolve_expr.new.nodes c.resolve_block.new.nodes c.in-Ok-resolve_block.ensures.grows c.in-Ok.condition c.in-Ok.ensures.below ∙ c.in-Ok.ensures.made
+pub resolve_arm-returns-clause-condition : goal.resolve_arm-returns-clause-condition
+resolve_arm-returns-clause-condition t c =
+    expr_kept c.resolve_expr.new.nodes c.resolve_block.new.nodes c.in_ok-body.ensures.grows c.in_ok-condition.condition c.in_ok-condition.ensures.below ∙ c.in_ok-condition.ensures.made
 
 pub resolve_arms-loop-arm-init : goal.resolve_arms-loop-arm-init
 resolve_arms-loop-arm-init t c =
@@ -136,9 +136,9 @@ resolve_arms-loop-arm-preserved t c =
     let k = standing_by c.args.parsed.now.texts c.args.numbers.now c.args.around.now in
     let es = expr_trees c.args.parsed.now.exprs in
     let ts = stmt_trees c.args.parsed.now.exprs c.args.parsed.now.stmts in
-    let body = rw c.loop-arm.invariant.1 at c.in-Ok.ensures.body in
-    let added = arm_added k c.args.labels.now.items es ts c.args.nodes.now c.loop-arm.nodes c.resolve_arm.new.nodes c.loop-arm.arm-index c.args.arms.now c.loop-arm.made c.arm-item.result c.in-Ok.one c.arm-item.is c.loop-arm-test.true c.loop-arm.invariant.0 c.in-Ok.ensures.grows c.in-Ok.ensures.below c.in-Ok.ensures.condition body in
-    (rw c.in-Ok-push.ensures.ok added, c.in-Ok.ensures.labels ∙ c.loop-arm.invariant.1)
+    let body = rw c.loop-arm.invariant.1 at c.in_ok-one.ensures.body in
+    let added = arm_added k c.args.labels.now.items es ts c.args.nodes.now c.loop-arm.nodes c.resolve_arm.new.nodes c.loop-arm.arm-index c.args.arms.now c.loop-arm.made c.arm-item.result c.in_ok-one.one c.arm-item.is c.loop-arm-test.true c.loop-arm.invariant.0 c.in_ok-one.ensures.grows c.in_ok-one.ensures.below c.in_ok-one.ensures.condition body in
+    (rw c.in_ok-push.ensures.ok added, c.in_ok-one.ensures.labels ∙ c.loop-arm.invariant.1)
 
 pub resolve_arms-returns-clause-grows : goal.resolve_arms-returns-clause-grows
 resolve_arms-returns-clause-grows t c =
@@ -164,38 +164,38 @@ pub resolve_else-returns-in-None-clause-grows : goal.resolve_else-returns-in-Non
 resolve_else-returns-in-None-clause-grows t c =
     grows_self c.args.nodes.now
 
-pub resolve_if-returns-in-Ok-resolve_else-clause-grows : goal.resolve_if-returns-in-Ok-resolve_else-clause-grows
-resolve_if-returns-in-Ok-resolve_else-clause-grows t c =
-    grows_more c.args.nodes.now c.resolve_arms.new.nodes c.resolve_else.new.nodes c.in-Ok.ensures.grows c.in-Ok-resolve_else.ensures.grows
+pub resolve_if-returns-clause-grows : goal.resolve_if-returns-clause-grows
+resolve_if-returns-clause-grows t c =
+    grows_more c.args.nodes.now c.resolve_arms.new.nodes c.resolve_else.new.nodes c.in_ok-arms.ensures.grows c.in_ok-otherwise.ensures.grows
 
-pub resolve_if-returns-in-Ok-resolve_else-clause-labels : goal.resolve_if-returns-in-Ok-resolve_else-clause-labels
-resolve_if-returns-in-Ok-resolve_else-clause-labels t c =
-    c.in-Ok-resolve_else.ensures.labels ∙ c.in-Ok.ensures.labels
+pub resolve_if-returns-clause-labels : goal.resolve_if-returns-clause-labels
+resolve_if-returns-clause-labels t c =
+    c.in_ok-otherwise.ensures.labels ∙ c.in_ok-arms.ensures.labels
 
-pub resolve_if-returns-in-Ok-resolve_else-clause-below : goal.resolve_if-returns-in-Ok-resolve_else-clause-below
-resolve_if-returns-in-Ok-resolve_else-clause-below t c =
-    (arms_below (length c.resolve_arms.new.nodes.exprs) (length c.resolve_else.new.nodes.exprs) (length c.resolve_arms.new.nodes.stmts) (length c.resolve_else.new.nodes.stmts) c.in-Ok-resolve_else.ensures.grows.exprs c.in-Ok-resolve_else.ensures.grows.stmts c.in-Ok.arms c.in-Ok.ensures.below, c.in-Ok-resolve_else.ensures.below)
+pub resolve_if-returns-clause-below : goal.resolve_if-returns-clause-below
+resolve_if-returns-clause-below t c =
+    (arms_below (length c.resolve_arms.new.nodes.exprs) (length c.resolve_else.new.nodes.exprs) (length c.resolve_arms.new.nodes.stmts) (length c.resolve_else.new.nodes.stmts) c.in_ok-otherwise.ensures.grows.exprs c.in_ok-otherwise.ensures.grows.stmts c.in_ok-arms.arms c.in_ok-arms.ensures.below, c.in_ok-otherwise.ensures.below)
 
-pub resolve_if-returns-in-Ok-resolve_else-clause-made : goal.resolve_if-returns-in-Ok-resolve_else-clause-made
-resolve_if-returns-in-Ok-resolve_else-clause-made t c =
+pub resolve_if-returns-clause-made : goal.resolve_if-returns-clause-made
+resolve_if-returns-clause-made t c =
     let k = standing_by c.args.parsed.now.texts c.args.numbers.now c.args.around.now in
     let es = expr_trees c.args.parsed.now.exprs in
     let ts = stmt_trees c.args.parsed.now.exprs c.args.parsed.now.stmts in
-    let last = rw c.in-Ok.ensures.labels at c.in-Ok-resolve_else.ensures.made in
+    let last = rw c.in_ok-arms.ensures.labels at c.in_ok-otherwise.ensures.made in
     λ at. ap (λ arms. tree.branch arms at)
-    (ap (arms_at (exprs_of c.resolve_else.new.nodes) (stmts_of c.resolve_else.new.nodes) c.in-Ok.arms) last ∙ arms_kept c.resolve_arms.new.nodes c.resolve_else.new.nodes c.in-Ok-resolve_else.ensures.grows c.in-Ok.arms _ c.in-Ok.ensures.below ∙ c.in-Ok.ensures.made _)
+    (ap (arms_at (exprs_of c.resolve_else.new.nodes) (stmts_of c.resolve_else.new.nodes) c.in_ok-arms.arms) last ∙ arms_kept c.resolve_arms.new.nodes c.resolve_else.new.nodes c.in_ok-otherwise.ensures.grows c.in_ok-arms.arms _ c.in_ok-arms.ensures.below ∙ c.in_ok-arms.ensures.made _)
 
-pub resolve_loop-returns-in-Ok-resolve_inside-clause-grows : goal.resolve_loop-returns-in-Ok-resolve_inside-clause-grows
-resolve_loop-returns-in-Ok-resolve_inside-clause-grows t c =
-    grows_more c.args.nodes.now c.resolve_head.new.nodes c.resolve_inside.new.nodes c.in-Ok.ensures.grows c.in-Ok-resolve_inside.ensures.grows
+pub resolve_loop-returns-clause-grows : goal.resolve_loop-returns-clause-grows
+resolve_loop-returns-clause-grows t c =
+    grows_more c.args.nodes.now c.resolve_head.new.nodes c.resolve_inside.new.nodes c.in_ok-condition.ensures.grows c.in_ok-body.ensures.grows
 
-pub resolve_loop-returns-in-Ok-resolve_inside-clause-below : goal.resolve_loop-returns-in-Ok-resolve_inside-clause-below
-resolve_loop-returns-in-Ok-resolve_inside-clause-below t c =
-    (omega (arith, c.in-Ok.ensures.below.0, c.in-Ok-resolve_inside.ensures.grows.exprs), clauses_more (length c.resolve_head.new.nodes.exprs) (length c.resolve_inside.new.nodes.exprs) c.in-Ok-resolve_inside.ensures.grows.exprs c.in-Ok.clauses c.in-Ok.ensures.below.1, c.in-Ok-resolve_inside.ensures.below)
+pub resolve_loop-returns-clause-below : goal.resolve_loop-returns-clause-below
+resolve_loop-returns-clause-below t c =
+    (omega (arith, c.in_ok-condition.ensures.below.0, c.in_ok-body.ensures.grows.exprs), clauses_more (length c.resolve_head.new.nodes.exprs) (length c.resolve_inside.new.nodes.exprs) c.in_ok-body.ensures.grows.exprs c.in_ok-condition.clauses c.in_ok-condition.ensures.below.1, c.in_ok-body.ensures.below)
 
-pub resolve_loop-returns-in-Ok-resolve_inside-clause-made : goal.resolve_loop-returns-in-Ok-resolve_inside-clause-made
-resolve_loop-returns-in-Ok-resolve_inside-clause-made t c =
-    let condition = expr_kept c.resolve_head.new.nodes c.resolve_inside.new.nodes c.in-Ok-resolve_inside.ensures.grows c.in-Ok.condition c.in-Ok.ensures.below.0 ∙ c.in-Ok.ensures.condition in
-    let clauses = clauses_kept c.resolve_head.new.nodes c.resolve_inside.new.nodes c.in-Ok-resolve_inside.ensures.grows c.in-Ok.clauses c.in-Ok.ensures.below.1 ∙ c.in-Ok.ensures.clauses in
-    let body = c.in-Ok-resolve_inside.ensures.made in
+pub resolve_loop-returns-clause-made : goal.resolve_loop-returns-clause-made
+resolve_loop-returns-clause-made t c =
+    let condition = expr_kept c.resolve_head.new.nodes c.resolve_inside.new.nodes c.in_ok-body.ensures.grows c.in_ok-condition.condition c.in_ok-condition.ensures.below.0 ∙ c.in_ok-condition.ensures.condition in
+    let clauses = clauses_kept c.resolve_head.new.nodes c.resolve_inside.new.nodes c.in_ok-body.ensures.grows c.in_ok-condition.clauses c.in_ok-condition.ensures.below.1 ∙ c.in_ok-condition.ensures.clauses in
+    let body = c.in_ok-body.ensures.made in
     λ at. loop_made _ _ _ _ _ _ at condition clauses body

@@ -31,7 +31,7 @@ abbrev pub decreases-resolve_inside : goal.decreases-resolve_inside
 decreases-resolve_inside l = 8 * above_block l.body.now + 1
 
 abbrev pub decreases-resolve_loop : goal.decreases-resolve_loop
-decreases-resolve_loop l = 8 * above_block l.body.now + 2
+decreases-resolve_loop l = 8 * above_block l.it.body.now + 2
 
 abbrev pub invariant-resolve_block-loop-s : goal.invariant-resolve_block-loop-s
 invariant-resolve_block-loop-s l =

@@ -15,7 +15,7 @@ pub loop-clause-preserved : goal.loop-clause-preserved
 loop-clause-preserved c =
     let k = standing_by c.args.parsed.now.texts c.args.numbers.now c.args.around.now in
     let es = expr_trees c.args.parsed.now.exprs in
-    rw c.in-Ok-push.ensures.ok (clause_made k es c.args.nodes.now c.loop-clause.nodes c.resolve_expr.new.nodes c.loop-clause.clause-index c.args.clauses.now c.loop-clause.made _ c.in-Ok.condition c.loop-clause-test.true c.loop-clause.invariant c.in-Ok.ensures.grows c.in-Ok.ensures.below c.in-Ok.ensures.made)
+    rw c.in_ok-push.ensures.ok (clause_made k es c.args.nodes.now c.loop-clause.nodes c.resolve_expr.new.nodes c.loop-clause.clause-index c.args.clauses.now c.loop-clause.made _ c.in_ok-condition.condition c.loop-clause-test.true c.loop-clause.invariant c.in_ok-condition.ensures.grows c.in_ok-condition.ensures.below c.in_ok-condition.ensures.made)
 
 pub returns-clause-grows : goal.returns-clause-grows
 returns-clause-grows c =

@@ -9,7 +9,7 @@ loop-one-init c = letters_start (bytes_of c.args.parsed.now.texts) c.args.nodes.
 
 pub loop-one-preserved : goal.loop-one-preserved
 loop-one-preserved c =
-    rw c.in-Ok-push.ensures.ok (letter_made (bytes_of c.args.parsed.now.texts) c.args.nodes.now c.loop-one.nodes c.named_word.new.nodes c.loop-one.one-index c.args.given.now c.loop-one.made _ c.in-Ok.name c.loop-one-test.true c.requires c.loop-one.invariant c.in-Ok.ensures.grows c.in-Ok.ensures.below c.in-Ok.ensures.made)
+    rw c.in_ok-push.ensures.ok (letter_made (bytes_of c.args.parsed.now.texts) c.args.nodes.now c.loop-one.nodes c.named_word.new.nodes c.loop-one.one-index c.args.given.now c.loop-one.made _ c.in_ok-name.name c.loop-one-test.true c.requires c.loop-one.invariant c.in_ok-name.ensures.grows c.in_ok-name.ensures.below c.in_ok-name.ensures.made)
 
 pub returns-clause-grows : goal.returns-clause-grows
 returns-clause-grows c = c.loop-one.invariant.grows

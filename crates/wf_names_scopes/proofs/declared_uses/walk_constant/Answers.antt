@@ -4,8 +4,8 @@ use Rattle.wf_names_rules.specs.Tables.{known_by}
 use Rattle.wf_names_rules.proofs.StmtLemmas.{ok_append}
 use Rattle.wf_names_scopes.proofs.declared_uses.walk_constant.Goals as goal
 
-pub returns-in-Ok : goal.returns-in-Ok
-returns-in-Ok c =
+pub returns : goal.returns
+returns c =
     let k = known_by c.args.parsed.now.texts c.args.tables.now c.args.scope.now in
     let es = expr_trees c.args.parsed.now.exprs in
-    ok_append k c.args.seen c.in-Ok.seen (type_uses (type_at es c.args.of.now)) (uses_of (expr_at es c.args.value)) c.walk_expr.result c.in-Ok.ensures c.walk_expr.ensures
+    ok_append k c.args.seen c.in_ok-seen.seen (type_uses (type_at es c.args.of.now)) (uses_of (expr_at es c.args.value)) c.walk_expr.result c.in_ok-seen.ensures c.walk_expr.ensures

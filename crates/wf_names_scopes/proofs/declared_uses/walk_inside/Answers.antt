@@ -4,9 +4,9 @@ use Rattle.wf_names_rules.specs.Tables.{known_by}
 use Rattle.wf_names_rules.proofs.StmtLemmas.{ok_append}
 use Rattle.wf_names_scopes.proofs.declared_uses.walk_inside.Goals as goal
 
-pub returns-in-Ok : goal.returns-in-Ok
-returns-in-Ok c =
+pub returns : goal.returns
+returns c =
     let k = known_by c.args.parsed.now.texts c.args.tables.now c.args.scope.now in
     let es = expr_trees c.args.parsed.now.exprs in
     let ts = stmt_trees c.args.parsed.now.exprs c.args.parsed.now.stmts in
-    ok_append k c.args.seen c.in-Ok.seen (result_uses (result_at es c.args.gives.now)) (block_uses (block_at ts c.args.body.now)) c.walk_block.result c.in-Ok.ensures c.walk_block.ensures
+    ok_append k c.args.seen c.in_ok-seen.seen (result_uses (result_at es c.args.gives.now)) (block_uses (block_at ts c.args.body.now)) c.walk_block.result c.in_ok-seen.ensures c.walk_block.ensures

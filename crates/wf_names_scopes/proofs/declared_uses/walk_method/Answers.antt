@@ -8,12 +8,12 @@ use Rattle.wf_names_rules.proofs.WalkLemmas.{ok_same}
 use Rattle.wf_names_rules.proofs.StmtLemmas.{ok_append}
 use Rattle.wf_names_scopes.proofs.declared_uses.walk_method.Goals as goal
 
-pub returns-in-Ok : goal.returns-in-Ok
-returns-in-Ok c =
+pub returns : goal.returns
+returns c =
     let k = known_by c.args.parsed.now.texts c.args.tables.now c.args.scope.now in
     let es = expr_trees c.args.parsed.now.exprs in
     let ts = stmt_trees c.args.parsed.now.exprs c.args.parsed.now.stmts in
-    let args = variable_uses (variables (fields_at es c.args.args.now)) in
-    let inside = result_uses (result_at es c.args.gives.now) ++ block_uses (block_at ts c.args.body.now) in
+    let args = variable_uses (variables (fields_at es c.args.method.args.now)) in
+    let inside = result_uses (result_at es c.args.method.gives.now) ++ block_uses (block_at ts c.args.method.body.now) in
     ok_same c.walk_inside.result _ _ (ap (λ s. walked k s (args ++ inside)) (c.walk_struct-owned.ensures c.args.parsed.now.texts c.args.scope.now))
-    (ok_append k c.walk_struct-owned.result c.in-Ok.seen args inside c.walk_inside.result c.in-Ok.ensures c.walk_inside.ensures)
+    (ok_append k c.walk_struct-owned.result c.in_ok-seen.seen args inside c.walk_inside.result c.in_ok-seen.ensures c.walk_inside.ensures)

@@ -3,9 +3,9 @@ use Rattle.indexmap.specs.IndexSet.{contains}
 use Rattle.wf_names_scopes.proofs.PackageLemmas.{status_added}
 use Rattle.wf_names_scopes.proofs.tables.add_status.Goals as goal
 
-pub returns-in-Ok : goal.returns-in-Ok
-returns-in-Ok c = λ d p. record {
-  statuses = status_added d c.args.name (contains nat_eq c.args.tables.now.statuses) (contains nat_eq c.add_name.new.names) c.in-Ok.ensures.names p.statuses;
+pub returns : goal.returns
+returns c = λ d p. record {
+  statuses = status_added d c.args.name (contains nat_eq c.args.tables.now.statuses) (contains nat_eq c.add_name.new.names) c.in_ok-add_name.ensures.names p.statuses;
   structs = p.structs;
   fields = p.fields;
   methods = p.methods;

@@ -7,7 +7,7 @@ loop-node-init c = c.empty-tables.ensures c.args.parsed.now.texts
 
 pub loop-node-preserved : goal.loop-node-preserved
 loop-node-preserved c =
-    node_next c.args.parsed.now c.decls-node-items.result.now c.loop-node.node-index c.node-item.result c.loop-node.tables c.add_decl.new.tables c.decls-node-items.ensures c.node-item.is c.loop-node-test.true c.loop-node.invariant c.in-Ok.ensures
+    node_next c.args.parsed.now c.decls-node-items.result.now c.loop-node.node-index c.node-item.result c.loop-node.tables c.add_decl.new.tables c.decls-node-items.ensures c.node-item.is c.loop-node-test.true c.loop-node.invariant c.in_ok-add_decl.ensures
 
 pub returns : goal.returns
 returns c =

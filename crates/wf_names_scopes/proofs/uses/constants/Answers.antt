@@ -9,4 +9,4 @@ loop-number-init c = constants_begun c.args.parsed.now c.args.found c.args.scope
 pub loop-number-preserved : goal.loop-number-preserved
 loop-number-preserved c =
     constants_next (expr_trees c.args.parsed.now.exprs) (stmt_trees c.args.parsed.now.exprs c.args.parsed.now.stmts) c.args.parsed.now.decls c.loop-number.number c.decl.result.now c.decl.ensures.node
-    (package_of c.args.parsed.now) c.args.found c.loop-number.found c.in-Ok.next c.loop-number.scope c.constant_decl.new.scope c.loop-number.invariant c.in-Ok.ensures.found c.in-Ok.ensures.constants
+    (package_of c.args.parsed.now) c.args.found c.loop-number.found _ c.loop-number.scope c.constant_decl.new.scope c.loop-number.invariant c.in_ok-found.ensures.found c.in_ok-found.ensures.constants

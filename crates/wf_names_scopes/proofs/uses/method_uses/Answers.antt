@@ -7,12 +7,12 @@ use Rattle.wf_names_scopes.specs.Growing.{scope_in}
 use Rattle.wf_names_scopes.proofs.UseLemmas.{walk_judged}
 use Rattle.wf_names_scopes.proofs.uses.method_uses.Goals as goal
 
-pub returns-in-Ok-walk_method-clause-found : goal.returns-in-Ok-walk_method-clause-found
-returns-in-Ok-walk_method-clause-found c =
+pub returns-clause-found : goal.returns-clause-found
+returns-clause-found c =
     let d = package_of c.args.parsed.now in
     let es = expr_trees c.args.parsed.now.exprs in
     let ts = stmt_trees c.args.parsed.now.exprs c.args.parsed.now.stmts in
-    let args = variables (fields_at es c.args.args.now) in
-    let uses = structure c.args.owner ∷ (variable_uses args ++ (result_uses (result_at es c.args.gives.now) ++ block_uses (block_at ts c.args.body.now))) in
-    walk_judged c.args.parsed.now c.args.tables.now c.enter_method.new.scope (scope_in d c.args.owner args (locals_of (block_at ts c.args.body.now))) c.args.found c.begin.result c.in-Ok-walk_method.seen
-    uses c.requires.tables (c.in-Ok.ensures c.requires.constants) c.begin.ensures c.in-Ok-walk_method.ensures
+    let args = variables (fields_at es c.args.method.args.now) in
+    let uses = structure c.args.method.owner ∷ (variable_uses args ++ (result_uses (result_at es c.args.method.gives.now) ++ block_uses (block_at ts c.args.method.body.now))) in
+    walk_judged c.args.parsed.now c.args.tables.now c.enter_method.new.scope (scope_in d c.args.method.owner args (locals_of (block_at ts c.args.method.body.now))) c.args.found c.begin.result c.in_ok-seen.seen
+    uses c.requires.tables (c.in_ok-enter_method.ensures c.requires.constants) c.begin.ensures c.in_ok-seen.ensures

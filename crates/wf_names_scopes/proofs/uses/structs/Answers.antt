@@ -10,5 +10,5 @@ loop-number-init c = (c.requires.constants, structs_begun c.args.parsed.now c.ar
 pub loop-number-preserved : goal.loop-number-preserved
 loop-number-preserved c =
     let step = structs_next (expr_trees c.args.parsed.now.exprs) (stmt_trees c.args.parsed.now.exprs c.args.parsed.now.stmts) c.args.parsed.now.decls c.loop-number.number c.decl.result.now c.decl.ensures.node
-    (package_of c.args.parsed.now) c.loop-number.found c.in-Ok.next c.in-Ok.ensures.found in
-    (c.in-Ok.ensures.constants, step ∙ c.loop-number.invariant.1)
+    (package_of c.args.parsed.now) c.loop-number.found _ c.in_ok-found.ensures.found in
+    (c.in_ok-found.ensures.constants, step ∙ c.loop-number.invariant.1)

@@ -7,4 +7,4 @@ pub loop-arg-preserved : goal.loop-arg-preserved
 loop-arg-preserved c =
     let es = expr_trees c.args.parsed.now.exprs in
     arg_next c.args.parsed.now.texts es c.args.args.now c.loop-arg.arg-index c.arg-item.result (variables (fields_at es c.args.args.now)) c.loop-arg.table c.add_variable.new.table c.arg-item.is c.loop-arg-test.true
-    c.loop-arg.invariant c.in-Ok.ensures
+    c.loop-arg.invariant c.in_ok-add_variable.ensures
