@@ -12,6 +12,7 @@ use Rattle.wf_ast.specs.WellTyped.{is_pure}
 use Rattle.wf_named.specs.declared.nodes.NamedCallee.TheVariants as callees
 use Rattle.wf_named.specs.NamedTree as tree
 use Rattle.wf_named.specs.NamedTree.{NamedExprTree, NamedPartTree, NamedLinkTrees, NamedTypeTree}
+use Rattle.wf_named.specs.Grammar.{has_operands, by_grammar, end_by_grammar, links_by_grammar}
 use Rattle.wf_types_rules.specs.declared.meanings.Meaning.{Meaning}
 use Rattle.wf_types_rules.specs.declared.meanings.Meaning.TheVariants as meanings
 use Rattle.wf_types_rules.specs.declared.meanings.Operand.{Operand}
@@ -19,7 +20,6 @@ use Rattle.wf_types_rules.specs.declared.settings.Setting.{Setting}
 use Rattle.wf_types_rules.specs.Meanings.{all_of, variable, is_value, is_number, is_flag, place_of}
 use Rattle.wf_types_rules.specs.Operands.{meaning_of_operator}
 use Rattle.wf_types_rules.specs.ExprTypes.{only_where, element_of, slice_in, given_by_base, pure_answer, plain_width, converted, in_front, operand_at, if_number, meaning, if_end, operands_behind}
-use Rattle.wf_typed_tree.specs.Grammar.{has_operands, by_grammar, end_by_grammar, links_by_grammar}
 use Rattle.wf_typed_tree.proofs.NumberLemmas.{both, equal-numbers, then-parts, map-parts, where-parts}
 use Rattle.wf_typed_tree.proofs.ExprLaws.{numbered}
 use Rattle.wf_expr_laws.specs.Typing as is

@@ -5,11 +5,11 @@ use Rattle.wf_ast.specs.TypedTree as typed
 use Rattle.wf_ast.specs.TypedTree.{NumTree, SliceTree, StatusTree, CondTree, ValueTree, numeric, logical, state, elements, io, lost}
 use Rattle.wf_ast.specs.TypedTrees.{no_place}
 use Rattle.wf_named.specs.NamedTree.{NamedExprTree}
+use Rattle.wf_named.specs.Grammar.{by_grammar}
 use Rattle.wf_types_rules.specs.declared.meanings.Meaning.{Meaning}
 use Rattle.wf_types_rules.specs.declared.settings.Setting.{Setting}
 use Rattle.wf_types_rules.specs.Meanings.{place_of}
 use Rattle.wf_types_rules.specs.ExprTypes.{meaning}
-use Rattle.wf_typed_tree.specs.Grammar.{by_grammar}
 use Rattle.wf_typed_tree.specs.ElaboratedExprs.{expr_tree}
 use Rattle.wf_expr_laws.specs.Typing.{HasType}
 

@@ -3,12 +3,12 @@ use Rattle.std.proofs.Common.{◌≡◌, ◌<◌, ℕ, List, [], sym, subst, len
 use Rattle.std.specs.List.{AllByRecursion}
 use Rattle.wf_text.specs.declared.place.Place.{Place}
 use Rattle.wf_ast.specs.ParsedTree.{DeclTree}
+use Rattle.wf_ast.specs.ReadPackage.{decls_of}
 use Rattle.wf_parse_grammar.specs.declared.tokens.Token.{Token}
 use Rattle.wf_parse_grammar.specs.Grammar.{decl_before}
 use Rattle.wf_parse.specs.OneReading.{IsOfFiles}
-use Rattle.wf_parse.specs.Parsing.{decls_of}
-use Rattle.wf_parse.proofs.DeclPlaces.{decls_have_files}
 use Rattle.wf_ast.proofs.TreeLemmas.{all_map}
+use Rattle.wf_parse.proofs.DeclPlaces.{decls_have_files}
 use Rattle.wf_names_rules.specs.Declarations.{declared}
 use Rattle.wf_read_laws.specs.Places.{DeclIsIn}
 use Rattle.wf_read_laws.specs.PlaceLaws.{BreaksHaveFiles, PackagesBreakInFiles}

@@ -1,34 +1,17 @@
--- All declarations of a package that is read are well formed, and it is resolved to one as the grammar gives.
-use Rattle.std.proofs.Common.{◌≡◌, ◌+◌, ◌-◌, ℕ, true, List, [], ◌∷◌, ◌++◌, length, refl, sym, ◌∙◌, subst}
-use Rattle.std.specs.List.{list_all}
-use Rattle.std.proofs.lemmas.List.Folds.{list_all-append}
-use Rattle.wf_ast.specs.ParsedTree.{DeclTree}
-use Rattle.wf_parse.specs.Parsing.{ReadsFiles, decls_of}
+-- A package that is read is resolved to one as the grammar gives, and its statements stand in order in its typed tree.
+use Rattle.wf_ast.specs.ReadPackage.{decls_of}
+use Rattle.wf_parse.proofs.ReadForms.{packages_are_well_formed}
+use Rattle.wf_parse.proofs.ReadOrder.{reading_rises}
 use Rattle.wf_names_rules.specs.Declarations.{declared}
-use Rattle.wf_read_laws.proofs.BoolLemmas.{and-true}
-use Rattle.wf_read_laws.specs.TokenForms.{AreFormed}
-use Rattle.wf_read_laws.specs.WellFormed.{well_formed}
-use Rattle.wf_read_laws.specs.FormLaws.{PackagesAreWellFormed, PackagesResolveByGrammar}
-use Rattle.wf_read_laws.proofs.DeclForms.{file-formed}
-use Rattle.wf_read_laws.proofs.PackageKept.{resolving_keeps_form}
-use Rattle.wf_read_laws.proofs.SpeltTokens.{tokens_are_formed}
-
--- These declarations are well formed.
-abbrev AllWellFormed : List DeclTree → Type 0
-AllWellFormed decls = list_all well_formed decls ≡ true
-
-files-formed : (number most : ℕ) (known : List (List ℕ)) (files : List (List ℕ)) (texts : List (List ℕ)) (trees : List DeclTree) → ReadsFiles number most known files texts trees → AllWellFormed trees
-files-formed number most known [] texts trees r = subst AllWellFormed (sym r.1) refl
-files-formed number most known (bytes ∷ files) texts trees r =
-    let accepted = r.4.accepted in
-    let here = tokens_are_formed number bytes known r.0 r.1 r.4.tokens_are in
-    let own = subst AllWellFormed (sym accepted.means) (file-formed accepted.file (subst AreFormed accepted.text here)) in
-    let others = files-formed (number + 1) (most - length r.1) r.0 files texts r.3 r.5 in
-    let whole : AllWellFormed (r.2 ++ r.3) = list_all-append well_formed r.2 r.3 ∙ and-true (list_all well_formed r.2) (list_all well_formed r.3) own others in
-    subst AllWellFormed (sym r.6) whole
-
-pub packages_are_well_formed : PackagesAreWellFormed
-packages_are_well_formed name files p a = files-formed 0 262144 [] files p.texts (decls_of p) a.read
+use Rattle.wf_names_resolve.specs.Package.{resolved_package}
+use Rattle.wf_names_laws.proofs.PackageKept.{resolving_keeps_form}
+use Rattle.wf_names_laws.proofs.ResolvedOrder.{resolving_keeps_order}
+use Rattle.wf_typed_tree.proofs.TypedOrder.{packages_keep_order}
+use Rattle.wf_read_laws.specs.ReadPackages.{PackagesResolveByGrammar, ReadPackagesStandInOrder}
 
 pub packages_resolve_by_grammar : PackagesResolveByGrammar
 packages_resolve_by_grammar name files p a order = resolving_keeps_form (declared p.texts (decls_of p)) p.name (decls_of p) order (packages_are_well_formed name files p a)
+
+pub read_packages_stand_in_order : ReadPackagesStandInOrder
+read_packages_stand_in_order name files p read order =
+    packages_keep_order (resolved_package p.name p.texts (decls_of p) order) (resolving_keeps_order p.name p.texts (decls_of p) order (reading_rises name files p read))

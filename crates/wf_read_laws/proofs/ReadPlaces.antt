@@ -1,6 +1,6 @@
 -- What a package that is read breaks of the rules of types and effects stands in one of its files.
 use Rattle.std.proofs.Common.{length}
-use Rattle.wf_parse.specs.Parsing.{decls_of}
+use Rattle.wf_ast.specs.ReadPackage.{decls_of}
 use Rattle.wf_parse.proofs.DeclPlaces.{decls_have_files}
 use Rattle.wf_read_laws.proofs.FilePlaces.{Below, decls-below}
 use Rattle.wf_names_resolve.specs.Package.{resolved_package}

@@ -1,11 +1,6 @@
 pub mod Examples
-pub mod FormLaws
 pub mod NamedPlaces
 pub mod PlaceLaws
 pub mod Places
-pub mod ReadOrder
-pub mod StatementPlaces
-pub mod TokenForms
+pub mod ReadPackages
 pub mod TypePlaceLaws
-pub mod TypedOrder
-pub mod WellFormed

@@ -1,12 +1,12 @@
--- The laws of places: in which files the parts of a package stand, and what it breaks of the rules of names; and how
--- many declarations it may have.
-use Rattle.std.specs.Prelude.{◌<◌, ◌≤◌, ℕ, List, length}
+-- The laws of places: in which files the parts of a package stand, and what it breaks of the rules of names.
+use Rattle.std.specs.Prelude.{◌<◌, ℕ, List, length}
 use Rattle.std.specs.List.{AllByRecursion}
 use Rattle.wf_text.specs.declared.rules.Refusal.{Refusal}
 use Rattle.wf_ast.specs.ParsedParts.{Parsed}
 use Rattle.wf_ast.specs.ParsedTree.{DeclTree}
+use Rattle.wf_ast.specs.ReadPackage.{decls_of}
 use Rattle.wf_parse.specs.OneReading.{IsOfFile, IsOfFiles}
-use Rattle.wf_parse.specs.Parsing.{IsParsed, decls_of}
+use Rattle.wf_parse.specs.Parsing.{IsParsed}
 use Rattle.wf_names_rules.specs.Declarations.{declared}
 use Rattle.wf_names_rules.specs.NameRules.{Breaks}
 use Rattle.wf_read_laws.specs.Places.{AreIn}
@@ -22,7 +22,3 @@ BreaksHaveFiles = (count : ℕ) (texts : List (List ℕ)) (decls : List DeclTree
 -- And so does what a package breaks that is read from files.
 abbrev pub PackagesBreakInFiles : Type 0
 PackagesBreakInFiles = (name : List ℕ) (files : List (List ℕ)) (p : Parsed) → IsParsed name files p → (s : Refusal) → Breaks (declared p.texts (decls_of p)) s → s.at.file < length files
-
--- A package that is read has at most 65,536 declarations: of its at most 262,144 tokens each takes four or more.
-abbrev pub DeclsAreFew : Type 0
-DeclsAreFew = (name : List ℕ) (files : List (List ℕ)) (p : Parsed) → IsParsed name files p → length p.decls ≤ 65536

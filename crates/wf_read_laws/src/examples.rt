@@ -6,10 +6,10 @@ ghost use Rattle.std.specs.List.{list_all, list_any};
 ghost use Rattle.wf_ast.specs.declared.operators.Op.TheVariants.{Add, Mul, BitAnd, BitOr, BitXor, And, Or, Sub, Div, Rem, Shl, Shr, Same, Differs, Less, LessOrSame, Greater, GreaterOrSame, ModAdd, ModSub, ModMul, ModShl, SatAdd, SatSub};
 ghost use Rattle.wf_ast.specs.declared.parsed.WrittenMark.TheVariants.{Unmarked, Exclamation, Question};
 ghost use Rattle.wf_ast.specs.ParsedTree.{no_else};
+ghost use Rattle.wf_ast.specs.WellFormed.{formed_expr, formed_stmt, well_formed};
+ghost use Rattle.wf_named.specs.Grammar.{package_by_grammar};
 ghost use Rattle.wf_names_resolve.specs.Examples.{counting_texts, counting_decls};
 ghost use Rattle.wf_names_resolve.specs.Package.{resolved_package};
-ghost use Rattle.wf_typed_tree.specs.Grammar.{package_by_grammar};
-ghost use Rattle.wf_read_laws.specs.WellFormed.{formed_expr, formed_stmt, well_formed};
 ghost use Rattle.wf_read_laws.specs.Examples.{literal, of_one, of_two, of_three, called, assigned, branched, one_arm, else_alone};
 
 /// A literal has 64 bits. Seven operators may stand in a row, and none has a single operand.

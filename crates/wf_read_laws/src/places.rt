@@ -1,6 +1,6 @@
 // The laws of places. Each is the contract of a function that does nothing.
 
-ghost use Rattle.wf_read_laws.specs.PlaceLaws.{DeclsAreInFiles, BreaksHaveFiles, PackagesBreakInFiles, DeclsAreFew};
+ghost use Rattle.wf_read_laws.specs.PlaceLaws.{DeclsAreInFiles, BreaksHaveFiles, PackagesBreakInFiles};
 
 /// A declaration whose tokens all stand in a file has all its names and places there.
 pub fn a_declaration_stands_in_its_file()
@@ -12,9 +12,4 @@ pub fn a_declaration_stands_in_its_file()
 pub fn a_broken_rule_has_its_file()
     ensures declarations { BreaksHaveFiles }
     ensures packages { PackagesBreakInFiles }
-{}
-
-/// A package that is read has at most 65,536 declarations: of its at most 262,144 tokens each takes four or more.
-pub fn declarations_are_few()
-    ensures { DeclsAreFew }
 {}

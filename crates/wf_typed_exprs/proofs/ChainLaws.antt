@@ -17,8 +17,10 @@ use Rattle.wf_ast.specs.TypedTree.{Arith, plus, times, bits_and, bits_or, bits_x
 use Rattle.wf_ast.specs.TypedTrees.{Sort, arithmetic, ordering, joining, sort_of, made_or_number, tree_of, type_of_node, chain_of}
 use Rattle.wf_ast.specs.TypedInvariant.{is_numeric, is_logical, is_state, chain_fits, node_fits}
 use Rattle.wf_ast.specs.WellTyped.{is_shift}
+use Rattle.wf_ast.specs.OperatorForms.{repeats}
 use Rattle.wf_named.specs.NamedTree.{NamedExprTree, chain, NamedLinkTrees, no_link, link}
 use Rattle.wf_named.specs.WellNamed.{named_expr, named_links}
+use Rattle.wf_named.specs.Grammar.{has_operands, by_grammar, links_by_grammar}
 use Rattle.wf_types_rules.specs.declared.meanings.Meaning.{Meaning}
 use Rattle.wf_types_rules.specs.declared.meanings.Meaning.TheVariants as meanings
 use Rattle.wf_types_rules.specs.declared.meanings.Operand.{Operand}
@@ -28,7 +30,6 @@ use Rattle.wf_types_rules.specs.Meanings.{all_of, place_of}
 use Rattle.wf_types_rules.specs.Operands.{first_of, first_not, not_of_one_width, not_shifted, not_compared, not_taken, width_given, constant_value, constants_in, bits_in, constant_of, number_in, computed, given, meaning_of_operator}
 use Rattle.wf_types_rules.specs.ExprTypes.{in_front, operand_at, meaning, operands_behind, operands}
 use Rattle.wf_typed_tree.specs.ElaboratedExprs.{type_meant, number_or, signs_in, expr_tree, link_trees}
-use Rattle.wf_typed_tree.specs.Grammar.{repeats, has_operands, by_grammar, links_by_grammar}
 use Rattle.wf_typed_tree.specs.MeaningTrees.{HasMeaning}
 use Rattle.wf_typed_tree.proofs.NumberLemmas.{both, and-true, or-left, or-right, then-parts, in-64}
 use Rattle.wf_typed_tree.proofs.OperandLaws.{taken-parts, first-holds, one-width-parts}

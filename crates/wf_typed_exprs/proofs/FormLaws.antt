@@ -33,6 +33,7 @@ use Rattle.wf_named.specs.declared.nodes.Variable.TheVariants as variables
 use Rattle.wf_named.specs.NamedTree.{NamedExprTree, number, status, truth, path, index, slice, answer, convert, negation, NamedPartTree, absent, present, NamedArgTrees, call, NamedTypeTree}
 use Rattle.wf_named.specs.WellNamed as names
 use Rattle.wf_named.specs.WellNamed.{is_there, named_expr, named_part, named_links, named_args, named_type, type_of_variable, kind_of, is_wanted, args_wanted, count_args}
+use Rattle.wf_named.specs.Grammar.{end_by_grammar}
 use Rattle.wf_types_rules.specs.declared.meanings.Meaning.{Meaning}
 use Rattle.wf_types_rules.specs.declared.meanings.Meaning.TheVariants as meanings
 use Rattle.wf_types_rules.specs.declared.settings.Role.TheVariants as roles
@@ -43,7 +44,6 @@ use Rattle.wf_types_rules.specs.DeclaredTypes.{may_be}
 use Rattle.wf_types_rules.specs.ExprTypes as told
 use Rattle.wf_types_rules.specs.ExprTypes.{only_where, element_of, if_number, if_end, given_by_base, pure_answer, plain_width, converted, meaning}
 use Rattle.wf_typed_tree.specs.ElaboratedExprs.{variable_tree, path_tree, type_meant, number_or, end_tree, expr_tree}
-use Rattle.wf_typed_tree.specs.Grammar.{end_by_grammar}
 use Rattle.wf_typed_tree.specs.MeaningTrees.{kind_meant}
 use Rattle.wf_typed_tree.proofs.NumberLemmas.{both, and-true, then-parts, map-parts, where-parts, in-64}
 use Rattle.wf_typed_tree.proofs.ExprLaws.{numbered, kind-wanted}

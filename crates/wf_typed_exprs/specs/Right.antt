@@ -7,6 +7,7 @@ use Rattle.wf_named.specs.declared.nodes.NamedCall.{NamedCall}
 use Rattle.wf_named.specs.declared.nodes.NamedPath.{NamedPath}
 use Rattle.wf_named.specs.NamedTree.{NamedExprTree, answer, NamedPartTree, absent, present, NamedLinkTrees, no_link, link, NamedArgTrees, call}
 use Rattle.wf_named.specs.WellNamed.{Scope, named_expr}
+use Rattle.wf_named.specs.Grammar.{by_grammar}
 use Rattle.wf_types_rules.specs.declared.meanings.Meaning.{Meaning}
 use Rattle.wf_types_rules.specs.declared.meanings.Meaning.TheVariants as meanings
 use Rattle.wf_types_rules.specs.declared.settings.Role.TheVariants as roles
@@ -15,7 +16,6 @@ use Rattle.wf_types_rules.specs.declared.settings.Setting.{Setting}
 use Rattle.wf_types_rules.specs.Meanings.{there, variable}
 use Rattle.wf_types_rules.specs.ExprTypes.{meaning}
 use Rattle.wf_types_rules.specs.DeclaredTypes.{may_be}
-use Rattle.wf_typed_tree.specs.Grammar.{by_grammar}
 use Rattle.wf_typed_tree.specs.MeaningTrees.{Agree}
 
 -- Each type in a list may stand there.

@@ -12,9 +12,9 @@ use Rattle.wf_ast.specs.ParsedParts.{Parsed, AreDistinct}
 use Rattle.wf_ast.specs.ParsedTree as parsed
 use Rattle.wf_ast.specs.ParsedTree.{DeclTree}
 use Rattle.wf_ast.specs.TypedPackage.{StructTree, MethodTree}
-use Rattle.wf_parse.specs.Parsing.{decls_of}
-use Rattle.wf_parse.proofs.OneReadings.{parsed_distinct}
+use Rattle.wf_ast.specs.ReadPackage.{decls_of}
 use Rattle.wf_named.specs.NamedTree.{NamedPackageTree}
+use Rattle.wf_parse.proofs.OneReadings.{parsed_distinct}
 use Rattle.wf_types_rules.specs.declared.settings.Role.{Role}
 use Rattle.wf_types_rules.specs.declared.settings.Role.TheVariants as roles
 use Rattle.wf_names_rules.specs.Declarations.{Declared, Structure, Method, Variable, declared, variables, locals_of, structs_of, methods_of, bytes_in, text_of, is_spelt, struct_named}

@@ -8,7 +8,7 @@ use Rattle.wf_ast.specs.ParsedParts.{Parsed, AreDistinct}
 use Rattle.wf_ast.specs.ParsedTree as parsed
 use Rattle.wf_ast.specs.ParsedTree.{DeclTree}
 use Rattle.wf_ast.specs.TypedPackage.{MethodTree}
-use Rattle.wf_parse.specs.Parsing.{decls_of}
+use Rattle.wf_ast.specs.ReadPackage.{decls_of}
 use Rattle.wf_parse.proofs.OneReadings.{parsed_distinct}
 use Rattle.wf_names_rules.specs.Declarations.{Declared, Structure, Method, declared, structs_of, methods_of, is_spelt, struct_named}
 use Rattle.wf_names_rules.specs.NameRules.{Breaks}

@@ -4,6 +4,7 @@ use Rattle.std.specs.Bool.{⊤}
 use Rattle.std.specs.List.{AllByRecursion, list_all}
 use Rattle.wf_ast.specs.ParsedParts.{Parsed}
 use Rattle.wf_ast.specs.ParsedTree.{DeclTree}
+use Rattle.wf_ast.specs.ReadPackage.{decls_of}
 use Rattle.wf_parse_grammar.specs.declared.tokens.Kind.{Kind}
 use Rattle.wf_parse_grammar.specs.declared.tokens.Token.{Token}
 use Rattle.wf_tokens.specs.declared.kinds.TokenKind.{TokenKind}
@@ -21,9 +22,9 @@ use Rattle.wf_tokens.specs.Runs.{is_text_byte}
 use Rattle.wf_tokens.specs.Spelling.{State, Item, Reads, ReadsPiece, MakesSemicolon, ReadsAll, start}
 use Rattle.wf_parse.specs.Kinds.{KindIs, unquoted, word_kind, comparison_kind, operator_kind, symbol_kind}
 use Rattle.wf_parse.specs.Lexing.{TokensAre}
-use Rattle.wf_parse.specs.Parsing.{ReadsFiles, IsParsed, decls_of}
-use Rattle.wf_parse.proofs.Lexed.{tokens_stay}
+use Rattle.wf_parse.specs.Parsing.{ReadsFiles, IsParsed}
 use Rattle.wf_parse.specs.Texts.{text_of, with_text, texts_behind}
+use Rattle.wf_parse.proofs.Lexed.{tokens_stay}
 use Rattle.wf_parse.proofs.TextNumbers.{with_text-grows}
 use Rattle.wf_typed_laws.proofs.ListLemmas.{all-append}
 use Rattle.wf_typed_laws.proofs.TokenNames.{KindIsGood, AreGood}

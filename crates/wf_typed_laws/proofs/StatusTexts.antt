@@ -10,7 +10,7 @@ use Rattle.wf_ast.specs.BaseStatuses.{base_statuses}
 use Rattle.wf_ast.specs.ParsedTree as parsed
 use Rattle.wf_ast.specs.ParsedTree.{DeclTree}
 use Rattle.wf_tokens.specs.Runs.{is_run, is_text_byte}
-use Rattle.wf_parse.specs.Parsing.{decls_of}
+use Rattle.wf_ast.specs.ReadPackage.{decls_of}
 use Rattle.wf_named.specs.NamedTree.{NamedPackageTree, Word}
 use Rattle.wf_names_rules.specs.Declarations.{declared, statuses_of, bytes_in, text_of}
 use Rattle.wf_names_resolve.specs.Package.{resolved_package}

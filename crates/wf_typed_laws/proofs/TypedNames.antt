@@ -6,7 +6,7 @@ use Rattle.wf_ast.specs.declared.parsed.Name.{Name}
 use Rattle.wf_ast.specs.ParsedTree as parsed
 use Rattle.wf_ast.specs.ParsedTree.{DeclTree}
 use Rattle.wf_tokens.specs.Pieces.{IsName}
-use Rattle.wf_parse.specs.Parsing.{decls_of}
+use Rattle.wf_ast.specs.ReadPackage.{decls_of}
 use Rattle.wf_named.specs.NamedTree.{NamedPackageTree}
 use Rattle.wf_types_rules.specs.declared.settings.Role.{Role}
 use Rattle.wf_types_rules.specs.declared.settings.Role.TheVariants as roles

@@ -4,7 +4,8 @@ use Rattle.std.specs.List.{list_all}
 use Rattle.wf_text.specs.declared.rules.Refusal.{Refusal}
 use Rattle.wf_ast.specs.ParsedParts.{Parsed}
 use Rattle.wf_tokens.specs.Runs.{is_run, is_text_byte}
-use Rattle.wf_parse.specs.Parsing.{IsParsed, decls_of}
+use Rattle.wf_ast.specs.ReadPackage.{decls_of}
+use Rattle.wf_parse.specs.Parsing.{IsParsed}
 use Rattle.wf_names_resolve.specs.Package.{resolved_package}
 use Rattle.wf_types_rules.specs.TypeRules.{Breaks}
 use Rattle.wf_types_rules.specs.Judgements.{two_questions}

@@ -16,11 +16,11 @@ use Rattle.wf_ast.proofs.Arena.{both_true}
 use Rattle.wf_named.specs.NamedParts.{NamedParts}
 use Rattle.wf_named.specs.NamedTree.{NamedExprTree, NamedStmtTree, NamedArmTrees, no_else}
 use Rattle.wf_named.specs.NamedTrees.{expr_at, stmt_at, items_at, block_at, else_at, arms_at}
+use Rattle.wf_named.specs.Grammar.{has_condition}
 use Rattle.wf_types_rules.specs.declared.settings.Setting.{Setting}
 use Rattle.wf_types_exprs.proofs.ListLemmas.{drop-one}
 use Rattle.wf_typed_tree.specs.ElaboratedExprs.{expr_tree}
 use Rattle.wf_typed_tree.specs.ElaboratedStmts.{count_stmt, count_block, count_arms, stmt_tree, block_tree, arms_tree}
-use Rattle.wf_typed_tree.specs.Grammar.{has_condition}
 use Rattle.wf_typed_tree.proofs.NumberLemmas.{and-true}
 use Rattle.wf_typed_tree.specs.Entries.{expr_entries, stmt_entries, block_entries, arms_entries}
 use Rattle.wf_typed_exprs.specs.Growth.{AddsEntries}

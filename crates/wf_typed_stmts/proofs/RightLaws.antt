@@ -16,11 +16,13 @@ use Rattle.wf_ast.specs.TypedTree.{Arith}
 use Rattle.wf_ast.specs.TypedTrees.{Sort, arithmetic, sort_of}
 use Rattle.wf_ast.specs.TypedInvariant.{is_numeric}
 use Rattle.wf_ast.specs.WellTyped.{is_pure, is_shift}
+use Rattle.wf_ast.specs.OperatorForms.{gives_number, updates}
 use Rattle.wf_named.specs.declared.nodes.NamedCallee.{NamedCallee}
 use Rattle.wf_named.specs.declared.nodes.NamedCallee.TheVariants as callees
 use Rattle.wf_named.specs.declared.nodes.NamedPath.{NamedPath}
 use Rattle.wf_named.specs.NamedTree.{NamedExprTree, status, path, index, answer, NamedPartTree, absent, present, NamedArgTrees, no_arg, more_args, NamedCallTree, call, NamedTargetTree, to_path, to_element, NamedClauseTrees, no_clause, more_clauses, LetterTrees, no_letter, more_letters, NamedViaTree, by_itself, via, NamedStmtTree, assign, keep, do_call, branch, loop, leave, again, back, suspend, claim, NamedBlockTree, close, more_stmts, NamedArmTrees, no_else, otherwise, arm, NamedMethodTree, NamedPackageTree}
 use Rattle.wf_named.specs.WellNamed.{has_kind, is_wanted, args_wanted, count_args, named_expr, named_part, named_args, named_call, named_target, named_clauses, named_letters, named_via, named_stmt, named_block, named_arms, well_named, Scope, scope_of_method}
+use Rattle.wf_named.specs.Grammar.{by_grammar, end_by_grammar, args_by_grammar, call_by_grammar, target_by_grammar, clauses_by_grammar, letters_by_grammar, via_by_grammar, has_condition, stmt_by_grammar, block_by_grammar, arms_by_grammar, package_by_grammar}
 use Rattle.wf_types_rules.specs.declared.meanings.Meaning.{Meaning}
 use Rattle.wf_types_rules.specs.declared.meanings.Meaning.TheVariants as meanings
 use Rattle.wf_types_rules.specs.declared.meanings.Operand.{Operand}
@@ -36,7 +38,6 @@ use Rattle.wf_types_rules.specs.FirstBreak.{deciding}
 use Rattle.wf_typed_tree.specs.ElaboratedExprs.{type_meant}
 use Rattle.wf_typed_tree.specs.ElaboratedStmts.{unrefined, written_to, status_in}
 use Rattle.wf_typed_tree.specs.ElaboratedPackage.{context_of}
-use Rattle.wf_typed_tree.specs.Grammar.{by_grammar, end_by_grammar, args_by_grammar, call_by_grammar, target_by_grammar, gives_number, updates, clauses_by_grammar, letters_by_grammar, via_by_grammar, has_condition, stmt_by_grammar, block_by_grammar, arms_by_grammar, package_by_grammar}
 use Rattle.wf_typed_tree.specs.MeaningTrees.{kind_meant}
 use Rattle.wf_typed_tree.proofs.NumberLemmas.{both, named-more}
 use Rattle.wf_typed_tree.proofs.NoBreaks.{Fine, AllFine, fine-split, at-none, either-false, not-not, holds}

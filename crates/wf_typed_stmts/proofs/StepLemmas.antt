@@ -19,9 +19,9 @@ use Rattle.wf_ast.specs.TypedInvariant.{each_numbered, is_expr, block_below, opt
 use Rattle.wf_ast.proofs.Arena.{both_true}
 use Rattle.wf_named.specs.NamedTree.{NamedExprTree, NamedStmtTree, NamedBlockTree, NamedClauseTrees, NamedArmTrees, no_else, branch, loop}
 use Rattle.wf_named.specs.NamedTrees.{arms_at, else_at}
+use Rattle.wf_named.specs.Grammar.{has_condition}
 use Rattle.wf_types_rules.specs.declared.settings.Setting.{Setting}
 use Rattle.wf_typed_tree.specs.ElaboratedStmts.{count_block, count_arms, site, head_tree, block_tree, arms_tree}
-use Rattle.wf_typed_tree.specs.Grammar.{has_condition}
 use Rattle.wf_typed_tree.proofs.NumberLemmas.{and-true}
 use Rattle.wf_typed_stmts.specs.Blocks.{arm_exists, StandForArms, else_made, StandsForElse}
 use Rattle.wf_typed_stmts.specs.Parts.{StandsForHead}

@@ -6,15 +6,16 @@ use Rattle.wf_ast.specs.declared.operators.Op.{Op}
 use Rattle.wf_ast.specs.TypedTrees.{sort_of}
 use Rattle.wf_ast.specs.TypedInvariant.{is_numeric, has_kind}
 use Rattle.wf_ast.specs.WellTyped.{is_pure}
+use Rattle.wf_ast.specs.OperatorForms.{gives_number}
 use Rattle.wf_named.specs.declared.nodes.NamedCallee.{NamedCallee}
 use Rattle.wf_named.specs.declared.nodes.NamedCallee.TheVariants as callees
 use Rattle.wf_named.specs.NamedTree.{NamedExprTree, path, index, answer, NamedArgTrees, no_arg, more_args, NamedCallTree, call, NamedTargetTree, to_path, to_element, NamedClauseTrees, no_clause, more_clauses, LetterTrees, no_letter, more_letters, NamedViaTree, by_itself, via, NamedStmtTree, assign, keep, do_call, branch, loop, leave, again, back, suspend, claim, NamedBlockTree, close, more_stmts, NamedArmTrees, no_else, otherwise, arm, NamedPackageTree}
+use Rattle.wf_named.specs.Grammar.{has_condition}
 use Rattle.wf_types_rules.specs.declared.settings.Setting.{Setting}
 use Rattle.wf_types_rules.specs.Meanings.{variable}
 use Rattle.wf_types_rules.specs.Judgements.{target_meaning}
 use Rattle.wf_typed_tree.specs.ElaboratedExprs.{type_meant, type_of}
 use Rattle.wf_typed_tree.specs.ElaboratedStmts.{type_of_update, status_in}
-use Rattle.wf_typed_tree.specs.Grammar.{gives_number, has_condition}
 use Rattle.wf_typed_exprs.specs.Right.{IsRight, IsRightPath, IsRightEnd}
 
 -- What stands round the statements of a method's body: the number of all statuses, and the mark of each method.

@@ -28,6 +28,17 @@ use wf_types_meanings::marks::is_pure;
 use wf_types_rules::Setting;
 use wf_types_stmts::assignments::as_call;
 
+/// An assignment as it is written. `sign` is the place of the `=` with what stands in front of it, and `at` that of the
+/// statement.
+#[derive(Clone, Copy)]
+pub struct Assignment {
+    pub target: NamedTarget,
+    pub op: Option<Op>,
+    pub sign: Place,
+    pub value: ExprId,
+    pub at: Place,
+}
+
 // Whether a call asks a pure base method.
 fn is_answer(callee: NamedCallee) -> bool
     ensures { result ≡ is_pure_answer callee }
@@ -58,18 +69,16 @@ fn add_assigned(
     ensures begun { OnOk result (IsBegun named.now nodes.new) }
     ensures made { IfOk result (λ n. MakesSimple (typed.assign (target_of (tree_of nodes.old target)) None (expr_tree around.now (expr_at (exprs_of named.now) e))) at nodes.new n) }
 {
-    match nodes.push_value(alloc, named, around, e) {
-        Ok(made) => Ok(StmtNode {
-            stmt: Stmt::Assign {
-                target,
-                op: None,
-                value: made.node,
-            },
-            at,
-            inner: at,
-        }),
-        Err(fault) => Err(fault),
-    }
+    let made = nodes.push_value(alloc, named, around, e)?;
+    Ok(StmtNode {
+        stmt: Stmt::Assign {
+            target,
+            op: None,
+            value: made.node,
+        },
+        at,
+        inner: at,
+    })
 }
 
 // Adds the nodes of the right side of `=` behind a target whose node is there.
@@ -123,10 +132,8 @@ fn add_equal(
     ensures begun { OnOk result (IsBegun named.now nodes.new) }
     ensures made { IfOk result (λ n. MakesSimple (value_assigned around.now (target_tree around.now (target_at (exprs_of named.now) target)) (expr_at (exprs_of named.now) e)) at nodes.new n) }
 {
-    match add_target(alloc, nodes, named, around, target) {
-        Ok(to) => add_right(alloc, nodes, named, around, to.node, e, at),
-        Err(fault) => Err(fault),
-    }
+    let to = add_target(alloc, nodes, named, around, target)?;
+    add_right(alloc, nodes, named, around, to.node, e, at)
 }
 
 // An operator with `=`: its node stands between the target's and the value's.
@@ -135,73 +142,55 @@ fn add_update(
     nodes: &mut BodyBuilding,
     named: &NamedNodes,
     around: &Setting,
-    target: NamedTarget,
+    it: Assignment,
     op: Op,
-    sign: Place,
-    e: ExprId,
-    at: Place,
 ) -> Result<StmtNode, NoMemory>
-    requires below { NamedTargetBelow (length named.now.exprs) target }
-    requires there { e.0 < length named.now.exprs }
+    requires below { NamedTargetBelow (length named.now.exprs) it.target }
+    requires there { it.value.0 < length named.now.exprs }
     requires begun { IsBegun named.now nodes.old }
-    requires target_right { IsRightTarget around.now (known_in (named_package named.now)) (target_at (exprs_of named.now) target) }
-    requires right { IsRightUpdate around.now (known_in (named_package named.now)) (target_at (exprs_of named.now) target) op (expr_at (exprs_of named.now) e) }
+    requires target_right { IsRightTarget around.now (known_in (named_package named.now)) (target_at (exprs_of named.now) it.target) }
+    requires right { IsRightUpdate around.now (known_in (named_package named.now)) (target_at (exprs_of named.now) it.target) op (expr_at (exprs_of named.now) it.value) }
     ensures grows { OnOk result (GrowsExprs nodes.old nodes.new) }
-    ensures entries { OnOk result (AddsEntries nodes.old nodes.new (target_entries around.now (target_at (exprs_of named.now) target) ++ (expr_entries around.now (expr_at (exprs_of named.now) e) ++ update_entry around.now (target_at (exprs_of named.now) target) sign ∷ []))) }
+    ensures entries { OnOk result (AddsEntries nodes.old nodes.new (target_entries around.now (target_at (exprs_of named.now) it.target) ++ (expr_entries around.now (expr_at (exprs_of named.now) it.value) ++ update_entry around.now (target_at (exprs_of named.now) it.target) it.sign ∷ []))) }
     ensures begun { OnOk result (IsBegun named.now nodes.new) }
-    ensures made { IfOk result (λ n. MakesSimple (assign_tree around.now (target_at (exprs_of named.now) target) (Some op) sign (expr_at (exprs_of named.now) e)) at nodes.new n) }
+    ensures made { IfOk result (λ n. MakesSimple (assign_tree around.now (target_at (exprs_of named.now) it.target) (Some op) it.sign (expr_at (exprs_of named.now) it.value)) it.at nodes.new n) }
 {
-    match add_target(alloc, nodes, named, around, target) {
-        Ok(to) => {
-            match nodes.push_value(alloc, named, around, e) {
-                Ok(value) => {
-                    let ty = unrefined(type_meant(to.value.of));
-                    match nodes.push_operator(alloc, named, op, sign, ty, to.node, value.node) {
-                        Ok(whole) => Ok(StmtNode {
-                            stmt: Stmt::Assign {
-                                target: to.node,
-                                op: Some(op),
-                                value: whole,
-                            },
-                            at,
-                            inner: at,
-                        }),
-                        Err(fault) => Err(fault),
-                    }
-                }
-                Err(fault) => Err(fault),
-            }
-        }
-        Err(fault) => Err(fault),
-    }
+    let to = add_target(alloc, nodes, named, around, it.target)?;
+    let value = nodes.push_value(alloc, named, around, it.value)?;
+    let ty = unrefined(type_meant(to.value.of));
+    let whole = nodes.push_operator(alloc, named, op, it.sign, ty, to.node, value.node)?;
+    Ok(StmtNode {
+        stmt: Stmt::Assign {
+            target: to.node,
+            op: Some(op),
+            value: whole,
+        },
+        at: it.at,
+        inner: it.at,
+    })
 }
 
-/// Adds the nodes of an assignment's parts, with or without an operator, and answers it. `sign` is the place of the `=` with
-/// what stands in front of it, and `at` that of the statement.
+/// Adds the nodes of an assignment's parts, with or without an operator, and answers it.
 pub fn add_assign(
     alloc: Global,
     nodes: &mut BodyBuilding,
     named: &NamedNodes,
     around: &Setting,
-    target: NamedTarget,
-    op: Option<Op>,
-    sign: Place,
-    e: ExprId,
-    at: Place,
+    it: Assignment,
 ) -> Result<StmtNode, NoMemory>
-    requires below { NamedTargetBelow (length named.now.exprs) target }
-    requires there { e.0 < length named.now.exprs }
+    requires below { NamedTargetBelow (length named.now.exprs) it.target }
+    requires there { it.value.0 < length named.now.exprs }
     requires begun { IsBegun named.now nodes.old }
-    requires target_right { IsRightTarget around.now (known_in (named_package named.now)) (target_at (exprs_of named.now) target) }
-    requires right { IsRightSide around.now (known_in (named_package named.now)) (target_at (exprs_of named.now) target) op (expr_at (exprs_of named.now) e) }
+    requires target_right { IsRightTarget around.now (known_in (named_package named.now)) (target_at (exprs_of named.now) it.target) }
+    requires right { IsRightSide around.now (known_in (named_package named.now)) (target_at (exprs_of named.now) it.target) it.op (expr_at (exprs_of named.now) it.value) }
     ensures grows { OnOk result (GrowsExprs nodes.old nodes.new) }
-    ensures entries { OnOk result (AddsEntries nodes.old nodes.new (assign_entries around.now (target_at (exprs_of named.now) target) op sign (expr_at (exprs_of named.now) e))) }
+    ensures entries { OnOk result (AddsEntries nodes.old nodes.new (assign_entries around.now (target_at (exprs_of named.now) it.target) it.op it.sign (expr_at (exprs_of named.now) it.value))) }
     ensures begun { OnOk result (IsBegun named.now nodes.new) }
-    ensures made { IfOk result (λ n. MakesSimple (assign_tree around.now (target_at (exprs_of named.now) target) op sign (expr_at (exprs_of named.now) e)) at nodes.new n) }
+    ensures made { IfOk result (λ n. MakesSimple (assign_tree around.now (target_at (exprs_of named.now) it.target) it.op it.sign (expr_at (exprs_of named.now) it.value)) it.at nodes.new n) }
 {
-    match op {
-        Some(op) => add_update(alloc, nodes, named, around, target, op, sign, e, at),
-        None => add_equal(alloc, nodes, named, around, target, e, at),
+    match it.op {
+        Some(op) => add_update(alloc, nodes, named, around, it, op),
+        None => add_equal(alloc, nodes, named, around, it.target, it.value, it.at),
     }
 }
 
@@ -225,8 +214,6 @@ pub fn add_keep(
     ensures begun { OnOk result (IsBegun named.now nodes.new) }
     ensures made { IfOk result (λ n. MakesSimple (call_tree around.now (target_tree around.now (target_at (exprs_of named.now) target)) true (call_at (exprs_of named.now) call.now)) at nodes.new n) }
 {
-    match add_target(alloc, nodes, named, around, target) {
-        Ok(to) => add_call(alloc, nodes, named, around, Some(to.node), true, call, at),
-        Err(fault) => Err(fault),
-    }
+    let to = add_target(alloc, nodes, named, around, target)?;
+    add_call(alloc, nodes, named, around, Some(to.node), true, call, at)
 }

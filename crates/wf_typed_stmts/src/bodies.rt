@@ -37,10 +37,8 @@ fn loop_to_come(
     requires few { length nodes.now.stmts < 2 ^ 32 }
     ensures { IfOk result (λ n. n ≡ length nodes.now.stmts + stmts_in_block (block_at (stmts_of named.now) body.now)) }
 {
-    match count_block(named, body) {
-        Ok(inside) => sum(nodes.stmts() as u32, inside),
-        Err(fault) => Err(fault),
-    }
+    let inside = count_block(named, body)?;
+    sum(nodes.stmts() as u32, inside)
 }
 
 // Adds the nodes of a statement.
@@ -61,15 +59,9 @@ fn elaborate_stmt(
     ensures begun { OnOk result (IsBegun named.now nodes.new) }
     ensures stands { IfOk result (λ r. StandsForStmt around.now loops.now (length nodes.old.stmts) (stmt_at (stmts_of named.now) s) nodes.new r) }
 {
-    match elaborate_node(alloc, nodes, named, around, loops, s) {
-        Ok(node) => {
-            match nodes.push_stmt(node) {
-                Ok(id) => Ok(id),
-                Err(fault) => Err(fault),
-            }
-        }
-        Err(fault) => Err(fault),
-    }
+    let node = elaborate_node(alloc, nodes, named, around, loops, s)?;
+    let id = nodes.push_stmt(node)?;
+    Ok(id)
 }
 
 // Adds the nodes of a statement's parts, and answers the statement.
@@ -109,17 +101,13 @@ fn elaborate_node(
             clauses,
             body,
         } => {
-            elaborate_loop(
-                alloc,
-                nodes,
-                named,
-                around,
-                loops,
-                *condition,
-                clauses.as_slice(),
+            let it = Loop {
+                condition: *condition,
+                clauses: clauses.as_slice(),
                 body,
-                node.at,
-            )
+                at: node.at,
+            };
+            elaborate_loop(alloc, nodes, named, around, loops, it)
         }
         _ => add_simple(alloc, nodes, named, around, loops, &node.stmt, node.at),
     }
@@ -145,15 +133,8 @@ fn elaborate_block(
 {
     let mut items = Sequence::new(alloc);
     for s in block.items.as_slice() {
-        match elaborate_stmt(alloc, nodes, named, around, loops, *s) {
-            Ok(id) => {
-                match items.push(id) {
-                    Ok(()) => {}
-                    Err(_) => return Err(NoMemory),
-                }
-            }
-            Err(fault) => return Err(fault),
-        }
+        let id = elaborate_stmt(alloc, nodes, named, around, loops, *s)?;
+        items.push(id)?;
     }
     Ok(Block { items })
 }
@@ -178,15 +159,9 @@ fn elaborate_arm(
     ensures begun { OnOk result (IsBegun named.now nodes.new) }
     ensures stands { IfOk result (λ a. StandsForArm around.now loops.now (length nodes.old.stmts) (expr_at (exprs_of named.now) arm.now.condition) (block_at (stmts_of named.now) arm.now.body) nodes.new a) }
 {
-    match add_tree(alloc, nodes, named, around, arm.condition) {
-        Ok(cond) => {
-            match elaborate_block(alloc, nodes, named, around, loops, &arm.body) {
-                Ok(body) => Ok(Arm { cond, body }),
-                Err(fault) => Err(fault),
-            }
-        }
-        Err(fault) => Err(fault),
-    }
+    let cond = add_tree(alloc, nodes, named, around, arm.condition)?;
+    let body = elaborate_block(alloc, nodes, named, around, loops, &arm.body)?;
+    Ok(Arm { cond, body })
 }
 
 // Adds the nodes of the arms of an `if`, in order.
@@ -209,15 +184,8 @@ fn elaborate_arms(
 {
     let mut made = Sequence::new(alloc);
     for arm in arms {
-        match elaborate_arm(alloc, nodes, named, around, loops, arm) {
-            Ok(one) => {
-                match made.push(one) {
-                    Ok(()) => {}
-                    Err(_) => return Err(NoMemory),
-                }
-            }
-            Err(fault) => return Err(fault),
-        }
+        let one = elaborate_arm(alloc, nodes, named, around, loops, arm)?;
+        made.push(one)?;
     }
     Ok(made)
 }
@@ -242,10 +210,8 @@ fn elaborate_else(
 {
     match otherwise {
         Some(block) => {
-            match elaborate_block(alloc, nodes, named, around, loops, block) {
-                Ok(block) => Ok(Some(block)),
-                Err(fault) => Err(fault),
-            }
+            let block = elaborate_block(alloc, nodes, named, around, loops, block)?;
+            Ok(Some(block))
         }
         None => Ok(None),
     }
@@ -272,19 +238,13 @@ fn elaborate_if(
     ensures begun { OnOk result (IsBegun named.now nodes.new) }
     ensures made { IfOk result (λ n. MakesStmt around.now loops.now (length nodes.old.stmts) (tree.branch (arms_at (exprs_of named.now) (stmts_of named.now) arms.now (else_at (stmts_of named.now) otherwise.now)) at) nodes.new n) }
 {
-    match elaborate_arms(alloc, nodes, named, around, loops, arms) {
-        Ok(arms) => {
-            match elaborate_else(alloc, nodes, named, around, loops, otherwise) {
-                Ok(otherwise) => Ok(StmtNode {
-                    stmt: Stmt::If { arms, otherwise },
-                    at,
-                    inner: at,
-                }),
-                Err(fault) => Err(fault),
-            }
-        }
-        Err(fault) => Err(fault),
-    }
+    let arms = elaborate_arms(alloc, nodes, named, around, loops, arms)?;
+    let otherwise = elaborate_else(alloc, nodes, named, around, loops, otherwise)?;
+    Ok(StmtNode {
+        stmt: Stmt::If { arms, otherwise },
+        at,
+        inner: at,
+    })
 }
 
 // Adds the nodes of a loop's body, whose jumps tell the number that the loop will have.
@@ -305,17 +265,18 @@ fn elaborate_inside(
     ensures begun { OnOk result (IsBegun named.now nodes.new) }
     ensures stands { IfOk result (λ b. StandsForBlock around.now ((length nodes.old.stmts + stmts_in_block (block_at (stmts_of named.now) body.now)) ∷ loops.now) (length nodes.old.stmts) (block_at (stmts_of named.now) body.now) nodes.new b) }
 {
-    match loop_to_come(nodes, named, body) {
-        Ok(number) => {
-            match in_front(alloc, number, loops) {
-                Ok(inner) => {
-                    elaborate_block(alloc, nodes, named, around, inner.as_slice(), body)
-                }
-                Err(fault) => Err(fault),
-            }
-        }
-        Err(fault) => Err(fault),
-    }
+    let number = loop_to_come(nodes, named, body)?;
+    let inner = in_front(alloc, number, loops)?;
+    elaborate_block(alloc, nodes, named, around, inner.as_slice(), body)
+}
+
+// A loop as it is written.
+#[derive(Clone, Copy)]
+struct Loop<'a> {
+    condition: ExprId,
+    clauses: &'a [LoopClause],
+    body: &'a parsed::Block,
+    at: Place,
 }
 
 // Adds the nodes of a loop's parts, and answers it.
@@ -326,34 +287,33 @@ fn elaborate_loop(
     named: &NamedNodes,
     around: &Setting,
     loops: &[u32],
-    condition: ExprId,
-    clauses: &[LoopClause],
-    body: &parsed::Block,
-    at: Place,
+    it: Loop<'_>,
 ) -> Result<StmtNode, NoMemory>
-    requires there { condition.0 < length named.now.exprs }
-    requires clauses { AllByRecursion (λ c. c.condition.0 < length named.now.exprs) clauses.now }
-    requires body { BlockBelow (length named.now.stmts) body.now }
+    requires there { it.condition.0 < length named.now.exprs }
+    requires clauses { AllByRecursion (λ c. c.condition.0 < length named.now.exprs) it.clauses.now }
+    requires body { BlockBelow (length named.now.stmts) it.body.now }
     requires begun { IsBegun named.now nodes.old }
-    requires right { IsRightStmt around.now (known_in (named_package named.now)) (length loops.now) (tree.loop (expr_at (exprs_of named.now) condition) (clauses_at (exprs_of named.now) clauses.now) (block_at (stmts_of named.now) body.now) at) }
+    requires right { IsRightStmt around.now (known_in (named_package named.now)) (length loops.now) (tree.loop (expr_at (exprs_of named.now) it.condition) (clauses_at (exprs_of named.now) it.clauses.now) (block_at (stmts_of named.now) it.body.now) it.at) }
     ensures adds { OnOk result (AddsParts loops.now nodes.old nodes.new) }
-    ensures entries { OnOk result (AddsEntries nodes.old nodes.new (block_entries around.now (block_at (stmts_of named.now) body.now) ++ (expr_entries around.now (expr_at (exprs_of named.now) condition) ++ clause_entries around.now (clauses_at (exprs_of named.now) clauses.now)))) }
+    ensures entries { OnOk result (AddsEntries nodes.old nodes.new (block_entries around.now (block_at (stmts_of named.now) it.entry.body.now) ++ (expr_entries around.now (expr_at (exprs_of named.now) it.entry.condition) ++ clause_entries around.now (clauses_at (exprs_of named.now) it.entry.clauses.now)))) }
     ensures begun { OnOk result (IsBegun named.now nodes.new) }
-    ensures made { IfOk result (λ n. MakesStmt around.now loops.now (length nodes.old.stmts) (tree.loop (expr_at (exprs_of named.now) condition) (clauses_at (exprs_of named.now) clauses.now) (block_at (stmts_of named.now) body.now) at) nodes.new n) }
+    ensures made { IfOk result (λ n. MakesStmt around.now loops.now (length nodes.old.stmts) (tree.loop (expr_at (exprs_of named.now) it.entry.condition) (clauses_at (exprs_of named.now) it.entry.clauses.now) (block_at (stmts_of named.now) it.entry.body.now) it.entry.at) nodes.new n) }
 {
-    match elaborate_inside(alloc, nodes, named, around, loops, body) {
-        Ok(inside) => {
-            match add_head(alloc, nodes, named, around, condition, clauses, body) {
-                Ok(head) => Ok(StmtNode {
-                    stmt: Stmt::While { head, body: inside },
-                    at,
-                    inner: body.close,
-                }),
-                Err(fault) => Err(fault),
-            }
-        }
-        Err(fault) => Err(fault),
-    }
+    let inside = elaborate_inside(alloc, nodes, named, around, loops, it.body)?;
+    let head = add_head(
+        alloc,
+        nodes,
+        named,
+        around,
+        it.condition,
+        it.clauses,
+        it.body,
+    )?;
+    Ok(StmtNode {
+        stmt: Stmt::While { head, body: inside },
+        at: it.at,
+        inner: it.body.close,
+    })
 }
 
 /// Adds the nodes of a body that breaks no rule, and answers its block; what was there keeps its numbers and what it makes.

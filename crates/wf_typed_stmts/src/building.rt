@@ -64,19 +64,11 @@ impl BodyBuilding {
         ensures nodes { IfOk result (λ nodes. nodes ≡ self) }
         ensures exprs { IfOk result IsBuilt }
     {
-        match all_of(alloc, self.stmts) {
-            Ok(stmts) => {
-                match self.building.finish(alloc) {
-                    Ok(nodes) => {
-                        let mut whole = nodes;
-                        whole.stmts = stmts;
-                        Ok(whole)
-                    }
-                    Err(fault) => Err(fault),
-                }
-            }
-            Err(fault) => Err(fault),
-        }
+        let stmts = all_of(alloc, self.stmts)?;
+        let nodes = self.building.finish(alloc)?;
+        let mut whole = nodes;
+        whole.stmts = stmts;
+        Ok(whole)
     }
 
     /// How many statements there are.
@@ -177,20 +169,14 @@ impl BodyBuilding {
         ensures there { IfOk result (λ e. e.0 < length self.new.exprs) }
         ensures made { IfOk result (λ e. tree_of self.new e ≡ chain_of sign (sign ∷ []) ty (sort_of op) (tree_of self.old left ∷ tree_of self.old right ∷ [])) }
     {
-        match operator_node(alloc, op, sign, left, right) {
-            Ok(node) => {
-                let chain = TypedExpr {
-                    node,
-                    ty,
-                    constant: None,
-                };
-                match self.building.push_expr(chain) {
-                    Ok(e) => return Ok(e),
-                    Err(_) => return Err(NoMemory),
-                }
-            }
-            Err(fault) => return Err(fault),
-        }
+        let node = operator_node(alloc, op, sign, left, right)?;
+        let chain = TypedExpr {
+            node,
+            ty,
+            constant: None,
+        };
+        let e = self.building.push_expr(chain)?;
+        Ok(e)
     }
 
     /// Adds a statement, whose parts are there. What it makes joins the others, which make what they made. `Err` also comes
@@ -209,10 +195,8 @@ impl BodyBuilding {
         if number >= NUMBERS {
             return Err(NoMemory);
         }
-        match self.stmts.push(node) {
-            Ok(()) => return Ok(StmtId(number as u32)),
-            Err(_) => return Err(NoMemory),
-        }
+        self.stmts.push(node)?;
+        Ok(StmtId(number as u32))
     }
 }
 
@@ -226,17 +210,11 @@ fn operator_node(
 ) -> Result<ExprNode, NoMemory>
     ensures { IfOk result (λ n. n ≡ record { expr = exprs.Chain op (left ∷ right ∷ []); at = sign; signs = sign ∷ [] }) }
 {
-    match two(alloc, left, right) {
-        Ok(parts) => {
-            match one(alloc, sign) {
-                Ok(signs) => Ok(ExprNode {
-                    expr: Expr::Chain { op, parts },
-                    at: sign,
-                    signs,
-                }),
-                Err(fault) => Err(fault),
-            }
-        }
-        Err(fault) => Err(fault),
-    }
+    let parts = two(alloc, left, right)?;
+    let signs = one(alloc, sign)?;
+    Ok(ExprNode {
+        expr: Expr::Chain { op, parts },
+        at: sign,
+        signs,
+    })
 }

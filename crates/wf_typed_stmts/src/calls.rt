@@ -41,16 +41,12 @@ fn add_arg(
 {
     match as_path(named, e) {
         Some(path) => {
-            match nodes.push_path(alloc, named, around, path) {
-                Ok(made) => Ok(made.node),
-                Err(fault) => Err(fault),
-            }
+            let made = nodes.push_path(alloc, named, around, path)?;
+            Ok(made.node)
         }
         None => {
-            match nodes.push_value(alloc, named, around, e) {
-                Ok(made) => Ok(made.node),
-                Err(fault) => Err(fault),
-            }
+            let made = nodes.push_value(alloc, named, around, e)?;
+            Ok(made.node)
         }
     }
 }
@@ -73,15 +69,8 @@ fn add_args(
 {
     let mut made = Sequence::new(alloc);
     for arg in args {
-        match add_arg(alloc, nodes, named, around, *arg) {
-            Ok(e) => {
-                match made.push(e) {
-                    Ok(()) => {}
-                    Err(_) => return Err(NoMemory),
-                }
-            }
-            Err(fault) => return Err(fault),
-        }
+        let e = add_arg(alloc, nodes, named, around, *arg)?;
+        made.push(e)?;
     }
     Ok(made)
 }
@@ -106,10 +95,8 @@ fn add_callee(
         NamedCallee::Own(method) => Ok(Callee::Own(method)),
         NamedCallee::Sub { field, method } => Ok(Callee::Sub { field, method }),
         NamedCallee::Base { on, sig } => {
-            match nodes.push_path(alloc, named, around, on) {
-                Ok(made) => Ok(Callee::Base { on: made.node, sig }),
-                Err(fault) => Err(fault),
-            }
+            let made = nodes.push_path(alloc, named, around, on)?;
+            Ok(Callee::Base { on: made.node, sig })
         }
     }
 }
@@ -135,22 +122,16 @@ pub fn add_call(
     ensures begun { OnOk result (IsBegun named.now nodes.new) }
     ensures made { IfOk result (λ n. MakesSimple (call_tree around.now (optional_target (tree_of nodes.old) target) keep (call_at (exprs_of named.now) call.now)) at nodes.new n) }
 {
-    match add_callee(alloc, nodes, named, around, call.callee, call.mark) {
-        Ok(callee) => {
-            match add_args(alloc, nodes, named, around, call.args.as_slice()) {
-                Ok(args) => Ok(StmtNode {
-                    stmt: Stmt::Call {
-                        target,
-                        keep,
-                        callee,
-                        args,
-                    },
-                    at,
-                    inner: call.at,
-                }),
-                Err(fault) => Err(fault),
-            }
-        }
-        Err(fault) => Err(fault),
-    }
+    let callee = add_callee(alloc, nodes, named, around, call.callee, call.mark)?;
+    let args = add_args(alloc, nodes, named, around, call.args.as_slice())?;
+    Ok(StmtNode {
+        stmt: Stmt::Call {
+            target,
+            keep,
+            callee,
+            args,
+        },
+        at,
+        inner: call.at,
+    })
 }

@@ -33,16 +33,12 @@ fn count_stmt(named: &NamedNodes, s: StmtId) -> Result<u32, NoMemory>
     let node = named.stmt(s);
     match &node.stmt {
         NamedStmt::If { arms, otherwise } => {
-            match count_arms(named, arms.as_slice(), otherwise) {
-                Ok(inside) => sum(1, inside),
-                Err(fault) => Err(fault),
-            }
+            let inside = count_arms(named, arms.as_slice(), otherwise)?;
+            sum(1, inside)
         }
         NamedStmt::While { body, .. } => {
-            match count_block(named, body) {
-                Ok(inside) => sum(1, inside),
-                Err(fault) => Err(fault),
-            }
+            let inside = count_block(named, body)?;
+            sum(1, inside)
         }
         NamedStmt::Assign { .. } => Ok(1),
         NamedStmt::Keep { .. } => Ok(1),
@@ -63,15 +59,8 @@ pub fn count_block(named: &NamedNodes, block: &Block) -> Result<u32, NoMemory>
 {
     let mut count = 0;
     for s in block.items.as_slice() {
-        match count_stmt(named, *s) {
-            Ok(inside) => {
-                match sum(count, inside) {
-                    Ok(more) => count = more,
-                    Err(fault) => return Err(fault),
-                }
-            }
-            Err(fault) => return Err(fault),
-        }
+        let inside = count_stmt(named, *s)?;
+        count = sum(count, inside)?;
     }
     Ok(count)
 }
@@ -93,22 +82,11 @@ fn count_arms(named: &NamedNodes, arms: &[Arm], otherwise: &Option<Block>) -> Re
     requires otherwise { ElseBelow (length named.now.stmts) otherwise.now }
     ensures { IfOk result (λ n. n ≡ stmts_in_arms (arms_at (exprs_of named.now) (stmts_of named.now) arms.now (else_at (stmts_of named.now) otherwise.now))) }
 {
-    match count_else(named, otherwise) {
-        Ok(last) => {
-            let mut count = last;
-            for arm in arms {
-                match count_block(named, &arm.body) {
-                    Ok(inside) => {
-                        match sum(count, inside) {
-                            Ok(more) => count = more,
-                            Err(fault) => return Err(fault),
-                        }
-                    }
-                    Err(fault) => return Err(fault),
-                }
-            }
-            Ok(count)
-        }
-        Err(fault) => Err(fault),
+    let last = count_else(named, otherwise)?;
+    let mut count = last;
+    for arm in arms {
+        let inside = count_block(named, &arm.body)?;
+        count = sum(count, inside)?;
     }
+    Ok(count)
 }

@@ -38,10 +38,8 @@ pub fn add_tree(
     ensures begun { OnOk result (IsBegun named.now nodes.new) }
     ensures made { IfOk result (λ r. HasTree (expr_tree around.now (expr_at (exprs_of named.now) e)) nodes.new r) }
 {
-    match nodes.push_value(alloc, named, around, e) {
-        Ok(made) => Ok(made.node),
-        Err(fault) => Err(fault),
-    }
+    let made = nodes.push_value(alloc, named, around, e)?;
+    Ok(made.node)
 }
 
 // Adds the nodes of a loop's promises, in order.
@@ -62,15 +60,8 @@ fn add_clauses(
 {
     let mut made = Sequence::new(alloc);
     for clause in clauses {
-        match add_tree(alloc, nodes, named, around, clause.condition) {
-            Ok(e) => {
-                match made.push((clause.kind, e)) {
-                    Ok(()) => {}
-                    Err(_) => return Err(NoMemory),
-                }
-            }
-            Err(fault) => return Err(fault),
-        }
+        let e = add_tree(alloc, nodes, named, around, clause.condition)?;
+        made.push((clause.kind, e))?;
     }
     Ok(made)
 }
@@ -96,19 +87,13 @@ pub fn add_head(
     ensures begun { OnOk result (IsBegun named.now nodes.new) }
     ensures made { IfOk result (λ r. StandsForHead around.now (expr_at (exprs_of named.now) condition) (clauses_at (exprs_of named.now) clauses.now) (block_at (stmts_of named.now) body.now) body.now.close nodes.new r) }
 {
-    match add_tree(alloc, nodes, named, around, condition) {
-        Ok(cond) => {
-            match add_clauses(alloc, nodes, named, around, clauses) {
-                Ok(clauses) => Ok(LoopHead {
-                    cond,
-                    clauses,
-                    has_break: block_leaves(named, 0, body),
-                }),
-                Err(fault) => Err(fault),
-            }
-        }
-        Err(fault) => Err(fault),
-    }
+    let cond = add_tree(alloc, nodes, named, around, condition)?;
+    let clauses = add_clauses(alloc, nodes, named, around, clauses)?;
+    Ok(LoopHead {
+        cond,
+        clauses,
+        has_break: block_leaves(named, 0, body),
+    })
 }
 
 // Adds the nodes of what is given for the letters of an axiom, in order.
@@ -129,15 +114,8 @@ fn add_letters(
 {
     let mut made = Sequence::new(alloc);
     for one in given {
-        match add_tree(alloc, nodes, named, around, one.value) {
-            Ok(e) => {
-                match made.push((one.name.text, e)) {
-                    Ok(()) => {}
-                    Err(_) => return Err(NoMemory),
-                }
-            }
-            Err(fault) => return Err(fault),
-        }
+        let e = add_tree(alloc, nodes, named, around, one.value)?;
+        made.push((one.name.text, e))?;
     }
     Ok(made)
 }
@@ -160,14 +138,12 @@ pub fn add_via(
 {
     match via {
         Some(via) => {
-            match add_letters(alloc, nodes, named, around, via.given.as_slice()) {
-                Ok(given) => Ok(Some(AxiomRef {
-                    name: via.axiom.text,
-                    at: via.axiom.at,
-                    given,
-                })),
-                Err(fault) => Err(fault),
-            }
+            let given = add_letters(alloc, nodes, named, around, via.given.as_slice())?;
+            Ok(Some(AxiomRef {
+                name: via.axiom.text,
+                at: via.axiom.at,
+                given,
+            }))
         }
         None => Ok(None),
     }

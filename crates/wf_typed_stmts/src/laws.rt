@@ -3,9 +3,9 @@
 ghost use Rattle.std.specs.Prelude.{◌≡◌, ℕ, true, Some, None, slice_get};
 ghost use Rattle.wf_named.specs.NamedTree.{NamedMethodTree, NamedPackageTree};
 ghost use Rattle.wf_named.specs.WellNamed.{well_named};
+ghost use Rattle.wf_named.specs.Grammar.{package_by_grammar};
 ghost use Rattle.wf_types_rules.specs.DeclaredTypes.{in_method};
 ghost use Rattle.wf_types_rules.specs.FirstBreak.{deciding};
-ghost use Rattle.wf_typed_tree.specs.Grammar.{package_by_grammar};
 ghost use Rattle.wf_typed_stmts.specs.Right.{known_in, IsRightBlock};
 
 /// In a package by the grammar that breaks no rule of names and types, the body of each method is right: every part of a

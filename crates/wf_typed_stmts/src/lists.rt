@@ -11,26 +11,18 @@ pub fn one<T: Drop>(alloc: Global, a: T) -> Result<Sequence<T>, NoMemory>
     ensures { IfOk result (λ all. all ≡ a ∷ []) }
 {
     let mut all = Sequence::new(alloc);
-    match all.push(a) {
-        Ok(()) => Ok(all),
-        Err(_) => Err(NoMemory),
-    }
+    all.push(a)?;
+    Ok(all)
 }
 
 /// A list of two.
 pub fn two<T: Drop>(alloc: Global, a: T, b: T) -> Result<Sequence<T>, NoMemory>
     ensures { IfOk result (λ all. all ≡ a ∷ b ∷ []) }
 {
-    match one(alloc, a) {
-        Ok(first) => {
-            let mut all = first;
-            match all.push(b) {
-                Ok(()) => Ok(all),
-                Err(_) => Err(NoMemory),
-            }
-        }
-        Err(fault) => Err(fault),
-    }
+    let first = one(alloc, a)?;
+    let mut all = first;
+    all.push(b)?;
+    Ok(all)
 }
 
 /// The statements of a vector.
@@ -39,10 +31,7 @@ pub fn all_of(alloc: Global, stmts: Vec<StmtNode>) -> Result<Sequence<StmtNode>,
 {
     let mut all = Sequence::new(alloc);
     for stmt in stmts {
-        match all.push(stmt) {
-            Ok(()) => {}
-            Err(_) => return Err(NoMemory),
-        }
+        all.push(stmt)?;
     }
     Ok(all)
 }
@@ -52,12 +41,7 @@ pub fn in_front(alloc: Global, first: u32, others: &[u32]) -> Result<Vec<u32>, N
     ensures { IfOk result (λ all. all.items ≡ first ∷ others.now) }
 {
     let mut all = Vec::new(alloc);
-    match all.push(first) {
-        Ok(()) => {}
-        Err(_) => return Err(NoMemory),
-    }
-    match all.extend_from_slice(others) {
-        Ok(()) => Ok(all),
-        Err(_) => Err(NoMemory),
-    }
+    all.push(first)?;
+    all.extend_from_slice(others)?;
+    Ok(all)
 }

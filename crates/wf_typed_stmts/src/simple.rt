@@ -9,7 +9,7 @@ ghost use Rattle.wf_typed_stmts.specs.Blocks.{is_simple};
 ghost use Rattle.wf_typed_stmts.specs.Right.{known_in, IsRightStmt};
 ghost use Rattle.wf_typed_stmts.specs.StmtGrowth.{IsBegun, GrowsExprs, MakesStmt};
 
-use crate::assignments::{add_assign, add_keep};
+use crate::assignments::{Assignment, add_assign, add_keep};
 use crate::building::BodyBuilding;
 use crate::simple_stmts::{add_claim, add_do_call, add_return, loop_number, yield_node};
 use std::alloc::Global;
@@ -45,7 +45,16 @@ pub fn add_simple(
             op,
             sign,
             value,
-        } => add_assign(alloc, nodes, named, around, *target, *op, *sign, *value, at),
+        } => {
+            let it = Assignment {
+                target: *target,
+                op: *op,
+                sign: *sign,
+                value: *value,
+                at,
+            };
+            add_assign(alloc, nodes, named, around, it)
+        }
         NamedStmt::Keep { target, call } => {
             add_keep(alloc, nodes, named, around, *target, call, at)
         }

@@ -43,10 +43,8 @@ pub fn add_do_call(
     ensures begun { OnOk result (IsBegun named.now nodes.new) }
     ensures made { IfOk result (λ n. MakesSimple (call_tree around.now typed.to_nothing false (call_at (exprs_of named.now) call.now)) at nodes.new n) }
 {
-    match add_call(alloc, nodes, named, around, None, false, call, at) {
-        Ok(node) => Ok(node),
-        Err(fault) => Err(fault),
-    }
+    let node = add_call(alloc, nodes, named, around, None, false, call, at)?;
+    Ok(node)
 }
 
 /// The number of the loop that stands so many loops outwards. `loops` are those of the loops round a jump, the innermost
@@ -79,10 +77,8 @@ fn add_part(
 {
     match part {
         Some(e) => {
-            match add_tree(alloc, nodes, named, around, e) {
-                Ok(made) => Ok(Some(made)),
-                Err(fault) => Err(fault),
-            }
+            let made = add_tree(alloc, nodes, named, around, e)?;
+            Ok(Some(made))
         }
         None => Ok(None),
     }
@@ -105,14 +101,12 @@ pub fn add_return(
     ensures begun { OnOk result (IsBegun named.now nodes.new) }
     ensures made { IfOk result (λ n. MakesSimple (typed.give_back (returned_tree around.now (part_at (exprs_of named.now) value))) at nodes.new n) }
 {
-    match add_part(alloc, nodes, named, around, value) {
-        Ok(value) => Ok(StmtNode {
-            stmt: Stmt::Return(value),
-            at,
-            inner: at,
-        }),
-        Err(fault) => Err(fault),
-    }
+    let value = add_part(alloc, nodes, named, around, value)?;
+    Ok(StmtNode {
+        stmt: Stmt::Return(value),
+        at,
+        inner: at,
+    })
 }
 
 // The status that an expression is.
@@ -169,17 +163,11 @@ pub fn add_claim(
     ensures begun { OnOk result (IsBegun named.now nodes.new) }
     ensures made { IfOk result (λ n. MakesSimple (typed.claim (cond_in (expr_tree around.now (expr_at (exprs_of named.now) goal))) (axiom_tree around.now (via_at named.now.texts (exprs_of named.now) via.now))) at nodes.new n) }
 {
-    match add_tree(alloc, nodes, named, around, goal) {
-        Ok(goal) => {
-            match add_via(alloc, nodes, named, around, via) {
-                Ok(axiom) => Ok(StmtNode {
-                    stmt: Stmt::Assert { goal, axiom },
-                    at,
-                    inner: at,
-                }),
-                Err(fault) => Err(fault),
-            }
-        }
-        Err(fault) => Err(fault),
-    }
+    let goal = add_tree(alloc, nodes, named, around, goal)?;
+    let axiom = add_via(alloc, nodes, named, around, via)?;
+    Ok(StmtNode {
+        stmt: Stmt::Assert { goal, axiom },
+        at,
+        inner: at,
+    })
 }

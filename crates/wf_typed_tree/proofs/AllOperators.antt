@@ -11,6 +11,7 @@ use Rattle.wf_ast.specs.declared.types.Ty.TheVariants as types
 use Rattle.wf_ast.specs.TypedTree.{Arith, plus, minus, times, divided, remainder, shift_left, shift_right, bits_and, bits_or, bits_xor, mod_plus, mod_minus, mod_times, mod_shift_left, sat_plus, sat_minus, Order, less, at_most, equal, differs, at_least, greater, NumTree, number, read, element, link, convert, length_of, asked, compare, same_status, ValueTree, numeric, logical}
 use Rattle.wf_ast.specs.TypedTrees.{arithmetic, ordering, sort_of, num_in, status_in, num_chain, chain_of, comparison, first_sign}
 use Rattle.wf_ast.specs.WellTyped.{Context, fits, is_shift, is_constant, is_whole_number, well_part, well_num, well_status, width_of, fit_together}
+use Rattle.wf_ast.specs.OperatorForms.{repeats}
 use Rattle.wf_types_rules.specs.declared.meanings.Meaning.{Meaning}
 use Rattle.wf_types_rules.specs.declared.meanings.Meaning.TheVariants as meanings
 use Rattle.wf_types_rules.specs.declared.meanings.Operand.{Operand}
@@ -18,7 +19,6 @@ use Rattle.wf_types_rules.specs.Meanings as meant
 use Rattle.wf_types_rules.specs.Meanings.{constant_number}
 use Rattle.wf_types_rules.specs.Operands.{first_not, not_of_one_width, not_shifted, shift_takes, not_compared, common_width, fits_width, bits_in, width_given, constant_value, constants_in, constant_of, number_in, computed, meaning_of_operator}
 use Rattle.wf_typed_tree.specs.ElaboratedExprs.{type_meant, number_or}
-use Rattle.wf_typed_tree.specs.Grammar.{repeats}
 use Rattle.wf_typed_tree.specs.MeaningTrees.{IsNumber, IsCondition, IsStatus, HasMeaning}
 use Rattle.wf_typed_tree.proofs.NumberLemmas.{both, and-true, or-left, equal-numbers, width-is, IsWhole, whole-number}
 use Rattle.wf_typed_tree.proofs.OperandLaws.{Matched, Taken, taken-parts, first-holds, IsOperand, operands-of, operand-of, fits-own, all-fit, junction-means}

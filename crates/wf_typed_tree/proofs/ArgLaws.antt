@@ -14,6 +14,7 @@ use Rattle.wf_named.specs.declared.nodes.NamedPath.{NamedPath}
 use Rattle.wf_named.specs.declared.nodes.Variable.{Variable}
 use Rattle.wf_named.specs.NamedTree.{NamedExprTree, path, NamedArgTrees, no_arg, more_args, VarTree, NamedMethodTree, NamedPackageTree}
 use Rattle.wf_named.specs.WellNamed.{count_args, named_expr, named_args}
+use Rattle.wf_named.specs.Grammar.{by_grammar, args_by_grammar}
 use Rattle.wf_types_rules.specs.declared.meanings.Meaning.{Meaning}
 use Rattle.wf_types_rules.specs.declared.meanings.Meaning.TheVariants as meanings
 use Rattle.wf_types_rules.specs.Meanings.{variable, is_value, place_of}
@@ -24,7 +25,6 @@ use Rattle.wf_types_rules.specs.Judgements.{fails, both_fail, takes, wanted, mea
 use Rattle.wf_types_rules.specs.TypeRules as rules
 use Rattle.wf_typed_tree.specs.ElaboratedExprs.{variable_tree, expr_tree, arg_trees}
 use Rattle.wf_typed_tree.specs.ElaboratedPackage.{type_declared, typed_variable}
-use Rattle.wf_typed_tree.specs.Grammar.{by_grammar, args_by_grammar}
 use Rattle.wf_typed_tree.specs.MeaningTrees.{HasMeaning}
 use Rattle.wf_typed_tree.proofs.NumberLemmas.{both, and-true, named-more}
 use Rattle.wf_typed_tree.proofs.NoBreaks.{Fine, AllFine, fine-split, at-none, either-false, both-hold}

@@ -19,6 +19,7 @@ use Rattle.wf_named.specs.declared.nodes.NamedCallee.TheVariants as callees
 use Rattle.wf_named.specs.declared.nodes.NamedPath.{NamedPath}
 use Rattle.wf_named.specs.NamedTree.{NamedTypeTree, answer, NamedArgTrees, NamedCallTree, call, NamedTargetTree, NamedMethodTree, NamedPackageTree}
 use Rattle.wf_named.specs.WellNamed.{count_args, is_wanted, args_wanted, named_args, named_call, named_target}
+use Rattle.wf_named.specs.Grammar.{by_grammar, args_by_grammar, target_by_grammar}
 use Rattle.wf_types_rules.specs.declared.meanings.Meaning.{Meaning}
 use Rattle.wf_types_rules.specs.declared.meanings.Meaning.TheVariants as meanings
 use Rattle.wf_types_rules.specs.Meanings.{all_of, there}
@@ -32,7 +33,6 @@ use Rattle.wf_types_rules.specs.TypeRules as rules
 use Rattle.wf_typed_tree.specs.ElaboratedExprs.{variable_tree, path_tree, arg_trees}
 use Rattle.wf_typed_tree.specs.ElaboratedStmts.{target_tree, call_tree, assigned_call}
 use Rattle.wf_typed_tree.specs.ElaboratedPackage.{type_declared}
-use Rattle.wf_typed_tree.specs.Grammar.{by_grammar, args_by_grammar, target_by_grammar}
 use Rattle.wf_typed_tree.specs.MeaningTrees.{HasMeaning}
 use Rattle.wf_typed_tree.proofs.NumberLemmas.{both}
 use Rattle.wf_typed_tree.proofs.NoBreaks.{AllFine, fine-split, at-none, not-not, both-hold, there-of}

@@ -9,15 +9,16 @@ use Rattle.wf_ast.specs.TypedTrees.{cond_in}
 use Rattle.wf_ast.specs.TypedPackage.{MethodTree}
 use Rattle.wf_ast.specs.Value.{same_truth}
 use Rattle.wf_ast.specs.WellTyped.{well_cond, well_simple, well_block, breaks, may_be_arg, may_be_local, may_be_result, answers_always, well_method, all_structs_whole, well_typed}
+use Rattle.wf_ast.specs.OperatorForms.{updates}
 use Rattle.wf_named.specs.NamedTree.{NamedClauseTrees, no_clause, more_clauses, NamedStmtTree, assign, keep, do_call, branch, loop, leave, again, back, suspend, claim, NamedBlockTree, close, more_stmts, NamedArmTrees, no_else, otherwise, arm, NamedMethodTree, NamedPackageTree}
 use Rattle.wf_named.specs.WellNamed.{named_expr, named_target, named_call, named_via, named_clauses, named_stmt, named_block, named_arms, well_named}
+use Rattle.wf_named.specs.Grammar.{by_grammar, target_by_grammar, call_by_grammar, via_by_grammar, clauses_by_grammar, has_condition, stmt_by_grammar, block_by_grammar, arms_by_grammar, package_by_grammar}
 use Rattle.wf_types_rules.specs.Parts.{condition_parts, clauses_parts, stmt_parts, block_parts, arms_parts}
 use Rattle.wf_types_rules.specs.Judgements.{block_leaves}
 use Rattle.wf_types_rules.specs.FirstBreak.{deciding}
 use Rattle.wf_typed_tree.specs.ElaboratedExprs.{expr_tree}
 use Rattle.wf_typed_tree.specs.ElaboratedStmts.{simple_tree, count_stmt, count_block, count_arms, site, clause_trees, stmt_tree, block_tree, arms_tree}
 use Rattle.wf_typed_tree.specs.ElaboratedPackage.{typed_struct, typed_method, typed_methods, typed_package}
-use Rattle.wf_typed_tree.specs.Grammar.{by_grammar, updates, target_by_grammar, call_by_grammar, via_by_grammar, clauses_by_grammar, has_condition, stmt_by_grammar, block_by_grammar, arms_by_grammar, package_by_grammar}
 use Rattle.wf_typed_tree.proofs.NumberLemmas.{both, and-true}
 use Rattle.wf_typed_tree.proofs.NoBreaks.{AllFine, fine-split}
 use Rattle.wf_typed_tree.proofs.Agreement.{PackageIs, MethodIs, package-is, method-is, typed-structs}

@@ -15,6 +15,7 @@ use Rattle.wf_named.specs.declared.nodes.Variable.{Variable}
 use Rattle.wf_named.specs.declared.nodes.Variable.TheVariants as variables
 use Rattle.wf_named.specs.NamedTree.{NamedExprTree, index, NamedTargetTree, to_path, to_element, NamedMethodTree, NamedPackageTree}
 use Rattle.wf_named.specs.WellNamed.{Scope, type_of_variable, named_expr, named_target, fields_in, scope_of_method}
+use Rattle.wf_named.specs.Grammar.{by_grammar}
 use Rattle.wf_types_rules.specs.declared.meanings.Meaning.{Meaning}
 use Rattle.wf_types_rules.specs.declared.meanings.Meaning.TheVariants as meanings
 use Rattle.wf_types_rules.specs.Meanings as meant
@@ -29,7 +30,6 @@ use Rattle.wf_types_rules.specs.TypeRules as rules
 use Rattle.wf_typed_tree.specs.ElaboratedExprs.{path_to, variable_tree, path_tree, expr_tree}
 use Rattle.wf_typed_tree.specs.ElaboratedStmts.{written_to, target_tree}
 use Rattle.wf_typed_tree.specs.ElaboratedPackage.{context_of}
-use Rattle.wf_typed_tree.specs.Grammar.{by_grammar}
 use Rattle.wf_typed_tree.specs.MeaningTrees.{IsNumber, HasMeaning}
 use Rattle.wf_typed_tree.proofs.NumberLemmas.{and-true, same-self, same-type, then-parts, map-parts}
 use Rattle.wf_typed_tree.proofs.NoBreaks.{Fine, AllFine, at-none, holds}

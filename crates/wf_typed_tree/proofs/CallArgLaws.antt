@@ -8,11 +8,11 @@ use Rattle.wf_ast.specs.declared.types.Ty.{Ty}
 use Rattle.wf_named.specs.declared.nodes.NamedCallee.{NamedCallee}
 use Rattle.wf_named.specs.NamedTree.{NamedArgTrees, no_arg, more_args, NamedMethodTree, NamedPackageTree}
 use Rattle.wf_named.specs.WellNamed.{count_args, named_args}
+use Rattle.wf_named.specs.Grammar.{by_grammar, args_by_grammar}
 use Rattle.wf_types_rules.specs.declared.meanings.Meaning.{Meaning}
 use Rattle.wf_types_rules.specs.Parts.{args_parts}
 use Rattle.wf_types_rules.specs.Judgements.{takes, base_arg, wanted, meaning_of_argument, is_argument, are_arguments}
 use Rattle.wf_typed_tree.specs.ElaboratedExprs.{arg_trees}
-use Rattle.wf_typed_tree.specs.Grammar.{by_grammar, args_by_grammar}
 use Rattle.wf_typed_tree.proofs.NumberLemmas.{both, and-true, named-more}
 use Rattle.wf_typed_tree.proofs.NoBreaks.{AllFine}
 use Rattle.wf_typed_tree.proofs.KnownMeanings.{HasValue}

@@ -25,6 +25,7 @@ use Rattle.wf_named.specs.declared.nodes.NamedPath.{NamedPath}
 use Rattle.wf_named.specs.NamedTree.{NamedTypeTree, answer, NamedArgTrees, NamedCallTree, call, NamedTargetTree, to_path, VarTree, NamedMethodTree, NamedPackageTree}
 use Rattle.wf_named.specs.NamedTree as named
 use Rattle.wf_named.specs.WellNamed.{count_args, is_wanted, args_wanted, kind_of, has_kind, type_of_variable, named_args, named_call, named_target}
+use Rattle.wf_named.specs.Grammar.{args_by_grammar, call_by_grammar, target_by_grammar}
 use Rattle.wf_types_rules.specs.declared.meanings.Meaning.{Meaning}
 use Rattle.wf_types_rules.specs.declared.meanings.Meaning.TheVariants as meanings
 use Rattle.wf_types_rules.specs.Meanings.{all_of, same_width, there, variable}
@@ -37,7 +38,6 @@ use Rattle.wf_types_rules.specs.Judgements as judged
 use Rattle.wf_types_rules.specs.TypeRules as rules
 use Rattle.wf_typed_tree.specs.ElaboratedExprs.{variable_tree, path_tree, arg_trees}
 use Rattle.wf_typed_tree.specs.ElaboratedStmts.{target_tree, call_tree}
-use Rattle.wf_typed_tree.specs.Grammar.{args_by_grammar, call_by_grammar, target_by_grammar}
 use Rattle.wf_typed_tree.specs.MeaningTrees.{kind_meant}
 use Rattle.wf_typed_tree.proofs.NumberLemmas.{both, and-true, same-bits}
 use Rattle.wf_typed_tree.proofs.NoBreaks.{AllFine, fine-split, at-none, not-not, holds}

@@ -20,6 +20,7 @@ use Rattle.wf_named.specs.declared.nodes.NamedCallee.TheVariants as callees
 use Rattle.wf_named.specs.declared.nodes.Variable.TheVariants as variables
 use Rattle.wf_named.specs.NamedTree.{NamedTypeTree, struct_type, NamedArgTrees, call, VarTree, NamedMethodTree, NamedPackageTree}
 use Rattle.wf_named.specs.WellNamed.{count_args, is_wanted, args_wanted, args_of_own, args_of_sub, type_of_variable, named_args, fields_in}
+use Rattle.wf_named.specs.Grammar.{args_by_grammar}
 use Rattle.wf_types_rules.specs.declared.meanings.MethodType.{MethodType}
 use Rattle.wf_types_rules.specs.declared.meanings.Meaning.TheVariants as meanings
 use Rattle.wf_types_rules.specs.Meanings.{there, variable}
@@ -30,7 +31,6 @@ use Rattle.wf_types_rules.specs.Judgements.{fails, own_arg, wanted, declared_mar
 use Rattle.wf_types_rules.specs.TypeRules as rules
 use Rattle.wf_typed_tree.specs.ElaboratedExprs.{arg_trees}
 use Rattle.wf_typed_tree.specs.ElaboratedPackage.{type_declared, typed_variable, typed_method, typed_methods, typed_package}
-use Rattle.wf_typed_tree.specs.Grammar.{args_by_grammar}
 use Rattle.wf_typed_tree.proofs.NumberLemmas.{both, and-true, equal-numbers, map-parts}
 use Rattle.wf_typed_tree.proofs.NoBreaks.{AllFine, at-none, holds}
 use Rattle.wf_typed_tree.proofs.Agreement.{PackageIs, MethodIs, method-is, method-agrees}

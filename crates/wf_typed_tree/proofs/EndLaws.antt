@@ -11,6 +11,7 @@ use Rattle.wf_ast.specs.WellTyped.{is_coroutine, leaves, never_goes_on, answers_
 use Rattle.wf_ast.specs.WellTyped as well
 use Rattle.wf_ast.specs.TypedTrees.{cond_in}
 use Rattle.wf_named.specs.NamedTree.{NamedExprTree, truth, NamedTypeTree, NamedStmtTree, assign, keep, do_call, branch, loop, leave, again, back, suspend, claim, NamedBlockTree, close, more_stmts, NamedArmTrees, no_else, otherwise, arm, NamedMethodTree, NamedPackageTree}
+use Rattle.wf_named.specs.Grammar.{has_condition, stmt_by_grammar, block_by_grammar, arms_by_grammar, by_grammar}
 use Rattle.wf_types_rules.specs.declared.settings.Setting.{Setting}
 use Rattle.wf_types_rules.specs.declared.settings.Role.TheVariants as roles
 use Rattle.wf_types_rules.specs.DeclaredTypes.{may_be, declared, for_types, in_method}
@@ -19,7 +20,6 @@ use Rattle.wf_types_rules.specs.TypeRules as rules
 use Rattle.wf_typed_tree.specs.ElaboratedExprs.{expr_tree}
 use Rattle.wf_typed_tree.specs.ElaboratedStmts.{simple_tree, count_stmt, count_block, count_arms, site, stmt_tree, block_tree, arms_tree}
 use Rattle.wf_typed_tree.specs.ElaboratedPackage.{type_declared, typed_method}
-use Rattle.wf_typed_tree.specs.Grammar.{has_condition, stmt_by_grammar, block_by_grammar, arms_by_grammar, by_grammar}
 use Rattle.wf_typed_tree.proofs.NumberLemmas.{both, and-true, or-left, or-right}
 use Rattle.wf_typed_tree.proofs.NoBreaks.{at-none}
 use Rattle.wf_typed_tree.proofs.DeclaredLaws.{declared-parts}

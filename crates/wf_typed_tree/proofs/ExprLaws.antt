@@ -14,6 +14,7 @@ use Rattle.wf_ast.specs.WellTyped.{Context, is_width, is_whole_number, well_part
 use Rattle.wf_named.specs.declared.nodes.NamedCallee.TheVariants as callees
 use Rattle.wf_named.specs.NamedTree.{NamedExprTree, number, status, truth, path, index, slice, answer, chain, convert, negation, NamedPartTree, absent, present, NamedLinkTrees, no_link, link, call, NamedTypeTree}
 use Rattle.wf_named.specs.WellNamed.{Scope, is_there, type_of_variable, kind_of, has_kind, is_wanted, args_wanted, count_args, named_expr, named_part, named_links, named_args, named_type}
+use Rattle.wf_named.specs.Grammar.{has_operands, by_grammar, end_by_grammar, links_by_grammar}
 use Rattle.wf_types_rules.specs.declared.meanings.Meaning.{Meaning}
 use Rattle.wf_types_rules.specs.declared.meanings.Meaning.TheVariants as meanings
 use Rattle.wf_types_rules.specs.declared.meanings.Operand.{Operand}
@@ -24,7 +25,6 @@ use Rattle.wf_types_rules.specs.Operands.{meaning_of_operator}
 use Rattle.wf_types_rules.specs.ExprTypes as told
 use Rattle.wf_types_rules.specs.ExprTypes.{only_where, element_of, pure_answer, answer_inside, plain_width, converted, in_front, operand_at, if_number, meaning, if_end, operands_behind, number_of}
 use Rattle.wf_typed_tree.specs.ElaboratedExprs.{variable_tree, path_tree, type_meant, number_or, signs_in, expr_tree, end_tree, link_trees}
-use Rattle.wf_typed_tree.specs.Grammar.{has_operands, by_grammar, end_by_grammar, links_by_grammar}
 use Rattle.wf_typed_tree.specs.MeaningTrees.{HasMeaning, Agree}
 use Rattle.wf_typed_tree.proofs.NumberLemmas.{both, and-true, then-parts, map-parts, where-parts, width-is, whole-number}
 use Rattle.wf_typed_tree.proofs.OperandLaws.{Matched, cond-well}

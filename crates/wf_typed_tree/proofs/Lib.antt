@@ -23,5 +23,6 @@ pub mod NumberingLaws
 pub mod OperandLaws
 pub mod OperatorLaws
 pub mod SimpleLaws
+pub mod TypedOrder
 pub mod ValueLaws
 pub mod VariableLaws

@@ -13,11 +13,11 @@ use Rattle.wf_ast.specs.WellTyped.{is_pure, breaks}
 use Rattle.wf_named.specs.declared.nodes.NamedCallee.TheVariants as callees
 use Rattle.wf_named.specs.NamedTree.{NamedExprTree, answer, NamedCallTree, call, NamedTargetTree, NamedStmtTree, assign, keep, do_call, branch, loop, leave, again, back, suspend, claim, NamedBlockTree, close, more_stmts, NamedArmTrees, no_else, otherwise, arm}
 use Rattle.wf_named.specs.WellNamed.{Scope, named_expr, named_clauses, named_stmt, named_block, named_arms}
+use Rattle.wf_named.specs.Grammar.{stmt_by_grammar, block_by_grammar, arms_by_grammar, by_grammar, clauses_by_grammar}
 use Rattle.wf_types_rules.specs.declared.settings.Setting.{Setting}
 use Rattle.wf_types_rules.specs.Judgements.{stmt_leaves, block_leaves, arms_leave}
 use Rattle.wf_typed_tree.specs.ElaboratedExprs.{path_tree, arg_trees}
 use Rattle.wf_typed_tree.specs.ElaboratedStmts.{target_tree, call_tree, assigned_call, assign_tree, loop_meant, count_stmt, count_block, count_arms, site, stmt_tree, block_tree, arms_tree}
-use Rattle.wf_typed_tree.specs.Grammar.{stmt_by_grammar, block_by_grammar, arms_by_grammar, by_grammar, clauses_by_grammar}
 use Rattle.wf_typed_tree.proofs.NumberLemmas.{both}
 
 -- The loop with the number `w` stands so many loops outwards.

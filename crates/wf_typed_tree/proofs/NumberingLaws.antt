@@ -7,11 +7,11 @@ use Rattle.wf_ast.specs.TypedTree.{Site, Block, end}
 use Rattle.wf_ast.specs.TypedPackage.{MethodTree}
 use Rattle.wf_ast.specs.TypedInvariant.{numbers_in, numbers_from}
 use Rattle.wf_named.specs.NamedTree.{NamedStmtTree, assign, keep, do_call, branch, loop, leave, again, back, suspend, claim, NamedBlockTree, close, more_stmts, NamedArmTrees, no_else, otherwise, arm, NamedMethodTree, NamedPackageTree}
+use Rattle.wf_named.specs.Grammar.{by_grammar, stmt_by_grammar, block_by_grammar, arms_by_grammar, has_condition, package_by_grammar}
 use Rattle.wf_types_rules.specs.declared.settings.Setting.{Setting}
 use Rattle.wf_types_rules.specs.DeclaredTypes.{in_method}
 use Rattle.wf_typed_tree.specs.ElaboratedStmts.{count_stmt, count_block, count_arms, site, stmt_tree, block_tree, arms_tree}
 use Rattle.wf_typed_tree.specs.ElaboratedPackage.{count_methods, typed_methods, typed_package}
-use Rattle.wf_typed_tree.specs.Grammar.{by_grammar, stmt_by_grammar, block_by_grammar, arms_by_grammar, has_condition, package_by_grammar}
 use Rattle.wf_typed_tree.proofs.NumberLemmas.{both}
 
 -- Numbers that follow each other.

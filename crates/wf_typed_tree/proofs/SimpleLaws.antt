@@ -18,8 +18,10 @@ use Rattle.wf_ast.specs.TypedTree as typed
 use Rattle.wf_ast.specs.TypedTrees.{Sort, arithmetic, sort_of, num_in, cond_in, chain_of, arith_in}
 use Rattle.wf_ast.specs.Same.{same_arith, arith_number}
 use Rattle.wf_ast.specs.WellTyped.{Context, is_coroutine, may_go_into, is_shift, is_whole_number, well_part, well_num, well_cond, fits_type, well_assigned, is_operator, well_returned, is_suspension, well_axiom, well_simple}
+use Rattle.wf_ast.specs.OperatorForms.{gives_number, updates}
 use Rattle.wf_named.specs.NamedTree.{NamedExprTree, status, answer, NamedPartTree, absent, present, NamedTypeTree, NamedTargetTree, LetterTrees, no_letter, more_letters, NamedViaTree, by_itself, via, Word, NamedMethodTree, NamedPackageTree}
 use Rattle.wf_named.specs.WellNamed.{named_expr, named_part, named_target, named_letters, named_via}
+use Rattle.wf_named.specs.Grammar.{by_grammar, end_by_grammar, target_by_grammar, letters_by_grammar, via_by_grammar}
 use Rattle.wf_types_rules.specs.declared.meanings.Meaning.{Meaning}
 use Rattle.wf_types_rules.specs.declared.meanings.Meaning.TheVariants as meanings
 use Rattle.wf_types_rules.specs.declared.meanings.Operand.{Operand}
@@ -36,7 +38,6 @@ use Rattle.wf_types_rules.specs.TypeRules as rules
 use Rattle.wf_typed_tree.specs.ElaboratedExprs.{type_meant, number_or, expr_tree}
 use Rattle.wf_typed_tree.specs.ElaboratedStmts.{unrefined, type_of_update, written_to, target_tree, update_tree, assign_tree, returned_tree, status_in, letter_trees, axiom_tree, loop_meant}
 use Rattle.wf_typed_tree.specs.ElaboratedPackage.{seen_text, type_declared, typed_package}
-use Rattle.wf_typed_tree.specs.Grammar.{by_grammar, end_by_grammar, target_by_grammar, gives_number, updates, letters_by_grammar, via_by_grammar}
 use Rattle.wf_typed_tree.specs.MeaningTrees.{IsNumber, HasMeaning}
 use Rattle.wf_typed_tree.proofs.NumberLemmas.{both, and-true, or-left, or-right, same-self, width-fits, varies-whole, whole-number}
 use Rattle.wf_typed_tree.proofs.NoBreaks.{AllFine, fine-split, at-none, not-not, holds, both-hold}

@@ -4,5 +4,5 @@ pub mod ElaboratedStmts
 pub mod Entries
 pub mod ExampleStmts
 pub mod Examples
-pub mod Grammar
 pub mod MeaningTrees
+pub mod TypedOrder

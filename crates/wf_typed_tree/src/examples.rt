@@ -13,11 +13,11 @@ ghost use Rattle.wf_ast.specs.StatementOrder.{stand_in_order};
 ghost use Rattle.wf_ast.specs.WellTyped.{well_typed};
 ghost use Rattle.wf_named.specs.Examples.{at, counting};
 ghost use Rattle.wf_named.specs.WellNamed.{well_named};
+ghost use Rattle.wf_named.specs.Grammar.{package_by_grammar};
 ghost use Rattle.wf_types_rules.specs.FirstBreak.{deciding};
 ghost use Rattle.wf_types_rules.specs.Examples.{here};
 ghost use Rattle.wf_typed_tree.specs.ElaboratedStmts.{site};
 ghost use Rattle.wf_typed_tree.specs.ElaboratedPackage.{typed_package};
-ghost use Rattle.wf_typed_tree.specs.Grammar.{package_by_grammar};
 ghost use Rattle.wf_typed_tree.specs.Examples.{byte, half, word32, typed_counting, body_typed, typed_x, typed_a, typed_number, alone, to_x};
 ghost use Rattle.wf_typed_tree.specs.ExampleStmts as samples;
 

@@ -6,6 +6,7 @@ ghost use Rattle.wf_ast.specs.TypedInvariant.{numbers_in, numbers_from};
 ghost use Rattle.wf_ast.specs.WellTyped.{Context, all_structs_whole, may_be_arg, may_be_local, may_be_result, answers_always, calls_in_front, well_typed};
 ghost use Rattle.wf_named.specs.NamedTree.{NamedExprTree, NamedMethodTree, NamedPackageTree};
 ghost use Rattle.wf_named.specs.WellNamed.{Scope, named_expr, scope_of_method, well_named};
+ghost use Rattle.wf_named.specs.Grammar.{by_grammar, block_by_grammar, package_by_grammar};
 ghost use Rattle.wf_types_rules.specs.declared.meanings.Meaning.{Meaning};
 ghost use Rattle.wf_types_rules.specs.declared.settings.Setting.{Setting};
 ghost use Rattle.wf_types_rules.specs.DeclaredTypes.{in_method};
@@ -13,8 +14,8 @@ ghost use Rattle.wf_types_rules.specs.ExprTypes.{meaning};
 ghost use Rattle.wf_types_rules.specs.FirstBreak.{deciding};
 ghost use Rattle.wf_typed_tree.specs.ElaboratedExprs.{expr_tree};
 ghost use Rattle.wf_typed_tree.specs.ElaboratedPackage.{count_methods, typed_method, typed_package, context_of};
-ghost use Rattle.wf_typed_tree.specs.Grammar.{by_grammar, block_by_grammar, package_by_grammar};
 ghost use Rattle.wf_typed_tree.specs.MeaningTrees.{HasMeaning, Agree};
+ghost use Rattle.wf_typed_tree.specs.TypedOrder.{TypedBodiesKeepOrder, TypedPackagesKeepOrder};
 
 /// An expression that means something has a typed tree that keeps the rules and is one of its meaning: a constant
 /// stands as its number, a number has its width. What stands round the expression has to be what stands round the
@@ -51,4 +52,11 @@ pub fn typed_packages_keep_the_rules()
 /// inside it.
 pub fn statements_are_numbered_in_order()
     ensures { (p : NamedPackageTree) → package_by_grammar p ≡ true → flat_map (λ m. numbers_in m.body) (typed_package p).methods ≡ numbers_from 0 (count_methods p.methods) }
+{}
+
+/// Where the statements of a resolved body stand in order of place, so do those of the typed one; and so throughout a
+/// package.
+pub fn typing_keeps_the_order_of_statements()
+    ensures bodies { TypedBodiesKeepOrder }
+    ensures packages { TypedPackagesKeepOrder }
 {}

@@ -5,11 +5,10 @@ use Rattle.std.proofs.lemmas.Option.{slice_get_within, get_or_from_slice_get}
 use Rattle.wf_ast.specs.declared.types.Ty.{Ty}
 use Rattle.wf_named.specs.declared.declarations.NamedStruct.{NamedStruct}
 use Rattle.wf_named.specs.NamedParts.{NamedParts, exprs_of, named_package}
-use Rattle.wf_named.specs.NamedTree.{VarTree, NamedStructTree}
-use Rattle.wf_named.specs.NamedTrees.{const_made, struct_made}
+use Rattle.wf_named.specs.NamedTree.{NamedStructTree}
+use Rattle.wf_named.specs.NamedTrees.{struct_made}
 use Rattle.wf_types_rules.specs.declared.settings.Role.TheVariants as roles
-use Rattle.wf_types_rules.specs.declared.settings.Setting.{Setting}
-use Rattle.wf_types_rules.specs.DeclaredTypes.{declared, among_constants, constants_after, for_types, types_in}
+use Rattle.wf_types_rules.specs.DeclaredTypes.{types_in}
 use Rattle.wf_types_decls.specs.Packages.{field_types}
 
 -- One item more.
@@ -23,24 +22,10 @@ made_next made xs i x low is before next e =
     ap (λ zs. zs ++ others) e ∙ append_assoc before (made x ∷ []) others
     ∙ ap (λ ys. before ++ ys) (ap (λ y. made y ∷ others) is ∙ sym (at_drop_more (map made) xs i x low))
 
--- What types are read with.
-consts_are : (q : NamedParts) → (named_package q).consts ≡ map (const_made q.texts (exprs_of q)) q.consts
-unfolding named_package
-consts_are q = refl
-
-pub types_known : (q : NamedParts) (s : Setting) → s ≡ among_constants (constants_after [] (map (const_made q.texts (exprs_of q)) q.consts)) → s ≡ for_types (named_package q)
-types_known q s e = e ∙ ap (λ cs. among_constants (constants_after [] cs)) (sym (consts_are q))
-
 -- The types of fields, by struct.
 structs_are : (q : NamedParts) → (named_package q).structs ≡ map (struct_made q.texts (exprs_of q)) q.structs
 unfolding named_package
 structs_are q = refl
-
-pub fields_known : (q : NamedParts) (s : Setting) → s ≡ for_types (named_package q) → (of : List (List (Option Ty)))
-    → of ≡ map (λ (x : NamedStructTree). map (λ (y : VarTree). declared s roles.Field y.of) x.fields) (map (struct_made q.texts (exprs_of q)) q.structs) → of ≡ field_types (named_package q)
-fields_known q s e of h =
-    h ∙ ap (λ t. map (λ (x : NamedStructTree). map (λ (y : VarTree). declared t roles.Field y.of) x.fields) (map (struct_made q.texts (exprs_of q)) q.structs)) e
-    ∙ ap (λ xs. map (λ (x : NamedStructTree). types_in (named_package q) roles.Field x.fields) xs) (sym (structs_are q))
 
 module _ (q : NamedParts) (fields : List (List (Option Ty))) (h : fields ≡ field_types (named_package q)) where
   fields_made : fields ≡ map (λ (x : NamedStructTree). types_in (named_package q) roles.Field x.fields) (map (struct_made q.texts (exprs_of q)) q.structs)

@@ -27,6 +27,7 @@ use Rattle.wf_named.specs.WellNamed.{well_named}
 use Rattle.wf_named.specs.WellNamed as names
 use Rattle.wf_named.specs.declared.declarations.NamedMethod.{NamedMethod}
 use Rattle.wf_named.specs.declared.declarations.NamedVar.{NamedVar}
+use Rattle.wf_named.specs.Grammar.{package_by_grammar}
 use Rattle.wf_types_rules.specs.declared.settings.Role.TheVariants as roles
 use Rattle.wf_types_rules.specs.DeclaredTypes.{for_types, types_in}
 use Rattle.wf_types_rules.specs.FirstBreak.{deciding}
@@ -35,7 +36,6 @@ use Rattle.wf_types_rules.specs.Parts.{status_declared, at_sites, const_sites, s
 use Rattle.wf_types_rules.specs.TypeRules as rules
 use Rattle.wf_typed_tree.specs.ElaboratedPackage.{seen_text, typed_package}
 use Rattle.wf_typed_tree.specs.ElaboratedStmts.{count_block}
-use Rattle.wf_typed_tree.specs.Grammar.{package_by_grammar}
 use Rattle.wf_typed_tree.proofs.Agreement.{package-is}
 use Rattle.wf_typed_tree.proofs.BlockLaws.{package-keeps}
 use Rattle.wf_typed_tree.proofs.ConstantLaws.{AllFineSites, sites-fine, sites-split, parts-fine}

@@ -10,6 +10,7 @@ use std::alloc::Global;
 use wf_ast::{Sequence, TextId};
 use wf_named::NamedNodes;
 use wf_text::faults::NoMemory;
+use wf_types_decls::declarations::with_text;
 
 // How many numbers there are for texts.
 const NUMBERS: usize = 4294967296;
@@ -22,19 +23,9 @@ fn with_bytes(text: Sequence<u8>, bytes: &[u8]) -> Result<Sequence<u8>, NoMemory
 {
     let mut text = text;
     for byte in bytes {
-        match text.push(*byte) {
-            Ok(()) => {}
-            Err(_) => return Err(NoMemory),
-        }
+        text.push(*byte)?;
     }
     Ok(text)
-}
-
-/// A copy of these bytes.
-pub fn bytes_copied(alloc: Global, bytes: &[u8]) -> Result<Sequence<u8>, NoMemory>
-    ensures { IfOk result (λ all. all ≡ bytes.now) }
-{
-    with_bytes(Sequence::new(alloc), bytes)
 }
 
 /// A copy of these numbers.
@@ -43,31 +34,9 @@ pub fn numbers_copied(alloc: Global, numbers: &[u32]) -> Result<Sequence<u32>, N
 {
     let mut all = Sequence::new(alloc);
     for number in numbers {
-        match all.push(*number) {
-            Ok(()) => {}
-            Err(_) => return Err(NoMemory),
-        }
+        all.push(*number)?;
     }
     Ok(all)
-}
-
-fn with_text(
-    alloc: Global,
-    texts: Sequence<Sequence<u8>>,
-    text: &[u8],
-) -> Result<Sequence<Sequence<u8>>, NoMemory>
-    ensures { IfOk result (λ all. all ≡ texts ++ text.now ∷ []) }
-{
-    let mut texts = texts;
-    match bytes_copied(alloc, text) {
-        Ok(copy) => {
-            match texts.push(copy) {
-                Ok(()) => Ok(texts),
-                Err(_) => Err(NoMemory),
-            }
-        }
-        Err(fault) => Err(fault),
-    }
 }
 
 // The first texts of a list, so many.
@@ -81,10 +50,7 @@ fn first_texts(
 {
     let mut all = Sequence::new(alloc);
     for number in 0..count {
-        match with_text(alloc, all, texts[number].as_slice()) {
-            Ok(next) => all = next,
-            Err(fault) => return Err(fault),
-        }
+        all = with_text(alloc, all, texts[number].as_slice())?;
     }
     Ok(all)
 }
@@ -99,10 +65,7 @@ pub fn texts_copied(alloc: Global, nodes: &NamedNodes) -> Result<Sequence<Sequen
     }
     let mut all = Sequence::new(alloc);
     for number in 0..count {
-        match with_text(alloc, all, nodes.text(TextId(number as u32))) {
-            Ok(next) => all = next,
-            Err(fault) => return Err(fault),
-        }
+        all = with_text(alloc, all, nodes.text(TextId(number as u32)))?;
     }
     Ok(all)
 }
@@ -117,19 +80,10 @@ fn seen_from(
     ensures { IfOk result (λ all. all ≡ byte ∷ (package_name.now ++ (codes ": " ++ rest.now))) }
 {
     let mut text = Sequence::new(alloc);
-    match text.push(byte) {
-        Ok(()) => {}
-        Err(_) => return Err(NoMemory),
-    }
-    match with_bytes(text, package_name) {
-        Ok(named) => {
-            match with_bytes(named, b": ") {
-                Ok(begun) => with_bytes(begun, rest),
-                Err(fault) => Err(fault),
-            }
-        }
-        Err(fault) => Err(fault),
-    }
+    text.push(byte)?;
+    let named = with_bytes(text, package_name)?;
+    let begun = with_bytes(named, b": ")?;
+    with_bytes(begun, rest)
 }
 
 /// The text of a status of the package with this name, as a caller sees it.
@@ -151,15 +105,9 @@ fn with_seen(
     ensures { IfOk result (λ all. all ≡ texts ++ text_seen package_name.now text.now ∷ []) }
 {
     let mut texts = texts;
-    match seen_text(alloc, package_name, text) {
-        Ok(seen) => {
-            match texts.push(seen) {
-                Ok(()) => Ok(texts),
-                Err(_) => Err(NoMemory),
-            }
-        }
-        Err(fault) => Err(fault),
-    }
+    let seen = seen_text(alloc, package_name, text)?;
+    texts.push(seen)?;
+    Ok(texts)
 }
 
 /// The texts of all statuses as a caller sees them, where `texts` are those that are written.
@@ -171,15 +119,9 @@ pub fn seen_statuses(
     requires { texts.now ≡ status_texts (named_package nodes.now) }
     ensures { IfOk result (λ all. all ≡ statuses_seen nodes.now) }
 {
-    let mut all = match first_texts(alloc, texts, BASE_STATUSES) {
-        Ok(all) => all,
-        Err(fault) => return Err(fault),
-    };
+    let mut all = first_texts(alloc, texts, BASE_STATUSES)?;
     for text in nodes.statuses() {
-        match with_seen(alloc, all, nodes.package_name(), nodes.text(text.text)) {
-            Ok(next) => all = next,
-            Err(fault) => return Err(fault),
-        }
+        all = with_seen(alloc, all, nodes.package_name(), nodes.text(text.text))?;
     }
     Ok(all)
 }

@@ -1,2 +1,3 @@
 pub mod DeclarationLemmas
+pub mod HeadLemmas
 pub mod PackageLemmas

@@ -1,7 +1,6 @@
 -- A whole package: what stands round its methods, and what its parts come to.
 use Rattle.std.proofs.Common.{◌≡◌, ◌∙◌, refl, sym, ap, List, [], ◌++◌, map, Option, None, option_map, Some}
 use Rattle.std.specs.List.{flat_map}
-use Rattle.std.proofs.lemmas.List.{append_assoc}
 use Rattle.wf_text.specs.declared.rules.Refusal.{Refusal}
 use Rattle.wf_base.specs.declared.marks.Mark.{Mark}
 use Rattle.wf_ast.specs.declared.types.Ty.{Ty}
@@ -9,15 +8,13 @@ use Rattle.wf_named.specs.NamedParts.{NamedParts, exprs_of, stmts_of, named_pack
 use Rattle.wf_named.specs.NamedTree.{VarTree, NamedStructTree, NamedMethodTree, NamedPackageTree}
 use Rattle.wf_named.specs.NamedTrees.{word_at, const_made, struct_made, method_made}
 use Rattle.wf_named.specs.WellNamed.{fields_in}
-use Rattle.wf_types_rules.specs.declared.meanings.MethodType.{MethodType}
 use Rattle.wf_types_rules.specs.declared.settings.Role.{Role}
 use Rattle.wf_types_rules.specs.declared.settings.Role.TheVariants as roles
 use Rattle.wf_types_rules.specs.declared.settings.Setting.{Setting}
-use Rattle.wf_types_rules.specs.DeclaredTypes.{declared, among_constants, constants_after, for_types, types_in, result_in, method_type, status_texts, in_method}
+use Rattle.wf_types_rules.specs.DeclaredTypes.{declared, among_constants, constants_after, for_types, types_in, result_in, in_method}
 use Rattle.wf_types_rules.specs.FirstBreak.{deciding}
-use Rattle.wf_types_rules.specs.Parts.{Part, status_declared, variables_parts, at_sites, const_sites, method_sites, sites}
+use Rattle.wf_types_rules.specs.Parts.{status_declared, variables_parts, at_sites, const_sites, method_sites, sites}
 use Rattle.wf_types_exprs.specs.Judged.{judged}
-use Rattle.wf_types_exprs.proofs.JudgedLaws.{judged-append}
 use Rattle.wf_types_decls.specs.Packages.{decided, IsAround, field_types}
 use Rattle.wf_types_decls.proofs.DeclarationLemmas.{decided-append, decided-sites}
 
@@ -46,10 +43,6 @@ module _ (p : NamedPackageTree) (s : Setting) (e : s ≡ for_types p) where
   pub result_known : (m : NamedMethodTree) (of : Option (Option Ty)) → of ≡ option_map (declared s (roles.Result m.mark)) m.gives → of ≡ result_in p m
   result_known m of h = h ∙ ap (λ t. option_map (declared t (roles.Result m.mark)) m.gives) e
 
-  pub method_known : (m : NamedMethodTree) (args : List (Option Ty)) (gives : Option (Option Ty)) (of : MethodType) → of ≡ record { mark = m.mark; args = args; gives = gives }
-      → args ≡ map (λ (x : VarTree). declared s roles.Arg x.of) m.args → gives ≡ option_map (declared s (roles.Result m.mark)) m.gives → of ≡ method_type p m
-  method_known m args gives of is a g = rw (is, types_known roles.Arg m.args args a, result_known m gives g) refl
-
 pub fields_known : (n : NamedParts) (s : Setting) → s ≡ for_types (named_package n) → (of : List (List (Option Ty)))
     → of ≡ map (λ (x : NamedStructTree). map (λ (y : VarTree). declared s roles.Field y.of) x.fields) (map (struct_made n.texts (exprs_of n)) n.structs) → of ≡ field_types (named_package n)
 fields_known n s e of h =
@@ -57,15 +50,6 @@ fields_known n s e of h =
     ∙ ap (λ xs. map (λ (x : NamedStructTree). types_in (named_package n) roles.Field x.fields) xs) (sym (structs_are n))
 
 -- What stands round every method, and round the body of one.
-pub around_known : (n : NamedParts) (s types : Setting) → types ≡ for_types (named_package n) → s.constants ≡ types.constants
-    → s.methods ≡ map (method_type (named_package n)) (map (method_made n.texts (exprs_of n) (stmts_of n)) n.methods) → s.statuses ≡ status_texts (named_package n)
-    → IsAround (named_package n) s
-around_known n s types e c m t = record {
-  constants = c ∙ ap (λ (x : Setting). x.constants) e;
-  methods = m ∙ ap (map (method_type (named_package n))) (sym (methods_are n));
-  statuses = t;
-}
-
 pub around_method : (p : NamedPackageTree) (m : NamedMethodTree) (s : Setting) → s ≡ in_method p m → IsAround p s
 around_method p m s e = record { constants = ap (λ (x : Setting). x.constants) e; methods = ap (λ (x : Setting). x.methods) e; statuses = ap (λ (x : Setting). x.statuses) e }
 
@@ -74,25 +58,7 @@ pub method_entered : (p : NamedPackageTree) (m : NamedMethodTree) (around : Sett
     → (s : Setting) → s ≡ record around { fields = own; args = args; locals = locals; mark = mark; gives = gives } → s ≡ in_method p m
 method_entered p m around own args locals mark gives h f a l k g s is = rw (is, h.constants, h.methods, h.statuses, f, a, l, k, g) refl
 
--- What a method declares.
-pub head_judged : (s t : Setting) (found second third : Option Refusal) (xs ys zs : List Part) → s ≡ t → second ≡ judged s found (xs ++ ys) → third ≡ judged s second zs
-    → third ≡ judged t found (xs ++ (ys ++ zs))
-head_judged s t found second third xs ys zs e f g =
-    g ∙ ap (λ b. judged s b zs) f ∙ sym (judged-append s found (xs ++ ys) zs) ∙ ap (judged s found) (append_assoc xs ys zs) ∙ ap (λ u. judged u found (xs ++ (ys ++ zs))) e
-
--- Structs and methods, and then the whole.
-pub rest_decided : (n : NamedParts) (s : Setting) (found fields last : Option Refusal) → s ≡ for_types (named_package n)
-    → fields ≡ judged s found (flat_map (λ (x : NamedStructTree). variables_parts roles.Field x.fields) (map (struct_made n.texts (exprs_of n)) n.structs))
-    → last ≡ decided fields (flat_map (method_sites (named_package n)) (map (method_made n.texts (exprs_of n) (stmts_of n)) n.methods))
-    → last ≡ decided found (at_sites (for_types (named_package n)) (flat_map (λ (x : NamedStructTree). variables_parts roles.Field x.fields) (named_package n).structs) ++ flat_map (method_sites (named_package n)) (named_package n).methods)
-rest_decided n s found fields last e f g =
-    let p = named_package n in
-    let F : List NamedStructTree → List Part = λ xs. flat_map (λ (x : NamedStructTree). variables_parts roles.Field x.fields) xs in
-    let M = flat_map (method_sites p) p.methods in
-    g ∙ ap (λ ms. decided fields (flat_map (method_sites p) ms)) (sym (methods_are n))
-    ∙ ap (λ b. decided b M) (f ∙ ap (λ t. judged t found (F (map (struct_made n.texts (exprs_of n)) n.structs))) e ∙ ap (λ xs. judged (for_types p) found (F xs)) (sym (structs_are n)) ∙ sym (decided-sites (for_types p) found (F p.structs)))
-    ∙ sym (decided-append found (at_sites (for_types p) (F p.structs)) M)
-
+-- The whole.
 deciding_plain : (p : NamedPackageTree) → deciding p ≡ decided None (sites p)
 unfolding deciding decided
 deciding_plain p = refl
@@ -102,7 +68,7 @@ sites_plain : (p : NamedPackageTree) → sites p ≡ const_sites [] p.consts ++ 
 unfolding sites
 sites_plain p = refl
 
-all_decided : (p : NamedPackageTree) (first second last : Option Refusal) → first ≡ decided None (const_sites [] p.consts)
+pub all_decided : (p : NamedPackageTree) (first second last : Option Refusal) → first ≡ decided None (const_sites [] p.consts)
     → second ≡ judged (for_types p) first (map status_declared p.statuses)
     → last ≡ decided second (at_sites (for_types p) (flat_map (λ (x : NamedStructTree). variables_parts roles.Field x.fields) p.structs) ++ flat_map (method_sites p) p.methods)
     → last ≡ deciding p
@@ -117,12 +83,3 @@ all_decided p first second last f g h =
 
 pub for_types_known : (n : NamedParts) (s : Setting) → s ≡ among_constants (constants_after [] (map (const_made n.texts (exprs_of n)) n.consts)) → s ≡ for_types (named_package n)
 for_types_known n s e = e ∙ ap (λ cs. among_constants (constants_after [] cs)) (sym (consts_are n))
-
-pub package_decided : (n : NamedParts) (first second last : Option Refusal) → first ≡ decided None (const_sites [] (map (const_made n.texts (exprs_of n)) n.consts))
-    → second ≡ judged (for_types (named_package n)) first (map status_declared (map (word_at n.texts) n.statuses))
-    → last ≡ decided second (at_sites (for_types (named_package n)) (flat_map (λ (x : NamedStructTree). variables_parts roles.Field x.fields) (named_package n).structs) ++ flat_map (method_sites (named_package n)) (named_package n).methods)
-    → last ≡ deciding (named_package n)
-package_decided n first second last f g h =
-    let p = named_package n in
-    all_decided p first second last (f ∙ ap (λ cs. decided None (const_sites [] cs)) (sym (consts_are n)))
-    (g ∙ ap (λ ws. judged (for_types p) first (map status_declared ws)) (sym (statuses_are n))) h

@@ -1,19 +1,22 @@
--- What decides of the parts of a package with what stands round each, and what a walk over its declarations keeps.
-use Rattle.std.specs.Prelude.{◌≡◌, ℕ, Bool, false, ◌&&◌, ◌||◌, List, [], ◌∷◌, map, Option, None, Some, nat_eq, option_and_then}
+-- What decides of the parts of a package with what stands round each, and what a walk over it keeps.
+use Rattle.std.specs.Prelude.{◌≡◌, ℕ, Bool, false, ◌&&◌, ◌||◌, List, [], ◌∷◌, ◌++◌, map, Option, None, Some, nat_eq, option_and_then}
 use Rattle.std.specs.List.{flat_map}
 use Rattle.wf_text.specs.declared.rules.Refusal.{Refusal}
 use Rattle.wf_text.specs.declared.rules.Rule.TheVariants.{T1, T5}
-use Rattle.wf_text.specs.Precedence.{sooner, soonest}
+use Rattle.wf_text.specs.Precedence.{sooner, soonest, Decides}
 use Rattle.wf_ast.specs.declared.types.Ty.{Ty}
-use Rattle.wf_named.specs.NamedTree.{NamedPackageTree}
+use Rattle.wf_named.specs.NamedTree.{NamedMethodTree, NamedPackageTree}
 use Rattle.wf_types_rules.specs.declared.settings.Role.TheVariants as roles
 use Rattle.wf_types_rules.specs.declared.settings.Setting.{Setting}
-use Rattle.wf_types_rules.specs.DeclaredTypes.{constants_of, types_in, method_type, status_texts}
+use Rattle.wf_types_rules.specs.DeclaredTypes.{constants_of, types_in, result_in, method_type, status_texts, in_method}
 use Rattle.wf_types_rules.specs.Meanings.{is_constant, constant_number}
 use Rattle.wf_types_rules.specs.Judgements.{at_if, fails, both_fail, lies_in}
-use Rattle.wf_types_rules.specs.Parts.{Site}
-use Rattle.wf_types_rules.specs.FirstBreak.{told, refusals_of}
+use Rattle.wf_types_rules.specs.Parts.{Part, Site, variables_parts, result_parts, whole_body, block_parts, at_sites}
+use Rattle.wf_types_rules.specs.FirstBreak.{told, refusals_of, deciding}
+use Rattle.wf_types_rules.specs.TypeRules.{Breaks}
 use Rattle.wf_types_exprs.specs.declared.found.Value.{Value}
+use Rattle.wf_types_decls.specs.declared.heads.Head.{Head}
+use Rattle.wf_types_decls.specs.declared.packages.Judged.{Judged}
 
 -- What decides of what was found before and of all that the rules say of these parts.
 unfoldable pub decided : Option Refusal → List Site → Option Refusal
@@ -28,6 +31,28 @@ pub record IsAround (p : NamedPackageTree) (s : Setting) : Type 0 where
 -- The types of all fields, by struct.
 abbrev pub field_types : NamedPackageTree → List (List (Option Ty))
 field_types p = map (λ x. types_in p roles.Field x.fields) p.structs
+
+-- What a method declares, as parts of its package, and the types of that, by method.
+abbrev pub head_parts : NamedMethodTree → List Part
+head_parts m = variables_parts roles.Arg m.args ++ (variables_parts roles.Local m.locals ++ result_parts m.mark m.gives)
+
+abbrev pub head_of : NamedPackageTree → NamedMethodTree → Head
+head_of p m = record { args = types_in p roles.Arg m.args; locals = types_in p roles.Local m.locals; gives = result_in p m }
+
+abbrev pub heads_of : NamedPackageTree → List Head
+heads_of p = map (head_of p) p.methods
+
+-- The parts of a method's body.
+abbrev pub body_sites : NamedPackageTree → NamedMethodTree → List Site
+body_sites p m = at_sites (in_method p m) (whole_body m.body ∷ block_parts m.body)
+
+-- What is known of a package that was judged.
+pub record IsJudged (p : NamedPackageTree) (j : Judged) : Type 0 where
+  pub decides : Decides (Breaks p) j.refusal
+  pub computed : j.refusal ≡ deciding p
+  pub fields : j.fields ≡ field_types p
+  pub heads : j.heads ≡ heads_of p
+  pub around : IsAround p j.around
 
 abbrev pub types_or_none : Option (List (Option Ty)) → List (Option Ty)
 types_or_none None = []

@@ -102,18 +102,12 @@ pub fn judge_const(
     ensures found { IfOk result (λ j. j.found ≡ judged around.now found (constant_declared (const_made nodes.now.texts (exprs_of nodes.now) constant.now) ∷ (declared_parts roles.Const (const_made nodes.now.texts (exprs_of nodes.now) constant.now).of ++ expr_parts (const_made nodes.now.texts (exprs_of nodes.now) constant.now).value))) }
     ensures of { IfOk result (λ j. (known : _) → around.now ≡ among_constants known → j.of ≡ constant_made known (const_made nodes.now.texts (exprs_of nodes.now) constant.now)) }
 {
-    match judge_type(alloc, found, nodes, around, Role::Const, &constant.of) {
-        Ok(ty) => {
-            match judge_value(alloc, ty.found, nodes, around, constant.value) {
-                Ok(j) => Ok(JudgedConst {
-                    found: judged_constant(j.found, ty.of, j.value),
-                    of: constant_with(ty.of, number_in(j.value.of)),
-                }),
-                Err(fault) => Err(fault),
-            }
-        }
-        Err(fault) => Err(fault),
-    }
+    let ty = judge_type(alloc, found, nodes, around, Role::Const, &constant.of)?;
+    let j = judge_value(alloc, ty.found, nodes, around, constant.value)?;
+    Ok(JudgedConst {
+        found: judged_constant(j.found, ty.of, j.value),
+        of: constant_with(ty.of, number_in(j.value.of)),
+    })
 }
 
 /// A setting that knows nothing.
@@ -136,10 +130,8 @@ fn with_constant(around: Setting, of: Option<Constant>) -> Result<Setting, NoMem
     ensures { IfOk result (λ s. s ≡ record around { constants = around.constants ++ of ∷ [] }) }
 {
     let mut around = around;
-    match around.constants.push(of) {
-        Ok(()) => Ok(around),
-        Err(_) => Err(NoMemory),
-    }
+    around.constants.push(of)?;
+    Ok(around)
 }
 
 // A constant behind those that are known.
@@ -153,18 +145,12 @@ fn judge_next(
     ensures found { IfOk result (λ j. j.found ≡ judged before.around before.found (constant_declared (const_made nodes.now.texts (exprs_of nodes.now) constant.now) ∷ (declared_parts roles.Const (const_made nodes.now.texts (exprs_of nodes.now) constant.now).of ++ expr_parts (const_made nodes.now.texts (exprs_of nodes.now) constant.now).value))) }
     ensures around { IfOk result (λ j. (known : _) → before.around ≡ among_constants known → j.around ≡ among_constants (known ++ constant_made known (const_made nodes.now.texts (exprs_of nodes.now) constant.now) ∷ [])) }
 {
-    match judge_const(alloc, before.found, nodes, &before.around, constant) {
-        Ok(j) => {
-            match with_constant(before.around, j.of) {
-                Ok(around) => Ok(JudgedConsts {
-                    found: j.found,
-                    around,
-                }),
-                Err(fault) => Err(fault),
-            }
-        }
-        Err(fault) => Err(fault),
-    }
+    let j = judge_const(alloc, before.found, nodes, &before.around, constant)?;
+    let around = with_constant(before.around, j.of)?;
+    Ok(JudgedConsts {
+        found: j.found,
+        around,
+    })
 }
 
 /// All constants, each of which knows those in front of it.
@@ -177,10 +163,7 @@ pub fn judge_consts(alloc: Global, nodes: &NamedNodes) -> Result<JudgedConsts, N
         around: nothing_known(alloc),
     };
     for constant in nodes.consts() {
-        match judge_next(alloc, all, nodes, constant) {
-            Ok(next) => all = next,
-            Err(fault) => return Err(fault),
-        }
+        all = judge_next(alloc, all, nodes, constant)?;
     }
     Ok(all)
 }
@@ -235,20 +218,19 @@ pub fn judge_statuses(found: Option<Refusal>, nodes: &NamedNodes) -> Option<Refu
     found
 }
 
-fn bytes_copied(alloc: Global, text: &[u8]) -> Result<Sequence<u8>, NoMemory>
+/// A copy of these bytes.
+pub fn bytes_copied(alloc: Global, text: &[u8]) -> Result<Sequence<u8>, NoMemory>
     ensures { IfOk result (λ all. all ≡ text.now) }
 {
     let mut all = Sequence::new(alloc);
     for byte in text {
-        match all.push(*byte) {
-            Ok(()) => {}
-            Err(_) => return Err(NoMemory),
-        }
+        all.push(*byte)?;
     }
     Ok(all)
 }
 
-fn with_text(
+/// A text more.
+pub fn with_text(
     alloc: Global,
     texts: Sequence<Sequence<u8>>,
     text: &[u8],
@@ -256,15 +238,9 @@ fn with_text(
     ensures { IfOk result (λ all. all ≡ texts ++ text.now ∷ []) }
 {
     let mut texts = texts;
-    match bytes_copied(alloc, text) {
-        Ok(copy) => {
-            match texts.push(copy) {
-                Ok(()) => Ok(texts),
-                Err(_) => Err(NoMemory),
-            }
-        }
-        Err(fault) => Err(fault),
-    }
+    let copy = bytes_copied(alloc, text)?;
+    texts.push(copy)?;
+    Ok(texts)
 }
 
 fn words_copied(alloc: Global, words: &[&str]) -> Result<Sequence<Sequence<u8>>, NoMemory>
@@ -272,10 +248,7 @@ fn words_copied(alloc: Global, words: &[&str]) -> Result<Sequence<Sequence<u8>>,
 {
     let mut all = Sequence::new(alloc);
     for word in words {
-        match with_text(alloc, all, word.as_bytes()) {
-            Ok(next) => all = next,
-            Err(fault) => return Err(fault),
-        }
+        all = with_text(alloc, all, word.as_bytes())?;
     }
     Ok(all)
 }
@@ -291,15 +264,9 @@ fn base_statuses(alloc: Global) -> Result<Sequence<Sequence<u8>>, NoMemory>
 pub fn status_texts(alloc: Global, nodes: &NamedNodes) -> Result<Sequence<Sequence<u8>>, NoMemory>
     ensures { IfOk result (λ all. all ≡ texts_of_language ++ map (λ w. w.text) (map (word_at nodes.now.texts) nodes.now.statuses)) }
 {
-    let mut all = match base_statuses(alloc) {
-        Ok(all) => all,
-        Err(fault) => return Err(fault),
-    };
+    let mut all = base_statuses(alloc)?;
     for text in nodes.statuses() {
-        match with_text(alloc, all, nodes.text(text.text)) {
-            Ok(next) => all = next,
-            Err(fault) => return Err(fault),
-        }
+        all = with_text(alloc, all, nodes.text(text.text))?;
     }
     Ok(all)
 }

@@ -1,9 +1,11 @@
 // The rules of types and effects on declarations and whole packages: one walk over a resolved package finds the refusal that
-// decides, if there is one.
+// decides, if there is one, and what the typed tree is made of.
 #![tactic(auto)]
 
 pub mod declarations;
 pub mod declared_types;
+pub mod heads;
 pub mod packages;
 
-pub use packages::type_refusal;
+pub use heads::Head;
+pub use packages::{Judged, judge_package};

@@ -42,7 +42,7 @@ soonest-sooner : (found a : Option Refusal) (rs : List (Option Refusal)) → soo
 soonest-sooner found a [] = refl
 soonest-sooner found a (r ∷ rs) = ap (λ f. soonest f rs) (sooner-swap found a r) ∙ soonest-sooner (sooner found r) a rs
 
-soonest-swap : (found : Option Refusal) (xs ys : List (Option Refusal)) → soonest (soonest found xs) ys ≡ soonest (soonest found ys) xs
+pub soonest-swap : (found : Option Refusal) (xs ys : List (Option Refusal)) → soonest (soonest found xs) ys ≡ soonest (soonest found ys) xs
 soonest-swap found [] ys = refl
 soonest-swap found (x ∷ xs) ys = soonest-swap (sooner found x) xs ys ∙ ap (λ f. soonest f xs) (soonest-sooner found x ys)
 

@@ -63,10 +63,10 @@ elaborate_block-loop-s-preserved t c =
     let l = c.loop-s in
     let ts = stmt_trees c.args.named.now.texts c.args.named.now.exprs c.args.named.now.stmts in
     let inside : l.s-index < length c.args.block.now.items = rw (← c.as_slice-s-items.ensures) c.loop-s-test.true in
-    let one = rw c.as_slice-s-items.ensures at c.in-Ok.ensures.stands in
-    rw c.in-Ok-push.ensures.ok
+    let one = rw c.as_slice-s-items.ensures at c.in_ok-id.ensures.stands in
+    rw c.in_ok-push.ensures.ok
     (stmts_added c.args.around.now (known_in (named_package c.args.named.now)) c.args.loops.now c.args.named.now ts c.args.block.now.close c.args.block.now.items l.s-index c.args.nodes.now l.nodes c.elaborate_stmt.new.nodes l.items
-    (record { 0 = 0 }) c.in-Ok.id inside l.invariant c.in-Ok.ensures.adds c.in-Ok.ensures.begun one (rw c.as_slice-s-items.ensures at c.in-Ok.ensures.entries))
+    (record { 0 = 0 }) c.in_ok-id.id inside l.invariant c.in_ok-id.ensures.adds c.in_ok-id.ensures.begun one (rw c.as_slice-s-items.ensures at c.in_ok-id.ensures.entries))
 
 pub elaborate_block-returns-clause-stands : goal.elaborate_block-returns-clause-stands
 elaborate_block-returns-clause-stands t c =
@@ -91,9 +91,9 @@ elaborate_arms-loop-arm-preserved t c =
     let l = c.loop-arm in
     let es = expr_trees c.args.named.now.exprs in
     let ts = stmt_trees c.args.named.now.texts c.args.named.now.exprs c.args.named.now.stmts in
-    rw c.in-Ok-push.ensures.ok
+    rw c.in_ok-push.ensures.ok
     (arms_added c.args.around.now (known_in (named_package c.args.named.now)) c.args.loops.now c.args.named.now es ts c.args.arms.now l.arm-index c.arm-item.result c.arm-item.is c.loop-arm-test.true c.args.nodes.now l.nodes
-    c.elaborate_arm.new.nodes l.made c.in-Ok.one l.invariant c.in-Ok.ensures.adds c.in-Ok.ensures.begun c.in-Ok.ensures.stands c.in-Ok.ensures.entries)
+    c.elaborate_arm.new.nodes l.made c.in_ok-one.one l.invariant c.in_ok-one.ensures.adds c.in_ok-one.ensures.begun c.in_ok-one.ensures.stands c.in_ok-one.ensures.entries)
 
 pub elaborate_arms-returns-clause-stand : goal.elaborate_arms-returns-clause-stand
 elaborate_arms-returns-clause-stand t c =
@@ -117,14 +117,14 @@ elaborate_if-elaborate_else-requires t c =
     let es = expr_trees c.args.named.now.exprs in
     let ts = stmt_trees c.args.named.now.texts c.args.named.now.exprs c.args.named.now.stmts in
     let right = right_arms c.args.around.now (known_in (named_package c.args.named.now)) (length c.args.loops.now) es ts c.args.arms.now (else_at ts c.args.otherwise.now) c.requires.right.1 in
-    (omega (arith, c.decreases), (c.requires.otherwise, (c.in-Ok.ensures.begun, right.1)))
+    (omega (arith, c.decreases), (c.requires.otherwise, (c.in_ok-arms.ensures.begun, right.1)))
 
-pub elaborate_if-returns-in-Ok-elaborate_else-clause-made : goal.elaborate_if-returns-in-Ok-elaborate_else-clause-made
-elaborate_if-returns-in-Ok-elaborate_else-clause-made t c =
+pub elaborate_if-returns-clause-made : goal.elaborate_if-returns-clause-made
+elaborate_if-returns-clause-made t c =
     let es = expr_trees c.args.named.now.exprs in
     let ts = stmt_trees c.args.named.now.texts c.args.named.now.exprs c.args.named.now.stmts in
-    if_made_so c.args.around.now c.args.loops.now c.args.nodes.now c.elaborate_arms.new.nodes c.elaborate_else.new.nodes es ts c.args.arms.now c.args.otherwise.now c.args.at c.in-Ok.arms c.in-Ok-elaborate_else.otherwise
-    c.requires.right.0 c.in-Ok.ensures.stand c.in-Ok-elaborate_else.ensures.adds.grows c.in-Ok-elaborate_else.ensures.stands
+    if_made_so c.args.around.now c.args.loops.now c.args.nodes.now c.elaborate_arms.new.nodes c.elaborate_else.new.nodes es ts c.args.arms.now c.args.otherwise.now c.args.at c.in_ok-arms.arms c.in_ok-otherwise.otherwise
+    c.requires.right.0 c.in_ok-arms.ensures.stand c.in_ok-otherwise.ensures.adds.grows c.in_ok-otherwise.ensures.stands
 
 pub elaborate_block-returns-clause-entries : goal.elaborate_block-returns-clause-entries
 elaborate_block-returns-clause-entries t c =
@@ -143,10 +143,10 @@ elaborate_arms-returns-clause-entries t c =
     let over : drop l.arm-index arms ≡ [] = drop_all l.arm-index arms (omega (arith, c.loop-arm-test.false)) in
     arms_entries_made c.args.around.now (known_in (named_package c.args.named.now)) c.args.loops.now c.args.named.now es ts arms l.arm-index c.args.nodes.now l.nodes l.made over l.invariant
 
-pub elaborate_if-returns-in-Ok-elaborate_else-clause-entries : goal.elaborate_if-returns-in-Ok-elaborate_else-clause-entries
-elaborate_if-returns-in-Ok-elaborate_else-clause-entries t c =
+pub elaborate_if-returns-clause-entries : goal.elaborate_if-returns-clause-entries
+elaborate_if-returns-clause-entries t c =
     let es = expr_trees c.args.named.now.exprs in
     let ts = stmt_trees c.args.named.now.texts c.args.named.now.exprs c.args.named.now.stmts in
     rw (arms_joined c.args.around.now es ts c.args.arms.now (else_at ts c.args.otherwise.now))
     (adds_then c.args.nodes.now c.elaborate_arms.new.nodes c.elaborate_else.new.nodes (arms_entries c.args.around.now (arms_at es ts c.args.arms.now no_else)) (arms_entries c.args.around.now (else_at ts c.args.otherwise.now))
-    c.in-Ok.ensures.entries c.in-Ok-elaborate_else.ensures.entries)
+    c.in_ok-arms.ensures.entries c.in_ok-otherwise.ensures.entries)

@@ -31,7 +31,7 @@ abbrev pub decreases-elaborate_inside : goal.decreases-elaborate_inside
 decreases-elaborate_inside l = 8 * above_block l.body.now + 1
 
 abbrev pub decreases-elaborate_loop : goal.decreases-elaborate_loop
-decreases-elaborate_loop l = 8 * above_block l.body.now + 2
+decreases-elaborate_loop l = 8 * above_block l.it.body.now + 2
 
 abbrev pub invariant-elaborate_block-loop-s : goal.invariant-elaborate_block-loop-s
 invariant-elaborate_block-loop-s l =

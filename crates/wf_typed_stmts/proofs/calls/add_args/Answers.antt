@@ -7,6 +7,6 @@ use Rattle.wf_typed_stmts.proofs.calls.add_args.Goals as goal
 pub loop-arg-preserved : goal.loop-arg-preserved
 loop-arg-preserved c =
     let l = c.loop-arg in
-    rw c.in-Ok-push.ensures.ok
-    (args_added c.args.around.now (known_in (named_package c.args.named.now)) c.args.named.now (expr_trees c.args.named.now.exprs) c.args.args.now l.arg-index c.args.nodes.now l.nodes c.add_arg.new.nodes l.made _ c.in-Ok.e
-    c.loop-arg-test.true l.invariant c.in-Ok.ensures.grows c.in-Ok.ensures.begun c.in-Ok.ensures.made c.in-Ok.ensures.entries)
+    rw c.in_ok-push.ensures.ok
+    (args_added c.args.around.now (known_in (named_package c.args.named.now)) c.args.named.now (expr_trees c.args.named.now.exprs) c.args.args.now l.arg-index c.args.nodes.now l.nodes c.add_arg.new.nodes l.made _ c.in_ok-e.e
+    c.loop-arg-test.true l.invariant c.in_ok-e.ensures.grows c.in_ok-e.ensures.begun c.in_ok-e.ensures.made c.in_ok-e.ensures.entries)

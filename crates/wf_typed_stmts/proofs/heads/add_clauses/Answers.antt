@@ -7,6 +7,6 @@ use Rattle.wf_typed_stmts.proofs.heads.add_clauses.Goals as goal
 pub loop-clause-preserved : goal.loop-clause-preserved
 loop-clause-preserved c =
     let l = c.loop-clause in
-    rw c.in-Ok-push.ensures.ok
+    rw c.in_ok-push.ensures.ok
     (clauses_added c.args.around.now (known_in (named_package c.args.named.now)) c.args.named.now (expr_trees c.args.named.now.exprs) c.args.clauses.now l.clause-index c.args.nodes.now l.nodes c.add_tree.new.nodes l.made _
-    c.in-Ok.e c.loop-clause-test.true l.invariant c.in-Ok.ensures.grows c.in-Ok.ensures.begun c.in-Ok.ensures.made c.in-Ok.ensures.entries)
+    c.in_ok-e.e c.loop-clause-test.true l.invariant c.in_ok-e.ensures.grows c.in_ok-e.ensures.begun c.in_ok-e.ensures.made c.in_ok-e.ensures.entries)

@@ -9,10 +9,10 @@ use Rattle.wf_typed_stmts.proofs.heads.add_head.Goals as goal
 pub block_leaves-requires-clause-few : goal.block_leaves-requires-clause-few
 block_leaves-requires-clause-few c = omega (arith, block_above (length c.args.named.now.stmts) c.args.body.now c.requires.body)
 
-pub returns-in-Ok-add_clauses-clause-made : goal.returns-in-Ok-add_clauses-clause-made
-returns-in-Ok-add_clauses-clause-made c =
+pub returns-clause-made : goal.returns-clause-made
+returns-clause-made c =
     let es = exprs_of c.args.named.now in
     let ts = stmts_of c.args.named.now in
     let body = c.args.body.now in
-    head_made_so c.args.around.now (expr_at es c.args.condition) (clauses_at es c.args.clauses.now) (block_at ts body) body.close c.add_tree.new.nodes c.add_clauses.new.nodes c.in-Ok.cond c.in-Ok-add_clauses.clauses c.block_leaves.result
-    c.in-Ok.ensures.made c.in-Ok-add_clauses.ensures.grows c.in-Ok-add_clauses.ensures.made c.block_leaves.ensures (closes ts body.items body.close)
+    head_made_so c.args.around.now (expr_at es c.args.condition) (clauses_at es c.args.clauses.now) (block_at ts body) body.close c.add_tree.new.nodes c.add_clauses.new.nodes c.in_ok-cond.cond c.in_ok-clauses.clauses c.block_leaves.result
+    c.in_ok-cond.ensures.made c.in_ok-clauses.ensures.grows c.in_ok-clauses.ensures.made c.block_leaves.ensures (closes ts body.items body.close)

@@ -12,27 +12,27 @@ elaborate_locals-requires-clause-right c =
     let q = c.args.named.now in
     let m = c.args.method.now in
     let s = in_method (named_package q) (method_made q.texts (exprs_of q) (stmts_of q) m) in
-    paths_inside q.texts (exprs_of q) m.locals c.as_slice.result.now c.as_slice.ensures c.in-Ok-round_body.inside s c.in-Ok-round_body.ensures (known_in (named_package q)).statuses c.requires.paths
+    paths_inside q.texts (exprs_of q) m.locals c.as_slice.result.now c.as_slice.ensures c.args.inside.now s c.requires.inside (known_in (named_package q)).statuses c.requires.paths
 
-pub returns-in-Ok-elaborate_body-clause-stands : goal.returns-in-Ok-elaborate_body-clause-stands
-returns-in-Ok-elaborate_body-clause-stands c =
+pub returns-clause-stands : goal.returns-clause-stands
+returns-clause-stands c =
     let q = c.args.named.now in
     let m = c.args.method.now in
     let s = in_method (named_package q) (method_made q.texts (exprs_of q) (stmts_of q) m) in
-    block_inside c.in-Ok-round_body.inside s c.args.nodes.now c.elaborate_locals.new.nodes c.elaborate_body.new.nodes (block_at (stmts_of q) m.body) c.in-Ok-elaborate_body.body c.in-Ok-round_body.ensures c.in-Ok-elaborate_locals.ensures.grows c.in-Ok-elaborate_body.ensures.stands
+    block_inside c.args.inside.now s c.args.nodes.now c.elaborate_locals.new.nodes c.elaborate_body.new.nodes (block_at (stmts_of q) m.body) c.in_ok-body.body c.requires.inside c.in_ok-elaborate_locals.ensures.grows c.in_ok-body.ensures.stands
 
-pub returns-in-Ok-elaborate_body-clause-locals : goal.returns-in-Ok-elaborate_body-clause-locals
-returns-in-Ok-elaborate_body-clause-locals c =
+pub returns-clause-locals : goal.returns-clause-locals
+returns-clause-locals c =
     let q = c.args.named.now in
     let m = c.args.method.now in
     let s = in_method (named_package q) (method_made q.texts (exprs_of q) (stmts_of q) m) in
-    nodes_inside q.texts (exprs_of q) m.locals c.as_slice.result.now c.as_slice.ensures c.in-Ok-round_body.inside s c.in-Ok-round_body.ensures c.elaborate_locals.new.nodes c.elaborate_body.new.nodes (length c.args.nodes.now.exprs)
-    c.next_expr-first_local.result.0 c.in-Ok-elaborate_body.ensures.adds.grows c.next_expr-first_local.ensures c.in-Ok-elaborate_locals.ensures.stand
+    nodes_inside q.texts (exprs_of q) m.locals c.as_slice.result.now c.as_slice.ensures c.args.inside.now s c.requires.inside c.elaborate_locals.new.nodes c.elaborate_body.new.nodes (length c.args.nodes.now.exprs)
+    c.next_expr-first_local.result.0 c.in_ok-body.ensures.adds.grows c.next_expr-first_local.ensures c.in_ok-elaborate_locals.ensures.stand
 
-pub returns-in-Ok-elaborate_body-clause-entries : goal.returns-in-Ok-elaborate_body-clause-entries
-returns-in-Ok-elaborate_body-clause-entries c =
+pub returns-clause-entries : goal.returns-clause-entries
+returns-clause-entries c =
     let q = c.args.named.now in
     let m = c.args.method.now in
     let s = in_method (named_package q) (method_made q.texts (exprs_of q) (stmts_of q) m) in
-    method_adds q.texts (exprs_of q) m.locals c.as_slice.result.now (block_at (stmts_of q) m.body) c.as_slice.ensures c.in-Ok-round_body.inside s c.in-Ok-round_body.ensures c.args.nodes.now c.elaborate_locals.new.nodes
-    c.elaborate_body.new.nodes c.in-Ok-elaborate_locals.ensures.entries c.in-Ok-elaborate_body.ensures.entries
+    method_adds q.texts (exprs_of q) m.locals c.as_slice.result.now (block_at (stmts_of q) m.body) c.as_slice.ensures c.args.inside.now s c.requires.inside c.args.nodes.now c.elaborate_locals.new.nodes
+    c.elaborate_body.new.nodes c.in_ok-elaborate_locals.ensures.entries c.in_ok-body.ensures.entries

@@ -33,6 +33,6 @@ loop-number-preserved c =
     let s = c.index-of-number.result in
     let low : i < length q.structs = rw c.structs-of.ensures.all at c.loop-number-test.true in
     let is : s ≡ get_or q.structs i s = rw c.structs-of.ensures.all at c.index-of-number.is in
-    let one : c.in-Ok.one ≡ declared_struct q s =
-    c.in-Ok.ensures ∙ ap (struct_with s) (c.as_slice.ensures ∙ fields_at q c.args.fields.now c.requires i s c.index-fields-number.result low is c.index-fields-number.is) in
-    made_next (declared_struct q) q.structs i s low is c.loop-number.all c.push.new.self (c.in-Ok-push.ensures.ok ∙ ap (λ x. c.loop-number.all ++ x ∷ []) one) ∙ c.loop-number.invariant
+    let one : c.in_ok-one.one ≡ declared_struct q s =
+    c.in_ok-one.ensures ∙ ap (struct_with s) (c.as_slice.ensures ∙ fields_at q c.args.fields.now c.requires i s c.index-fields-number.result low is c.index-fields-number.is) in
+    made_next (declared_struct q) q.structs i s low is c.loop-number.all c.push.new.self (c.in_ok-push.ensures.ok ∙ ap (λ x. c.loop-number.all ++ x ∷ []) one) ∙ c.loop-number.invariant

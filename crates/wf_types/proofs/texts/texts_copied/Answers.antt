@@ -5,4 +5,4 @@ use Rattle.wf_types.proofs.texts.texts_copied.Goals as goal
 pub loop-number-preserved : goal.loop-number-preserved
 loop-number-preserved c =
     let text = c.text.result.now in
-    c.in-Ok.ensures ∙ ap (λ all. all ++ text ∷ []) c.loop-number.invariant ∙ sym (take_next c.args.nodes.now.texts c.loop-number.number text c.text.ensures)
+    c.in_ok-all.ensures ∙ ap (λ all. all ++ text ∷ []) c.loop-number.invariant ∙ sym (take_next c.args.nodes.now.texts c.loop-number.number text c.text.ensures)

@@ -5,7 +5,7 @@ use Rattle.wf_types_decls.proofs.declarations.bytes_copied.Goals as goal
 
 pub loop-byte-preserved : goal.loop-byte-preserved
 loop-byte-preserved c =
-    let l = c.loop-byte in one_copied c.args.text.now l.byte-index _ c.loop-byte-test.true l.all c.push.new.self c.in-Ok.ensures.ok ∙ l.invariant
+    let l = c.loop-byte in one_copied c.args.text.now l.byte-index _ c.loop-byte-test.true l.all c.push.new.self c.in_ok-push.ensures.ok ∙ l.invariant
 
 pub returns : goal.returns
 returns c =

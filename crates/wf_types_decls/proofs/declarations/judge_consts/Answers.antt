@@ -10,7 +10,7 @@ pub loop-constant-preserved : goal.loop-constant-preserved
 loop-constant-preserved c =
     let l = c.loop-constant in
     const_next (const_made c.args.nodes.now.texts (expr_trees c.args.nodes.now.exprs)) c.consts-constant-items.result.now c.args.nodes.now.consts c.consts-constant-items.ensures.all l.constant-index c.constant-item.result c.constant-item.result
-    c.constant-item.is c.loop-constant-test.true l.all.found c.in-Ok.next.found l.all.around c.in-Ok.next.around l.invariant c.in-Ok.ensures.found c.in-Ok.ensures.around
+    c.constant-item.is c.loop-constant-test.true l.all.found c.in_ok-all.all.found l.all.around c.in_ok-all.all.around l.invariant c.in_ok-all.ensures.found c.in_ok-all.ensures.around
 
 pub returns-clause-found : goal.returns-clause-found
 returns-clause-found c =

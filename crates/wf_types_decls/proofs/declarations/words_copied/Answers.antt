@@ -5,7 +5,7 @@ use Rattle.wf_types_decls.proofs.declarations.words_copied.Goals as goal
 
 pub loop-word-preserved : goal.loop-word-preserved
 loop-word-preserved c =
-    let l = c.loop-word in kept_next c.args.words.now (λ w. w.now) l.word-index _ c.loop-word-test.true l.all c.in-Ok.next (rw c.as_bytes.ensures.value at c.in-Ok.ensures) ∙ l.invariant
+    let l = c.loop-word in kept_next c.args.words.now (λ w. w.now) l.word-index _ c.loop-word-test.true l.all c.in_ok-all.all (rw c.as_bytes.ensures.value at c.in_ok-all.ensures) ∙ l.invariant
 
 pub returns : goal.returns
 returns c =

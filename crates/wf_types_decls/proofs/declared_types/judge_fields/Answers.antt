@@ -19,9 +19,9 @@ loop-structure-preserved c =
     let xs = c.args.nodes.now.structs in
     let l = c.loop-structure in (
       parts_next made items xs c.structs-structure-items.ensures.all l.structure-index c.structure-item.result c.structure-item.result c.structure-item.is c.loop-structure-test.true s (λ (x : NamedStructTree). variables_parts roles.Field x.fields) l.all.found
-          c.in-Ok.next.found c.in-Ok.ensures.found ∙ l.invariant.0,
+          c.in_ok-all.all.found c.in_ok-all.ensures.found ∙ l.invariant.0,
       known_next made items xs c.structs-structure-items.ensures.all l.structure-index c.structure-item.result c.structure-item.result c.structure-item.is c.loop-structure-test.true
-          (λ (x : NamedStructTree). map (λ (y : VarTree). declared s roles.Field y.of) x.fields) l.all.of c.in-Ok.next.of c.in-Ok.ensures.of ∙ l.invariant.1,
+          (λ (x : NamedStructTree). map (λ (y : VarTree). declared s roles.Field y.of) x.fields) l.all.of c.in_ok-all.all.of c.in_ok-all.ensures.of ∙ l.invariant.1,
     )
 
 pub returns-clause-found : goal.returns-clause-found

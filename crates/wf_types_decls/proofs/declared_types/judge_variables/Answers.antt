@@ -15,9 +15,9 @@ loop-variable-preserved c =
     let made = var_made c.args.nodes.now.texts (expr_trees c.args.nodes.now.exprs) in
     let xs = c.args.variables.now in
     let l = c.loop-variable in (
-      parts_next made xs xs refl l.variable-index c.variable-item.result c.variable-item.result c.variable-item.is c.loop-variable-test.true s (λ (x : VarTree). declared_parts c.args.role x.of) l.all.found c.in-Ok.next.found c.in-Ok.ensures.found
+      parts_next made xs xs refl l.variable-index c.variable-item.result c.variable-item.result c.variable-item.is c.loop-variable-test.true s (λ (x : VarTree). declared_parts c.args.role x.of) l.all.found c.in_ok-all.all.found c.in_ok-all.ensures.found
           ∙ l.invariant.0,
-      known_next made xs xs refl l.variable-index c.variable-item.result c.variable-item.result c.variable-item.is c.loop-variable-test.true (λ (x : VarTree). declared s c.args.role x.of) l.all.of c.in-Ok.next.of c.in-Ok.ensures.of ∙ l.invariant.1,
+      known_next made xs xs refl l.variable-index c.variable-item.result c.variable-item.result c.variable-item.is c.loop-variable-test.true (λ (x : VarTree). declared s c.args.role x.of) l.all.of c.in_ok-all.all.of c.in_ok-all.ensures.of ∙ l.invariant.1,
     )
 
 pub returns-clause-found : goal.returns-clause-found

@@ -6,24 +6,24 @@ use Rattle.wf_typed_stmts.proofs.EntryLemmas.{lifted_adds}
 use Rattle.wf_typed_stmts.proofs.GrowthLemmas.{step_grows, step_begun, operator_made}
 use Rattle.wf_typed_stmts.proofs.building.BodyBuilding.push_operator.Goals as goal
 
-pub returns-in-Ok-push_expr-clause-grows : goal.returns-in-Ok-push_expr-clause-grows
-returns-in-Ok-push_expr-clause-grows c =
+pub returns-clause-grows : goal.returns-clause-grows
+returns-clause-grows c =
     let begun = rw (← c.self.view_is) at c.requires.begun in
-    rw (← c.self.view_is) (step_grows c.self.inside.building c.push_expr.new.self c.self.inside.stmts.items c.in-Ok-push_expr.ensures.grows begun.stmts)
+    rw (← c.self.view_is) (step_grows c.self.inside.building c.push_expr.new.self c.self.inside.stmts.items c.in_ok-e.ensures.grows begun.stmts)
 
-pub returns-in-Ok-push_expr-clause-begun : goal.returns-in-Ok-push_expr-clause-begun
-returns-in-Ok-push_expr-clause-begun c =
+pub returns-clause-begun : goal.returns-clause-begun
+returns-clause-begun c =
     let begun = rw (← c.self.view_is) at c.requires.begun in
-    step_begun c.self.inside.building c.push_expr.new.self c.self.inside.stmts.items c.in-Ok-push_expr.ensures.grows c.args.named.now begun
+    step_begun c.self.inside.building c.push_expr.new.self c.self.inside.stmts.items c.in_ok-e.ensures.grows c.args.named.now begun
 
-pub returns-in-Ok-push_expr-clause-made : goal.returns-in-Ok-push_expr-clause-made
-returns-in-Ok-push_expr-clause-made c =
+pub returns-clause-made : goal.returns-clause-made
+returns-clause-made c =
     let new : TypedNodes = with_stmts c.push_expr.new.self c.self.inside.stmts.items in
-    let P : TypedNodes → Type 0 = λ p. tree_of new c.in-Ok-push_expr.e ≡ chain_of c.args.sign (c.args.sign ∷ []) c.args.ty (sort_of c.args.op) (tree_of p c.args.left ∷ tree_of p c.args.right ∷ []) in
+    let P : TypedNodes → Type 0 = λ p. tree_of new c.in_ok-e.e ≡ chain_of c.args.sign (c.args.sign ∷ []) c.args.ty (sort_of c.args.op) (tree_of p c.args.left ∷ tree_of p c.args.right ∷ []) in
     subst P c.self.view_is
-    (operator_made c.self.inside.building c.push_expr.new.self c.self.inside.stmts.items c.in-Ok-push_expr.e c.args.left c.args.right c.args.op c.args.sign c.args.ty c.in-Ok.node c.in-Ok.ensures c.in-Ok-push_expr.ensures.made)
+    (operator_made c.self.inside.building c.push_expr.new.self c.self.inside.stmts.items c.in_ok-e.e c.args.left c.args.right c.args.op c.args.sign c.args.ty c.in_ok-node.node c.in_ok-node.ensures c.in_ok-e.ensures.made)
 
-pub returns-in-Ok-push_expr-clause-entries : goal.returns-in-Ok-push_expr-clause-entries
-returns-in-Ok-push_expr-clause-entries c =
-    let one = rw c.in-Ok.ensures at c.in-Ok-push_expr.ensures.adds in
+pub returns-clause-entries : goal.returns-clause-entries
+returns-clause-entries c =
+    let one = rw c.in_ok-node.ensures at c.in_ok-e.ensures.adds in
     rw (← c.self.view_is) (lifted_adds c.self.inside.building c.push_expr.new.self c.self.inside.stmts.items _ one)

@@ -1,8 +1,0 @@
-use Rattle.wf_read_laws.proofs.TypedOrder.{bodies_keep_order, packages_keep_order}
-use Rattle.wf_read_laws.proofs.order.typing_keeps_the_order_of_statements.Goals as goal
-
-pub returns-clause-bodies : goal.returns-clause-bodies
-returns-clause-bodies c = bodies_keep_order
-
-pub returns-clause-packages : goal.returns-clause-packages
-returns-clause-packages c = packages_keep_order
