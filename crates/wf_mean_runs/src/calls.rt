@@ -8,10 +8,19 @@ ghost use Rattle.wf_mean_exprs.specs.MachineState.{slot_seen};
 ghost use Rattle.wf_mean_stmts.specs.Entries.{answer_seen};
 ghost use Rattle.wf_mean_runs.specs.Calls.{frame_of as frame_in};
 
-use wf_ast::{Ty, Typed};
+use wf_ast::{Callee, ExprId, Ty, Typed};
 use wf_mean_exprs::values::Slot;
 use wf_mean_stmts::entry::{Answer, is_coroutine};
 use wf_text::MethodId;
+
+/// A call as its statement has it: where its value goes, whether it is `=?`, what it calls, and what it hands over.
+#[derive(Clone, Copy)]
+pub(crate) struct Call<'a> {
+    pub target: Option<ExprId>,
+    pub keep: bool,
+    pub callee: Callee,
+    pub args: &'a [ExprId],
+}
 
 /// What a call comes to.
 #[derive(Clone, Copy)]

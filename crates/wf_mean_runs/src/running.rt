@@ -20,17 +20,17 @@ ghost use Rattle.wf_mean_runs.specs.Seeking.{SoughtBlock, SoughtIn};
 
 use crate::answering::{admit, close_call, give_args, receiver, settle_ran};
 use crate::awaits::run_base;
-use crate::calls::{Ran, frame_of, refuse};
+use crate::calls::{Call, Ran, frame_of, refuse};
 use crate::keeping::{begin, leave, take_up};
 use crate::picking::{past, pick};
-use crate::seeking::{is_at, seek_yield, suspends_at};
-use wf_ast::{Arm, Block, Callee, ExprId, LoopHead, Stmt, StmtId, Typed};
+use crate::seeking::{Point, is_at, seek_yield, suspends_at};
+use wf_ast::{Arm, Block, Callee, LoopHead, Stmt, StmtId, Typed};
 use wf_mean_exprs::objects::{Frame, Progress};
 use wf_mean_flows::flows::Flow;
 use wf_mean_flows::looping::{Round, Turned, close_round, enter_loop};
 use wf_mean_flows::simple::{assign, claim, give_back, pause};
 use wf_mean_stmts::stage::Stage;
-use wf_text::{MethodId, Place};
+use wf_text::MethodId;
 
 // A statement's node, with what it makes of the rest.
 pub(crate) fn node(t: &Typed, s: StmtId) -> &Stmt
@@ -58,17 +58,15 @@ pub(crate) fn run_stmt(t: &Typed, stage: &mut Stage, below: &mut [Frame], s: Stm
             keep,
             callee,
             args,
-        } => run_call(
-            t,
-            stage,
-            below,
-            s,
-            *target,
-            *keep,
-            *callee,
-            args.as_slice(),
-            Progress::Untouched,
-        ),
+        } => {
+            let call = Call {
+                target: *target,
+                keep: *keep,
+                callee: *callee,
+                args: args.as_slice(),
+            };
+            run_call(t, stage, below, s, call, Progress::Untouched)
+        }
         Stmt::If { arms, otherwise } => run_if(t, stage, below, s, arms.as_slice(), otherwise),
         Stmt::While { head, body } => run_while(t, stage, below, s, head, body),
         Stmt::Break(w) => Flow::Breaks(*w),
@@ -207,21 +205,19 @@ pub(crate) fn run_rounds(
     }
 }
 
-/// Goes on with the statement `s`, whose point at the place `at` has done so much. None where no such point stands in it, and
-/// then nothing has changed.
+/// Goes on with the statement `s` from a point in it. None where no such point stands in it, and then nothing has changed.
 #[cycle(running)]
 fn seek_stmt(
     t: &Typed,
     stage: &mut Stage,
     below: &mut [Frame],
     s: StmtId,
-    at: Place,
-    done: Progress,
+    point: Point,
 ) -> Option<Flow>
     requires typed { IsTyped t.now }
     requires known { s.0 < length t.now.stmts }
     requires ready { AreReady t.now below.old stage.old }
-    ensures sought { SoughtIn t.now (length below.old) at (done_seen done) (made_of t.now s) stage.old result stage.new }
+    ensures sought { SoughtIn t.now (length below.old) point.at (done_seen point.done) (made_of t.now s) stage.old result stage.new }
     ensures stays { Stays below.old below.new stage.old stage.new }
 {
     match node(t, s) {
@@ -230,23 +226,20 @@ fn seek_stmt(
             keep,
             callee,
             args,
-        } => seek_call(
-            t,
-            stage,
-            below,
-            s,
-            *target,
-            *keep,
-            *callee,
-            args.as_slice(),
-            at,
-            done,
-        ),
-        Stmt::Yield(status) => seek_yield(t, stage, s, *status, at, done),
-        Stmt::If { arms, otherwise } => {
-            seek_if(t, stage, below, s, arms.as_slice(), otherwise, at, done)
+        } => {
+            let call = Call {
+                target: *target,
+                keep: *keep,
+                callee: *callee,
+                args: args.as_slice(),
+            };
+            seek_call(t, stage, below, s, call, point)
         }
-        Stmt::While { head, body } => seek_while(t, stage, below, s, head, body, at, done),
+        Stmt::Yield(status) => seek_yield(t, stage, s, *status, point),
+        Stmt::If { arms, otherwise } => {
+            seek_if(t, stage, below, s, arms.as_slice(), otherwise, point)
+        }
+        Stmt::While { head, body } => seek_while(t, stage, below, s, head, body, point),
         Stmt::Assign { .. } => None,
         Stmt::Break(_) => None,
         Stmt::Continue(_) => None,
@@ -261,30 +254,26 @@ fn seek_call(
     stage: &mut Stage,
     below: &mut [Frame],
     s: StmtId,
-    target: Option<ExprId>,
-    keep: bool,
-    callee: Callee,
-    args: &[ExprId],
-    at: Place,
-    done: Progress,
+    call: Call<'_>,
+    point: Point,
 ) -> Option<Flow>
     requires typed { IsTyped t.now }
     requires known { s.0 < length t.now.stmts }
-    requires target { IsTrue (is_optional_expr t.now target) }
-    requires callee { IsTrue (callee_exists t.now callee) }
-    requires args { IsTrue (list_all (is_expr t.now) args.now) }
-    requires made { (rest : TreeBlock) → made_of t.now s rest ≡ plain (site_of t.now s) (call_made t.now (tree_of t.now) (inner_of t.now s.0) (optional_target (tree_of t.now) target) keep callee (map (tree_of t.now) args.now)) rest }
+    requires target { IsTrue (is_optional_expr t.now call.target) }
+    requires callee { IsTrue (callee_exists t.now call.callee) }
+    requires args { IsTrue (list_all (is_expr t.now) call.args.now) }
+    requires made { (rest : TreeBlock) → made_of t.now s rest ≡ plain (site_of t.now s) (call_made t.now (tree_of t.now) (inner_of t.now s.0) (optional_target (tree_of t.now) call.target) call.keep call.callee (map (tree_of t.now) call.args.now)) rest }
     requires ready { AreReady t.now below.old stage.old }
-    ensures sought { SoughtIn t.now (length below.old) at (done_seen done) (made_of t.now s) stage.old result stage.new }
+    ensures sought { SoughtIn t.now (length below.old) point.at (done_seen point.done) (made_of t.now s) stage.old result stage.new }
     ensures stays { Stays below.old below.new stage.old stage.new }
 {
-    if !suspends_at(t, keep, callee, args.len()) {
+    if !suspends_at(t, call.keep, call.callee, call.args.len()) {
         return None;
     }
-    if !is_at(t, s, at) {
+    if !is_at(t, s, point.at) {
         return None;
     }
-    Some(run_call(t, stage, below, s, target, keep, callee, args, done))
+    Some(run_call(t, stage, below, s, call, point.done))
 }
 
 /// Goes on in a block, whose statements have numbers below `top`.
@@ -295,19 +284,18 @@ pub(crate) fn seek_block(
     below: &mut [Frame],
     top: usize,
     block: &Block,
-    at: Place,
-    done: Progress,
+    point: Point,
 ) -> Option<Flow>
     requires typed { IsTyped t.now }
     requires known { top ≤ length t.now.stmts }
     requires inside { IsTrue (block_below top block.now) }
     requires ready { AreReady t.now below.old stage.old }
-    ensures sought { SoughtBlock t.now (length below.old) at (done_seen done) (block_made_of t.now block.now.items) stage.old result stage.new }
+    ensures sought { SoughtBlock t.now (length below.old) point.at (done_seen point.done) (block_made_of t.now block.now.items) stage.old result stage.new }
     ensures stays { Stays below.old below.new stage.old stage.new }
 {
     let items = block.items.as_slice();
     for i in 0..items.len() {
-        match seek_stmt(t, stage, below, items[i], at, done) {
+        match seek_stmt(t, stage, below, items[i], point) {
             None => {}
             Some(flow) => {
                 if falls(flow) {
@@ -328,8 +316,7 @@ fn seek_if(
     s: StmtId,
     arms: &[Arm],
     otherwise: &Option<Block>,
-    at: Place,
-    done: Progress,
+    point: Point,
 ) -> Option<Flow>
     requires typed { IsTyped t.now }
     requires known { s.0 < length t.now.stmts }
@@ -337,30 +324,19 @@ fn seek_if(
     requires otherwise { IsTrue (optional_block_below s.0 otherwise.now) }
     requires made { (rest : TreeBlock) → made_of t.now s rest ≡ if_made (tree_of t.now) (onto (stmt_makers t.now)) (site_of t.now s) arms.now otherwise.now rest }
     requires ready { AreReady t.now below.old stage.old }
-    ensures sought { SoughtIn t.now (length below.old) at (done_seen done) (made_of t.now s) stage.old result stage.new }
+    ensures sought { SoughtIn t.now (length below.old) point.at (done_seen point.done) (made_of t.now s) stage.old result stage.new }
     ensures stays { Stays below.old below.new stage.old stage.new }
 {
     if arms.is_empty() {
         return None;
     }
-    match seek_block(t, stage, below, s.0 as usize, &arms[0].body, at, done) {
+    match seek_block(t, stage, below, s.0 as usize, &arms[0].body, point) {
         Some(flow) => Some(flow),
-        None => seek_arms(
-            t,
-            stage,
-            below,
-            s,
-            arms,
-            1,
-            arms.len() - 1,
-            otherwise,
-            at,
-            done,
-        ),
+        None => seek_arms(t, stage, below, s, arms, 1, otherwise, point),
     }
 }
 
-/// Goes on after the arms with numbers below `i`; so many are left.
+/// Goes on after the arms with numbers below `i`.
 #[cycle(running)]
 fn seek_arms(
     t: &Typed,
@@ -369,40 +345,27 @@ fn seek_arms(
     s: StmtId,
     arms: &[Arm],
     i: usize,
-    left: usize,
     otherwise: &Option<Block>,
-    at: Place,
-    done: Progress,
+    point: Point,
 ) -> Option<Flow>
     requires typed { IsTyped t.now }
     requires known { s.0 < length t.now.stmts }
     requires arms { IsTrue (list_all (λ a. is_expr t.now a.cond && block_below s.0 a.body) arms.now) }
     requires otherwise { IsTrue (optional_block_below s.0 otherwise.now) }
-    requires left { i + left ≡ length arms.now }
+    requires within { i ≤ length arms.now }
     requires ready { AreReady t.now below.old stage.old }
-    ensures sought { SoughtBlock t.now (length below.old) at (done_seen done) (otherwise_made (tree_of t.now) (onto (stmt_makers t.now)) (site_of t.now s) (drop i arms.now) otherwise.now) stage.old result stage.new }
+    ensures sought { SoughtBlock t.now (length below.old) point.at (done_seen point.done) (otherwise_made (tree_of t.now) (onto (stmt_makers t.now)) (site_of t.now s) (drop i arms.now) otherwise.now) stage.old result stage.new }
     ensures stays { Stays below.old below.new stage.old stage.new }
 {
-    if left == 0 {
+    if i >= arms.len() {
         return match otherwise {
-            Some(block) => seek_block(t, stage, below, s.0 as usize, block, at, done),
+            Some(block) => seek_block(t, stage, below, s.0 as usize, block, point),
             None => None,
         };
     }
-    match seek_block(t, stage, below, s.0 as usize, &arms[i].body, at, done) {
+    match seek_block(t, stage, below, s.0 as usize, &arms[i].body, point) {
         Some(flow) => Some(flow),
-        None => seek_arms(
-            t,
-            stage,
-            below,
-            s,
-            arms,
-            i + 1,
-            left - 1,
-            otherwise,
-            at,
-            done,
-        ),
+        None => seek_arms(t, stage, below, s, arms, i + 1, otherwise, point),
     }
 }
 
@@ -414,8 +377,7 @@ fn seek_while(
     s: StmtId,
     head: &LoopHead,
     body: &Block,
-    at: Place,
-    done: Progress,
+    point: Point,
 ) -> Option<Flow>
     requires typed { IsTyped t.now }
     requires known { s.0 < length t.now.stmts }
@@ -424,10 +386,10 @@ fn seek_while(
     requires inside { IsTrue (block_below s.0 body.now) }
     requires made { (rest : TreeBlock) → made_of t.now s rest ≡ loop (site_of t.now s) (head_made (tree_of t.now) (inner_of t.now s.0) head.now) (block_made_of t.now body.now.items) rest }
     requires ready { AreReady t.now below.old stage.old }
-    ensures sought { SoughtIn t.now (length below.old) at (done_seen done) (made_of t.now s) stage.old result stage.new }
+    ensures sought { SoughtIn t.now (length below.old) point.at (done_seen point.done) (made_of t.now s) stage.old result stage.new }
     ensures stays { Stays below.old below.new stage.old stage.new }
 {
-    let flow = match seek_block(t, stage, below, s.0 as usize, body, at, done) {
+    let flow = match seek_block(t, stage, below, s.0 as usize, body, point) {
         Some(flow) => flow,
         None => return None,
     };
@@ -444,28 +406,23 @@ fn run_call(
     stage: &mut Stage,
     below: &mut [Frame],
     s: StmtId,
-    target: Option<ExprId>,
-    keep: bool,
-    callee: Callee,
-    args: &[ExprId],
+    call: Call<'_>,
     done: Progress,
 ) -> Flow
     requires typed { IsTyped t.now }
     requires known { s.0 < length t.now.stmts }
-    requires target { IsTrue (is_optional_expr t.now target) }
-    requires callee { IsTrue (callee_exists t.now callee) }
-    requires args { IsTrue (list_all (is_expr t.now) args.now) }
-    requires made { (rest : TreeBlock) → made_of t.now s rest ≡ plain (site_of t.now s) (call_made t.now (tree_of t.now) (inner_of t.now s.0) (optional_target (tree_of t.now) target) keep callee (map (tree_of t.now) args.now)) rest }
+    requires target { IsTrue (is_optional_expr t.now call.target) }
+    requires callee { IsTrue (callee_exists t.now call.callee) }
+    requires args { IsTrue (list_all (is_expr t.now) call.args.now) }
+    requires made { (rest : TreeBlock) → made_of t.now s rest ≡ plain (site_of t.now s) (call_made t.now (tree_of t.now) (inner_of t.now s.0) (optional_target (tree_of t.now) call.target) call.keep call.callee (map (tree_of t.now) call.args.now)) rest }
     requires ready { AreReady t.now below.old stage.old }
     ensures runs { Runs t.now (length below.old) (made_of t.now s) (done_seen done) stage.old stage.new result }
     ensures stays { Stays below.old below.new stage.old stage.new }
 {
-    match callee {
-        Callee::Base { on, sig } => run_base(t, stage, s, target, on, sig, args, done),
-        Callee::Own(m) => run_invoke(t, stage, below, s, target, keep, callee, m, args),
-        Callee::Sub { method, .. } => {
-            run_invoke(t, stage, below, s, target, keep, callee, method, args)
-        }
+    match call.callee {
+        Callee::Base { on, sig } => run_base(t, stage, s, call.target, on, sig, call.args, done),
+        Callee::Own(m) => run_invoke(t, stage, below, s, call, m),
+        Callee::Sub { method, .. } => run_invoke(t, stage, below, s, call, method),
     }
 }
 
@@ -476,30 +433,27 @@ fn run_invoke(
     stage: &mut Stage,
     below: &mut [Frame],
     s: StmtId,
-    target: Option<ExprId>,
-    keep: bool,
-    callee: Callee,
+    call: Call<'_>,
     m: MethodId,
-    args: &[ExprId],
 ) -> Flow
     requires typed { IsTyped t.now }
     requires known { s.0 < length t.now.stmts }
-    requires target { IsTrue (is_optional_expr t.now target) }
-    requires callee { CallsMethod callee m }
+    requires target { IsTrue (is_optional_expr t.now call.target) }
+    requires callee { CallsMethod call.callee m }
     requires method { m.0 < length t.now.methods }
-    requires args { IsTrue (list_all (is_expr t.now) args.now) }
-    requires made { (rest : TreeBlock) → made_of t.now s rest ≡ plain (site_of t.now s) (call_made t.now (tree_of t.now) (inner_of t.now s.0) (optional_target (tree_of t.now) target) keep callee (map (tree_of t.now) args.now)) rest }
+    requires args { IsTrue (list_all (is_expr t.now) call.args.now) }
+    requires made { (rest : TreeBlock) → made_of t.now s rest ≡ plain (site_of t.now s) (call_made t.now (tree_of t.now) (inner_of t.now s.0) (optional_target (tree_of t.now) call.target) call.keep call.callee (map (tree_of t.now) call.args.now)) rest }
     requires ready { AreReady t.now below.old stage.old }
     ensures runs { (done : Done) → Runs t.now (length below.old) (made_of t.now s) done stage.old stage.new result }
     ensures stays { Stays below.old below.new stage.old stage.new }
 {
-    if !give_args(t, stage, below, m, args) {
+    if !give_args(t, stage, below, m, call.args) {
         return Flow::Stuck;
     }
-    match receiver(stage, callee) {
+    match receiver(stage, call.callee) {
         Some(object) => {
-            let ran = run_through(t, stage, below, callee, m, object);
-            close_call(t, stage, s, target, keep, t.method(m).mark, ran)
+            let ran = run_through(t, stage, below, call.callee, m, object);
+            close_call(t, stage, s, call.target, call.keep, t.method(m).mark, ran)
         }
         None => Flow::Stuck,
     }
@@ -628,7 +582,7 @@ fn run_body(t: &Typed, stage: &mut Stage, below: &mut [Frame]) -> Flow
     let body = t.body(stage.frame.method);
     let top = past(body.items.as_slice());
     match take_up(stage) {
-        Some((at, done)) => match seek_block(t, stage, below, top, body, at, done) {
+        Some((at, done)) => match seek_block(t, stage, below, top, body, Point { at, done }) {
             Some(flow) => flow,
             None => {
                 begin(t, stage);

@@ -17,21 +17,27 @@ use wf_mean_stmts::entry::is_coroutine;
 use wf_mean_stmts::stage::Stage;
 use wf_text::Place;
 
-/// Goes on with the statement `s`, a `yield?`, where it stands at the place `at`.
+/// The point that a search looks for: its place, and how much of it is done.
+#[derive(Clone, Copy)]
+pub(crate) struct Point {
+    pub at: Place,
+    pub done: Progress,
+}
+
+/// Goes on with the statement `s`, a `yield?`, where it is the point.
 pub(crate) fn seek_yield(
     t: &Typed,
     stage: &Stage,
     s: StmtId,
     status: StatusId,
-    at: Place,
-    done: Progress,
+    point: Point,
 ) -> Option<Flow>
     requires known { s.0 < length t.now.stmts }
     requires made { (rest : TreeBlock) → made_of t.now s rest ≡ plain (site_of t.now s) (yields status.0) rest }
-    ensures sought { (level : ℕ) → SoughtIn t.now level at (done_seen done) (made_of t.now s) stage.now result stage.now }
+    ensures sought { (level : ℕ) → SoughtIn t.now level point.at (done_seen point.done) (made_of t.now s) stage.now result stage.now }
 {
-    if is_at(t, s, at) {
-        Some(pause(t, stage, s, status, done))
+    if is_at(t, s, point.at) {
+        Some(pause(t, stage, s, status, point.done))
     } else {
         None
     }

@@ -23,7 +23,7 @@ use wf_mean_exprs::values::{SliceSpan, Slot};
 
 /// The value of an expression; None where it is stuck.
 #[tactic(auto, using(wf_ast::proofs::Accessors::tree_kind))]
-pub fn any_value(scene: &Scene, e: ExprId) -> Option<Slot>
+pub(crate) fn any_value(scene: &Scene, e: ExprId) -> Option<Slot>
     requires typed { IsTyped scene.now.package.now }
     requires node { IsTrue (is_expr scene.now.package.now e) }
     ensures { option_map slot_seen result ≡ value_of (seen_from scene.now) (tree_of scene.now.package.now e) }
@@ -33,7 +33,7 @@ pub fn any_value(scene: &Scene, e: ExprId) -> Option<Slot>
 
 /// The value of a number.
 #[tactic(auto, using(crate::proofs::AnyLemmas::no_number_there))]
-pub fn any_number(scene: &Scene, e: ExprId) -> Option<u64>
+pub(crate) fn any_number(scene: &Scene, e: ExprId) -> Option<u64>
     requires typed { IsTyped scene.now.package.now }
     requires node { IsTrue (is_expr scene.now.package.now e) }
     ensures { result ≡ value (seen_from scene.now) (node_number scene.now.package.now e) }
@@ -47,7 +47,7 @@ pub fn any_number(scene: &Scene, e: ExprId) -> Option<u64>
 
 /// The truth value of a condition.
 #[tactic(auto, using(crate::proofs::AnyLemmas::no_condition_there))]
-pub fn any_condition(scene: &Scene, e: ExprId) -> Option<bool>
+pub(crate) fn any_condition(scene: &Scene, e: ExprId) -> Option<bool>
     requires typed { IsTyped scene.now.package.now }
     requires node { IsTrue (is_expr scene.now.package.now e) }
     ensures { result ≡ truth_of (seen_from scene.now) (node_cond scene.now.package.now e) }
@@ -61,7 +61,7 @@ pub fn any_condition(scene: &Scene, e: ExprId) -> Option<bool>
 
 /// A slice.
 #[tactic(auto, using(crate::proofs::AnyLemmas::no_slice_there))]
-pub fn any_slice(scene: &Scene, e: ExprId) -> Option<SliceSpan>
+pub(crate) fn any_slice(scene: &Scene, e: ExprId) -> Option<SliceSpan>
     requires typed { IsTyped scene.now.package.now }
     requires node { IsTrue (is_expr scene.now.package.now e) }
     ensures { option_map span_seen result ≡ span_of (seen_from scene.now) (node_slice scene.now.package.now e) }
@@ -75,7 +75,7 @@ pub fn any_slice(scene: &Scene, e: ExprId) -> Option<SliceSpan>
 
 /// The argument that a reader or a writer is.
 #[tactic(auto, using(crate::proofs::AnyLemmas::no_io_there))]
-pub fn any_io(t: &Typed, e: ExprId) -> ArgId
+pub(crate) fn any_io(t: &Typed, e: ExprId) -> ArgId
     requires typed { IsTyped t.now }
     requires node { IsTrue (is_expr t.now e) }
     ensures { result.0 ≡ io_in (tree_of t.now e) }

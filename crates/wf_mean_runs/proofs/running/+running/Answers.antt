@@ -182,14 +182,14 @@ seek_block-loop-i-preserved t c =
     let nodes = c.args.t.now in
     let level = length c.args.below.now in
     let ss = c.args.block.now.items in
-    let done = done_seen c.args.done in
+    let done = done_seen c.args.point.done in
     let read = c.as_slice-items.result.now in
     let none : StmtId = record { 0 = 0 } in
     let s = get_or read l.i none in
     let first = first_in nodes ss read c.as_slice-items.ensures l.i none c.loop-i-test.true in
-    let one = moved nodes level (length l.below) c.args.at done (made_of nodes s) c.args.stage.now l.stage None c.seek_stmt.new.stage l.invariant.stays.count l.invariant.same c.in-None.ensures.sought in
+    let one = moved nodes level (length l.below) c.args.point.at done (made_of nodes s) c.args.stage.now l.stage None c.seek_stmt.new.stage l.invariant.stays.count l.invariant.same c.in-None.ensures.sought in
     record {
-      so_far = not_in_one nodes level c.args.at done c.args.stage.now ss l.i s first l.invariant.so_far c.seek_stmt.new.stage one;
+      so_far = not_in_one nodes level c.args.point.at done c.args.stage.now ss l.i s first l.invariant.so_far c.seek_stmt.new.stage one;
       stands = λ at items behind h.
           let Q : Block → Type 0 = λ b. StandsIn at items b behind in
           l.invariant.stands at items behind (subst Q (sym first) (behind_one nodes c.requires.typed s at items (block_made_of nodes (drop (l.i + 1) ss)) behind (known_in ss read c.as_slice-items.ensures c.args.top (length nodes.stmts) l.i none c.requires.known c.requires.inside c.loop-i-test.true) h));
@@ -204,12 +204,12 @@ seek_block-returns-then-falls-clause-sought t c =
     let nodes = c.args.t.now in
     let level = length c.args.below.now in
     let ss = c.args.block.now.items in
-    let done = done_seen c.args.done in
+    let done = done_seen c.args.point.done in
     let read = c.as_slice-items.result.now in
     let mid = c.seek_stmt.new.stage in
     let first = first_in nodes ss read c.as_slice-items.ensures l.i _ c.loop-i-test.true in
-    let one = moved nodes level (length l.below) c.args.at done _ c.args.stage.now l.stage (Some c.in-Some.flow) mid l.invariant.stays.count l.invariant.same c.in-Some.ensures.sought in
-    goes_on_there nodes level c.args.at done c.args.stage.now ss l.i _ first l.invariant.so_far l.invariant.stands c.in-Some.flow mid one (sym c.if-falls.ensures) c.run_block.result c.run_block.new.stage
+    let one = moved nodes level (length l.below) c.args.point.at done _ c.args.stage.now l.stage (Some c.in-Some.flow) mid l.invariant.stays.count l.invariant.same c.in-Some.ensures.sought in
+    goes_on_there nodes level c.args.point.at done c.args.stage.now ss l.i _ first l.invariant.so_far l.invariant.stands c.in-Some.flow mid one (sym c.if-falls.ensures) c.run_block.result c.run_block.new.stage
     (λ at items behind h.
     let Q : Block → Type 0 = λ b. StandsIn at items b behind in
     l.invariant.stands at items behind (subst Q (sym first) (behind_one nodes c.requires.typed _ at items (block_made_of nodes (drop (l.i + 1) ss)) behind (known_in ss read c.as_slice-items.ensures c.args.top (length nodes.stmts) l.i _ c.requires.known c.requires.inside c.loop-i-test.true) h)))
@@ -221,12 +221,12 @@ seek_block-returns-in-Some-clause-sought t c =
     let nodes = c.args.t.now in
     let level = length c.args.below.now in
     let ss = c.args.block.now.items in
-    let done = done_seen c.args.done in
+    let done = done_seen c.args.point.done in
     let read = c.as_slice-items.result.now in
     let mid = c.seek_stmt.new.stage in
     let first = first_in nodes ss read c.as_slice-items.ensures l.i _ c.loop-i-test.true in
-    let one = moved nodes level (length l.below) c.args.at done _ c.args.stage.now l.stage (Some c.in-Some.flow) mid l.invariant.stays.count l.invariant.same c.in-Some.ensures.sought in
-    leaves_there nodes level c.args.at done c.args.stage.now ss l.i _ first l.invariant.so_far l.invariant.stands c.in-Some.flow mid one (sym c.if-falls.ensures)
+    let one = moved nodes level (length l.below) c.args.point.at done _ c.args.stage.now l.stage (Some c.in-Some.flow) mid l.invariant.stays.count l.invariant.same c.in-Some.ensures.sought in
+    leaves_there nodes level c.args.point.at done c.args.stage.now ss l.i _ first l.invariant.so_far l.invariant.stands c.in-Some.flow mid one (sym c.if-falls.ensures)
 
 pub seek_if-returns-in-Some-clause-sought : goal.seek_if-returns-in-Some-clause-sought
 seek_if-returns-in-Some-clause-sought t c =
@@ -238,9 +238,9 @@ seek_if-returns-in-Some-clause-sought t c =
     let some = some_there arms c.is_empty.result c.is_empty.ensures c.if-is_empty.false in
     let arm = get_or arms 0 c.index-arms-0.result in
     let rest_of = otherwise_made (tree_of nodes) (onto (stmt_makers nodes)) site (drop 1 arms) other in
-    sought_like nodes level c.args.at (done_seen c.args.done) (made_of nodes c.args.s) (λ rest. choose site false (cond_in (tree_of nodes arm.cond)) (block_made_of nodes arm.body.items) rest_of rest) c.args.stage.now c.seek_block.new.stage (Some c.in-Some.flow)
+    sought_like nodes level c.args.point.at (done_seen c.args.point.done) (made_of nodes c.args.s) (λ rest. choose site false (cond_in (tree_of nodes arm.cond)) (block_made_of nodes arm.body.items) rest_of rest) c.args.stage.now c.seek_block.new.stage (Some c.in-Some.flow)
     (λ rest. c.requires.made rest ∙ if_first nodes site arms c.index-arms-0.result other rest some)
-    (in_then nodes level c.args.at (done_seen c.args.done) c.args.stage.now site false (cond_in (tree_of nodes arm.cond)) (block_made_of nodes arm.body.items) rest_of c.in-Some.flow c.seek_block.new.stage c.in-Some.ensures.sought)
+    (in_then nodes level c.args.point.at (done_seen c.args.point.done) c.args.stage.now site false (cond_in (tree_of nodes arm.cond)) (block_made_of nodes arm.body.items) rest_of c.in-Some.flow c.seek_block.new.stage c.in-Some.ensures.sought)
 
 pub seek_if-returns-in-None-clause-sought : goal.seek_if-returns-in-None-clause-sought
 seek_if-returns-in-None-clause-sought t c =
@@ -253,9 +253,9 @@ seek_if-returns-in-None-clause-sought t c =
     let arm = get_or arms 0 c.index-arms-0.result in
     let mid = c.seek_block.new.stage in
     let rest_of = otherwise_made (tree_of nodes) (onto (stmt_makers nodes)) site (drop 1 arms) other in
-    sought_like nodes level c.args.at (done_seen c.args.done) (made_of nodes c.args.s) (λ rest. choose site false (cond_in (tree_of nodes arm.cond)) (block_made_of nodes arm.body.items) rest_of rest) c.args.stage.now c.seek_arms.new.stage c.seek_arms.result
+    sought_like nodes level c.args.point.at (done_seen c.args.point.done) (made_of nodes c.args.s) (λ rest. choose site false (cond_in (tree_of nodes arm.cond)) (block_made_of nodes arm.body.items) rest_of rest) c.args.stage.now c.seek_arms.new.stage c.seek_arms.result
     (λ rest. c.requires.made rest ∙ if_first nodes site arms c.index-arms-0.result other rest some)
-    (in_rest nodes level (length c.seek_block.new.below) c.args.at (done_seen c.args.done) c.args.stage.now mid c.seek_arms.new.stage site false (cond_in (tree_of nodes arm.cond)) (block_made_of nodes arm.body.items) rest_of c.seek_arms.result c.in-None.ensures.stays.count c.in-None.ensures.sought c.seek_arms.ensures.sought)
+    (in_rest nodes level (length c.seek_block.new.below) c.args.point.at (done_seen c.args.point.done) c.args.stage.now mid c.seek_arms.new.stage site false (cond_in (tree_of nodes arm.cond)) (block_made_of nodes arm.body.items) rest_of c.seek_arms.result c.in-None.ensures.stays.count c.in-None.ensures.sought c.seek_arms.ensures.sought)
 
 pub seek_while-returns-in-None-clause-sought : goal.seek_while-returns-in-None-clause-sought
 seek_while-returns-in-None-clause-sought t c =
@@ -264,8 +264,8 @@ seek_while-returns-in-None-clause-sought t c =
     let site = site_of nodes c.args.s in
     let head = head_made (tree_of nodes) (inner_of nodes c.args.s.0) c.args.head.now in
     let body = block_made_of nodes c.args.body.now.items in
-    sought_like nodes level c.args.at (done_seen c.args.done) (made_of nodes c.args.s) (λ rest. loop site head body rest) c.args.stage.now c.seek_block.new.stage None c.requires.made
-    (not_inside nodes level c.args.at (done_seen c.args.done) c.args.stage.now site head body c.seek_block.new.stage c.in-None.ensures.sought)
+    sought_like nodes level c.args.point.at (done_seen c.args.point.done) (made_of nodes c.args.s) (λ rest. loop site head body rest) c.args.stage.now c.seek_block.new.stage None c.requires.made
+    (not_inside nodes level c.args.point.at (done_seen c.args.point.done) c.args.stage.now site head body c.seek_block.new.stage c.in-None.ensures.sought)
 
 pub seek_while-returns-in-Again-clause-sought : goal.seek_while-returns-in-Again-clause-sought
 seek_while-returns-in-Again-clause-sought t c =
@@ -276,8 +276,8 @@ seek_while-returns-in-Again-clause-sought t c =
     let body = block_made_of nodes c.args.body.now.items in
     let mid = c.seek_block.new.stage in
     let new = c.close_round.new.stage in
-    sought_like nodes level c.args.at (done_seen c.args.done) (made_of nodes c.args.s) (λ rest. loop site head body rest) c.args.stage.now c.run_rounds.new.stage (Some c.run_rounds.result) c.requires.made
-    (inside_again nodes level c.args.at (done_seen c.args.done) c.args.stage.now site head body c.in-Some.flow mid new c.close_round.result c.in-Some.ensures.sought
+    sought_like nodes level c.args.point.at (done_seen c.args.point.done) (made_of nodes c.args.s) (λ rest. loop site head body rest) c.args.stage.now c.run_rounds.new.stage (Some c.run_rounds.result) c.requires.made
+    (inside_again nodes level c.args.point.at (done_seen c.args.point.done) c.args.stage.now site head body c.in-Some.flow mid new c.close_round.result c.in-Some.ensures.sought
     (λ rest behind o h. c.close_round.ensures.rounds level (place_of nodes c.args.s.0) (inner_of nodes c.args.s.0) body rest behind o h) c.in-Again.is c.run_rounds.result c.run_rounds.new.stage
     (rounds_moved nodes level (length c.seek_block.new.below) site head body new c.run_rounds.new.stage c.run_rounds.result c.in-Some.ensures.stays.count c.run_rounds.ensures.runs))
 
@@ -290,8 +290,8 @@ seek_while-returns-in-Ends-clause-sought t c =
     let body = block_made_of nodes c.args.body.now.items in
     let mid = c.seek_block.new.stage in
     let new = c.close_round.new.stage in
-    sought_like nodes level c.args.at (done_seen c.args.done) (made_of nodes c.args.s) (λ rest. loop site head body rest) c.args.stage.now new (Some c.in-Ends.flow) c.requires.made
-    (inside_ends nodes level c.args.at (done_seen c.args.done) c.args.stage.now site head body c.in-Some.flow mid new c.close_round.result c.in-Some.ensures.sought
+    sought_like nodes level c.args.point.at (done_seen c.args.point.done) (made_of nodes c.args.s) (λ rest. loop site head body rest) c.args.stage.now new (Some c.in-Ends.flow) c.requires.made
+    (inside_ends nodes level c.args.point.at (done_seen c.args.point.done) c.args.stage.now site head body c.in-Some.flow mid new c.close_round.result c.in-Some.ensures.sought
     (λ rest behind o h. c.close_round.ensures.rounds level (place_of nodes c.args.s.0) (inner_of nodes c.args.s.0) body rest behind o h) _ c.in-Ends.is)
 
 pub seek_arms-returns-in-Some-seek_block-clause-sought : goal.seek_arms-returns-in-Some-seek_block-clause-sought
@@ -304,9 +304,9 @@ seek_arms-returns-in-Some-seek_block-clause-sought t c =
     let arm = get_or arms c.args.i c.index-arms-i.result in
     let rest_of = otherwise_made (tree_of nodes) (onto (stmt_makers nodes)) site (drop (c.args.i + 1) arms) other in
     let found = c.in-Some-seek_block.flow in
-    let one = in_then nodes level c.args.at (done_seen c.args.done) c.args.stage.now site true (cond_in (tree_of nodes arm.cond)) (block_made_of nodes arm.body.items) rest_of found c.seek_block-2.new.stage c.in-Some-seek_block.ensures.sought in
-    let P : Block → Type 0 = λ b. SoughtBlock nodes level c.args.at (done_seen c.args.done) b c.args.stage.now (Some found) c.seek_block-2.new.stage in
-    subst P (sym (arms_first nodes site arms c.args.i c.index-arms-i.result other (omega (arith, c.requires.left, c.if-left-eq0.false)))) (λ behind. one end behind)
+    let one = in_then nodes level c.args.point.at (done_seen c.args.point.done) c.args.stage.now site true (cond_in (tree_of nodes arm.cond)) (block_made_of nodes arm.body.items) rest_of found c.seek_block-2.new.stage c.in-Some-seek_block.ensures.sought in
+    let P : Block → Type 0 = λ b. SoughtBlock nodes level c.args.point.at (done_seen c.args.point.done) b c.args.stage.now (Some found) c.seek_block-2.new.stage in
+    subst P (sym (arms_first nodes site arms c.args.i c.index-arms-i.result other (omega (arith, c.if-i-arms.false)))) (λ behind. one end behind)
 
 pub seek_arms-returns-in-None-seek_block-clause-sought : goal.seek_arms-returns-in-None-seek_block-clause-sought
 seek_arms-returns-in-None-seek_block-clause-sought t c =
@@ -318,26 +318,26 @@ seek_arms-returns-in-None-seek_block-clause-sought t c =
     let arm = get_or arms c.args.i c.index-arms-i.result in
     let mid = c.seek_block-2.new.stage in
     let rest_of = otherwise_made (tree_of nodes) (onto (stmt_makers nodes)) site (drop (c.args.i + 1) arms) other in
-    let one = in_rest nodes level (length c.seek_block-2.new.below) c.args.at (done_seen c.args.done) c.args.stage.now mid c.seek_arms.new.stage site true (cond_in (tree_of nodes arm.cond)) (block_made_of nodes arm.body.items) rest_of c.seek_arms.result c.in-None-seek_block.ensures.stays.count c.in-None-seek_block.ensures.sought c.seek_arms.ensures.sought in
-    let P : Block → Type 0 = λ b. SoughtBlock nodes level c.args.at (done_seen c.args.done) b c.args.stage.now c.seek_arms.result c.seek_arms.new.stage in
-    subst P (sym (arms_first nodes site arms c.args.i c.index-arms-i.result other (omega (arith, c.requires.left, c.if-left-eq0.false)))) (λ behind. one end behind)
+    let one = in_rest nodes level (length c.seek_block-2.new.below) c.args.point.at (done_seen c.args.point.done) c.args.stage.now mid c.seek_arms.new.stage site true (cond_in (tree_of nodes arm.cond)) (block_made_of nodes arm.body.items) rest_of c.seek_arms.result c.in-None-seek_block.ensures.stays.count c.in-None-seek_block.ensures.sought c.seek_arms.ensures.sought in
+    let P : Block → Type 0 = λ b. SoughtBlock nodes level c.args.point.at (done_seen c.args.point.done) b c.args.stage.now c.seek_arms.result c.seek_arms.new.stage in
+    subst P (sym (arms_first nodes site arms c.args.i c.index-arms-i.result other (omega (arith, c.if-i-arms.false)))) (λ behind. one end behind)
 
 pub seek_call-returns-then-not-suspends_at-clause-sought : goal.seek_call-returns-then-not-suspends_at-clause-sought
 seek_call-returns-then-not-suspends_at-clause-sought t c =
     let nodes = c.args.t.now in
     let at = inner_of nodes c.args.s.0 in
-    let target = optional_target (tree_of nodes) c.args.target in
-    no_point nodes (length c.args.below.now) c.args.at (done_seen c.args.done) c.args.stage.now c.args.s (call_made nodes (tree_of nodes) at target c.args.keep c.args.callee (map (tree_of nodes) c.args.args.now)) c.requires.made
-    _ c.if-not-suspends_at.ensures (call_points nodes at target c.args.keep c.args.callee c.args.args.now)
+    let target = optional_target (tree_of nodes) c.args.call.target in
+    no_point nodes (length c.args.below.now) c.args.point.at (done_seen c.args.point.done) c.args.stage.now c.args.s (call_made nodes (tree_of nodes) at target c.args.call.keep c.args.call.callee (map (tree_of nodes) c.args.call.args.now)) c.requires.made
+    _ c.if-not-suspends_at.ensures (call_points nodes at target c.args.call.keep c.args.call.callee c.args.call.args.now)
 
 pub seek_call-returns-clause-sought : goal.seek_call-returns-clause-sought
 seek_call-returns-clause-sought t c =
     let nodes = c.args.t.now in
     let at = inner_of nodes c.args.s.0 in
-    let target = optional_target (tree_of nodes) c.args.target in
-    is_here nodes (length c.args.below.now) c.args.at (done_seen c.args.done) c.args.stage.now (made_of nodes c.args.s) (site_of nodes c.args.s) (call_made nodes (tree_of nodes) at target c.args.keep c.args.callee (map (tree_of nodes) c.args.args.now))
+    let target = optional_target (tree_of nodes) c.args.call.target in
+    is_here nodes (length c.args.below.now) c.args.point.at (done_seen c.args.point.done) c.args.stage.now (made_of nodes c.args.s) (site_of nodes c.args.s) (call_made nodes (tree_of nodes) at target c.args.call.keep c.args.call.callee (map (tree_of nodes) c.args.call.args.now))
     c.run_call.result c.run_call.new.stage c.requires.made
-    (call_points nodes at target c.args.keep c.args.callee c.args.args.now ∙ sym c.if-not-suspends_at.ensures) (sym c.if-not-is_at.ensures) c.run_call.ensures.runs
+    (call_points nodes at target c.args.call.keep c.args.call.callee c.args.call.args.now ∙ sym c.if-not-suspends_at.ensures) (sym c.if-not-is_at.ensures) c.run_call.ensures.runs
 
 -- Calls through the entry table.
 pub enter_method-returns-in-Some-clause-runs : goal.enter_method-returns-in-Some-clause-runs
@@ -459,20 +459,20 @@ run_in-returns-clause-runs t c =
 pub run_invoke-returns-then-not-give_args-clause-runs : goal.run_invoke-returns-then-not-give_args-clause-runs
 run_invoke-returns-then-not-give_args-clause-runs t c =
     let nodes = c.args.t.now in
-    call_no_values nodes c.requires.typed (length c.args.below.now) c.args.stage.now c.args.s (inner_of nodes c.args.s.0) c.args.target c.args.keep c.args.callee c.args.m (map (tree_of nodes) c.args.args.now) c.requires.method c.requires.callee c.requires.made
+    call_no_values nodes c.requires.typed (length c.args.below.now) c.args.stage.now c.args.s (inner_of nodes c.args.s.0) c.args.call.target c.args.call.keep c.args.call.callee c.args.m (map (tree_of nodes) c.args.call.args.now) c.requires.method c.requires.callee c.requires.made
     c.give_args.new.below c.if-not-give_args.ensures.values
 
 pub run_invoke-returns-in-Some-clause-runs : goal.run_invoke-returns-in-Some-clause-runs
 run_invoke-returns-in-Some-clause-runs t c =
     let nodes = c.args.t.now in
-    call_closes nodes c.requires.typed (length c.args.below.now) c.args.stage.now c.args.s (inner_of nodes c.args.s.0) c.args.target c.args.keep c.args.callee c.args.m (map (tree_of nodes) c.args.args.now) c.requires.method c.requires.callee c.requires.made
+    call_closes nodes c.requires.typed (length c.args.below.now) c.args.stage.now c.args.s (inner_of nodes c.args.s.0) c.args.call.target c.args.call.keep c.args.call.callee c.args.m (map (tree_of nodes) c.args.call.args.now) c.requires.method c.requires.callee c.requires.made
     c.give_args.new.below c.if-not-give_args.ensures.values c.in-Some.object c.run_through-ran.new.stage c.close_call.new.stage c.run_through-ran.result c.close_call.result c.method.result.now
     (sym (c.in-Some.ensures nodes)) c.if-not-give_args.ensures.count c.run_through-ran.ensures.runs c.run_through-ran.ensures.frame c.run_through-ran.ensures.stays.fewer c.method.ensures c.close_call.ensures.closes
 
 pub run_invoke-returns-in-None-clause-runs : goal.run_invoke-returns-in-None-clause-runs
 run_invoke-returns-in-None-clause-runs t c =
     let nodes = c.args.t.now in
-    call_no_receiver nodes c.requires.typed (length c.args.below.now) c.args.stage.now c.args.s (inner_of nodes c.args.s.0) c.args.target c.args.keep c.args.callee c.args.m (map (tree_of nodes) c.args.args.now) c.requires.method c.requires.callee c.requires.made
+    call_no_receiver nodes c.requires.typed (length c.args.below.now) c.args.stage.now c.args.s (inner_of nodes c.args.s.0) c.args.call.target c.args.call.keep c.args.call.callee c.args.m (map (tree_of nodes) c.args.call.args.now) c.requires.method c.requires.callee c.requires.made
     c.give_args.new.below c.if-not-give_args.ensures.values (sym (c.in-None.ensures nodes))
 
 -- The frame of a called method.

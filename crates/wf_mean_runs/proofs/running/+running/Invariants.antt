@@ -1,4 +1,4 @@
-use Rattle.std.proofs.Common.{◌≡◌, ◌+◌, ◌*◌, ◌^◌, drop, length}
+use Rattle.std.proofs.Common.{◌≡◌, ◌+◌, ◌-◌, ◌*◌, ◌^◌, drop, length}
 use Rattle.wf_meaning.specs.SourceState.{Behind, untouched, again}
 use Rattle.wf_ast.specs.TypedTree.{Block}
 use Rattle.wf_ast.specs.TypedTrees.{head_made, tree_of}
@@ -60,7 +60,7 @@ abbrev pub decreases-seek_if : goal.decreases-seek_if
 decreases-seek_if l = 2 ^ 104 * length l.below.now + (2 ^ 68 * l.s.0 + 16 * l.s.0 + 2 ^ 66)
 
 abbrev pub decreases-seek_arms : goal.decreases-seek_arms
-decreases-seek_arms l = 2 ^ 104 * length l.below.now + (2 ^ 68 * l.s.0 + 16 * l.s.0 + (2 * l.left + 2))
+decreases-seek_arms l = 2 ^ 104 * length l.below.now + (2 ^ 68 * l.s.0 + 16 * l.s.0 + (2 * (2 ^ 64 - l.i) + 2))
 
 abbrev pub decreases-seek_while : goal.decreases-seek_while
 decreases-seek_while l = 2 ^ 104 * length l.below.now + (2 ^ 68 * l.s.0 + 16 * l.s.0 + 2 ^ 66)
@@ -94,7 +94,7 @@ abbrev pub invariant-seek_block-loop-i : goal.invariant-seek_block-loop-i
 invariant-seek_block-loop-i l =
     let all = block_made_of l.t l.block.items in
     let left = block_made_of l.t (drop l.i l.block.items) in record {
-      so_far : (behind : Behind) → standing_at l.at all behind ≡ standing_at l.at left behind;
+      so_far : (behind : Behind) → standing_at l.point.at all behind ≡ standing_at l.point.at left behind;
       stands : (at : Place) (items : Items) (behind : Behind) → StandsIn at items left behind → StandsIn at items all behind;
       same : l.stage ≡ l.fn.stage;
       stays : Stays l.fn.below l.below l.fn.stage l.stage;
