@@ -5,9 +5,9 @@ use Rattle.wf_text.specs.declared.place.Place.{Place}
 use Rattle.wf_text.specs.declared.rules.Refusal.{Refusal}
 use Rattle.wf_ast.specs.TypedTree.{Site, Block, end, plain, choose, loop}
 use Rattle.wf_ast.specs.TypedPackage.{MethodTree}
-use Rattle.wf_meaning.specs.Remaining.{is_point, points_in}
-use Rattle.wf_parse.specs.Parsing.{decls_of}
+use Rattle.wf_ast.specs.ReadPackage.{decls_of}
 use Rattle.wf_parse.proofs.DeclPlaces.{decls_have_files}
+use Rattle.wf_meaning.specs.Remaining.{is_point, points_in}
 use Rattle.wf_names_resolve.specs.Package.{resolved_package}
 use Rattle.wf_typed_tree.specs.ElaboratedPackage.{typed_package}
 use Rattle.wf_read_laws.proofs.FilePlaces.{decls-below}

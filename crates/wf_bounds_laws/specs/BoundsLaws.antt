@@ -6,7 +6,8 @@ use Rattle.wf_text.specs.Precedence.{Decides}
 use Rattle.wf_ast.specs.declared.typed_nodes.TypedNodes.{TypedNodes}
 use Rattle.wf_ast.specs.ParsedParts.{Parsed}
 use Rattle.wf_ast.specs.TypedPackage.{package_of}
-use Rattle.wf_parse.specs.Parsing.{IsParsed, decls_of}
+use Rattle.wf_ast.specs.ReadPackage.{decls_of}
+use Rattle.wf_parse.specs.Parsing.{IsParsed}
 use Rattle.wf_named.specs.NamedParts.{NamedParts, named_package}
 use Rattle.wf_named.specs.NamedTree.{NamedPackageTree}
 use Rattle.wf_names_resolve.specs.Package.{resolved_package}

@@ -15,6 +15,7 @@ use Rattle.wf_ast.specs.ParsedTree.{ExprTree, LinkTrees, no_link, link}
 use Rattle.wf_ast.specs.TypedTree.{Arith, plus, minus, times, divided, remainder, shift_left, shift_right, bits_and, bits_or, bits_xor, mod_plus, mod_minus, mod_times, mod_shift_left, sat_plus, sat_minus, less, at_most, equal, differs, at_least, greater}
 use Rattle.wf_ast.specs.TypedTrees.{arithmetic, ordering, joining, sort_of}
 use Rattle.wf_ast.specs.Value.{applied, fitted}
+use Rattle.wf_ast.proofs.BoolLemmas.{both}
 use Rattle.wf_names_rules.specs.Declarations.{Declared}
 use Rattle.wf_names_rules.specs.ConstantValues.{Sized, Valued, Running, bits_or_most, joined_bits, joined_number, shifted_number, started, run_to, run_joined, run_shifted, run_on, ended, value_of, links_value}
 use Rattle.wf_names_rules.specs.ConstantValues as by_names
@@ -23,7 +24,6 @@ use Rattle.wf_types_rules.specs.declared.meanings.Meaning.TheVariants as meaning
 use Rattle.wf_types_rules.specs.declared.meanings.Operand.{Operand}
 use Rattle.wf_types_rules.specs.Meanings.{is_number, constant_number, width_of}
 use Rattle.wf_types_rules.specs.Operands.{first_not, first_of, differs_in, not_of_one_width, common_width, fits_width, bits_in, width_given, joined_numbers, value_of_chain, value_of_two, constant_value, with_number, constants_in, are_taken, constant_of, number_in, computed, meaning_of_operator}
-use Rattle.wf_read_laws.proofs.BoolLemmas.{both}
 use Rattle.wf_const_laws.specs.OneValue.{sized, HasValue}
 use Rattle.wf_const_laws.proofs.Operators.{lt-test, test-lt, one-bits, none-there, fitted-is, fits, Joins, Shifts, joins-minus, joins-divided, joins-remainder, joins-mod-plus, joins-mod-minus, joins-mod-times, joins-sat-plus, joins-sat-minus, shifts-left, shifts-right, shifts-mod-left}
 

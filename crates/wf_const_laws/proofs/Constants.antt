@@ -11,6 +11,8 @@ use Rattle.wf_ast.specs.declared.types.Ty.{Ty}
 use Rattle.wf_ast.specs.declared.types.Ty.TheVariants as types
 use Rattle.wf_ast.specs.ParsedTree as parsed
 use Rattle.wf_ast.specs.ParsedTree.{ExprTree, TypeTree, PartTree, BoundsTree, DeclTree}
+use Rattle.wf_ast.specs.WellFormed.{formed_expr, formed_part, formed_type, formed_bounds, well_formed}
+use Rattle.wf_ast.proofs.BoolLemmas.{both}
 use Rattle.wf_named.specs.declared.nodes.BaseType.TheVariants as bases
 use Rattle.wf_named.specs.NamedTree as named
 use Rattle.wf_named.specs.NamedTree.{NamedBoundsTree}
@@ -29,8 +31,6 @@ use Rattle.wf_types_rules.specs.declared.settings.Role.TheVariants as roles
 use Rattle.wf_types_rules.specs.Meanings.{constant_number}
 use Rattle.wf_types_rules.specs.ExprTypes.{meaning, number_of, low_number, plain_width, written, array_type, refined_type}
 use Rattle.wf_types_rules.specs.DeclaredTypes.{among_constants, if_allowed, constant_with, constant_made, constants_after}
-use Rattle.wf_read_laws.proofs.BoolLemmas.{both}
-use Rattle.wf_read_laws.specs.WellFormed.{formed_expr, formed_part, formed_type, formed_bounds, well_formed}
 use Rattle.wf_typed_laws.proofs.ListLemmas.{all-front, all-behind, all-of-map}
 use Rattle.wf_const_laws.specs.OneValue.{sized, HasValue, HasConstant, IsKnown}
 use Rattle.wf_const_laws.proofs.Operators.{fits}

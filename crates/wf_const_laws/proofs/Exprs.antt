@@ -13,6 +13,8 @@ use Rattle.wf_ast.specs.declared.types.Ty.{Ty}
 use Rattle.wf_ast.specs.ParsedTree as parsed
 use Rattle.wf_ast.specs.ParsedTree.{ExprTree, LinkTrees, TypeTree}
 use Rattle.wf_ast.specs.TypedTrees.{sort_of}
+use Rattle.wf_ast.specs.WellFormed.{formed_expr, formed_links, formed_type, has_its_operands}
+use Rattle.wf_ast.proofs.BoolLemmas.{both}
 use Rattle.wf_named.specs.declared.nodes.BaseType.{BaseType}
 use Rattle.wf_named.specs.declared.nodes.BaseType.TheVariants as bases
 use Rattle.wf_named.specs.declared.nodes.NamedCallee.TheVariants as callees
@@ -36,8 +38,6 @@ use Rattle.wf_types_rules.specs.Meanings.{variable, there, as_constant, is_value
 use Rattle.wf_types_rules.specs.Operands.{meaning_of_operator}
 use Rattle.wf_types_rules.specs.ExprTypes.{meaning, only_where, in_front, operand_at, operands_behind, answer_inside, pure_answer, given_by_base, if_number, if_end, element_of, slice_in}
 use Rattle.wf_types_rules.specs.ExprTypes as by_types
-use Rattle.wf_read_laws.proofs.BoolLemmas.{both}
-use Rattle.wf_read_laws.specs.WellFormed.{formed_expr, formed_links, formed_type, has_its_operands}
 use Rattle.wf_typed_laws.proofs.ListLemmas.{all-front, all-behind}
 use Rattle.wf_const_laws.specs.OneValue.{HasValue, HasConstant, IsKnown}
 use Rattle.wf_const_laws.proofs.Operators.{test-lt, fits}

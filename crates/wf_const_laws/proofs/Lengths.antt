@@ -13,11 +13,14 @@ use Rattle.wf_ast.specs.declared.types.Ty.TheVariants as types
 use Rattle.wf_ast.specs.ParsedTree as parsed
 use Rattle.wf_ast.specs.ParsedTree.{ExprTree, TypeTree, FieldTrees, DeclTree}
 use Rattle.wf_ast.specs.TypedPackage.{Variable as TypedVariable, StructTree}
-use Rattle.wf_parse.specs.Parsing.{decls_of}
+use Rattle.wf_ast.specs.ReadPackage.{decls_of}
+use Rattle.wf_ast.specs.WellFormed.{formed_expr, formed_type, formed_fields, well_formed}
+use Rattle.wf_ast.proofs.BoolLemmas.{both, and-true}
 use Rattle.wf_named.specs.declared.nodes.BaseType.{BaseType}
 use Rattle.wf_named.specs.declared.nodes.BaseType.TheVariants as bases
 use Rattle.wf_named.specs.NamedTree as named
 use Rattle.wf_named.specs.NamedTree.{NamedBoundsTree, NamedMethodTree, NamedPackageTree, VarTree}
+use Rattle.wf_parse.proofs.ReadForms.{packages_are_well_formed}
 use Rattle.wf_names_rules.specs.Declarations.{Declared, Structure, Variable, declared, variables, structs_of, as_variable, struct_named, text_of}
 use Rattle.wf_names_rules.specs.NameRules.{Breaks, by_use, by_size, unknown_variable, too_long_array, unknown, field}
 use Rattle.wf_names_rules.specs.Uses as uses
@@ -37,9 +40,6 @@ use Rattle.wf_types_rules.specs.DeclaredTypes.{if_allowed, may_have, may_be, is_
 use Rattle.wf_typed_tree.specs.ElaboratedPackage.{type_declared, typed_variable, typed_struct, typed_methods, typed_package}
 use Rattle.wf_typed_tree.specs.ElaboratedStmts.{count_block}
 use Rattle.wf_lower_laws.specs.FieldLaw.{is_short}
-use Rattle.wf_read_laws.proofs.BoolLemmas.{both, and-true}
-use Rattle.wf_read_laws.proofs.ReadPackages.{packages_are_well_formed}
-use Rattle.wf_read_laws.specs.WellFormed.{formed_expr, formed_type, formed_fields, well_formed}
 use Rattle.wf_typed_laws.proofs.ListLemmas.{all-from, all-front, all-behind, all-of-map, all-of-flat, all-both}
 use Rattle.wf_const_laws.specs.OneValue.{HasConstant, IsKnown, HasOneValue, ReadConstantsHaveOneValue}
 use Rattle.wf_const_laws.specs.ArrayLengths.{is_bounded, HasBoundedArrays, ReadArraysAreBounded}

@@ -6,7 +6,8 @@ use Rattle.wf_ast.specs.ParsedParts.{Parsed}
 use Rattle.wf_ast.specs.declared.types.Ty.{Ty}
 use Rattle.wf_ast.specs.declared.types.Ty.TheVariants as types
 use Rattle.wf_ast.specs.TypedPackage.{PackageTree}
-use Rattle.wf_parse.specs.Parsing.{IsParsed, decls_of}
+use Rattle.wf_ast.specs.ReadPackage.{decls_of}
+use Rattle.wf_parse.specs.Parsing.{IsParsed}
 use Rattle.wf_names_rules.specs.Declarations.{declared}
 use Rattle.wf_names_rules.specs.NameRules.{Breaks}
 use Rattle.wf_names_resolve.specs.Package.{resolved_package}

@@ -7,7 +7,9 @@ use Rattle.wf_base.specs.declared.widths.Width.{Width}
 use Rattle.wf_base.specs.BaseTable.{bits_of}
 use Rattle.wf_ast.specs.ParsedParts.{Parsed}
 use Rattle.wf_ast.specs.ParsedTree.{ExprTree}
-use Rattle.wf_parse.specs.Parsing.{IsParsed, decls_of}
+use Rattle.wf_ast.specs.ReadPackage.{decls_of}
+use Rattle.wf_ast.specs.WellFormed.{formed_expr}
+use Rattle.wf_parse.specs.Parsing.{IsParsed}
 use Rattle.wf_named.specs.NamedTree.{NamedPackageTree}
 use Rattle.wf_names_rules.specs.Declarations.{Declared, declared, as_variable}
 use Rattle.wf_names_rules.specs.NameRules.{Breaks}
@@ -25,7 +27,6 @@ use Rattle.wf_types_rules.specs.declared.meanings.Constant.{Constant}
 use Rattle.wf_types_rules.specs.DeclaredTypes.{for_types, constants_of}
 use Rattle.wf_types_rules.specs.ExprTypes.{meaning}
 use Rattle.wf_types_rules.specs.Operands.{bits_in}
-use Rattle.wf_read_laws.specs.WellFormed.{formed_expr}
 
 -- A number of a width, as the rules of names count it.
 abbrev pub sized : Option Width → ℕ → Sized

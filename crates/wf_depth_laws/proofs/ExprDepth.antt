@@ -3,6 +3,7 @@ use Rattle.std.proofs.Common.{◌≡◌, ℕ, ◌-◌, ◌≤◌, Bool, true, fa
 use Rattle.std.specs.Prelude.{nat_le}
 use Rattle.wf_ast.specs.ParsedTree as tree
 use Rattle.wf_ast.specs.ParsedTree.{ExprTree, PartTree, LinkTrees, GivenTrees}
+use Rattle.wf_ast.proofs.BoolLemmas.{both, and-true}
 use Rattle.wf_parse_grammar.specs.declared.tokens.Kind.TheVariants as kinds
 use Rattle.wf_parse_grammar.specs.declared.tokens.Token.{Token}
 use Rattle.wf_ast.specs.declared.operators.Op.{Op}
@@ -12,7 +13,6 @@ use Rattle.wf_parse_grammar.specs.Grammar.{AtomForm, ANumber, AText, ABaseText, 
 use Rattle.wf_parse_grammar.specs.Grammar.{GivensForm, NoGiven, FirstGiven, MoreGivensForm, LastGiven, GivenComma, NextGiven, TypeForm, BaseType, StatusType, SliceType, ArrayType, StructType, BoundsForm, NoBounds, Bounds}
 use Rattle.wf_parse_grammar.specs.Grammar.{mark_part_before, expr_before, links_before, operand_before, atom_before, part_before, givens_before, more_givens_before, type_before, bounds_before}
 use Rattle.wf_parse_grammar.specs.Meaning.{expr_tree, link_trees, operand_tree, atom_tree, part_tree, given_trees, more_given_trees}
-use Rattle.wf_read_laws.proofs.BoolLemmas.{both, and-true}
 use Rattle.wf_depth_laws.specs.WrittenDepth.{Spot, alone, beside_sign, behind_not, boxes_sign, boxes_not, may_open, room_in, expr_opens, part_opens, links_open, given_opens}
 use Rattle.wf_depth_laws.proofs.Room.{Fits, shut, one_left, has_one, path_passed, on_passed, mark_part_passed}
 

@@ -4,14 +4,15 @@ use Rattle.std.specs.List.{list_all}
 use Rattle.std.proofs.lemmas.List.Folds.{list_all-append}
 use Rattle.wf_text.specs.declared.place.Place.{Place}
 use Rattle.wf_ast.specs.ParsedTree.{DeclTree}
+use Rattle.wf_ast.specs.ReadPackage.{decls_of}
+use Rattle.wf_ast.proofs.BoolLemmas.{and-true}
 use Rattle.wf_parse_grammar.specs.declared.tokens.Kind.TheVariants as kinds
 use Rattle.wf_parse_grammar.specs.declared.tokens.Token.{Token}
 use Rattle.wf_parse_grammar.specs.Grammar.{token, name_token, text_token}
 use Rattle.wf_parse_grammar.specs.Grammar.{VarsForm, NoVars, FirstVar, FirstStmt, MoreVarsForm, LastVar, VarSemicolon, NextVar, ThenStmt, FieldsForm, NoField, FirstField, MoreFieldsForm, LastField, FieldComma, NextField, OtherFieldsForm, NoOtherFields, OtherFields, TypePart, NoType, AType, PublicForm, IsPub, IsPri, DeclForm, AStatus, AConst, AStruct, AFunc, FileForm, NoDecl, ADecl}
 use Rattle.wf_parse_grammar.specs.Grammar.{mark_part_before, expr_before, type_before, more_items_before, more_vars_before, vars_before, more_fields_before, fields_before, other_fields_before, type_part_before, public_before, decl_before, file_before}
 use Rattle.wf_parse_grammar.specs.Meaning.{var_tree, stmt_tree, more_items_tree, more_vars_tree, vars_tree, decl_tree, file_trees}
-use Rattle.wf_parse.specs.Parsing.{ReadsFiles, decls_of}
-use Rattle.wf_read_laws.proofs.BoolLemmas.{and-true}
+use Rattle.wf_parse.specs.Parsing.{ReadsFiles}
 use Rattle.wf_depth_laws.specs.WrittenDepth.{stmt_opens, block_opens, decl_opens}
 use Rattle.wf_depth_laws.specs.DepthLaws.{ReadMethodsOpenFew}
 use Rattle.wf_depth_laws.proofs.Room.{Fits, shut, shallow_fits, mark_part_passed}

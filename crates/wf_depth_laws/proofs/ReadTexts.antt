@@ -1,6 +1,6 @@
 -- The text of a package that is read opens few brackets.
 use Rattle.std.proofs.Common.{sym, subst}
-use Rattle.wf_parse.specs.Parsing.{decls_of}
+use Rattle.wf_ast.specs.ReadPackage.{decls_of}
 use Rattle.wf_names_rules.specs.Declarations.{declared}
 use Rattle.wf_names_resolve.specs.Package.{resolved_package}
 use Rattle.wf_read_laws.proofs.ReadPackages.{packages_resolve_by_grammar}

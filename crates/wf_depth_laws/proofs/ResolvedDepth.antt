@@ -6,6 +6,7 @@ use Rattle.wf_base.specs.BaseTable.{row_of}
 use Rattle.wf_ast.specs.declared.parsed.Name.{Name}
 use Rattle.wf_ast.specs.ParsedTree as parsed
 use Rattle.wf_ast.specs.ParsedTree.{ExprTree, PartTree, LinkTrees, GivenTrees, CallTree, TargetTree, StmtTree, BlockTree, ArmTrees, DeclTree}
+use Rattle.wf_ast.proofs.BoolLemmas.{both, and-true}
 use Rattle.wf_named.specs.NamedTree.{NamedArgTrees, NamedStmtTree, NamedBlockTree, NamedMethodTree}
 use Rattle.wf_names_rules.specs.declared.callees.Callee.{Callee}
 use Rattle.wf_names_rules.specs.declared.callees.Callee.TheVariants as callees
@@ -14,7 +15,6 @@ use Rattle.wf_names_rules.specs.Uses.{method_scope}
 use Rattle.wf_names_resolve.specs.Standing.{Standing, standing_at}
 use Rattle.wf_names_resolve.specs.Resolved.{NamedGiven, with_arg, args_named, args_spelt, args_for, resolved_expr, resolved_part, resolved_links, resolved_given, resolved_call, resolved_target, with_stmt, resolved_stmt, resolved_block, resolved_arms}
 use Rattle.wf_names_resolve.specs.Package.{resolved_methods}
-use Rattle.wf_read_laws.proofs.BoolLemmas.{both, and-true}
 use Rattle.wf_depth_laws.specs.WrittenDepth.{Spot, alone, beside_sign, behind_not, boxes_sign, boxes_not, may_open, room_in, expr_opens, part_opens, links_open, given_opens, call_opens, target_opens, stmt_opens, block_opens, arms_open, decl_opens}
 use Rattle.wf_depth_laws.specs.NamedDepth as named
 use Rattle.wf_depth_laws.specs.DepthLaws.{ResolvingKeepsDepth}

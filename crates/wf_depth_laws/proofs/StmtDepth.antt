@@ -2,6 +2,7 @@
 use Rattle.std.proofs.Common.{◌≡◌, ℕ, ◌-◌, true, ◌&&◌, List, ◌∷◌, refl}
 use Rattle.std.specs.Prelude.{nat_le}
 use Rattle.wf_text.specs.declared.place.Place.{Place}
+use Rattle.wf_ast.proofs.BoolLemmas.{and-true}
 use Rattle.wf_parse_grammar.specs.declared.tokens.Kind.TheVariants as kinds
 use Rattle.wf_parse_grammar.specs.declared.tokens.Token.{Token}
 use Rattle.wf_parse_grammar.specs.Grammar.{token, name_token}
@@ -9,7 +10,6 @@ use Rattle.wf_parse_grammar.specs.Grammar.{TargetForm, ToPath, ToElement, SignFo
 use Rattle.wf_parse_grammar.specs.Grammar.{StmtForm, Assignment, Keeping, Calling, Branching, Looping, Labelled, Breaking, Continuing, Returning, Yielding, Asserting, ElseForm, NoElse, ElseIf, Else, BlockForm, ABlock, ItemsForm, NoItem, FirstItem, MoreItemsForm, LastItem, ItemSemicolon, NextItem}
 use Rattle.wf_parse_grammar.specs.Grammar.{mark_before, expr_before, givens_before, target_before, sign_before, call_before, label_before, result_before, via_before, clauses_before, end_before, var_before, stmt_before, else_before, block_before, items_before, more_items_before}
 use Rattle.wf_parse_grammar.specs.Meaning.{expr_tree, given_trees, target_tree, call_tree, result_tree, var_tree, stmt_tree, else_trees, block_tree, items_tree, more_items_tree}
-use Rattle.wf_read_laws.proofs.BoolLemmas.{and-true}
 use Rattle.wf_depth_laws.specs.WrittenDepth.{alone, expr_opens, part_opens, given_opens, call_opens, target_opens, stmt_opens, block_opens, arms_open}
 use Rattle.wf_depth_laws.proofs.Room.{Fits, shut, one_left, path_passed, on_passed, mark_passed, clause_passed}
 use Rattle.wf_depth_laws.proofs.ExprDepth.{expr_few, givens_few, type_passed}

@@ -12,18 +12,19 @@ use Rattle.wf_ast.specs.declared.types.Ty.{Ty}
 use Rattle.wf_ast.specs.TypedTree.{CondTree, ValueTree, Target, to_nothing, Simple, Site, Block, end}
 use Rattle.wf_ast.specs.TypedTree as typed
 use Rattle.wf_ast.specs.TypedTrees.{Sort, arithmetic, ordering, joining, sort_of, num_in, cond_in, slice_in, chain_of, answer_of}
+use Rattle.wf_ast.specs.OperatorForms.{gives_number, updates}
+use Rattle.wf_ast.proofs.BoolLemmas.{both, and-true}
 use Rattle.wf_named.specs.declared.nodes.NamedCallee.{NamedCallee}
 use Rattle.wf_named.specs.declared.nodes.NamedCallee.TheVariants as callees
 use Rattle.wf_named.specs.NamedTree.{NamedExprTree, number, status, truth, path, index, slice, answer, chain, convert, negation, NamedPartTree, absent, present, NamedLinkTrees, no_link, link, NamedArgTrees, no_arg, more_args, NamedCallTree, call}
 use Rattle.wf_named.specs.NamedTree.{NamedTargetTree, to_path, to_element, NamedStmtTree, assign, keep, do_call, branch, loop, leave, again, back, suspend, claim, NamedBlockTree, close, more_stmts, NamedArmTrees, no_else, otherwise, arm, NamedMethodTree, NamedPackageTree}
+use Rattle.wf_named.specs.Grammar.{has_operands, by_grammar, end_by_grammar, links_by_grammar, args_by_grammar, call_by_grammar, target_by_grammar, clauses_by_grammar, has_condition, stmt_by_grammar, block_by_grammar, arms_by_grammar}
 use Rattle.wf_types_rules.specs.declared.settings.Setting.{Setting}
 use Rattle.wf_types_rules.specs.DeclaredTypes.{in_method}
 use Rattle.wf_types_rules.specs.ExprTypes.{number_of}
 use Rattle.wf_typed_tree.specs.ElaboratedExprs.{path_tree, type_of, signs_in, expr_tree, end_tree, link_trees, arg_trees}
 use Rattle.wf_typed_tree.specs.ElaboratedStmts.{type_of_update, written_to, target_tree, call_tree, assigned_call, assign_tree, returned_tree, count_stmt, count_block, count_arms, site, stmt_tree, block_tree, arms_tree}
 use Rattle.wf_typed_tree.specs.ElaboratedPackage.{typed_methods, typed_package}
-use Rattle.wf_typed_tree.specs.Grammar.{has_operands, by_grammar, end_by_grammar, links_by_grammar, args_by_grammar, call_by_grammar, target_by_grammar, gives_number, updates, clauses_by_grammar, has_condition, stmt_by_grammar, block_by_grammar, arms_by_grammar}
-use Rattle.wf_read_laws.proofs.BoolLemmas.{both, and-true}
 use Rattle.wf_lower_laws.specs.BracketLaw.{num_within, slice_within, end_within, cond_within, value_within, target_within, simple_within, is_chained, block_within}
 use Rattle.wf_depth_laws.specs.WrittenDepth.{Spot, alone, beside_sign, behind_not, boxes_sign, boxes_not, may_open, room_in}
 use Rattle.wf_depth_laws.specs.NamedDepth.{expr_opens, part_opens, links_open, args_open, call_opens, target_opens, stmt_opens, block_opens, arms_open}

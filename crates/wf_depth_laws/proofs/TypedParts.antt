@@ -12,6 +12,8 @@ use Rattle.wf_ast.specs.declared.types.Ty.TheVariants as types
 use Rattle.wf_ast.specs.Same.{same_arith, arith_number}
 use Rattle.wf_ast.specs.TypedTree.{Path, local, field, arg, Arith, Order, less, at_most, equal, differs, at_least, greater, NumTree, number, read, element, link, convert, length_of, asked, slice, array, cut, status, held, no_status, CondTree, truth, flag, compare, same_status, junction, negation, closed, has_category, ValueTree, numeric, logical, state, elements, io, lost, Target}
 use Rattle.wf_ast.specs.TypedTrees.{Sort, arithmetic, ordering, joining, sort_of, num_in, cond_in, slice_in, named, num_chain, cond_chain, comparison, chain_of, answer_of, target_of, base_call}
+use Rattle.wf_ast.specs.OperatorForms as forms
+use Rattle.wf_ast.proofs.BoolLemmas.{both, and-true}
 use Rattle.wf_types_rules.specs.declared.meanings.Meaning.{Meaning}
 use Rattle.wf_types_rules.specs.declared.meanings.Meaning.TheVariants as meanings
 use Rattle.wf_types_rules.specs.declared.settings.Setting.{Setting}
@@ -19,9 +21,7 @@ use Rattle.wf_types_rules.specs.Meanings.{variable}
 use Rattle.wf_named.specs.declared.nodes.NamedPath.{NamedPath}
 use Rattle.wf_named.specs.declared.nodes.Variable.{Variable}
 use Rattle.wf_typed_tree.specs.ElaboratedExprs.{path_to, variable_tree, path_tree, number_or}
-use Rattle.wf_typed_tree.specs.Grammar as grammar
 use Rattle.wf_typed_tree.proofs.NumberLemmas.{same-self}
-use Rattle.wf_read_laws.proofs.BoolLemmas.{both, and-true}
 use Rattle.wf_lower_laws.specs.BracketLaw.{repeats, goes_on, cond_goes_on, num_within, slice_within, cond_within, value_within, target_within, simple_within}
 use Rattle.wf_depth_laws.specs.WrittenDepth.{Spot, alone, beside_sign, behind_not}
 use Rattle.wf_depth_laws.proofs.Room.{one_left}
@@ -157,7 +157,7 @@ MayRepeat sort [] = Unit {0}
 MayRepeat sort (t ∷ []) = Unit {0}
 MayRepeat sort (t ∷ u ∷ ts) = sort_repeats sort ≡ true
 
-pub op_repeats : (op : Op) → grammar.repeats op ≡ true → sort_repeats (sort_of op) ≡ true
+pub op_repeats : (op : Op) → forms.repeats op ≡ true → sort_repeats (sort_of op) ≡ true
 op_repeats ops.Add h = refl
 op_repeats ops.Mul h = refl
 op_repeats ops.BitAnd h = refl

@@ -4,12 +4,13 @@ use Rattle.std.specs.List.{list_all}
 use Rattle.wf_ast.specs.ParsedParts.{Parsed}
 use Rattle.wf_ast.specs.ParsedTree.{DeclTree}
 use Rattle.wf_ast.specs.TypedPackage.{PackageTree}
+use Rattle.wf_ast.specs.ReadPackage.{decls_of}
 use Rattle.wf_named.specs.NamedTree.{NamedPackageTree}
-use Rattle.wf_parse.specs.Parsing.{IsParsed, decls_of}
+use Rattle.wf_named.specs.Grammar.{package_by_grammar}
+use Rattle.wf_parse.specs.Parsing.{IsParsed}
 use Rattle.wf_names_rules.specs.Declarations.{Declared}
 use Rattle.wf_names_resolve.specs.Package.{resolved_by, resolved_package}
 use Rattle.wf_typed_tree.specs.ElaboratedPackage.{typed_package}
-use Rattle.wf_typed_tree.specs.Grammar.{package_by_grammar}
 use Rattle.c_text.specs.CGrammar.{unit_tokens}
 use Rattle.c_read_grammar.specs.Outcomes.{IsShallow}
 use Rattle.wf_lower.specs.Unit.{lowered_unit}

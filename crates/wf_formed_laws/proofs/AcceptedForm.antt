@@ -6,9 +6,9 @@ use Rattle.wf_ast.specs.BaseStatuses.{base_statuses}
 use Rattle.wf_ast.specs.TypedInvariant.{IsTyped}
 use Rattle.wf_ast.specs.TypedPackage.{PackageTree, package_of}
 use Rattle.wf_ast.specs.ParsedTree.{DeclTree}
+use Rattle.wf_ast.specs.ReadPackage.{decls_of}
 use Rattle.wf_names_resolve.specs.Package.{resolved_package}
 use Rattle.wf_typed_tree.specs.ElaboratedPackage.{typed_package}
-use Rattle.wf_parse.specs.Parsing.{decls_of}
 use Rattle.wf_const_laws.proofs.Lengths.{read_arrays_are_bounded}
 use Rattle.wf_lower_laws.specs.FieldLaw.{HasShortArrays}
 use Rattle.wf_lower_laws.specs.TypeLaw.{HasBaseStatuses}

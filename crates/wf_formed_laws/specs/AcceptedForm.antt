@@ -6,8 +6,9 @@ use Rattle.wf_ast.specs.ParsedParts.{Parsed}
 use Rattle.wf_ast.specs.declared.typed_nodes.TypedNodes.{TypedNodes}
 use Rattle.wf_ast.specs.TypedInvariant.{IsTyped}
 use Rattle.wf_ast.specs.TypedPackage.{package_of, surface_of}
+use Rattle.wf_ast.specs.ReadPackage.{decls_of}
 use Rattle.wf_points.specs.PointNumbers.{HasTooMany}
-use Rattle.wf_parse.specs.Parsing.{IsParsed, decls_of}
+use Rattle.wf_parse.specs.Parsing.{IsParsed}
 use Rattle.wf_names_rules.specs.Declarations.{declared}
 use Rattle.wf_names_rules.specs.NameRules.{Breaks}
 use Rattle.wf_names_resolve.specs.Package.{resolved_package}

@@ -2,10 +2,10 @@
 use Rattle.std.proofs.Common.{◌≡◌, ℕ, List, [], Some, sym, ap, subst}
 use Rattle.std.specs.Prelude.{slice_get}
 use Rattle.wf_ast.specs.TypedPackage.{PackageTree, package_of}
+use Rattle.wf_ast.specs.ReadPackage.{decls_of}
 use Rattle.wf_named.specs.NamedParts.{named_package}
 use Rattle.wf_named.specs.NamedTree.{NamedPackageTree}
 use Rattle.wf_names_laws.proofs.PackageLaws.{package-named}
-use Rattle.wf_parse.specs.Parsing.{decls_of}
 use Rattle.wf_names_resolve.specs.Package.{resolved_package}
 use Rattle.wf_typed_tree.specs.ElaboratedPackage.{typed_package}
 use Rattle.wf_typed_tree.proofs.Agreement.{typed-statuses}

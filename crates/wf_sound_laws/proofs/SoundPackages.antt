@@ -4,16 +4,16 @@ use Rattle.wf_text.specs.declared.rules.Refusal.{Refusal}
 use Rattle.wf_text.specs.Precedence.{Decides}
 use Rattle.std.specs.List.{list_all}
 use Rattle.wf_ast.specs.TypedPackage.{PackageTree}
+use Rattle.wf_ast.specs.ReadPackage.{decls_of}
 use Rattle.wf_named.specs.NamedParts.{named_package}
 use Rattle.wf_named.specs.NamedTree.{NamedPackageTree}
+use Rattle.wf_named.specs.Grammar.{package_by_grammar}
 use Rattle.wf_names_laws.proofs.PackageLaws.{package-named}
-use Rattle.wf_parse.specs.Parsing.{decls_of}
 use Rattle.wf_names_resolve.specs.Package.{resolved_package}
 use Rattle.wf_types_rules.specs.TypeRules.{Breaks}
 use Rattle.wf_types_rules.specs.FirstBreak.{deciding}
 use Rattle.wf_types_rules.proofs.FirstBreakLaws.{deciding-decides}
 use Rattle.wf_typed_tree.specs.ElaboratedPackage.{typed_package}
-use Rattle.wf_typed_tree.specs.Grammar.{package_by_grammar}
 use Rattle.wf_typed_tree.proofs.BlockLaws.{package-keeps}
 use Rattle.wf_read_laws.proofs.ReadPackages.{packages_resolve_by_grammar}
 use Rattle.wf_bounds_laws.specs.BoundsRules.{name_of_local, bounds_refusal}

@@ -23,6 +23,7 @@ use Rattle.wf_named.specs.declared.nodes.NamedPath.{NamedPath}
 use Rattle.wf_named.specs.NamedTree.{NamedExprTree, path, answer, NamedArgTrees, no_arg, more_args, NamedCallTree, call, NamedTargetTree, NamedClauseTrees, NamedStmtTree, keep, do_call, branch, loop, leave, again, back, suspend, claim, NamedBlockTree, close, more_stmts, NamedArmTrees, no_else, otherwise, arm, NamedMethodTree, NamedPackageTree}
 use Rattle.wf_named.specs.NamedTree as resolved
 use Rattle.wf_named.specs.WellNamed.{count_args, is_wanted, args_wanted, has_kind, named_args, named_expr, named_call, named_target, named_clauses, named_stmt, named_block, named_arms, well_named}
+use Rattle.wf_named.specs.Grammar.{by_grammar, clauses_by_grammar, has_condition, stmt_by_grammar, block_by_grammar, arms_by_grammar, package_by_grammar}
 use Rattle.wf_types_rules.specs.declared.meanings.Meaning.{Meaning}
 use Rattle.wf_types_rules.specs.Meanings.{variable, is_value}
 use Rattle.wf_types_rules.specs.Parts.{argument, expr_parts, args_parts, whole_call_parts, value_parts, target_parts, condition_parts, clauses_parts, stmt_parts, block_parts, arms_parts}
@@ -32,7 +33,6 @@ use Rattle.wf_types_rules.specs.FirstBreak.{deciding}
 use Rattle.wf_typed_tree.specs.ElaboratedExprs.{variable_tree, path_tree, expr_tree, arg_trees}
 use Rattle.wf_typed_tree.specs.ElaboratedStmts.{target_tree, update_tree, call_tree, assigned_call, assign_tree, simple_tree, count_stmt, count_block, count_arms, site, clause_trees, stmt_tree, block_tree, arms_tree}
 use Rattle.wf_typed_tree.specs.ElaboratedPackage.{typed_method, typed_methods, typed_package}
-use Rattle.wf_typed_tree.specs.Grammar.{by_grammar, clauses_by_grammar, has_condition, stmt_by_grammar, block_by_grammar, arms_by_grammar, package_by_grammar}
 use Rattle.wf_typed_tree.specs.MeaningTrees.{kind_meant}
 use Rattle.wf_typed_tree.proofs.NumberLemmas.{both, and-true}
 use Rattle.wf_typed_tree.proofs.NoBreaks.{Fine, AllFine, fine-split, at-none, either-false}

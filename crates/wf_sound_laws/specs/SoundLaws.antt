@@ -9,7 +9,9 @@ use Rattle.wf_ast.specs.ParsedParts.{Parsed}
 use Rattle.wf_ast.specs.declared.typed_nodes.TypedNodes.{TypedNodes}
 use Rattle.wf_ast.specs.TypedInvariant.{IsTyped}
 use Rattle.wf_ast.specs.TypedPackage.{PackageTree, package_of, surface_of}
-use Rattle.wf_parse.specs.Parsing.{IsParsed, decls_of}
+use Rattle.wf_ast.specs.ReadPackage.{decls_of}
+use Rattle.wf_named.specs.Grammar.{package_by_grammar}
+use Rattle.wf_parse.specs.Parsing.{IsParsed}
 use Rattle.wf_named.specs.NamedParts.{NamedParts, named_package}
 use Rattle.wf_named.specs.NamedTree.{NamedPackageTree}
 use Rattle.wf_named.specs.WellNamed.{well_named}
@@ -19,7 +21,6 @@ use Rattle.wf_names_resolve.specs.Package.{resolved_package}
 use Rattle.wf_names_laws.specs.Ordered.{HasOrder}
 use Rattle.wf_types_rules.specs.TypeRules as types
 use Rattle.wf_typed_tree.specs.ElaboratedPackage.{typed_package}
-use Rattle.wf_typed_tree.specs.Grammar.{package_by_grammar}
 use Rattle.wf_types.specs.Typing.{IsElaborated}
 use Rattle.wf_meaning.specs.SourceCall.{source_run}
 use Rattle.wf_bounds_stmts.specs.MethodRules.{local_at, facts_refusal}
