@@ -1,17 +1,18 @@
 // Which names the expressions and statements of a unit read.
 
-ghost use Rattle.std.specs.Prelude.{◌≡◌, ◌<◌, ◌+◌, ◌||◌, length, bytes_eq, IfSome, IfNone};
+ghost use Rattle.std.specs.Prelude.{◌≡◌, ◌<◌, ◌+◌, ◌||◌, if◌then◌else◌, length, bytes_eq, IfSome, IfNone};
 ghost use Rattle.c_text.specs.CFits.{HasArg, HasArgs, HasCall, HasExprs};
 ghost use Rattle.c_text.specs.CNodes.{args_in, bytes_at, code_of, expr_of, operands_in, value_in};
+ghost use Rattle.c_text.specs.CGrammar.{is_finish};
 ghost use Rattle.c_text.specs.CTree.{finish};
 ghost use Rattle.wf_exprs.specs.Reads.{args_read as args_read_tree, code_reads as code_reads_tree, expr_reads as expr_reads_tree, operands_read as operands_read_tree, result_reads as result_reads_tree, target_reads as target_reads_tree, value_reads as value_reads_tree};
-ghost use Rattle.wf_exprs_nodes.specs.Readers.{arg_reads as arg_reads_tree, own_reads, rest_of as rest_of_code};
+ghost use Rattle.wf_exprs_nodes.specs.Readers.{arg_reads as arg_reads_tree, next_of as next_of_code, other_reads as other_reads_tree, own_reads};
 
 use c_text::{CArg, CCall, CExpr, CExprId, CNameId, CStmt, CStmtId, Unit};
 
 /// Whether an expression names a variable or a function of this name.
 #[cycle(reading)]
-pub fn expr_reads(u: &Unit, name: CNameId, e: CExprId) -> bool
+pub(crate) fn expr_reads(u: &Unit, name: CNameId, e: CExprId) -> bool
     requires name { name.0 < length u.now.names }
     requires there { e.0 < length u.now.exprs }
     ensures { result ≡ expr_reads_tree (bytes_at u.now.names name.0) (expr_of u.now e.0) }
@@ -127,7 +128,8 @@ fn value_reads(u: &Unit, name: CNameId, value: Option<CExprId>) -> bool
     }
 }
 
-/// Whether the statements from this one to the end of its block read a name.
+/// Whether the statements from this one to the end of its block read a name. A chain of `else if` is followed like the
+/// statements of a block, so it may have any length.
 #[cycle(reading_code)]
 pub fn code_reads(u: &Unit, name: CNameId, s: CStmtId) -> bool
     requires name { name.0 < length u.now.names }
@@ -135,19 +137,20 @@ pub fn code_reads(u: &Unit, name: CNameId, s: CStmtId) -> bool
     ensures { result ≡ code_reads_tree (bytes_at u.now.names name.0) (code_of u.now s.0) }
 {
     let mut at = s;
-    while let Some(rest) = rest_of(u, at) {
+    while let Some(next) = next_of(u, at) {
         if stmt_reads(u, name, at) {
             return true;
         }
-        at = rest;
+        at = next;
     }
     false
 }
 
-// What follows a statement in its block; None at the block's end.
-fn rest_of(u: &Unit, s: CStmtId) -> Option<CStmtId>
+// What is looked at after a statement: what follows it in its block or, after an `if` that is the last of its block, what
+// its `else` holds. None at the block's end.
+fn next_of(u: &Unit, s: CStmtId) -> Option<CStmtId>
     requires { s.0 < length u.now.stmts }
-    ensures some { IfSome result (λ rest. (rest.0 < s.0) × (code_of u.now rest.0 ≡ rest_of_code (code_of u.now s.0))) }
+    ensures some { IfSome result (λ next. (next.0 < s.0) × (code_of u.now next.0 ≡ next_of_code (code_of u.now s.0))) }
     ensures none { IfNone result (code_of u.now s.0 ≡ finish) }
 {
     match u.stmt(s) {
@@ -157,7 +160,7 @@ fn rest_of(u: &Unit, s: CStmtId) -> Option<CStmtId>
         CStmt::Assign { rest, .. } => Some(*rest),
         CStmt::Call { rest, .. } => Some(*rest),
         CStmt::Goto { rest, .. } => Some(*rest),
-        CStmt::If { rest, .. } => Some(*rest),
+        CStmt::If { other, rest, .. } => Some(later(u, *other, *rest)),
         CStmt::While { rest, .. } => Some(*rest),
         CStmt::Switch { rest, .. } => Some(*rest),
         CStmt::Return { rest, .. } => Some(*rest),
@@ -167,7 +170,26 @@ fn rest_of(u: &Unit, s: CStmtId) -> Option<CStmtId>
     }
 }
 
-// Whether a statement reads a name, apart from those that follow it.
+// What follows an `if`, or else what its `else` holds.
+fn later(u: &Unit, other: CStmtId, rest: CStmtId) -> CStmtId
+    requires other { other.0 < length u.now.stmts }
+    requires rest { rest.0 < length u.now.stmts }
+    ensures { result ≡ (if is_finish (code_of u.now rest.0) then other else rest) }
+{
+    if is_end(u, rest) { other } else { rest }
+}
+
+fn is_end(u: &Unit, s: CStmtId) -> bool
+    requires { s.0 < length u.now.stmts }
+    ensures { result ≡ is_finish (code_of u.now s.0) }
+{
+    match u.stmt(s) {
+        CStmt::End => true,
+        _ => false,
+    }
+}
+
+// Whether a statement reads a name, apart from those that are looked at after it.
 #[cycle(reading_code)]
 fn stmt_reads(u: &Unit, name: CNameId, s: CStmtId) -> bool
     requires name { name.0 < length u.now.names }
@@ -186,10 +208,11 @@ fn stmt_reads(u: &Unit, name: CNameId, s: CStmtId) -> bool
             test,
             body,
             other,
+            rest,
             ..
         } => {
             expr_reads(u, name, *test)
-                || (code_reads(u, name, *body) || code_reads(u, name, *other))
+                || (code_reads(u, name, *body) || other_reads(u, name, *other, *rest))
         }
         CStmt::While { test, body, .. } => {
             expr_reads(u, name, *test) || code_reads(u, name, *body)
@@ -199,6 +222,20 @@ fn stmt_reads(u: &Unit, name: CNameId, s: CStmtId) -> bool
         CStmt::End | CStmt::Empty { .. } | CStmt::Goto { .. } => false,
         CStmt::Case { .. } | CStmt::Default { .. } | CStmt::Label { .. } => false,
     }
+}
+
+// What the `else` of an `if` holds, where this isn't looked at after it.
+#[cycle(reading_code)]
+fn other_reads(u: &Unit, name: CNameId, other: CStmtId, rest: CStmtId) -> bool
+    requires name { name.0 < length u.now.names }
+    requires other { other.0 < length u.now.stmts }
+    requires rest { rest.0 < length u.now.stmts }
+    ensures { result ≡ other_reads_tree (bytes_at u.now.names name.0) (code_of u.now other.0) (code_of u.now rest.0) }
+{
+    if is_end(u, rest) {
+        return false;
+    }
+    code_reads(u, name, other)
 }
 
 // The arguments of a call that is a statement.

@@ -125,7 +125,7 @@ fn first_byte(u: &mut Unit, e: CExprId) -> Result<CExprId, NoMemory>
 }
 
 /// Whether a status is of a kind, by the first byte of its text.
-pub fn is_of_category(
+pub(crate) fn is_of_category(
     alloc: Global,
     u: &mut Unit,
     category: Category,
