@@ -18,9 +18,9 @@ use Rattle.c_step_load_stmts.specs.Bodies.{with_code, with_statement, with_exprs
 use Rattle.c_step_run.specs.declared.code.Initial.{Initial}
 use Rattle.c_step_run.specs.declared.code.Inline.{Inline}
 use Rattle.c_step_run.specs.declared.code.Func.{Func}
-use Rattle.c_step_run.specs.Coding.{CodeView, is_static, one_if_inline}
-use Rattle.c_step_program.specs.Programs.{initial_exprs, initials_of, inline_of, inlines, func_of, with_function}
-use Rattle.c_step_program.proofs.Coded.{one_return, as_many_initials, inlines_append}
+use Rattle.c_step_run.specs.Coding.{CodeView, is_static, inline_length}
+use Rattle.c_step_program.specs.Programs.{initial_exprs, initials_of, inline_of, inline_lengths, func_of, with_function}
+use Rattle.c_step_program.proofs.Coded.{one_return, as_many_initials, inline_lengths_append}
 use Rattle.c_step_load.specs.declared.loading.Build.{Build}
 use Rattle.c_step_load.specs.Loading.{program_in, names_by, with_body, inline_by, IsBuilt}
 
@@ -100,7 +100,7 @@ module _ (nodes : Nodes) (f : Function) (callable : List Function) (c : CodeView
         let end : to ≡ length c.text.exprs + length (exprs_of (names_by nodes f callable (length c.text.statements)) f.body) = h.to_is ∙ (ap (λ (u : FlatText). length u.exprs + length (exprs_of (names_by nodes f callable number) f.body)) h.text ∙ ap (λ (n : ℕ). length c.text.exprs + length (exprs_of (names_by nodes f callable n) f.body)) here) in
         inline_is (names_by nodes f callable (length c.text.statements)) (length c.text.exprs) to f.body f.result_type it refl end (is ∙ ap (λ (n : ℕ). inline_by (record { from = n; to = to }) (returned f.body) f.result_type) place)
 
-    func_now : (entry : ℕ) (turn : Bool) (it : Option Inline) (rank : ℕ) → entry ≡ go number next f.body → turn ≡ is_static f.linkage → it ≡ inline_by (record { from = from; to = to }) (returned f.body) f.result_type → rank ≡ inlines c.functions
+    func_now : (entry : ℕ) (turn : Bool) (it : Option Inline) (rank : ℕ) → entry ≡ go number next f.body → turn ≡ is_static f.linkage → it ≡ inline_by (record { from = from; to = to }) (returned f.body) f.result_type → rank ≡ inline_lengths c.functions
         → record { start = number; entry = entry; turn = turn; initials = record { from = locals; to = length now }; inline = it; rank = rank } ≡ func_of (program_in nodes) f c
     func_now entry turn it rank e u is r =
         let first : locals ≡ length c.initials = h.fields ∙ ap (λ (xs : List Initial). length xs) h.initials in
@@ -110,12 +110,12 @@ module _ (nodes : Nodes) (f : Function) (callable : List Function) (c : CodeView
     pub function_built : (build after : Build) (entry : ℕ) (turn : Bool) (it : Option Inline) → IsBuilt build c → after.work.text ≡ new → after.work.left.items ≡ [] → after.initials.items ≡ now
         → entry ≡ go number next f.body → turn ≡ is_static f.linkage → it ≡ inline_by (record { from = from; to = to }) (returned f.body) f.result_type
         → after.functions.items ≡ build.functions.items ++ record { start = number; entry = entry; turn = turn; initials = record { from = locals; to = length now }; inline = it; rank = build.rank } ∷ []
-        → after.rank ≡ build.rank + one_if_inline it → IsBuilt after (with_function (program_in nodes) f callable c)
+        → after.rank ≡ build.rank + inline_length it → IsBuilt after (with_function (program_in nodes) f callable c)
     function_built build after entry turn it b text left initials e u is functions rank =
         let put_func : Func = record { start = number; entry = entry; turn = turn; initials = record { from = locals; to = length now }; inline = it; rank = build.rank } in
         let func = func_now entry turn it build.rank e u is b.rank in
-        let sum : inlines (c.functions ++ func_of (program_in nodes) f c ∷ []) ≡ inlines c.functions + (one_if_inline (func_of (program_in nodes) f c).inline + 0) = inlines_append c.functions (func_of (program_in nodes) f c ∷ []) in
-        let value : one_if_inline it ≡ one_if_inline (func_of (program_in nodes) f c).inline = ap one_if_inline (inline_now it is) in
+        let sum : inline_lengths (c.functions ++ func_of (program_in nodes) f c ∷ []) ≡ inline_lengths c.functions + (inline_length (func_of (program_in nodes) f c).inline + 0) = inline_lengths_append c.functions (func_of (program_in nodes) f c ∷ []) in
+        let value : inline_length it ≡ inline_length (func_of (program_in nodes) f c).inline = ap inline_length (inline_now it is) in
         let count = b.rank in
         record {
           text = text ∙ text_built t new number next h.text h.at h.end h.put;

@@ -21,7 +21,7 @@ use Rattle.c_step_places.specs.Weights.{WeighsAll}
 use Rattle.c_step_frames.specs.Frames.{FrameView, local_type}
 use Rattle.c_step_run.specs.declared.code.Inline.{Inline}
 use Rattle.c_step_run.specs.Coding.{CodeView, frame_of, args_of}
-use Rattle.c_step_program.specs.Programs.{code_of, frames_of, all_args, inlines}
+use Rattle.c_step_program.specs.Programs.{code_of, frames_of, all_args, inline_lengths}
 use Rattle.c_step_load.specs.declared.functions.Known.{Known}
 use Rattle.c_step_load.specs.declared.loading.Build.{Build}
 
@@ -87,7 +87,7 @@ pub record IsBuilt (build : Build) (c : CodeView) : Type 0 where
   pub left : build.work.left.items ≡ []
   pub initials : build.initials.items ≡ c.initials
   pub functions : build.functions.items ≡ c.functions
-  pub rank : build.rank ≡ inlines c.functions
+  pub rank : build.rank ≡ inline_lengths c.functions
 
 -- The code of the functions before an item.
 abbrev pub code_before : Nodes → (i : ℕ) → CodeView

@@ -9,7 +9,7 @@ ghost use Rattle.c_meaning.specs.UnitForm.{is_among, all_distinct};
 ghost use Rattle.c_form_exprs.specs.Front.{scope_in};
 ghost use Rattle.c_form_stmts.specs.Functions.{HasParts};
 ghost use Rattle.c_form_stmts.specs.Names.{are_new};
-ghost use Rattle.c_step_run.specs.Coding.{is_static};
+ghost use Rattle.c_step_run.specs.Coding.{is_static, inline_length as inline_length_of};
 ghost use Rattle.c_step_load.specs.Loading.{own_names, inline_by};
 
 use c_form_exprs::{Front, Scope};
@@ -138,6 +138,16 @@ pub(crate) fn inline(unit: &Unit, parts: Parts<'_>, value: Span) -> Option<Inlin
             }
         }
         None => None,
+    }
+}
+
+/// How many instructions a function's value in an expression has; 0 where it has none.
+pub(crate) fn inline_length(inline: Option<Inline>) -> usize
+    ensures { result ≡ inline_length_of inline }
+{
+    match inline {
+        Some(it) => it.value.to.saturating_sub(it.value.from),
+        None => 0,
     }
 }
 

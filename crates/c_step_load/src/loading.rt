@@ -11,17 +11,17 @@ ghost use Rattle.c_step_text.specs.Layout.{Names as NamesOf, go};
 ghost use Rattle.c_step_text.specs.Emitted.{exprs_of};
 ghost use Rattle.c_step_text.specs.Flat.{flat_text};
 ghost use Rattle.c_step_load_stmts.specs.Bodies.{nodes_of, scope_of as names_scope, Fits, Tells};
-ghost use Rattle.c_step_run.specs.Coding.{CodeView, is_static, one_if_inline};
+ghost use Rattle.c_step_run.specs.Coding.{CodeView, is_static, inline_length as inline_length_of};
 ghost use Rattle.c_step_program.specs.Programs.{initial_exprs, initials_of, with_function, no_code, code_of};
 ghost use Rattle.c_step_load.specs.Loading.{IsFormed, nodes_in, program_in, own_names, IsKnown, IsFunction, names_by, with_body, inline_by, IsBuilt, code_before};
 
-use crate::functions::{Known, inline, scope_of, takes_turn};
+use crate::functions::{Known, inline, inline_length, scope_of, takes_turn};
 use crate::initials::put_initials;
 use c_form_exprs::Front;
 use c_form_stmts::Parts;
 use c_step_load_exprs::{Names, Numbers};
 use c_step_load_stmts::{Body, Spot, Work, label_numbers, put};
-use c_step_places::{Weighed, next_number, number, weigh_all};
+use c_step_places::{Weighed, number, weigh_all};
 use c_step_run::{Code, Func, Initial};
 use c_step_text::{Span, StmtInstr, Text};
 use c_text::{CItem, CItemId, CStmt, CStmtId, Unit};
@@ -36,7 +36,7 @@ pub(crate) struct Build {
     pub initials: Vec<Initial>,
     /// The functions.
     pub functions: Vec<Func>,
-    /// How many of these may stand in expressions.
+    /// How many instructions their values in expressions have.
     pub rank: usize,
 }
 
@@ -139,15 +139,13 @@ fn load_text(
     put_function(&body, work, initials, at, parts)
 }
 
-/// Adds a function; `rank` counts those that may stand in expressions.
+/// Adds a function; `rank` counts the instructions of values in expressions.
 fn add(functions: &mut Vec<Func>, rank: &mut usize, func: Func) -> Result<(), NoMemory>
     ensures functions { OnOk result (functions.new.items ≡ functions.old.items ++ func ∷ []) }
-    ensures rank { OnOk result (rank.new ≡ rank.old + one_if_inline func.inline) }
+    ensures rank { OnOk result (rank.new ≡ rank.old + inline_length_of func.inline) }
 {
     functions.push(func)?;
-    if func.inline.is_some() {
-        *rank = next_number(*rank)?;
-    }
+    *rank = number(*rank, inline_length(func.inline), 0)?;
     Ok(())
 }
 

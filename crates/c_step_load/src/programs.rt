@@ -1,17 +1,18 @@
 // A whole program: its code, and what a run of it takes.
 
-ghost use Rattle.std.specs.Prelude.{◌≡◌, ◌+◌, ◌*◌, length, IfOk};
+ghost use Rattle.std.specs.Prelude.{◌≡◌, ◌+◌, length, IfOk};
 ghost use Rattle.c_text.specs.CNodes.{unit_tree};
 ghost use Rattle.c_meaning.specs.CCall.{program_of};
 ghost use Rattle.c_step_run.specs.Coding.{AreCoded};
-ghost use Rattle.c_step_program.specs.Programs.{code_of, frames_of, all_args, inlines};
+ghost use Rattle.c_step_program.specs.Programs.{code_of, frames_of, all_args, inline_lengths};
 ghost use Rattle.c_step_load.specs.Programs.{IsAtRest};
 
 use crate::frames::load_frames;
+use crate::functions::inline_length;
 use crate::loading::load_code;
 use c_form::Formed;
 use c_step_frames::Frame;
-use c_step_places::next_number;
+use c_step_places::number;
 use c_step_run::Code;
 use std::alloc::Global;
 use wf_text::NoMemory;
@@ -29,21 +30,16 @@ pub struct Program {
     pub values: usize,
 }
 
-/// How many values the expressions of code can need at once, those of the functions that they call among them; `NoMemory`
-/// where no list can be so long.
+/// How many values an expression of code can need at once, those of the functions that it calls among them: one for each of
+/// its instructions, and one for each instruction of the functions' values. `NoMemory` where no list can be so long.
 fn values(code: &Code) -> Result<usize, NoMemory>
-    ensures { IfOk result (λ n. n ≡ (inlines code.now.functions + 1) * length code.now.text.exprs) }
+    ensures { IfOk result (λ n. n ≡ inline_lengths code.now.functions + length code.now.text.exprs) }
 {
-    let mut depth = 1;
+    let mut sum = code.text.exprs.len();
     for func in &code.functions {
-        if func.inline.is_some() {
-            depth = next_number(depth)?;
-        }
+        sum = number(sum, inline_length(func.inline), 0)?;
     }
-    match depth.checked_mul(code.text.exprs.len()) {
-        Some(n) => Ok(n),
-        None => Err(NoMemory),
-    }
+    Ok(sum)
 }
 
 /// The program that a unit of the unit form is. `NoMemory` where memory was refused.

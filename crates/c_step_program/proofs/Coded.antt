@@ -18,8 +18,8 @@ use Rattle.c_step_text.proofs.Numbers.{numbered}
 use Rattle.c_step_frames.specs.Frames.{FrameView}
 use Rattle.c_step_run.specs.declared.code.Initial.{Initial}
 use Rattle.c_step_run.specs.declared.code.Func.{Func}
-use Rattle.c_step_run.specs.Coding.{CodeView, InlineOf, InitialOf, InitialsOf, IsCoded, AreCoded, IsRanked, one_if_inline, frame_of, args_of}
-use Rattle.c_step_program.specs.Programs.{AreApart, initial_exprs_of, initial_exprs, initial_span, initials_of, inline_of, inlines, own, body_exprs, func_of, with_function, code_of, frames_of, all_args}
+use Rattle.c_step_run.specs.Coding.{CodeView, InlineOf, InitialOf, InitialsOf, IsCoded, AreCoded, IsRanked, inline_length, frame_of, args_of}
+use Rattle.c_step_program.specs.Programs.{AreApart, initial_exprs_of, initial_exprs, initial_span, initials_of, inline_of, inline_lengths, own, body_exprs, func_of, with_function, code_of, frames_of, all_args}
 
 -- Lists that begin with others.
 pub record Begins {A : Type 0} (xs ys : List A) : Type 0 where
@@ -221,9 +221,9 @@ pub program_coded : (p : Program) → AreApart p.functions → AreCoded (code_of
 program_coded p h = all_coded p (code_of p p.functions) (frames_of p.functions) (all_args p.functions) p.functions [] refl h (begins_all (code_of p p.functions)) (begins_self (frames_of p.functions)) (begins_self (all_args p.functions))
 
 -- Ranks.
-pub inlines_append : (xs ys : List Func) → inlines (xs ++ ys) ≡ inlines xs + inlines ys
-inlines_append [] ys = omega arith
-inlines_append (x ∷ xs) ys = let e : inlines (xs ++ ys) ≡ inlines xs + inlines ys = inlines_append xs ys in omega (arith, e)
+pub inline_lengths_append : (xs ys : List Func) → inline_lengths (xs ++ ys) ≡ inline_lengths xs + inline_lengths ys
+inline_lengths_append [] ys = omega arith
+inline_lengths_append (x ∷ xs) ys = let e : inline_lengths (xs ++ ys) ≡ inline_lengths xs + inline_lengths ys = inline_lengths_append xs ys in omega (arith, e)
 
 -- Where something stands in a list with one more at the end.
 pub data InOrLast {A : Type 0} (xs : List A) (y : A) (i : ℕ) (x : A) : Type 0 where
@@ -240,24 +240,46 @@ in_or_last (z ∷ zs) y (suc i) x e = further (in_or_last zs y i x e)
     further (inside h) = inside h
     further (last h k) = last (ap suc h) k
 
-pub rank_most : (p : Program) (fs : List Function) (i : ℕ) (x : Func) → slice_get (code_of p fs).functions i ≡ Some x → x.rank + one_if_inline x.inline ≤ inlines (code_of p fs).functions
+pub rank_most : (p : Program) (fs : List Function) (i : ℕ) (x : Func) → slice_get (code_of p fs).functions i ≡ Some x → x.rank + inline_length x.inline ≤ inline_lengths (code_of p fs).functions
 rank_most p [] i x e = absurd (cc (e))
 rank_most p (f ∷ fs) i x e = by_place (rank_most p fs i x) (in_or_last (code_of p fs).functions (func_of p f (code_of p fs)) i x e)
   where
-    more : inlines (with_function p f fs (code_of p fs)).functions ≡ inlines (code_of p fs).functions + (one_if_inline (func_of p f (code_of p fs)).inline + 0)
-    more = inlines_append (code_of p fs).functions (func_of p f (code_of p fs) ∷ [])
+    more : inline_lengths (with_function p f fs (code_of p fs)).functions ≡ inline_lengths (code_of p fs).functions + (inline_length (func_of p f (code_of p fs)).inline + 0)
+    more = inline_lengths_append (code_of p fs).functions (func_of p f (code_of p fs) ∷ [])
 
-    by_place : (slice_get (code_of p fs).functions i ≡ Some x → x.rank + one_if_inline x.inline ≤ inlines (code_of p fs).functions) → InOrLast (code_of p fs).functions (func_of p f (code_of p fs)) i x
-        → x.rank + one_if_inline x.inline ≤ inlines (with_function p f fs (code_of p fs)).functions
+    by_place : (slice_get (code_of p fs).functions i ≡ Some x → x.rank + inline_length x.inline ≤ inline_lengths (code_of p fs).functions) → InOrLast (code_of p fs).functions (func_of p f (code_of p fs)) i x
+        → x.rank + inline_length x.inline ≤ inline_lengths (with_function p f fs (code_of p fs)).functions
     by_place h (inside k) = omega (arith, h k, more)
-    by_place h (last k s) = omega (arith, more, ap (λ (y : Func). y.rank) s, ap (λ (y : Func). one_if_inline y.inline) s)
+    by_place h (last k s) = omega (arith, more, ap (λ (y : Func). y.rank) s, ap (λ (y : Func). inline_length y.inline) s)
 
 pub ranks_rise : (p : Program) (fs : List Function) → IsRanked (code_of p fs).functions
 ranks_rise p [] = λ i j f g below e k. absurd (cc (e))
 ranks_rise p (f ∷ fs) = λ i j x y below e k. by_places i j x y below (ranks_rise p fs) (in_or_last (code_of p fs).functions (func_of p f (code_of p fs)) i x e) (in_or_last (code_of p fs).functions (func_of p f (code_of p fs)) j y k)
   where
-    by_places : (i j : ℕ) (x y : Func) → i < j → IsRanked (code_of p fs).functions → InOrLast (code_of p fs).functions (func_of p f (code_of p fs)) i x → InOrLast (code_of p fs).functions (func_of p f (code_of p fs)) j y → x.rank + one_if_inline x.inline ≤ y.rank
+    by_places : (i j : ℕ) (x y : Func) → i < j → IsRanked (code_of p fs).functions → InOrLast (code_of p fs).functions (func_of p f (code_of p fs)) i x → InOrLast (code_of p fs).functions (func_of p f (code_of p fs)) j y → x.rank + inline_length x.inline ≤ y.rank
     by_places i j x y below h (inside a) (inside b) = h i j x y below a b
     by_places i j x y below h (inside a) (last b s) = omega (arith, rank_most p fs i x a, ap (λ (z : Func). z.rank) s)
     by_places i j x y below h (last a r) (inside b) = absurd (omega (arith, a, below, slice_get_within (code_of p fs).functions j y b))
     by_places i j x y below h (last a r) (last b s) = absurd (omega (arith, a, b, below))
+
+-- The values in expressions are parts of the text that have nothing in common.
+as_long : (place n : ℕ) → place + n - place ≡ n
+as_long place n = omega arith
+
+returned_length : (names : Names) (place : ℕ) (body : Code) (v : Option ExprTree) (type : Option TypeTree) → returned body ≡ v → names.result_type ≡ type → inline_length (inline_of names.scope place v type) ≤ length (exprs_of names body)
+returned_length names place body None type e r = omega arith
+returned_length names place body (Some x) None e r = omega arith
+returned_length names place body (Some x) (Some type) e r =
+    let one : exprs_of names body ≡ return_exprs names names.result_type (Some x) ++ [] = ap (exprs_of names) (one_return body x e) in
+    let all : length (exprs_of names body) ≡ length (value_code names.scope x) = ap length (one ∙ (append-nil (return_exprs names names.result_type (Some x)) ∙ ap (λ (o : Option TypeTree). return_exprs names o (Some x)) r)) in
+    omega (arith, all, as_long place (length (value_code names.scope x)))
+
+pub inline_lengths_within : (p : Program) (fs : List Function) → inline_lengths (code_of p fs).functions ≤ length (code_of p fs).text.exprs
+inline_lengths_within p [] = omega arith
+inline_lengths_within p (f ∷ fs) =
+    let before : inline_lengths (code_of p fs).functions ≤ length (code_of p fs).text.exprs = inline_lengths_within p fs in
+    let now : inline_lengths (with_function p f fs (code_of p fs)).functions ≡ inline_lengths (code_of p fs).functions + (inline_length (func_of p f (code_of p fs)).inline + 0) = inline_lengths_append (code_of p fs).functions (func_of p f (code_of p fs) ∷ []) in
+    let put : length (with_function p f fs (code_of p fs)).text.exprs ≡ length (code_of p fs).text.exprs + length (body_exprs p f fs (code_of p fs) ++ initial_exprs (scope_in p f) f.locals) = length-append (code_of p fs).text.exprs (body_exprs p f fs (code_of p fs) ++ initial_exprs (scope_in p f) f.locals) in
+    let own_put : length (body_exprs p f fs (code_of p fs) ++ initial_exprs (scope_in p f) f.locals) ≡ length (body_exprs p f fs (code_of p fs)) + length (initial_exprs (scope_in p f) f.locals) = length-append (body_exprs p f fs (code_of p fs)) (initial_exprs (scope_in p f) f.locals) in
+    let value : inline_length (func_of p f (code_of p fs)).inline ≤ length (body_exprs p f fs (code_of p fs)) = returned_length (names_of (own p f fs (code_of p fs))) (length (code_of p fs).text.exprs) f.body (returned f.body) f.result_type refl refl in
+    omega (arith, before, now, put, own_put, value)

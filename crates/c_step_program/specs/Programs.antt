@@ -18,7 +18,7 @@ use Rattle.c_step_frames.specs.Frames.{FrameView}
 use Rattle.c_step_run.specs.declared.code.Initial.{Initial}
 use Rattle.c_step_run.specs.declared.code.Inline.{Inline}
 use Rattle.c_step_run.specs.declared.code.Func.{Func}
-use Rattle.c_step_run.specs.Coding.{CodeView, is_static, one_if_inline, frame_of, args_of}
+use Rattle.c_step_run.specs.Coding.{CodeView, is_static, inline_length, frame_of, args_of}
 
 -- No function has the name of one in front of it.
 abbrev pub AreApart : List Function → Type 0
@@ -48,10 +48,10 @@ inline_of scope place (Some v) (Some type) = Some (record { value = span_of plac
 inline_of scope place (Some v) None = None
 inline_of scope place None type = None
 
--- How many functions may stand in expressions.
-abbrev pub inlines : List Func → ℕ
-inlines [] = 0
-inlines (f ∷ fs) = one_if_inline f.inline + inlines fs
+-- The instructions of all values of functions in expressions.
+abbrev pub inline_lengths : List Func → ℕ
+inline_lengths [] = 0
+inline_lengths (f ∷ fs) = inline_length f.inline + inline_lengths fs
 
 -- A function behind other code.
 abbrev pub own : Program → Function → (callable : List Function) → CodeView → Activation
@@ -67,7 +67,7 @@ func_of p f c = record {
   turn = is_static f.linkage;
   initials = record { from = length c.initials; to = length c.initials + length f.locals };
   inline = inline_of (scope_in p f) (length c.text.exprs) (returned f.body) f.result_type;
-  rank = inlines c.functions;
+  rank = inline_lengths c.functions;
 }
 
 -- Code with a function more.

@@ -1,20 +1,22 @@
 // The laws of a program's code. Each is the contract of a function that does nothing.
 
-ghost use Rattle.std.specs.Prelude.{◌≡◌, List};
+ghost use Rattle.std.specs.Prelude.{◌≡◌, ◌≤◌, List, length};
 ghost use Rattle.wf_text.specs.Surface.{Surface};
 ghost use Rattle.c_text.specs.CTree.{ItemTree, ExprTree};
 ghost use Rattle.c_meaning.specs.CTypes.{Function, scope_of, names_of, type_of, held_of};
 ghost use Rattle.c_meaning.specs.CCall.{Program, program_of, scope_in};
 ghost use Rattle.c_meaning.specs.UnitForm.{HasUnitForm};
 ghost use Rattle.c_step_run.specs.Coding.{AreCoded, IsRanked, CodeView};
-ghost use Rattle.c_step_program.specs.Programs.{AreApart, code_of, frames_of, all_args};
+ghost use Rattle.c_step_program.specs.Programs.{AreApart, inline_lengths, code_of, frames_of, all_args};
 
 /// Where no function has another one's name, the code of a program has each function under its number, with its text, its
 /// locals and its value in an expression; and the frames are those of its functions. A function's rank is above that of
-/// each one in front of it that may stand in an expression.
+/// each one in front of it by the instructions of that one's value in an expression; and all of these values together have at
+/// most the instructions of the text.
 pub fn a_program_stands_in_its_code()
     ensures coded { (p : Program) → AreApart p.functions → AreCoded (code_of p p.functions) (frames_of p.functions) (all_args p.functions) p p.functions }
     ensures ranked { (p : Program) → IsRanked (code_of p p.functions).functions }
+    ensures values { (p : Program) → inline_lengths (code_of p p.functions).functions ≤ length (code_of p p.functions).text.exprs }
 {}
 
 /// In a text of the unit form no function has another one's name.

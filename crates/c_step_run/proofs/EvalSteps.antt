@@ -1,6 +1,6 @@
 -- The run of an expression's instructions from call to call.
-use Rattle.std.proofs.Common.{◌≡◌, ℕ, zero, suc, ◌+◌, ◌-◌, ◌<◌, ◌≤◌, true, List, [], ◌∷◌, length, Option, Some, None, refl, sym, ap, ◌∙◌, subst, arith, drop, length-take, length-drop}
-use Rattle.std.specs.Prelude.{slice_get, slice_range, option_map, option_and_then}
+use Rattle.std.proofs.Common.{◌≡◌, ℕ, zero, suc, ◌+◌, ◌<◌, ◌≤◌, true, List, [], ◌∷◌, length, Option, Some, None, refl, sym, ap, ◌∙◌, subst, arith, drop}
+use Rattle.std.specs.Prelude.{slice_get, option_map, option_and_then}
 use Rattle.std.proofs.lemmas.Option.{slice_get_within}
 use Rattle.c_meaning.specs.declared.values.Value.{Value}
 use Rattle.c_meaning.specs.CMemory.{Memory}
@@ -20,10 +20,6 @@ use Rattle.c_step_run.specs.declared.store.Store.{Store}
 use Rattle.c_step_run.specs.Coding.{CodeView}
 use Rattle.c_step_run.specs.Ready.{RestBelow, CanEval, CanCall, KeepsRoom, KeepsMemory}
 use Rattle.c_step_run.specs.Meaning.{seen_in, called_by_instr}
-use Rattle.c_step_run.proofs.Rooms.{own_need}
-
-pub range_length : {A : Type 0} (xs : List A) (from to : ℕ) → length (slice_range xs from to) ≤ length xs
-range_length xs from to = omega (arith, length-take (to - from) (drop from xs), length-drop from xs)
 
 pub call_within : (code : List Instr) (at : ℕ) → IsCallAt code at → at < length code
 call_within code at h = by_found (slice_get code at) refl
@@ -109,18 +105,13 @@ stack_changed old st now h k = record {
 }
 
 -- A call can be made in an expression.
-pub can_call : (c : CodeView) (at : Active) (old st : Store) (k n : ℕ) → CanEval c at old → KeepsMemory old st → length (on_stack st.stack) ≤ length (on_stack old.stack) + k → k < n → n ≤ length c.text.exprs → CanCall c at st
-can_call c at old st k n h keeps l within size = record {
+pub can_call : (c : CodeView) (at : Active) (old st : Store) (k n : ℕ) → CanEval c at n old → KeepsMemory old st → length (on_stack st.stack) ≤ length (on_stack old.stack) + k → k < n → CanCall c at st
+can_call c at old st k n h keeps l within = record {
   function = h.function;
   ranked = h.ranked;
   arguments = subst (λ (fs : List FrameView). RestBelow at.own fs) (sym keeps.room.arguments) h.arguments;
   objects = keeps.room.objects at.own h.objects;
-  values = omega (arith, h.values, keeps.room.values, l, within, size, own_need c at.own);
-  room = omega (arith, h.values, keeps.room.values, l, within, size, own_need c at.own);
+  values = omega (arith, h.values, keeps.room.values, l, within);
+  room = omega (arith, h.values, keeps.room.values, l, within);
   last = h.last ∙ sym (ap length keeps.same);
 }
-
--- There is room for the instructions' values.
-pub run_room : (c : CodeView) (at : Active) (old st : Store) (k n : ℕ) → CanEval c at old → KeepsMemory old st → length (on_stack st.stack) ≤ length (on_stack old.stack) + k → n ≤ length c.text.exprs
-    → length (on_stack st.stack) + n ≤ most st.stack + k
-run_room c at old st k n h keeps l size = omega (arith, h.values, keeps.room.values, l, size, own_need c at.own)

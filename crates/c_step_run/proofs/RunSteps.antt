@@ -27,7 +27,7 @@ use Rattle.c_step_run.specs.Meaning.{seen_in, OnTrue}
 use Rattle.c_step_run.proofs.EvalSteps.{kept_room}
 use Rattle.c_step_run.proofs.Shapes.{shape_length}
 
-can_eval : (c : CodeView) (at : Active) (old st : Store) → CanRun c at old → KeepsRoom old st → length (memory st.mem) ≡ length (memory old.mem) → on_stack st.stack ≡ [] → CanEval c at st
+can_eval : (c : CodeView) (at : Active) (old st : Store) → CanRun c at old → KeepsRoom old st → length (memory st.mem) ≡ length (memory old.mem) → on_stack st.stack ≡ [] → CanEval c at (length c.text.exprs) st
 can_eval c at old st h keeps same empty = record {
   function = h.evaluates.function;
   ranked = h.evaluates.ranked;

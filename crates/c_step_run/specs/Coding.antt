@@ -1,6 +1,6 @@
 -- How the functions of a program stand in a machine's code. The number of a function is that of the functions that stand
 -- in front of it in the text; the functions of a program are in the reverse order of the text.
-use Rattle.std.specs.Prelude.{◌≡◌, ℕ, ◌+◌, ◌<◌, ◌≤◌, Bool, true, false, List, [], ◌∷◌, length, map, slice_get, slice_range, Option, Some, None}
+use Rattle.std.specs.Prelude.{◌≡◌, ℕ, ◌+◌, ◌-◌, ◌<◌, ◌≤◌, Bool, true, false, List, [], ◌∷◌, length, map, slice_get, slice_range, Option, Some, None}
 use Rattle.std.specs.Option.{option_map_or}
 use Rattle.c_text.specs.declared.kinds.Linkage.{Linkage}
 use Rattle.c_text.specs.declared.kinds.Linkage.TheVariants.{External, Static, StaticInline}
@@ -76,14 +76,16 @@ abbrev pub AreCoded : CodeView → (frames args : List FrameView) → Program �
 AreCoded c frames args p [] = Unit {0}
 AreCoded c frames args p (f ∷ fs) = IsCoded c frames args p f fs × AreCoded c frames args p fs
 
--- A function's rank: at least so many functions that may stand in expressions are in front of it. So the rank tells how deep
--- calls in its expressions can be.
-abbrev pub one_if_inline : Option Inline → ℕ
-one_if_inline None = 0
-one_if_inline (Some it) = 1
+-- The instructions of a function's value in an expression; 0 where it has none.
+abbrev pub inline_length : Option Inline → ℕ
+inline_length None = 0
+inline_length (Some it) = it.value.to - it.value.from
 
+-- A function's rank is at least the number of instructions that the values of the functions in front of it have together. A
+-- function calls only those in front of it, each one at most once along a chain of calls in expressions, and a run of
+-- instructions puts at most one value for each. So the rank tells how many values the calls in its expressions can need.
 abbrev pub IsRanked : List Func → Type 0
-IsRanked fs = (i j : ℕ) (f g : Func) → i < j → slice_get fs i ≡ Some f → slice_get fs j ≡ Some g → f.rank + one_if_inline f.inline ≤ g.rank
+IsRanked fs = (i j : ℕ) (f g : Func) → i < j → slice_get fs i ≡ Some f → slice_get fs j ≡ Some g → f.rank + inline_length f.inline ≤ g.rank
 
 abbrev pub rank_at : List Func → ℕ → ℕ
 rank_at fs k = option_map_or (λ f. f.rank) (slice_get fs k) 0

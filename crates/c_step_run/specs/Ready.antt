@@ -1,5 +1,5 @@
 -- What a machine's store has to be for a run, and what a run leaves of it.
-use Rattle.std.specs.Prelude.{◌≡◌, ℕ, ◌+◌, ◌*◌, ◌<◌, ◌≤◌, List, [], length}
+use Rattle.std.specs.Prelude.{◌≡◌, ℕ, ◌+◌, ◌<◌, ◌≤◌, List, [], length}
 use Rattle.c_meaning.specs.Typed.{shape_of}
 use Rattle.c_mem.specs.MemoryViews.{memory, HasRoom}
 use Rattle.c_step_exprs.specs.Stacks.{on_stack, most}
@@ -13,18 +13,19 @@ use Rattle.c_step_run.specs.Coding.{CodeView, IsRanked, rank_at}
 abbrev pub RestBelow : (own : ℕ) → List FrameView → Type 0
 RestBelow own frames = (k : ℕ) → k < own → Rests frames k
 
--- Values that the expressions of this function can need at once, those of the functions that they call among them.
+-- Values that an expression of this function can need at once, those of the functions that it calls among them: one for each
+-- instruction of its own, and those of the calls. An expression has at most as many instructions as the whole text.
 abbrev pub need : CodeView → (own : ℕ) → ℕ
-need c own = (rank_at c.functions own + 1) * length c.text.exprs
+need c own = rank_at c.functions own + length c.text.exprs
 
--- Expressions of the call that is run can be: its object is the last one, and there is room for the objects and the values
--- of the calls in them.
-pub record CanEval (c : CodeView) (at : Active) (st : Store) : Type 0 where
+-- An expression of so many instructions of the call that is run can be: its object is the last one, and there is room for the
+-- objects and the values of the calls in it.
+pub record CanEval (c : CodeView) (at : Active) (size : ℕ) (st : Store) : Type 0 where
   pub function : at.own < length c.functions
   pub ranked : IsRanked c.functions
   pub arguments : RestBelow at.own st.args.items
   pub objects : HasRoom st.mem at.own
-  pub values : length (on_stack st.stack) + need c at.own ≤ most st.stack
+  pub values : length (on_stack st.stack) + (rank_at c.functions at.own + size) ≤ most st.stack
   pub last : at.frame + 1 ≡ length (memory st.mem)
 
 -- A call in such an expression can be made, with arguments that stand on the stack.
@@ -33,13 +34,13 @@ pub record CanCall (c : CodeView) (at : Active) (st : Store) : Type 0 where
   pub ranked : IsRanked c.functions
   pub arguments : RestBelow at.own st.args.items
   pub objects : HasRoom st.mem at.own
-  pub values : length (on_stack st.stack) + rank_at c.functions at.own * length c.text.exprs ≤ most st.stack
+  pub values : length (on_stack st.stack) + rank_at c.functions at.own ≤ most st.stack
   pub room : length (on_stack st.stack) < most st.stack
   pub last : at.frame + 1 ≡ length (memory st.mem)
 
 -- The same of statements, in front of each of which the stack is empty.
 pub record CanRun (c : CodeView) (at : Active) (st : Store) : Type 0 where
-  pub evaluates : CanEval c at st
+  pub evaluates : CanEval c at (length c.text.exprs) st
   pub frames : RestBelow at.own st.frames.items
   pub empty : on_stack st.stack ≡ []
 

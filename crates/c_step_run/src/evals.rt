@@ -59,7 +59,7 @@ impl Code {
     /// where something isn't defined.
     #[cycle(eval)]
     pub(crate) fn eval(&self, span: Span, at: Active, st: &mut Store) -> bool
-        requires ready { CanEval self.now at st.old }
+        requires ready { CanEval self.now at (length (code_in self.now.text span)) st.old }
         ensures keeps { KeepsMemory st.old st.new }
         ensures means { (p : Program) (callable : List Function) → length callable ≡ at.own → AreCoded self.now st.old.frames.items st.old.args.items p callable
             → Comes (exec (seen_in p callable at.frame (memory st.old.mem)) 0 (code_in self.now.text span) (on_stack st.old.stack)) result (on_stack st.new.stack) }
@@ -137,7 +137,7 @@ impl Code {
     /// What a function in an expression returns, whose call's object is the last one. The stack is as before.
     #[cycle(eval)]
     fn returned(&self, inline: Inline, at: Active, st: &mut Store) -> Option<Value>
-        requires ready { CanEval self.now at st.old }
+        requires ready { CanEval self.now at (length (code_in self.now.text inline.value)) st.old }
         ensures keeps { KeepsMemory st.old st.new }
         ensures stack { length (on_stack st.new.stack) ≤ length (on_stack st.old.stack) }
         ensures means { (p : Program) (callable : List Function) → length callable ≡ at.own → AreCoded self.now st.old.frames.items st.old.args.items p callable → (value : Option AnyValue)

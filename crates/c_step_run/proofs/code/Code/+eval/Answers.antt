@@ -8,7 +8,7 @@ use Rattle.c_step_frames.specs.Frames.{FrameView}
 use Rattle.c_step_run.specs.Ready.{RestBelow}
 use Rattle.c_step_run.specs.Meaning.{seen_in, called_by_instr}
 use Rattle.c_step_run.proofs.CallSteps.{stays_put, comes_back, taken_is, stack_below, one_more, ends_in_call, on_any, room_stays, room_back}
-use Rattle.c_step_run.proofs.EvalSteps.{range_length, eval_goes, eval_stops, stack_changed, can_call, kept_memory}
+use Rattle.c_step_run.proofs.EvalSteps.{eval_goes, eval_stops, stack_changed, can_call, kept_memory}
 use Rattle.c_step_run.proofs.Inlines.{no_call, wrong_count, not_entered, no_value, inline_means}
 use Rattle.c_step_run.proofs.Lookups.{found, no_expression, all_same}
 use Rattle.c_step_run.proofs.Rooms.{There, there, inner_need, rest_below, others_stay, fewer_objects}
@@ -141,9 +141,9 @@ eval-call_at-requires t c = (c.in-Call.ensures.stops (λ k given. None)).1
 pub eval-call_in-requires : goal.eval-call_in-requires
 eval-call_in-requires t c = (
   omega (arith, c.decreases),
-  can_call c.args.self.now c.args.at c.args.st.now (record c.loop-call.st { stack = c.run.new.stack }) c.in-Call.call (length c.exprs-code.result.now) c.requires.ready
+  can_call c.args.self.now c.args.at c.args.st.now (record c.loop-call.st { stack = c.run.new.stack }) c.in-Call.call (length c.exprs-code.result.now) (rw c.exprs-code.ensures c.requires.ready)
       (stack_changed c.args.st.now c.loop-call.st c.run.new.stack c.loop-call.invariant.keeps c.in-Call.ensures.room)
-      (omega (arith, c.loop-call.invariant.values, c.in-Call.ensures.puts)) c.call_at.ensures.within (rw c.exprs-code.ensures (range_length c.args.self.now.text.exprs c.args.span.from c.args.span.to)),
+      (omega (arith, c.loop-call.invariant.values, c.in-Call.ensures.puts)) c.call_at.ensures.within,
 )
 
 pub eval-returns-then-not-call_in-clause-keeps : goal.eval-returns-then-not-call_in-clause-keeps
