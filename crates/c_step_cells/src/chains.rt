@@ -5,9 +5,11 @@ ghost use Rattle.c_text.specs.CNodes.{unit_tree};
 ghost use Rattle.c_meaning.specs.CCall.{program_of};
 ghost use Rattle.c_step_load.specs.Loading.{functions_before};
 ghost use Rattle.c_step_cells.specs.Chains.{called_cells as called_cells_of, from_host as from_host_of, frame_cells as frame_cells_of};
+ghost use Rattle.c_step_cells.specs.Depths.{AreShallow};
 ghost use Rattle.c_step_cells.specs.Growing.{AreChains};
 
 use crate::called::called_cells;
+use crate::depths::check_depths;
 use c_form::Formed;
 use c_step_run::Code;
 use c_text::{CItem, CItemId, Linkage, Unit};
@@ -88,10 +90,12 @@ impl Chains {
 }
 
 /// The greatest number of parameters and locals along a chain of calls that begins at an external function of a unit, by the
-/// unit's code. `NoMemory` where memory was refused.
+/// unit's code. `NoMemory` where memory was refused, or where a chain of calls has more than 4,096 functions.
 pub fn frame_cells(alloc: Global, formed: &Formed, code: &Code) -> Result<u64, NoMemory>
-    ensures { IfOk result (λ n. n ≡ frame_cells_of code.now (program_of (unit_tree formed.now)).functions) }
+    ensures cells { IfOk result (λ n. n ≡ frame_cells_of code.now (program_of (unit_tree formed.now)).functions) }
+    ensures shallow { OnOk result (AreShallow code.now) }
 {
+    check_depths(alloc, code)?;
     let unit = formed.unit();
     let mut chains = Chains {
         table: Vec::new(alloc),

@@ -5,5 +5,6 @@
 
 mod called;
 mod chains;
+mod depths;
 
 pub use chains::frame_cells;
