@@ -1,0 +1,5 @@
+pub mod FieldBytes
+pub mod LargeExample
+pub mod Methods
+pub mod SmallStructs
+pub mod StructBytes

@@ -1,0 +1,3 @@
+pub mod Started
+pub mod Code
+pub mod Active
