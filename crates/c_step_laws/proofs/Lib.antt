@@ -1,0 +1,12 @@
+pub mod ChainLaws
+pub mod CodeCells
+pub mod EndLaws
+pub mod ExprCells
+pub mod FunctionCells
+pub mod Lists
+pub mod Placing
+pub mod PublicLaws
+pub mod Rising
+pub mod RunLaws
+pub mod Sizes
+pub mod StepKeeps

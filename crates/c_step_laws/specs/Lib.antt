@@ -1,0 +1,4 @@
+pub mod CallChains
+pub mod Callees
+pub mod ChainText
+pub mod Passing
