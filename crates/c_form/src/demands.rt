@@ -168,7 +168,7 @@ impl<'n, 'u> Demands<'n, 'u> {
     }
 
     /// Whether the item with this number has met what was asked.
-    pub fn are_met(&self, i: usize) -> bool
+    pub(crate) fn are_met(&self, i: usize) -> bool
         requires { i < length self.now.met }
         ensures { slice_get self.now.met i ≡ Some result }
     {
@@ -176,7 +176,7 @@ impl<'n, 'u> Demands<'n, 'u> {
     }
 
     /// Whether all functions that were asked for are there.
-    pub fn are_complete(&self) -> bool
+    pub(crate) fn are_complete(&self) -> bool
         ensures { result ≡ self.now.complete }
     {
         self.complete

@@ -95,7 +95,7 @@ impl<'u> Front<'u> {
 
     /// Whether the name is that of a string.
     #[tactic(auto, using(crate::proofs::FrontLemmas::text_listed))]
-    pub fn is_text(&self, name: &[u8]) -> bool
+    pub(crate) fn is_text(&self, name: &[u8]) -> bool
         ensures { result ≡ is_some (find (λ it. bytes_eq it.name name.now) (texts_of (front_items self.now))) }
     {
         self.texts.get(name).is_some()

@@ -137,7 +137,7 @@ impl<'k, 'u> Scope<'k, 'u> {
     }
 
     /// What a pointer's target stands for; None where that is an object, and for a number.
-    pub fn pointed_to(&self, pointer: ExprType) -> Option<Held>
+    pub(crate) fn pointed_to(&self, pointer: ExprType) -> Option<Held>
         ensures tells { option_map (held_in self.now.front.nodes.names) result ≡ pointed_held (Some (value_in self.now.front.nodes.names pointer)) }
         ensures has { HasValue self.now.front.nodes pointer → IfSome result (HasHeld self.now.front.nodes) }
     {
@@ -202,7 +202,7 @@ impl<'k, 'u> Scope<'k, 'u> {
     }
 
     /// Whether two pointers point to what is alike (6.7.5.1p2).
-    pub fn is_same_target(&self, a: Target, b: Target) -> bool
+    pub(crate) fn is_same_target(&self, a: Target, b: Target) -> bool
         requires first { HasTarget self.now.front.nodes a }
         requires second { HasTarget self.now.front.nodes b }
         ensures { result ≡ are_same_targets (target_in self.now.front.nodes.names a) (target_in self.now.front.nodes.names b) }
@@ -226,7 +226,7 @@ impl<'k, 'u> Scope<'k, 'u> {
     }
 
     /// What a field of the struct of this name stands for (6.5.2.3, 6.3.2.1).
-    pub fn field_held(&self, of: CNameId, field: CField) -> Held
+    pub(crate) fn field_held(&self, of: CNameId, field: CField) -> Held
         requires of { HasName self.now.front.nodes of }
         requires field { HasField self.now.front.nodes field }
         ensures tells { held_in self.now.front.nodes.names result ≡ held_field (bytes_at self.now.front.nodes.names of.0) (field_tree self.now.front.nodes.names field) }

@@ -77,7 +77,7 @@ impl<'c, 'k, 'u> Frame<'c, 'k, 'u> {
     }
 
     /// Whether the value of an expression may go to a cell of this type (6.5.16.1).
-    pub fn may_go(&self, to: CType, e: CExprId) -> Result<bool, NoMemory>
+    pub(crate) fn may_go(&self, to: CType, e: CExprId) -> Result<bool, NoMemory>
         requires to { HasType self.now.within.front.nodes to }
         requires has { e.0 < length self.now.within.front.nodes.exprs }
         ensures { IfOk result (λ may. may ≡ may_assign (Some (one (type_in self.now.within.front.nodes.names to))) (expr_type (scope_in self.now.within) (expr_of self.now.within.front.nodes e.0))) }
@@ -189,7 +189,7 @@ impl<'c, 'k, 'u> Frame<'c, 'k, 'u> {
     }
 
     /// Whether all statements of a body are formed.
-    pub fn are_formed(&self, lines: &[Line]) -> Result<bool, NoMemory>
+    pub(crate) fn are_formed(&self, lines: &[Line]) -> Result<bool, NoMemory>
         requires lines { HasLines self.now.within.front.nodes lines.now }
         requires result_type { IfSome self.now.result_type (HasType self.now.within.front.nodes) }
         ensures { IfOk result (λ formed. formed ≡ formed_lines (checked_in self.now) (named self.now.labels) 0 (map (line_in self.now.within.front.nodes) lines.now)) }

@@ -62,7 +62,7 @@ impl Maker {
     }
 
     /// A block of the statements on top of the stack, the last of which is topmost.
-    pub fn end_block(&mut self) -> Result<(), NoMemory>
+    pub(crate) fn end_block(&mut self) -> Result<(), NoMemory>
         requires fit { IsFit self.old }
         ensures made { OnOk result (made self.new ≡ collect finish (made self.old)) }
         ensures fit { OnOk result (IsFit self.new) }
@@ -101,7 +101,7 @@ impl Maker {
     }
 
     /// A whole `if`, of its arms, and of the block of an `else` where that is on top.
-    pub fn make_if(&mut self) -> Result<(), NoMemory>
+    pub(crate) fn make_if(&mut self) -> Result<(), NoMemory>
         requires fit { IsFit self.old }
         ensures made { OnOk result (made self.new ≡ make_if (made self.old)) }
         ensures fit { OnOk result (IsFit self.new) }
@@ -174,7 +174,7 @@ impl Maker {
     }
 
     /// A variable of the name below the topmost value.
-    pub fn make_variable_below(&mut self) -> Result<(), NoMemory>
+    pub(crate) fn make_variable_below(&mut self) -> Result<(), NoMemory>
         requires fit { IsFit self.old }
         ensures made { OnOk result (made self.new ≡ perform_expr does.MakeVariableBelow (made self.old)) }
         ensures fit { OnOk result (IsFit self.new) }

@@ -16,7 +16,7 @@ use std::alloc::Global;
 use wf_text::NoMemory;
 
 /// A variable.
-pub fn make_variable(values: &mut Stack<Value>) -> Product
+pub(crate) fn make_variable(values: &mut Stack<Value>) -> Product
     requires { fits (shapes.Name ∷ []) values.old ≡ true }
     ensures { making (acts.Expr does.MakeVariable) values.old ≡ record { product = result; vals = values.new } }
 {
@@ -25,7 +25,7 @@ pub fn make_variable(values: &mut Stack<Value>) -> Product
 }
 
 /// A literal.
-pub fn make_number(values: &mut Stack<Value>) -> Product
+pub(crate) fn make_number(values: &mut Stack<Value>) -> Product
     requires { fits (shapes.Number ∷ []) values.old ≡ true }
     ensures { making (acts.Expr does.MakeNumber) values.old ≡ record { product = result; vals = values.new } }
 {
@@ -34,7 +34,7 @@ pub fn make_number(values: &mut Stack<Value>) -> Product
 }
 
 /// A field.
-pub fn make_member(values: &mut Stack<Value>) -> Product
+pub(crate) fn make_member(values: &mut Stack<Value>) -> Product
     requires { fits (shapes.Name ∷ shapes.Expr ∷ []) values.old ≡ true }
     ensures { making (acts.Expr does.MakeMember) values.old ≡ record { product = result; vals = values.new } }
 {
@@ -44,7 +44,7 @@ pub fn make_member(values: &mut Stack<Value>) -> Product
 }
 
 /// An element.
-pub fn make_element(values: &mut Stack<Value>) -> Product
+pub(crate) fn make_element(values: &mut Stack<Value>) -> Product
     requires { fits (shapes.Expr ∷ shapes.Expr ∷ []) values.old ≡ true }
     ensures { making (acts.Expr does.MakeElement) values.old ≡ record { product = result; vals = values.new } }
 {
@@ -54,7 +54,7 @@ pub fn make_element(values: &mut Stack<Value>) -> Product
 }
 
 /// What a pointer points to.
-pub fn make_pointed(values: &mut Stack<Value>) -> Product
+pub(crate) fn make_pointed(values: &mut Stack<Value>) -> Product
     requires { fits (shapes.Expr ∷ []) values.old ≡ true }
     ensures { making (acts.Expr does.MakePointed) values.old ≡ record { product = result; vals = values.new } }
 {
@@ -63,7 +63,7 @@ pub fn make_pointed(values: &mut Stack<Value>) -> Product
 }
 
 /// An operation of two operands.
-pub fn start_operation(alloc: Global, values: &mut Stack<Value>) -> Product
+pub(crate) fn start_operation(alloc: Global, values: &mut Stack<Value>) -> Product
     requires { fits (shapes.Expr ∷ shapes.Expr ∷ []) values.old ≡ true }
     ensures { making (acts.Expr does.StartOperation) values.old ≡ record { product = result; vals = values.new } }
 {
@@ -77,7 +77,7 @@ pub fn start_operation(alloc: Global, values: &mut Stack<Value>) -> Product
 }
 
 /// One operand more of an operation.
-pub fn add_operand(values: &mut Stack<Value>) -> Result<Product, NoMemory>
+pub(crate) fn add_operand(values: &mut Stack<Value>) -> Result<Product, NoMemory>
     requires { fits (shapes.Expr ∷ shapes.Operation ∷ []) values.old ≡ true }
     ensures { IfOk result (λ product. making (acts.Expr does.AddOperand) values.old ≡ record { product = product; vals = values.new }) }
 {
@@ -97,7 +97,7 @@ pub fn add_operand(values: &mut Stack<Value>) -> Result<Product, NoMemory>
 }
 
 /// A whole operation.
-pub fn make_operation(op: COp, values: &mut Stack<Value>) -> Product
+pub(crate) fn make_operation(op: COp, values: &mut Stack<Value>) -> Product
     requires { fits (shapes.Operation ∷ []) values.old ≡ true }
     ensures { making (acts.Expr (does.MakeOperation op)) values.old ≡ record { product = result; vals = values.new } }
 {
@@ -111,7 +111,7 @@ pub fn make_operation(op: COp, values: &mut Stack<Value>) -> Product
 }
 
 /// An operator in front of its operand.
-pub fn make_unary(op: CUnary, values: &mut Stack<Value>) -> Product
+pub(crate) fn make_unary(op: CUnary, values: &mut Stack<Value>) -> Product
     requires { fits (shapes.Expr ∷ []) values.old ≡ true }
     ensures { making (acts.Expr (does.MakeUnary op)) values.old ≡ record { product = result; vals = values.new } }
 {
@@ -120,7 +120,7 @@ pub fn make_unary(op: CUnary, values: &mut Stack<Value>) -> Product
 }
 
 /// A cast.
-pub fn make_cast(values: &mut Stack<Value>) -> Product
+pub(crate) fn make_cast(values: &mut Stack<Value>) -> Product
     requires { fits (shapes.Expr ∷ shapes.Type ∷ []) values.old ≡ true }
     ensures { making (acts.Expr does.MakeCast) values.old ≡ record { product = result; vals = values.new } }
 {
@@ -130,7 +130,7 @@ pub fn make_cast(values: &mut Stack<Value>) -> Product
 }
 
 /// A choice.
-pub fn make_choice(values: &mut Stack<Value>) -> Product
+pub(crate) fn make_choice(values: &mut Stack<Value>) -> Product
     requires { fits (shapes.Expr ∷ shapes.Expr ∷ shapes.Expr ∷ []) values.old ≡ true }
     ensures { making (acts.Expr does.MakeChoice) values.old ≡ record { product = result; vals = values.new } }
 {
@@ -141,7 +141,7 @@ pub fn make_choice(values: &mut Stack<Value>) -> Product
 }
 
 /// A call that has a value.
-pub fn make_called(values: &mut Stack<Value>) -> Product
+pub(crate) fn make_called(values: &mut Stack<Value>) -> Product
     requires { fits (shapes.Args ∷ shapes.Name ∷ []) values.old ≡ true }
     ensures { making (acts.Expr does.MakeCalled) values.old ≡ record { product = result; vals = values.new } }
 {
@@ -163,7 +163,7 @@ pub fn add_arg(values: &mut Stack<Value>) -> Result<Product, NoMemory>
 }
 
 /// One argument more, a size.
-pub fn add_sizeof(values: &mut Stack<Value>) -> Result<Product, NoMemory>
+pub(crate) fn add_sizeof(values: &mut Stack<Value>) -> Result<Product, NoMemory>
     requires { fits (shapes.Name ∷ shapes.Args ∷ []) values.old ≡ true }
     ensures { IfOk result (λ product. making (acts.Expr does.AddSizeof) values.old ≡ record { product = product; vals = values.new }) }
 {

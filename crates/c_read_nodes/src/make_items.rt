@@ -19,7 +19,7 @@ use std::alloc::Global;
 use wf_text::NoMemory;
 
 /// A field of a type.
-pub fn make_field(values: &mut Stack<Value>) -> Product
+pub(crate) fn make_field(values: &mut Stack<Value>) -> Product
     requires { fits (shapes.Name ∷ shapes.Type ∷ []) values.old ≡ true }
     ensures { making (acts.Item does.MakeField) values.old ≡ record { product = result; vals = values.new } }
 {
@@ -33,7 +33,7 @@ pub fn make_field(values: &mut Stack<Value>) -> Product
 }
 
 /// A field that is a struct.
-pub fn make_struct_field(values: &mut Stack<Value>) -> Product
+pub(crate) fn make_struct_field(values: &mut Stack<Value>) -> Product
     requires { fits (shapes.Name ∷ shapes.Name ∷ []) values.old ≡ true }
     ensures { making (acts.Item does.MakeStructField) values.old ≡ record { product = result; vals = values.new } }
 {
@@ -47,7 +47,7 @@ pub fn make_struct_field(values: &mut Stack<Value>) -> Product
 }
 
 /// The count of a field.
-pub fn set_count(values: &mut Stack<Value>) -> Product
+pub(crate) fn set_count(values: &mut Stack<Value>) -> Product
     requires { fits (shapes.Number ∷ shapes.Field ∷ []) values.old ≡ true }
     ensures { making (acts.Item does.SetCount) values.old ≡ record { product = result; vals = values.new } }
 {
@@ -73,7 +73,7 @@ pub fn add_field(values: &mut Stack<Value>) -> Result<Product, NoMemory>
 }
 
 /// A struct.
-pub fn make_struct(values: &mut Stack<Value>) -> Product
+pub(crate) fn make_struct(values: &mut Stack<Value>) -> Product
     requires { fits (shapes.Name ∷ shapes.SomeFields ∷ shapes.Unit ∷ []) values.old ≡ true }
     ensures { making (acts.Item does.MakeStruct) values.old ≡ record { product = result; vals = values.new } }
 {
@@ -84,7 +84,7 @@ pub fn make_struct(values: &mut Stack<Value>) -> Product
 }
 
 /// A string object.
-pub fn make_text_item(values: &mut Stack<Value>) -> Product
+pub(crate) fn make_text_item(values: &mut Stack<Value>) -> Product
     requires { fits (shapes.Text ∷ shapes.Name ∷ shapes.Unit ∷ []) values.old ≡ true }
     ensures { making (acts.Item does.MakeTextItem) values.old ≡ record { product = result; vals = values.new } }
 {
@@ -95,7 +95,7 @@ pub fn make_text_item(values: &mut Stack<Value>) -> Product
 }
 
 /// What a function results in.
-pub fn make_result(linkage: Linkage, values: &mut Stack<Value>) -> Product
+pub(crate) fn make_result(linkage: Linkage, values: &mut Stack<Value>) -> Product
     requires { fits (shapes.Type ∷ []) values.old ≡ true }
     ensures { making (acts.Item (does.MakeResult linkage)) values.old ≡ record { product = result; vals = values.new } }
 {
@@ -137,7 +137,7 @@ pub fn add_local(values: &mut Stack<Value>) -> Result<Product, NoMemory>
 }
 
 /// One local more, with its initial value.
-pub fn add_initial_local(values: &mut Stack<Value>) -> Result<Product, NoMemory>
+pub(crate) fn add_initial_local(values: &mut Stack<Value>) -> Result<Product, NoMemory>
     requires { fits (shapes.Expr ∷ shapes.Name ∷ shapes.Type ∷ shapes.Locals ∷ []) values.old ≡ true }
     ensures { IfOk result (λ product. making (acts.Item does.AddInitialLocal) values.old ≡ record { product = product; vals = values.new }) }
 {
@@ -155,7 +155,7 @@ pub fn add_initial_local(values: &mut Stack<Value>) -> Result<Product, NoMemory>
 }
 
 /// A function.
-pub fn make_function(values: &mut Stack<Value>) -> Product
+pub(crate) fn make_function(values: &mut Stack<Value>) -> Product
     requires { fits (shapes.Code ∷ shapes.Locals ∷ shapes.Params ∷ shapes.Name ∷ shapes.Outcome ∷ shapes.Unit ∷ []) values.old ≡ true }
     ensures { making (acts.Item does.MakeFunction) values.old ≡ record { product = result; vals = values.new } }
 {

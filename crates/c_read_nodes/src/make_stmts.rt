@@ -17,7 +17,7 @@ use std::alloc::Global;
 use wf_text::NoMemory;
 
 /// A block in a block.
-pub fn make_nested(values: &mut Stack<Value>) -> Product
+pub(crate) fn make_nested(values: &mut Stack<Value>) -> Product
     requires { fits (shapes.Code ∷ []) values.old ≡ true }
     ensures { making (acts.Stmt does.MakeNested) values.old ≡ record { product = result; vals = values.new } }
 {
@@ -26,7 +26,7 @@ pub fn make_nested(values: &mut Stack<Value>) -> Product
 }
 
 /// An assignment.
-pub fn make_assign(values: &mut Stack<Value>) -> Product
+pub(crate) fn make_assign(values: &mut Stack<Value>) -> Product
     requires { fits (shapes.Expr ∷ shapes.Expr ∷ []) values.old ≡ true }
     ensures { making (acts.Stmt does.MakeAssign) values.old ≡ record { product = result; vals = values.new } }
 {
@@ -36,7 +36,7 @@ pub fn make_assign(values: &mut Stack<Value>) -> Product
 }
 
 /// A call.
-pub fn make_call(values: &mut Stack<Value>) -> Product
+pub(crate) fn make_call(values: &mut Stack<Value>) -> Product
     requires { fits (shapes.Args ∷ shapes.Name ∷ []) values.old ≡ true }
     ensures { making (acts.Stmt does.MakeCall) values.old ≡ record { product = result; vals = values.new } }
 {
@@ -49,7 +49,7 @@ pub fn make_call(values: &mut Stack<Value>) -> Product
 }
 
 /// A call whose value is assigned.
-pub fn make_call_into(values: &mut Stack<Value>) -> Product
+pub(crate) fn make_call_into(values: &mut Stack<Value>) -> Product
     requires { fits (shapes.Args ∷ shapes.Name ∷ shapes.Expr ∷ []) values.old ≡ true }
     ensures { making (acts.Stmt does.MakeCallInto) values.old ≡ record { product = result; vals = values.new } }
 {
@@ -63,7 +63,7 @@ pub fn make_call_into(values: &mut Stack<Value>) -> Product
 }
 
 /// A jump.
-pub fn make_goto(values: &mut Stack<Value>) -> Product
+pub(crate) fn make_goto(values: &mut Stack<Value>) -> Product
     requires { fits (shapes.Name ∷ []) values.old ≡ true }
     ensures { making (acts.Stmt does.MakeGoto) values.old ≡ record { product = result; vals = values.new } }
 {
@@ -82,7 +82,7 @@ pub fn add_arm(values: &mut Stack<Value>) -> Product
 }
 
 /// A loop.
-pub fn make_while(values: &mut Stack<Value>) -> Product
+pub(crate) fn make_while(values: &mut Stack<Value>) -> Product
     requires { fits (shapes.Code ∷ shapes.Expr ∷ []) values.old ≡ true }
     ensures { making (acts.Stmt does.MakeWhile) values.old ≡ record { product = result; vals = values.new } }
 {
@@ -92,7 +92,7 @@ pub fn make_while(values: &mut Stack<Value>) -> Product
 }
 
 /// A switch.
-pub fn make_switch(values: &mut Stack<Value>) -> Product
+pub(crate) fn make_switch(values: &mut Stack<Value>) -> Product
     requires { fits (shapes.Code ∷ shapes.Expr ∷ []) values.old ≡ true }
     ensures { making (acts.Stmt does.MakeSwitch) values.old ≡ record { product = result; vals = values.new } }
 {
@@ -102,7 +102,7 @@ pub fn make_switch(values: &mut Stack<Value>) -> Product
 }
 
 /// `return` of a value.
-pub fn make_return_value(values: &mut Stack<Value>) -> Product
+pub(crate) fn make_return_value(values: &mut Stack<Value>) -> Product
     requires { fits (shapes.Expr ∷ []) values.old ≡ true }
     ensures { making (acts.Stmt does.MakeReturnValue) values.old ≡ record { product = result; vals = values.new } }
 {
@@ -111,7 +111,7 @@ pub fn make_return_value(values: &mut Stack<Value>) -> Product
 }
 
 /// The label `case`.
-pub fn make_case(values: &mut Stack<Value>) -> Product
+pub(crate) fn make_case(values: &mut Stack<Value>) -> Product
     requires { fits (shapes.Number ∷ []) values.old ≡ true }
     ensures { making (acts.Stmt does.MakeCase) values.old ≡ record { product = result; vals = values.new } }
 {
@@ -120,7 +120,7 @@ pub fn make_case(values: &mut Stack<Value>) -> Product
 }
 
 /// A label.
-pub fn make_label(values: &mut Stack<Value>) -> Product
+pub(crate) fn make_label(values: &mut Stack<Value>) -> Product
     requires { fits (shapes.Name ∷ []) values.old ≡ true }
     ensures { making (acts.Stmt does.MakeLabel) values.old ≡ record { product = result; vals = values.new } }
 {

@@ -16,7 +16,7 @@ use std::alloc::Global;
 use wf_text::NoMemory;
 
 /// A pointer to such a type.
-pub fn make_uint_pointer(values: &mut Stack<Value>) -> Product
+pub(crate) fn make_uint_pointer(values: &mut Stack<Value>) -> Product
     requires { fits (shapes.UintType ∷ []) values.old ≡ true }
     ensures { making (acts.Type does.MakeUintPointer) values.old ≡ record { product = result; vals = values.new } }
 {
@@ -25,7 +25,7 @@ pub fn make_uint_pointer(values: &mut Stack<Value>) -> Product
 }
 
 /// A pointer to a struct.
-pub fn make_struct_pointer(values: &mut Stack<Value>) -> Product
+pub(crate) fn make_struct_pointer(values: &mut Stack<Value>) -> Product
     requires { fits (shapes.Name ∷ []) values.old ≡ true }
     ensures { making (acts.Type does.MakeStructPointer) values.old ≡ record { product = result; vals = values.new } }
 {

@@ -28,7 +28,7 @@ pub struct Maker {
 
 impl Maker {
     /// Adds an expression to the unit, and puts it on the stack.
-    pub fn put_expr(&mut self, x: CExpr) -> Result<(), NoMemory>
+    pub(crate) fn put_expr(&mut self, x: CExpr) -> Result<(), NoMemory>
         requires fit { IsFit self.old }
         requires parts { FitsExpr self.old.unit (length self.old.unit.exprs) x }
         ensures made { OnOk result (made self.new ≡ an_expr (made_expr self.old.unit.names (expr_of self.old.unit) x) ∷ made self.old) }

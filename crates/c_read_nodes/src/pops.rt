@@ -26,7 +26,7 @@ pub fn pop_name(values: &mut Stack<Value>) -> CNameId
 }
 
 /// Takes a literal from the top.
-pub fn pop_number(values: &mut Stack<Value>) -> CNumber
+pub(crate) fn pop_number(values: &mut Stack<Value>) -> CNumber
     requires { fits (shapes.Number ∷ []) values.old ≡ true }
     ensures { values.old ≡ vals.Number result ∷ values.new }
 {
@@ -37,7 +37,7 @@ pub fn pop_number(values: &mut Stack<Value>) -> CNumber
 }
 
 /// Takes a string from the top.
-pub fn pop_text(values: &mut Stack<Value>) -> CStringId
+pub(crate) fn pop_text(values: &mut Stack<Value>) -> CStringId
     requires { fits (shapes.Text ∷ []) values.old ≡ true }
     ensures { values.old ≡ vals.Text result ∷ values.new }
 {
@@ -59,7 +59,7 @@ pub fn pop_expr(values: &mut Stack<Value>) -> CExprId
 }
 
 /// Takes an operation from the top.
-pub fn pop_operation(values: &mut Stack<Value>) -> OpenOperation
+pub(crate) fn pop_operation(values: &mut Stack<Value>) -> OpenOperation
     requires { fits (shapes.Operation ∷ []) values.old ≡ true }
     ensures { values.old ≡ vals.Operation result ∷ values.new }
 {
@@ -70,7 +70,7 @@ pub fn pop_operation(values: &mut Stack<Value>) -> OpenOperation
 }
 
 /// Takes arguments from the top.
-pub fn pop_args(values: &mut Stack<Value>) -> CList<CArg>
+pub(crate) fn pop_args(values: &mut Stack<Value>) -> CList<CArg>
     requires { fits (shapes.Args ∷ []) values.old ≡ true }
     ensures { values.old ≡ vals.Args result ∷ values.new }
 {
@@ -92,7 +92,7 @@ pub fn pop_type(values: &mut Stack<Value>) -> CType
 }
 
 /// Takes a type of exact width from the top.
-pub fn pop_uint_type(values: &mut Stack<Value>) -> CUint
+pub(crate) fn pop_uint_type(values: &mut Stack<Value>) -> CUint
     requires { fits (shapes.UintType ∷ []) values.old ≡ true }
     ensures { values.old ≡ vals.Type (types.Uint result) ∷ values.new }
 {
@@ -114,7 +114,7 @@ pub fn pop_block(values: &mut Stack<Value>)
 }
 
 /// Takes a block from the top.
-pub fn pop_code(values: &mut Stack<Value>) -> CStmtId
+pub(crate) fn pop_code(values: &mut Stack<Value>) -> CStmtId
     requires { fits (shapes.Code ∷ []) values.old ≡ true }
     ensures { values.old ≡ vals.Code result ∷ values.new }
 {
@@ -125,7 +125,7 @@ pub fn pop_code(values: &mut Stack<Value>) -> CStmtId
 }
 
 /// Takes a statement from the top.
-pub fn pop_statement(values: &mut Stack<Value>) -> Statement
+pub(crate) fn pop_statement(values: &mut Stack<Value>) -> Statement
     requires { fits (shapes.Statement ∷ []) values.old ≡ true }
     ensures { values.old ≡ vals.Statement result ∷ values.new }
 {
@@ -136,7 +136,7 @@ pub fn pop_statement(values: &mut Stack<Value>) -> Statement
 }
 
 /// Takes an arm of an `if` from the top.
-pub fn pop_arm(values: &mut Stack<Value>) -> Arm
+pub(crate) fn pop_arm(values: &mut Stack<Value>) -> Arm
     requires { fits (shapes.Arm ∷ []) values.old ≡ true }
     ensures { values.old ≡ vals.Arm result ∷ values.new }
 {
@@ -147,7 +147,7 @@ pub fn pop_arm(values: &mut Stack<Value>) -> Arm
 }
 
 /// Takes a field from the top.
-pub fn pop_field(values: &mut Stack<Value>) -> CField
+pub(crate) fn pop_field(values: &mut Stack<Value>) -> CField
     requires { fits (shapes.Field ∷ []) values.old ≡ true }
     ensures { values.old ≡ vals.Field result ∷ values.new }
 {
@@ -169,7 +169,7 @@ pub fn pop_fields(values: &mut Stack<Value>) -> CList<CField>
 }
 
 /// Takes fields, at least one from the top.
-pub fn pop_some_fields(values: &mut Stack<Value>) -> CList<CField>
+pub(crate) fn pop_some_fields(values: &mut Stack<Value>) -> CList<CField>
     requires { fits (shapes.SomeFields ∷ []) values.old ≡ true }
     ensures { values.old ≡ vals.Fields result ∷ values.new }
 {
@@ -180,7 +180,7 @@ pub fn pop_some_fields(values: &mut Stack<Value>) -> CList<CField>
 }
 
 /// Takes what a function results in from the top.
-pub fn pop_outcome(values: &mut Stack<Value>) -> Outcome
+pub(crate) fn pop_outcome(values: &mut Stack<Value>) -> Outcome
     requires { fits (shapes.Outcome ∷ []) values.old ≡ true }
     ensures { values.old ≡ vals.Outcome result ∷ values.new }
 {
@@ -191,7 +191,7 @@ pub fn pop_outcome(values: &mut Stack<Value>) -> Outcome
 }
 
 /// Takes parameters from the top.
-pub fn pop_params(values: &mut Stack<Value>) -> CList<CParam>
+pub(crate) fn pop_params(values: &mut Stack<Value>) -> CList<CParam>
     requires { fits (shapes.Params ∷ []) values.old ≡ true }
     ensures { values.old ≡ vals.Params result ∷ values.new }
 {
@@ -202,7 +202,7 @@ pub fn pop_params(values: &mut Stack<Value>) -> CList<CParam>
 }
 
 /// Takes locals from the top.
-pub fn pop_locals(values: &mut Stack<Value>) -> CList<CLocal>
+pub(crate) fn pop_locals(values: &mut Stack<Value>) -> CList<CLocal>
     requires { fits (shapes.Locals ∷ []) values.old ≡ true }
     ensures { values.old ≡ vals.Locals result ∷ values.new }
 {
@@ -213,7 +213,7 @@ pub fn pop_locals(values: &mut Stack<Value>) -> CList<CLocal>
 }
 
 /// Takes the unit from the top.
-pub fn pop_unit(values: &mut Stack<Value>)
+pub(crate) fn pop_unit(values: &mut Stack<Value>)
     requires { fits (shapes.Unit ∷ []) values.old ≡ true }
     ensures { values.old ≡ vals.Unit ∷ values.new }
 {

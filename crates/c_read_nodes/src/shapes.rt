@@ -197,7 +197,7 @@ pub fn takes(action: Action) -> &'static [Shape]
 }
 
 /// Whether an action takes a fixed number of values from the top.
-pub fn is_plain(action: Action) -> bool
+pub(crate) fn is_plain(action: Action) -> bool
     ensures { result ≡ is_plain action }
 {
     !matches!(

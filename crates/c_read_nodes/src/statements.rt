@@ -67,7 +67,7 @@ pub enum Statement {
 
 impl Statement {
     /// The statement's node, where `rest` follows it.
-    pub fn followed_by(self, rest: CStmtId) -> CStmt
+    pub(crate) fn followed_by(self, rest: CStmtId) -> CStmt
         ensures { result ≡ node_of self rest }
     {
         match self {

@@ -47,7 +47,7 @@ impl Move {
     }
 
     /// The same move, behind a name, which is a variable.
-    pub fn behind_variable(self) -> Result<Move, NoMemory>
+    pub(crate) fn behind_variable(self) -> Result<Move, NoMemory>
         ensures { IfOk result (λ m. seen m ≡ machine.behind_variable (seen self)) }
     {
         match self {

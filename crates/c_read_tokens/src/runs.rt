@@ -6,7 +6,7 @@ ghost use Rattle.c_text.specs.CSpelling.{begins_name, is_word_byte, is_string_by
 ghost use Rattle.c_read_grammar.specs.FirstToken.{begins};
 
 /// A letter or `_`.
-pub fn begins_name(byte: u8) -> bool
+pub(crate) fn begins_name(byte: u8) -> bool
     ensures { result ≡ begins_name byte }
 {
     matches!(byte, b'a'..=b'z' | b'A'..=b'Z' | b'_')
@@ -54,7 +54,7 @@ pub fn word_len(bytes: &[u8]) -> usize
 }
 
 /// How many bytes that may stand in a string stand in front.
-pub fn string_len(bytes: &[u8]) -> usize
+pub(crate) fn string_len(bytes: &[u8]) -> usize
     ensures within { result ≤ length bytes.now }
     ensures run { list_all is_string_byte (take result bytes.now) ≡ true }
     ensures whole { begins is_string_byte (drop result bytes.now) ≡ false }

@@ -52,7 +52,7 @@ fn next_is(byte: u8, rest: &[u8]) -> bool
 }
 
 /// The symbol that a byte and those behind it begin with, the longest there is.
-pub fn symbol_of(first: u8, rest: &[u8]) -> Option<Symbol>
+pub(crate) fn symbol_of(first: u8, rest: &[u8]) -> Option<Symbol>
     ensures { option_map symbol_token_of result ≡ symbol_token first rest.now }
 {
     match first {

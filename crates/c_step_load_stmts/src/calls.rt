@@ -53,7 +53,7 @@ impl<'r, 'k, 'u> Body<'r, 'k, 'u> {
     }
 
     /// Puts down the expressions of a call; its instruction, where `next` follows it.
-    pub fn call_instr(
+    pub(crate) fn call_instr(
         &self,
         text: &mut Text,
         target: Option<CExprId>,

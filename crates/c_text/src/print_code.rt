@@ -15,7 +15,7 @@ use crate::unit::Unit;
 use pens::Pen;
 
 /// Prints the spaces at the front of a line.
-pub fn indent<P: Pen>(depth: usize, pen: &mut P)
+pub(crate) fn indent<P: Pen>(depth: usize, pen: &mut P)
     requires { P.ready pen.old }
     ensures ready { P.ready pen.new }
     ensures writes { P.writes pen.old pen.new (indented depth) }

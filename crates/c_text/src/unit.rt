@@ -68,7 +68,7 @@ impl Unit {
     }
 
     /// Each unit is a tree of the C grammar.
-    pub fn is_lawful(&self)
+    pub(crate) fn is_lawful(&self)
         ensures { IsUnit (unit_tree self.now) }
     {
         let _ = &self.items;

@@ -57,7 +57,7 @@ pub fn row(rows: &[Row], a: usize) -> &[usize]
 }
 
 /// The first place of a row, from one on, whose number has no flag; beyond the row where all have one.
-pub fn first_left(row: &[usize], flags: &Vec<bool>, from: usize) -> usize
+pub(crate) fn first_left(row: &[usize], flags: &Vec<bool>, from: usize) -> usize
     requires within { (b : _) → holds row.now b ≡ true → b < vec_len flags.now }
     requires from { (b : _) → holds (take from row.now) b ≡ true → slice_index_or flags.now.items b false ≡ true }
     ensures passed { (b : _) → holds (take result row.now) b ≡ true → slice_index_or flags.now.items b false ≡ true }
@@ -97,7 +97,7 @@ fn last(path: &Vec<usize>) -> Option<usize>
 }
 
 /// So many flags, none of them set. `Err` where memory was refused.
-pub fn falses(alloc: Global, count: usize) -> Result<Vec<bool>, NoMemory>
+pub(crate) fn falses(alloc: Global, count: usize) -> Result<Vec<bool>, NoMemory>
     ensures len { IfOk result (λ flags. length flags.items ≡ count) }
     ensures none { IfOk result (λ flags. (b d : _) → b < count → slice_index_or flags.items b d ≡ false) }
 {

@@ -112,7 +112,7 @@ fn recast(u: &mut Unit, width: Width, e: CExprId) -> Result<CExprId, NoMemory>
 }
 
 /// The same number in the type in which C calculates with this width.
-pub fn firm(u: &mut Unit, width: Width, a: Rated) -> Result<CExprId, NoMemory>
+pub(crate) fn firm(u: &mut Unit, width: Width, a: Rated) -> Result<CExprId, NoMemory>
     requires { a.code.0 < length u.old.exprs }
     ensures grows { Grows u.old u.new }
     ensures made { IfOk result (λ it. HasExpr u.new it.0 (firm_code (bits_of width) (rated_in u.old a))) }

@@ -246,7 +246,7 @@ fn result_of_body(b: &Body) -> Option<CType>
 }
 
 /// The function that is the body of a method. `Err` where memory was refused.
-pub fn body_function(b: &Body, u: &mut Unit, body: &Block) -> Result<CItem, NoMemory>
+pub(crate) fn body_function(b: &Body, u: &mut Unit, body: &Block) -> Result<CItem, NoMemory>
     requires { IsBodyOf b.now body.now }
     ensures grows { Grows u.old u.new }
     ensures made { IfOk result (λ item. HasItemTree u.new item (body_item (form_in b.now))) }

@@ -46,7 +46,12 @@ fn param(
 
 /// The pointer to the receiver.
 #[tactic(auto, using(wf_exprs::proofs::Growing::grows_on), unfolding(c_text::specs::CSpelling::is_reserved))]
-pub fn self_param(alloc: Global, t: &Typed, u: &mut Unit, s: StructId) -> Result<CParam, NoMemory>
+pub(crate) fn self_param(
+    alloc: Global,
+    t: &Typed,
+    u: &mut Unit,
+    s: StructId,
+) -> Result<CParam, NoMemory>
     requires known { s.0 < length t.now.structs }
     requires words { HasWords t.now }
     ensures grows { Grows u.old u.new }
@@ -179,7 +184,7 @@ fn add_args(
 }
 
 /// The parameters of a method: the receiver, and each argument as a host knows it.
-pub fn params_of(
+pub(crate) fn params_of(
     alloc: Global,
     t: &Typed,
     u: &mut Unit,
@@ -233,7 +238,7 @@ pub fn local(u: &mut Unit, kind: CType, name: &[u8], initial: CExprId) -> Result
 }
 
 /// A local that is 0 at first.
-pub fn zero_local(u: &mut Unit, kind: CType, name: &[u8]) -> Result<CLocal, NoMemory>
+pub(crate) fn zero_local(u: &mut Unit, kind: CType, name: &[u8]) -> Result<CLocal, NoMemory>
     requires kind { HasType u.old kind }
     requires name { IsName name.now }
     ensures grows { Grows u.old u.new }
@@ -244,7 +249,7 @@ pub fn zero_local(u: &mut Unit, kind: CType, name: &[u8]) -> Result<CLocal, NoMe
 }
 
 /// The same, with a name that ends with the source's.
-pub fn zero_spelt(
+pub(crate) fn zero_spelt(
     alloc: Global,
     u: &mut Unit,
     kind: CType,

@@ -805,7 +805,7 @@ fn entry_of(e: &Entry, u: &mut Unit) -> Result<CItem, NoMemory>
 }
 
 /// The function that is the entry of a method. `Err` where memory was refused.
-pub fn entry_function(
+pub(crate) fn entry_function(
     alloc: Global,
     t: &Typed,
     u: &mut Unit,

@@ -220,7 +220,7 @@ fn params(alloc: Global, t: &Typed, u: &mut Unit, s: StructId) -> Result<CList<C
 }
 
 /// The function that makes an object of a struct ready.
-pub fn initialize_function(
+pub(crate) fn initialize_function(
     alloc: Global,
     t: &Typed,
     u: &mut Unit,

@@ -225,7 +225,7 @@ fn add_all_locals(b: &Body, u: &mut Unit, locals: &mut CList<CLocal>) -> Result<
 }
 
 /// The locals that every body of the method has.
-pub fn fixed_locals(b: &Body, u: &mut Unit) -> Result<CList<CLocal>, NoMemory>
+pub(crate) fn fixed_locals(b: &Body, u: &mut Unit) -> Result<CList<CLocal>, NoMemory>
     ensures grows { Grows u.old u.new }
     ensures made { IfOk result (λ list. HasLocalTrees u.new list (fixed_locals_of (form_in b.now))) }
 {
@@ -382,7 +382,7 @@ fn add_own(u: &mut Unit, code: CStmtId, locals: &mut CList<CLocal>) -> Result<()
 }
 
 /// What else the code reads.
-pub fn add_further(
+pub(crate) fn add_further(
     b: &Body,
     u: &mut Unit,
     code: CStmtId,

@@ -194,7 +194,7 @@ fn unmarked(alloc: Global, count: u32) -> Result<Vec<bool>, NoMemory>
 }
 
 /// The numbers of the structs, each after those that its fields hold.
-pub fn struct_order(alloc: Global, t: &Typed) -> Result<Vec<u32>, NoMemory>
+pub(crate) fn struct_order(alloc: Global, t: &Typed) -> Result<Vec<u32>, NoMemory>
     requires { IsTyped t.now }
     ensures order { IfOk result (λ order. order.items ≡ struct_order_of (package_of t.now)) }
     ensures known { IfOk result (λ order. are_structs (package_of t.now) order.items ≡ true) }

@@ -55,7 +55,7 @@ pub struct Awaiting {
 }
 
 /// The place goes on by so many bytes.
-pub fn step_on(
+pub(crate) fn step_on(
     b: &Body,
     u: &mut Unit,
     a: u32,
@@ -73,7 +73,12 @@ pub fn step_on(
 }
 
 /// The place goes on by one byte.
-pub fn step_by_one(b: &Body, u: &mut Unit, a: u32, rest: CStmtId) -> Result<CStmtId, NoMemory>
+pub(crate) fn step_by_one(
+    b: &Body,
+    u: &mut Unit,
+    a: u32,
+    rest: CStmtId,
+) -> Result<CStmtId, NoMemory>
     requires rest { rest.0 < length u.old.stmts }
     ensures grows { Grows u.old u.new }
     ensures made { IfOk result (λ code. HasCode u.new code.0 (step_on_code (form_in b.now).names a (num 1) (code_of u.old rest.0))) }
@@ -83,7 +88,7 @@ pub fn step_by_one(b: &Body, u: &mut Unit, a: u32, rest: CStmtId) -> Result<CStm
 }
 
 /// The byte at the place.
-pub fn next_byte(b: &Body, u: &mut Unit, a: u32) -> Result<CExprId, NoMemory>
+pub(crate) fn next_byte(b: &Body, u: &mut Unit, a: u32) -> Result<CExprId, NoMemory>
     ensures grows { Grows u.old u.new }
     ensures made { IfOk result (λ e. HasExpr u.new e.0 (next_byte_code (form_in b.now).names a)) }
 {
@@ -629,7 +634,12 @@ fn begin_write(b: &Body, u: &mut Unit, byte: ExprId, rest: CStmtId) -> Result<CS
 }
 
 /// What stands before the label of the point.
-pub fn begun_call(b: &Body, u: &mut Unit, call: Awaited, rest: CStmtId) -> Result<CStmtId, NoMemory>
+pub(crate) fn begun_call(
+    b: &Body,
+    u: &mut Unit,
+    call: Awaited,
+    rest: CStmtId,
+) -> Result<CStmtId, NoMemory>
     requires call { IsTrue (is_awaited b.now.nodes call) }
     requires rest { rest.0 < length u.old.stmts }
     ensures grows { Grows u.old u.new }
@@ -643,7 +653,7 @@ pub fn begun_call(b: &Body, u: &mut Unit, call: Awaited, rest: CStmtId) -> Resul
 }
 
 /// What stands after it.
-pub fn awoken_call(
+pub(crate) fn awoken_call(
     b: &Body,
     u: &mut Unit,
     k: u32,

@@ -277,7 +277,7 @@ fn lower_while(
 }
 
 /// A whole block of a package, before the code `tail`.
-pub fn lower_block(
+pub(crate) fn lower_block(
     b: &Body,
     u: &mut Unit,
     block: &Block,

@@ -352,7 +352,7 @@ fn hand_on(b: &Body, u: &mut Unit, k: u32, rest: CStmtId) -> Result<CStmtId, NoM
 
 /// A call that suspends its caller.
 #[tactic(auto, using(wf_exprs::proofs::Growing::grows_on), unfolding(c_text::specs::CSpelling::is_reserved))]
-pub fn handed_call(
+pub(crate) fn handed_call(
     b: &Body,
     u: &mut Unit,
     k: u32,
@@ -398,7 +398,7 @@ fn kept_answer(target: Target, answer: Option<CExprId>) -> Option<CExprId>
 }
 
 /// A call that doesn't suspend its caller.
-pub fn plain_call(
+pub(crate) fn plain_call(
     b: &Body,
     u: &mut Unit,
     target: Target,

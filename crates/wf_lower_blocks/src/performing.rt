@@ -420,7 +420,7 @@ fn skip_fast(
 }
 
 /// A base call that writes and doesn't suspend.
-pub fn lower_written(
+pub(crate) fn lower_written(
     b: &Body,
     u: &mut Unit,
     target: Target,

@@ -361,7 +361,12 @@ fn lower_continue(b: &Body, u: &mut Unit, w: StmtId, rest: CStmtId) -> Result<CS
 }
 
 /// A statement without blocks of its own. An assertion was checked, and leaves nothing.
-pub fn lower_simple(b: &Body, u: &mut Unit, s: StmtId, rest: CStmtId) -> Result<CStmtId, NoMemory>
+pub(crate) fn lower_simple(
+    b: &Body,
+    u: &mut Unit,
+    s: StmtId,
+    rest: CStmtId,
+) -> Result<CStmtId, NoMemory>
     requires known { s.0 < length b.now.nodes.stmts }
     requires rest { rest.0 < length u.old.stmts }
     ensures grows { Grows u.old u.new }

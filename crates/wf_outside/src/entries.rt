@@ -6,7 +6,7 @@ ghost use Rattle.std.specs.List.{list_any};
 ghost use Rattle.wf_outside.specs.InMemory.{bytes_under, gone_at};
 
 /// The bytes that stand under `name`.
-pub fn find_bytes<'a>(held: &'a [(String, Vec<u8>)], name: &str) -> Option<&'a [u8]>
+pub(crate) fn find_bytes<'a>(held: &'a [(String, Vec<u8>)], name: &str) -> Option<&'a [u8]>
     ensures { option_map (λ bytes. bytes.now) result
         ≡ bytes_under (map (λ entry. (string_bytes entry.0, entry.1.items)) held.now) name.now }
 {
@@ -19,14 +19,14 @@ pub fn find_bytes<'a>(held: &'a [(String, Vec<u8>)], name: &str) -> Option<&'a [
 }
 
 /// Whether `call` is one of `calls`.
-pub fn is_listed(calls: &[u64], call: u64) -> bool
+pub(crate) fn is_listed(calls: &[u64], call: u64) -> bool
     ensures { result ≡ list_any (λ listed. nat_eq listed call) calls.now }
 {
     calls.iter().any(|listed| *listed == call)
 }
 
 /// The bytes gone that are listed for `call`.
-pub fn find_gone(failing: &[(u64, usize)], call: u64) -> Option<usize>
+pub(crate) fn find_gone(failing: &[(u64, usize)], call: u64) -> Option<usize>
     ensures { result ≡ gone_at failing.now call }
 {
     for entry in failing {

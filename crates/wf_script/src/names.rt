@@ -127,7 +127,7 @@ impl Names {
 
     /// Whether a line may declare this name: X3 where it is misspelt, or was declared before.
     #[tactic(auto, unfolding(wf_script_rules::specs::Values::new_name))]
-    pub fn new_name(&self, word: &[u8]) -> Result<(), XRule>
+    pub(crate) fn new_name(&self, word: &[u8]) -> Result<(), XRule>
         ensures { result ≡ new_name self.now word.now }
     {
         demand(is_name(word) && self.thing(word).is_none(), XRule::X3)
@@ -142,21 +142,21 @@ impl Names {
     }
 
     /// The number of a known receiver; X3 where the name is of another kind.
-    pub fn known_receiver(&self, word: &[u8]) -> Result<u16, XRule>
+    pub(crate) fn known_receiver(&self, word: &[u8]) -> Result<u16, XRule>
         ensures { result ≡ known_receiver self.now word.now }
     {
         receiver_in(self.known(word)?)
     }
 
     /// The number of a known buffer.
-    pub fn known_buffer(&self, word: &[u8]) -> Result<u16, XRule>
+    pub(crate) fn known_buffer(&self, word: &[u8]) -> Result<u16, XRule>
         ensures { result ≡ known_buffer self.now word.now }
     {
         buffer_in(self.known(word)?)
     }
 
     /// The number of a known byte array.
-    pub fn known_array(&self, word: &[u8]) -> Result<u16, XRule>
+    pub(crate) fn known_array(&self, word: &[u8]) -> Result<u16, XRule>
         ensures { result ≡ known_array self.now word.now }
     {
         array_in(self.known(word)?)

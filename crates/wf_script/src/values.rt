@@ -21,7 +21,7 @@ use wf_script_rules::{LineFault, Words, XRule};
 use wf_text::StructId;
 
 /// What stands before and after the first byte `mark`; X3 where there is none.
-pub fn parts_at(mark: u8, word: &[u8]) -> Result<(&[u8], &[u8]), XRule>
+pub(crate) fn parts_at(mark: u8, word: &[u8]) -> Result<(&[u8], &[u8]), XRule>
     ensures { Answers (λ parts. (parts.0.now, parts.1.now)) result (ok_or (cut_at mark word.now) X3) }
 {
     match cut_at(mark, word) {
@@ -38,7 +38,10 @@ fn struct_named<'s>(surface: &'s PublicSurface, word: &[u8]) -> Option<&'s Struc
 
 /// The public struct of this name; X2 where there is none.
 #[tactic(auto, unfolding(wf_script_rules::specs::Values::known_struct))]
-pub fn known_struct<'s>(surface: &'s PublicSurface, word: &[u8]) -> Result<&'s StructDecl, XRule>
+pub(crate) fn known_struct<'s>(
+    surface: &'s PublicSurface,
+    word: &[u8],
+) -> Result<&'s StructDecl, XRule>
     ensures { Answers (λ it. it.now) result (known_struct surface.now word.now) }
 {
     match struct_named(surface, word) {
@@ -64,7 +67,7 @@ fn method_named<'s>(it: &'s StructDecl, word: &[u8]) -> Option<&'s MethodDecl>
 
 /// The public method of this name of a receiver's struct; X2 where there is none.
 #[tactic(auto, unfolding(wf_script_rules::specs::Values::known_method))]
-pub fn known_method<'s>(
+pub(crate) fn known_method<'s>(
     surface: &'s PublicSurface,
     receiver: ReceiverDecl,
     word: &[u8],

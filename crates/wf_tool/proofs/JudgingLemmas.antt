@@ -15,7 +15,9 @@ use Rattle.wf_ast.specs.declared.declarations.Method.{Method}
 use Rattle.wf_ast.specs.declared.resolved.Block as resolved_tree
 use Rattle.wf_ast.specs.TypedPackage as typed
 use Rattle.wf_ast.specs.TypedPackage.{PackageTree, package_of}
-use Rattle.wf_parse.specs.Parsing.{IsParsed, decls_of}
+use Rattle.wf_ast.specs.ReadPackage.{decls_of}
+use Rattle.wf_named.specs.Grammar.{package_by_grammar}
+use Rattle.wf_parse.specs.Parsing.{IsParsed}
 use Rattle.wf_named.specs.NamedParts.{NamedParts, named_package}
 use Rattle.wf_named.specs.NamedTree.{NamedMethodTree, NamedPackageTree}
 use Rattle.wf_names_rules.specs.Declarations.{Declared, declared, methods_of}
@@ -25,7 +27,6 @@ use Rattle.wf_names_laws.specs.Ordered.{HasOrder}
 use Rattle.wf_types_rules.specs.TypeRules.{Breaks}
 use Rattle.wf_typed_tree.specs.ElaboratedStmts.{count_block}
 use Rattle.wf_typed_tree.specs.ElaboratedPackage.{typed_methods, typed_package}
-use Rattle.wf_typed_tree.specs.Grammar.{package_by_grammar}
 use Rattle.wf_types.specs.Typing.{IsMistyped, IsElaborated}
 use Rattle.wf_points.specs.PointNumbers.{HasTooMany}
 use Rattle.wf_bounds_stmts.specs.MethodRules.{facts_refusal}
@@ -145,15 +146,6 @@ module _ (read : Parsed) where
       let J : NamedPackageTree → Type 0 = λ p. JudgesNamed p result in
       let O : NamedPackageTree → Type 0 = HasOrder in
       ordered-judged is.order result is.kept (subst O is.tree is.ordered) (subst J is.tree h)
-
-  -- What holds of the resolved package in whatever order its methods stand, holds of the one that is resolved.
-  pub named-by-grammar : (named : NamedParts) → IsResolved read named → ((order : List ℕ) → package_by_grammar (resolved_package read.name read.texts (decls_of read) order) ≡ true)
-      → package_by_grammar (named_package named) ≡ true
-  named-by-grammar named is all = ap package_by_grammar is.tree ∙ all is.order
-
-  pub named-placed : (named : NamedParts) → IsResolved read named → ((order : List ℕ) → stand_in_order (typed_package (resolved_package read.name read.texts (decls_of read) order)) ≡ true)
-      → stand_in_order (typed_package (named_package named)) ≡ true
-  named-placed named is all = ap (λ (p : NamedPackageTree). stand_in_order (typed_package p)) is.tree ∙ all is.order
 
   pub misnamed-judged : (fault : PhaseFault) → IsMisnamed read fault → JudgesRead read (Err fault)
   misnamed-judged (phase.Refused refusal) h = inl h

@@ -2,7 +2,7 @@
 -- soundness asks for.
 use Rattle.std.proofs.Common.{◌≡◌, ℕ, List, [], None, ◌∙◌}
 use Rattle.wf_text.specs.Precedence.{Decides}
-use Rattle.wf_parse.specs.Parsing.{decls_of}
+use Rattle.wf_ast.specs.ReadPackage.{decls_of}
 use Rattle.wf_types_rules.specs.TypeRules.{Breaks}
 use Rattle.wf_bounds_laws.specs.BoundsRules.{bounds_refusal}
 use Rattle.wf_bounds_laws.proofs.AnyOrder.{bounds_ignore_order}

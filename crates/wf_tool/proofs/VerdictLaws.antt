@@ -5,7 +5,8 @@ use Rattle.wf_text.specs.Precedence.{IsFirst}
 use Rattle.wf_text.proofs.PrecedenceLaws.{Decides-map, IsFirst-same}
 use Rattle.wf_ast.specs.ParsedParts.{Parsed}
 use Rattle.wf_ast.specs.ParsedTree.{DeclTree}
-use Rattle.wf_parse.specs.Parsing.{IsParsed, decls_of}
+use Rattle.wf_ast.specs.ReadPackage.{decls_of}
+use Rattle.wf_parse.specs.Parsing.{IsParsed}
 use Rattle.wf_parse.proofs.OneReadings.{trees_unique, one_refusal, read_or_misread}
 use Rattle.wf_names_rules.specs.Declarations.{declared, methods_of}
 use Rattle.wf_names_rules.specs.NameRules as names

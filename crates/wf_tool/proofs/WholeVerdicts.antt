@@ -4,7 +4,8 @@ use Rattle.std.proofs.Common.{◌≡◌, ◌⊎◌, inl, inr, ℕ, List, Option,
 use Rattle.wf_text.specs.declared.rules.Refusal.{Refusal}
 use Rattle.wf_text.specs.Precedence.{Decides}
 use Rattle.wf_ast.specs.ParsedParts.{Parsed}
-use Rattle.wf_parse.specs.Parsing.{IsParsed, decls_of}
+use Rattle.wf_ast.specs.ReadPackage.{decls_of}
+use Rattle.wf_parse.specs.Parsing.{IsParsed}
 use Rattle.wf_parse_laws.specs.ReadingLaws.{IsReadOrRefused}
 use Rattle.wf_parse_laws.proofs.Files.{read-or-refused}
 use Rattle.wf_names_rules.specs.Declarations.{declared}

@@ -1,7 +1,8 @@
 -- What is promised of an accepted package: whatever a host does with it, it is never stuck.
 use Rattle.std.specs.Prelude.{ℕ, List}
 use Rattle.wf_ast.specs.ParsedParts.{Parsed}
-use Rattle.wf_parse.specs.Parsing.{IsParsed, decls_of}
+use Rattle.wf_ast.specs.ReadPackage.{decls_of}
+use Rattle.wf_parse.specs.Parsing.{IsParsed}
 use Rattle.wf_named.specs.NamedTree.{NamedPackageTree}
 use Rattle.wf_names_resolve.specs.Package.{resolved_package}
 use Rattle.wf_names_laws.specs.Ordered.{HasOrder}

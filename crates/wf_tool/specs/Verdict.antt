@@ -3,7 +3,8 @@ use Rattle.std.specs.Prelude.{ℕ, List, [], Option, None, Some, length, ◌≡�
 use Rattle.wf_text.specs.declared.rules.Refusal.{Refusal}
 use Rattle.wf_text.specs.Precedence.{IsFirst}
 use Rattle.wf_ast.specs.ParsedParts.{Parsed}
-use Rattle.wf_parse.specs.Parsing.{IsParsed, IsRefusedBy, decls_of}
+use Rattle.wf_ast.specs.ReadPackage.{decls_of}
+use Rattle.wf_parse.specs.Parsing.{IsParsed, IsRefusedBy}
 use Rattle.wf_names_rules.specs.Declarations.{declared, methods_of}
 use Rattle.wf_names_rules.specs.NameRules as names
 use Rattle.wf_named.specs.NamedTree.{NamedPackageTree}

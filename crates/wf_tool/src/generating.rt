@@ -18,7 +18,7 @@ use wf_outside::{Inputs, Sink};
 use wf_text::NoMemory;
 
 /// Lowers the package with these words. Ok is the unit of its C text.
-pub fn lower_package<I: Inputs>(
+pub(crate) fn lower_package<I: Inputs>(
     alloc: Global,
     asked: PackageWords<'_>,
     inputs: &mut I,
@@ -40,7 +40,7 @@ pub fn lower_package<I: Inputs>(
 }
 
 /// Writes the text of a unit: Done, or OutputFault where the sink fails.
-pub fn write_unit<O: Sink>(u: &Unit, out: &mut O) -> Ending
+pub(crate) fn write_unit<O: Sink>(u: &Unit, out: &mut O) -> Ending
     requires { O.faults out.old < 2 ^ 64 - 1 }
     ensures written { Writes (IsTextOfUnit u.now) (O.written out.old) (O.written out.new) (O.room out.old) result }
     ensures pieces { KeepsWholePieces result (O.longest out.old) (O.longest out.new) }

@@ -1,13 +1,8 @@
 // The files of a package are taken, and their bytes are judged; a script may be taken after them.
 
-ghost use Rattle.std.specs.Prelude.{◌≡◌, ◌-◌, ◌^◌, ◌<◌, ◌≤◌, ◌++◌, ◌∷◌, [], ℕ, true, None, List, length, map, string_bytes, IfErr, IfNone, IfOk};
-ghost use Rattle.wf_ast.specs.StatementOrder.{stand_in_order};
+ghost use Rattle.std.specs.Prelude.{◌≡◌, ◌-◌, ◌^◌, ◌<◌, ◌≤◌, ◌++◌, ◌∷◌, [], true, None, length, map, string_bytes, IfErr, IfNone, IfOk};
 ghost use Rattle.wf_ast.specs.TypedPackage.{package_of};
-ghost use Rattle.wf_parse.specs.Parsing.{decls_of};
 ghost use Rattle.wf_named.specs.NamedParts.{named_package};
-ghost use Rattle.wf_names_resolve.specs.Package.{resolved_package};
-ghost use Rattle.wf_typed_tree.specs.ElaboratedPackage.{typed_package};
-ghost use Rattle.wf_typed_tree.specs.Grammar.{package_by_grammar};
 ghost use Rattle.wf_tool.specs.Sizes.{too_large, too_many};
 ghost use Rattle.wf_tool.specs.Taken.{AcceptsPackage, CountsTaking, Judges, JudgesNamed, JudgesPackage, JudgesRead, JudgesReady, JudgesReadyText, JudgesTaken, NamesFailed, ReadiesPackage, ReadiesText, StopsPackage, TakesPackage, TakesScript};
 ghost use Rattle.wf_tool.specs.Views.{words_seen};
@@ -45,8 +40,6 @@ fn too_many(count: usize) -> Option<Refusal>
 
 /// Accepts a package whose names are resolved, or refuses it: by its types and effects, then by its bounds and its points.
 fn judge_named(alloc: Global, named: Named) -> Result<Accepted, PhaseFault>
-    requires grammar { package_by_grammar (named_package named) ≡ true }
-    requires placed { stand_in_order (typed_package (named_package named)) ≡ true }
     ensures { JudgesNamed (named_package named) result }
 {
     match type_check(alloc, named) {
@@ -57,9 +50,6 @@ fn judge_named(alloc: Global, named: Named) -> Result<Accepted, PhaseFault>
 
 /// Accepts a package that is read, or refuses it: by its names, and then by all that comes after them.
 fn judge_read(alloc: Global, parsed: Package) -> Result<Accepted, PhaseFault>
-    requires few { length parsed.decls < 2 ^ 32 - 1 }
-    requires grammar { (order : List ℕ) → package_by_grammar (resolved_package parsed.name parsed.texts (decls_of parsed) order) ≡ true }
-    requires placed { (order : List ℕ) → stand_in_order (typed_package (resolved_package parsed.name parsed.texts (decls_of parsed) order)) ≡ true }
     ensures { JudgesRead parsed result }
 {
     match resolve(alloc, parsed) {
@@ -69,7 +59,11 @@ fn judge_read(alloc: Global, parsed: Package) -> Result<Accepted, PhaseFault>
 }
 
 /// Accepts a package whose files are within the limits, or answers the refusal that decides.
-pub fn judge_files(alloc: Global, name: &str, files: &[Vec<u8>]) -> Result<Accepted, PhaseFault>
+pub(crate) fn judge_files(
+    alloc: Global,
+    name: &str,
+    files: &[Vec<u8>],
+) -> Result<Accepted, PhaseFault>
     requires named { is_package_name name.now ≡ true }
     requires sized { too_large (map (λ bytes. bytes.items) files.now) ≡ None }
     ensures { Judges name.now (map (λ bytes. bytes.items) files.now) result }
@@ -121,7 +115,7 @@ fn number_of_methods(accepted: &Accepted) -> usize
 
 /// Accepts the package with these words, whose files are taken one after the other; or tells why it isn't accepted, or a file not
 /// taken.
-pub fn accept_package<I: Inputs>(
+pub(crate) fn accept_package<I: Inputs>(
     alloc: Global,
     asked: PackageWords<'_>,
     inputs: &mut I,
@@ -206,7 +200,7 @@ fn ready_taken<I: Inputs>(
 
 /// Takes the files of the package with these words and then the script with this name, and judges the package. Ok is the accepted
 /// package with the bytes of the script.
-pub fn ready_package<I: Inputs>(
+pub(crate) fn ready_package<I: Inputs>(
     alloc: Global,
     asked: PackageWords<'_>,
     script: &str,
@@ -301,7 +295,7 @@ fn script_taken<I: Inputs>(
 
 /// Takes the files of the package with these words, then the script and then the text, and judges the package. Ok is the accepted
 /// package with the bytes of the script and of the text.
-pub fn ready_text<I: Inputs>(
+pub(crate) fn ready_text<I: Inputs>(
     alloc: Global,
     asked: TextWords<'_>,
     inputs: &mut I,

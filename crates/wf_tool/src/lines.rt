@@ -9,7 +9,7 @@ use wf_text::{Refusal, rule_name};
 use wf_tool_runs::TextFault;
 
 /// What words get that are no command form.
-pub fn usage_line(alloc: Global) -> Result<String, AllocError>
+pub(crate) fn usage_line(alloc: Global) -> Result<String, AllocError>
     ensures { IfOk result (λ line. string_bytes line ≡ usage_line) }
 {
     String::from_str(alloc, "usage: wuffsc COMMAND PKG [SCRIPT] FILE\n")
@@ -17,7 +17,7 @@ pub fn usage_line(alloc: Global) -> Result<String, AllocError>
 
 /// `ok N methods`, which an accepted package with so many methods gets.
 #[tactic(auto, unfolding(crate::specs::Lines::accepted_line))]
-pub fn accepted_line(alloc: Global, methods: usize) -> Result<String, AllocError>
+pub(crate) fn accepted_line(alloc: Global, methods: usize) -> Result<String, AllocError>
     ensures { IfOk result (λ line. string_bytes line ≡ accepted_line methods) }
 {
     format!(in alloc; "ok {methods} methods\n")
@@ -25,7 +25,11 @@ pub fn accepted_line(alloc: Global, methods: usize) -> Result<String, AllocError
 
 /// `refused RULE FILE:LINE:COL`
 #[tactic(auto, unfolding(crate::specs::Lines::refused_line))]
-pub fn refused_line(alloc: Global, file: &str, refusal: Refusal) -> Result<String, AllocError>
+pub(crate) fn refused_line(
+    alloc: Global,
+    file: &str,
+    refusal: Refusal,
+) -> Result<String, AllocError>
     ensures { IfOk result (λ line. string_bytes line ≡ refused_line file.now refusal) }
 {
     let rule = rule_name(refusal.rule);
@@ -35,7 +39,7 @@ pub fn refused_line(alloc: Global, file: &str, refusal: Refusal) -> Result<Strin
 }
 
 /// `input fault FILE`
-pub fn fault_line(alloc: Global, file: &str) -> Result<String, AllocError>
+pub(crate) fn fault_line(alloc: Global, file: &str) -> Result<String, AllocError>
     ensures { IfOk result (λ line. string_bytes line ≡ fault_line file.now) }
 {
     format!(in alloc; "input fault {file}\n")
@@ -56,7 +60,7 @@ fn script_rule_name(rule: XRule) -> &'static str
 
 /// `script RULE line N`
 #[tactic(auto, unfolding(crate::specs::Lines::script_line))]
-pub fn script_line(alloc: Global, rule: XRule, line: u32) -> Result<String, AllocError>
+pub(crate) fn script_line(alloc: Global, rule: XRule, line: u32) -> Result<String, AllocError>
     ensures { IfOk result (λ text. string_bytes text ≡ script_line rule line) }
 {
     let name = script_rule_name(rule);
@@ -65,7 +69,7 @@ pub fn script_line(alloc: Global, rule: XRule, line: u32) -> Result<String, Allo
 
 /// `text long`, `text deep AT`, `text notc AT` or `text form ITEM`
 #[tactic(auto, unfolding(crate::specs::Lines::text_line))]
-pub fn text_line(alloc: Global, fault: TextFault) -> Result<String, AllocError>
+pub(crate) fn text_line(alloc: Global, fault: TextFault) -> Result<String, AllocError>
     ensures { IfOk result (λ text. string_bytes text ≡ text_line fault) }
 {
     match fault {

@@ -64,7 +64,7 @@ fn take_file<I: Inputs>(
 
 /// Takes files in order, which may have 1,048,576 bytes together. The first that fails, or with which they have more
 /// (L1), ends it.
-pub fn take_files<I: Inputs>(
+pub(crate) fn take_files<I: Inputs>(
     alloc: Global,
     names: &[String],
     inputs: &mut I,
@@ -99,7 +99,7 @@ pub fn take_files<I: Inputs>(
 
 /// Takes the script or the text with this name. Of one that has more than 1,048,576 bytes, one byte more is taken. `before` is how
 /// many inputs were taken before it.
-pub fn take_other<I: Inputs>(
+pub(crate) fn take_other<I: Inputs>(
     alloc: Global,
     name: &str,
     before: usize,

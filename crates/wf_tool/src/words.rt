@@ -154,7 +154,7 @@ fn to_exec<'a>(name: &'a str, rest: &'a [String]) -> Option<Command<'a>>
 }
 
 /// The name of the file with this number, from 0. No bytes where there is none.
-pub fn file_name(names: &[String], number: usize) -> &str
+pub(crate) fn file_name(names: &[String], number: usize) -> &str
     ensures { result.now ≡ file_name (map (λ name. string_bytes name) names.now) number }
 {
     match names.get(number) {
@@ -164,7 +164,12 @@ pub fn file_name(names: &[String], number: usize) -> &str
 }
 
 /// The name of the input with this number: the files', and then these two.
-pub fn input_name<'a>(files: &'a [String], script: &'a str, text: &'a str, number: usize) -> &'a str
+pub(crate) fn input_name<'a>(
+    files: &'a [String],
+    script: &'a str,
+    text: &'a str,
+    number: usize,
+) -> &'a str
     ensures { result.now ≡ input_name (map (λ name. string_bytes name) files.now) script.now text.now number }
 {
     match files.get(number) {
