@@ -1,6 +1,6 @@
 // Texts that are read or refused for one thing each, texts of many brackets, and long texts.
 
-use crate::reading::{Answer, becomes, outcome_of, text};
+use crate::reading::{Answer, becomes, is_printed_as, outcome_of, text};
 use std::alloc::Global;
 
 /// A text after the three lines, and what becomes of it.
@@ -149,6 +149,54 @@ const LONG: &[Repeated] = &[
     (b"typedef struct {", b"s a[2];", 3000, b"} t;", Answer::Read),
     (b"void f(void) {", b" ", 20000, b"+", Answer::NotC(20074)),
 ];
+
+/// A front, a piece, how often it stands, and a back: laid out as a text is printed.
+type Chain = (&'static [u8], &'static [u8], usize, &'static [u8]);
+
+// Chains that no bracket bounds.
+const CHAINS: &[Chain] = &[
+    (b"\nvoid f(void) {\n    x = a", b"->b", 60000, b";\n}\n"),
+    (b"\nvoid f(void) {\n    x = a", b"[0]", 60000, b";\n}\n"),
+    (b"\nvoid f(void) {\n    x = (a", b" + a", 60000, b");\n}\n"),
+    (
+        b"\nvoid f(void) {\n    if (a) {\n    }",
+        b" else if (a) {\n    }",
+        60000,
+        b"\n}\n",
+    ),
+];
+
+/// Whether so many of one piece, between `front` and `back`, are read, and printed byte for byte.
+fn chain_comes_back(alloc: Global, row: &Chain) -> bool {
+    let (front, piece, count, back) = row;
+    let Ok(mut bytes) = text(alloc, &[*front]) else {
+        return false;
+    };
+    for _ in 0..*count {
+        let Ok(()) = bytes.extend_from_slice(*piece) else {
+            return false;
+        };
+    }
+    let Ok(()) = bytes.extend_from_slice(*back) else {
+        return false;
+    };
+    is_printed_as(alloc, bytes.as_slice(), bytes.as_slice())
+}
+
+/// Whether each chain is printed as it is read.
+fn all_chains_come_back(alloc: Global, rows: &[Chain]) -> bool {
+    for row in rows {
+        if !chain_comes_back(alloc, row) {
+            return false;
+        }
+    }
+    true
+}
+
+#[test]
+fn long_chains(rt: HostRuntime) {
+    assert!(rt; all_chains_come_back(rt.alloc(), CHAINS));
+}
 
 #[test]
 fn short_and_long_texts(rt: HostRuntime) {

@@ -50,7 +50,7 @@ pub(crate) fn becomes(alloc: Global, parts: &[&[u8]], expected: Answer) -> bool 
 
 /// What is printed for a unit.
 fn printed(alloc: Global, unit: &Unit) -> Option<PureSink> {
-    let Ok(mut sink) = PureSink::with_room(alloc, 100000) else {
+    let Ok(mut sink) = PureSink::with_room(alloc, 2000000) else {
         return None;
     };
     match print(unit, &mut sink) {
@@ -59,20 +59,25 @@ fn printed(alloc: Global, unit: &Unit) -> Option<PureSink> {
     }
 }
 
+/// Whether bytes are read, and these are what is printed for them.
+pub(crate) fn is_printed_as(alloc: Global, bytes: &[u8], expected: &[u8]) -> bool {
+    let Ok(unit) = read(alloc, bytes) else {
+        return false;
+    };
+    match printed(alloc, &unit) {
+        Some(sink) => sink.written() == expected,
+        None => false,
+    }
+}
+
 /// Whether the three lines with the parts are read, and with those of `expected` are what is printed for it.
 pub(crate) fn prints(alloc: Global, parts: &[&[u8]], expected: &[&[u8]]) -> bool {
     let Ok(bytes) = text(alloc, parts) else {
         return false;
     };
-    let Ok(laid) = text(alloc, expected) else {
-        return false;
-    };
-    let Ok(unit) = read(alloc, bytes.as_slice()) else {
-        return false;
-    };
-    match printed(alloc, &unit) {
-        Some(sink) => sink.written() == laid.as_slice(),
-        None => false,
+    match text(alloc, expected) {
+        Ok(laid) => is_printed_as(alloc, bytes.as_slice(), laid.as_slice()),
+        Err(_) => false,
     }
 }
 

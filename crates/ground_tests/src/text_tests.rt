@@ -17,8 +17,8 @@ fn writes_hex(bytes: &[u8], wanted: &[u8; 8]) -> bool {
     if bytes.len() > 4 {
         return false;
     }
-    hex_text(bytes, &mut into);
-    into == *wanted
+    let count = hex_text(bytes, &mut into);
+    count == 2 * bytes.len() && into == *wanted
 }
 
 // Whether numbers and bytes are written as these rows say.

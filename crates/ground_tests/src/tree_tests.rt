@@ -2,7 +2,7 @@
 
 use std::alloc::{AllocError, Global};
 use std::test::Fail;
-use wf_ast::Package;
+use wf_ast::PackageNodes;
 use wf_ast::parsed::{Decl, DeclNode, Expr, ExprNode, Name, Stmt, StmtNode};
 use wf_text::Place;
 
@@ -14,7 +14,7 @@ const FIRST: Place = Place {
 
 // Equal texts have one number.
 fn texts_are_numbered(alloc: Global) -> Result<bool, AllocError> {
-    let mut package = Package::new(alloc, b"demo")?;
+    let mut package = PackageNodes::new(alloc, b"demo")?;
     let one = package.intern(b"val")?;
     let other = package.intern(b"src")?;
     let again = package.intern(b"val")?;
@@ -23,7 +23,7 @@ fn texts_are_numbered(alloc: Global) -> Result<bool, AllocError> {
 
 // An expression, the statement that returns it, and one declaration stand where they are put.
 fn nodes_are_kept(alloc: Global) -> Result<bool, AllocError> {
-    let mut package = Package::new(alloc, b"demo")?;
+    let mut package = PackageNodes::new(alloc, b"demo")?;
     let value = package.push_expr(ExprNode {
         expr: Expr::Number(7),
         at: FIRST,

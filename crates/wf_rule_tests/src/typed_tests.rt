@@ -1,12 +1,7 @@
 // What the typed tree of a small package has, which is read, resolved and given types with ample memory.
 
-ghost use Rattle.std.specs.Prelude.{◌≡◌, true, ℕ, List, IfOk, codes};
-ghost use Rattle.wf_ast.specs.StatementOrder.{stand_in_order};
+ghost use Rattle.std.specs.Prelude.{IfOk};
 ghost use Rattle.wf_ast.specs.TypedInvariant.{IsTyped};
-ghost use Rattle.wf_named.specs.NamedParts.{named_package};
-ghost use Rattle.wf_parse.specs.Parsing.{IsParsed};
-ghost use Rattle.wf_typed_tree.specs.ElaboratedPackage.{typed_package};
-ghost use Rattle.wf_typed_tree.specs.Grammar.{package_by_grammar};
 
 use std::alloc::Global;
 use wf_ast::{Callee, Expr, LocalId, Package, Stmt, StmtId, Thing, Ty, Typed, Var, mentions, same};
@@ -22,9 +17,7 @@ const DECLARED: &str =
     "pri const MOST : base.u8 = 9\npub status \"#too large\"\npri status \"$more wanted\"\npub struct k?(\nn : base.u32[..= MOST],\na : array[4] base.u8,\nin : part,\n)\npri struct part(\non : base.bool,\n)\npub func k.run?(from: base.io_reader) {\nthis.add!(by: 3)\nyield? \"$more wanted\"\nreturn \"#too large\"\n}\npri func k.add!(by: base.u8) {\nvar x : base.u8\nvar more : base.bool\nif more {\nx = this.twice(by: 2)\n}\n}\npri func k.twice(by: base.u8[1 ..= 3]) base.u8 {\nreturn args.by\n}\n";
 
 // A package of one file.
-fn read(alloc: Global, text: &str) -> Result<Package, PhaseFault>
-    ensures { IfOk result (λ p. (files : List (List ℕ)) × IsParsed (codes "k") files p) }
-{
+fn read(alloc: Global, text: &str) -> Result<Package, PhaseFault> {
     let mut bytes: Vec<u8> = Vec::new(alloc);
     bytes.extend_from_slice(text.as_bytes())?;
     if 1_048_576 < bytes.len() {
@@ -37,20 +30,10 @@ fn read(alloc: Global, text: &str) -> Result<Package, PhaseFault>
     }
 }
 
-// The resolved package of one file, of fewer declarations than these tests ever write.
-fn resolved(alloc: Global, text: &str) -> Result<Named, PhaseFault>
-    ensures grammar { IfOk result (λ named. package_by_grammar (named_package named) ≡ true) }
-    ensures placed { IfOk result (λ named. stand_in_order (typed_package (named_package named)) ≡ true) }
-{
-    let parsed = match read(alloc, text) {
-        Ok(parsed) => parsed,
-        Err(fault) => return Err(fault),
-    };
-    if 1_048_576 < parsed.decls().len() {
-        return Err(PhaseFault::Memory);
-    }
-    match resolve(alloc, parsed) {
-        Ok(named) => Ok(named),
+// The resolved package of one file.
+fn resolved(alloc: Global, text: &str) -> Result<Named, PhaseFault> {
+    match read(alloc, text) {
+        Ok(parsed) => resolve(alloc, parsed),
         Err(fault) => Err(fault),
     }
 }
