@@ -639,6 +639,17 @@ READINGS = [
 ]
 
 
+# Chains that no bracket bounds.
+LONG = [
+    ("a sum", "return (1" + " + 1" * 60000 + ");", 60001),
+    ("conditions", "return (1" + " && 1" * 60000 + ");", 1),
+    ("alternatives", "return (0" + " || 0" * 60000 + ");", 0),
+    ("else if", "if (0) { }" + " else if (0) { }" * 60000 + " else { return 7; } return 0;", 7),
+    ("labels", "".join(f"l{i}: " for i in range(60000)) + "return 7;", 7),
+    ("statements", "uint64_t v = 0; " + "v = (v + 1); " * 60000 + "return v;", 60000),
+]
+
+
 def text_of(parts):
     items = [parts.get(name, body(name, "return 0;")[1]) for name in ITEMS] + [parts.get("end", "")]
     return LINES + "\n".join(item for item in items if item) + "\n"
@@ -664,6 +675,20 @@ def others():
     yield "513 brackets", PACKAGE, "", text + ends + "{" * 513 + "}" * 513, (f"text deep {len(text + ends) + 512}", 8)
     yield "513 brackets and a fault before them", PACKAGE, "", text + "x " + ends + "{" * 513, (f"text notc {len(text) + 2}", 8)
     yield "513 brackets, the last of which can't stand there", PACKAGE, "", text + ends + "{" * 512 + "[", (f"text deep {len(text + ends) + 512}", 8)
+    front, said, called = "new p e|init p|", "new p|init p ok|", "call p.f a=0"
+    turns = "turns 100000|"
+    for name, code, wanted in LONG:
+        chained = text_of(with_bodies({"t": code}))
+        assert len(chained) <= 1048576
+        yield f"60,000 links: {name}", PACKAGE, front + turns + called, chained, (said + turns + f"call p.f {wanted}", 0)
+    first = "static uint64_t t("
+    for count, wanted in ((4094, (said + "turns 100000|call p.f 3", 0)), (4095, ("", 6))):
+        functions = "static uint64_t f0(void) { return 3; }\n" + "".join(
+            f"static uint64_t f{i}(void) {{ uint64_t v = 0; v = f{i - 1}(); return v; }}\n" for i in range(1, count))
+        deep = text_of(with_bodies({"t": f"uint64_t v = 0; v = f{count - 1}(); return v;"}))
+        yield f"a chain of {count + 2} calls", PACKAGE, front + turns + called, deep.replace(first, functions + first), wanted
+    linked = text_of(with_bodies({"t": "self->n8 = self" + "->n8" * 60000 + "; return 0;"}))
+    yield "60,000 links: fields", PACKAGE, "", linked, (f"text form {NUMBER['t']}", 8)
     yield "no text", PACKAGE, "", "", ("text notc 0", 8)
     yield "another second line", PACKAGE, "", LINES.replace("stdint", "stdio"), ("text notc 20", 8)
     yield "another third line", PACKAGE, "", LINES.replace("string", "strings"), ("text notc 40", 8)

@@ -5,8 +5,8 @@
 usage: machine_benchmark.py PROGRAM [NAME..]    only the ways to grow that are named
 
 1. A loop over the bytes of an array, five statements a turn, for a million turns: two processor seconds are the aim.
-2. Texts that grow in one way, by steps of two, up to a mebibyte: functions, labels, cases, names of one function, operands, calls,
-   `else if`s and statements. For each step comes the exponent of its growth, 1.00 being in proportion; what passes 1.10 at the last step
+2. Texts that grow in one way, by steps of two, up to a mebibyte: functions, `static inline` functions that call one another, the same
+   beside an expression that grows with them, labels, cases, names of one function, operands, calls, `else if`s and statements. For each step comes the exponent of its growth, 1.00 being in proportion; what passes 1.10 at the last step
    is told as too much, and so is a text that memory doesn't do for. What is counted is instructions where valgrind is there, else
    processor seconds. The cost of the shortest text is taken off.
 """
@@ -52,8 +52,15 @@ def entry(body, locals_=""):
     return f"uint32_t wuffs_m__m__f(wuffs_m__m* self, uint32_t a_n) {{ uint32_t x = 0; {locals_} {body} return x; }}\n"
 
 
+def inlines(n):
+    """Functions that may stand in expressions, which call one another in chains of 64."""
+    return "".join(f"static inline _Bool f{i}(void) {{ return {f'(f{i - 1}())' if i % 64 else 0}; }}\n" for i in range(n))
+
+
 SHAPES = {
     "functions": lambda n: "".join(f"static uint32_t f{i}(uint32_t a) {{ return (a + {i}); }}\n" for i in range(n)) + entry(""),
+    "inline": lambda n: inlines(n) + entry(""),
+    "inline and operands": lambda n: inlines(n) + entry("x = (" + " + ".join(["a_n"] * (n + 1)) + ");"),
     "labels": lambda n: entry(" ".join(f"if ((a_n == {i})) {{ goto l{i}; }}" for i in range(n)) + " ".join(f"l{i}: ;" for i in range(n))),
     "cases": lambda n: entry("switch (a_n) { " + " ".join(f"case {i}: ;" for i in range(n)) + " }"),
     "names": lambda n: entry(" ".join(f"v{i} = x;" for i in range(n)), " ".join(f"uint32_t v{i} = 0;" for i in range(n))),

@@ -14,10 +14,8 @@ import subprocess
 import sys
 import tempfile
 
-from second_opinion import judged
-from second_opinion.bounds import judge_bounds
 from second_opinion.random_bounds import random_bounds
-from second_opinion.scripts import report
+from second_opinion.scripts import judged_once, report
 from second_opinion.source_machine import WIDTHS
 from second_opinion.trees import Method, SliceType, Struct
 
@@ -101,14 +99,10 @@ def ran(program, folder, command, script):
 def accepted(source):
     """A random package that is accepted, with its declarations."""
     while True:
-        text, kept = random_bounds(source), []
-
-        def keep(declarations):
-            kept.extend(declarations)
-            return judge_bounds(declarations)
-
-        if judged([text], keep).startswith("ok"):
-            return text, kept
+        text = random_bounds(source)
+        verdict, declarations = judged_once((text,))
+        if verdict.startswith("ok"):
+            return text, declarations
 
 
 def main():

@@ -3,6 +3,7 @@
 A script is a list of bytes. It is read whole before anything runs: `report` gives what `mean` has to print of a package that was
 accepted, and how it ends.
 """
+import functools
 import re
 
 from . import judged
@@ -296,15 +297,21 @@ def result(method, answer):
     return str(answer).lower()
 
 
-def report(package, files, script):
-    """What `mean PACKAGE SCRIPT FILE..` has to print of files with these texts, named f0, f1 and so on, and its exit status."""
+@functools.lru_cache(4)
+def judged_once(files):
+    """What `check` has to print of files with these texts, which are a tuple, and their declarations where they are accepted."""
     kept = []
 
     def keep(declarations):
         kept.extend(declarations)
         return judge_bounds(declarations)
 
-    verdict = judged(files, keep)
+    return judged(files, keep), kept
+
+
+def report(package, files, script):
+    """What `mean PACKAGE SCRIPT FILE..` has to print of files with these texts, named f0, f1 and so on, and its exit status."""
+    verdict, kept = judged_once(tuple(files))
     if verdict.startswith("refused"):
         return verdict + "\n", REFUSED
     read = Script(kept)

@@ -1,0 +1,137 @@
+#!/usr/bin/env python3
+"""How the cost of `gen` grows with a package, and its time beside that of compilers on the text that it writes. It isn't part of
+.ci/run.
+
+usage: compiler_benchmark.py PROGRAM [SHAPE..]    all shapes are the default
+The shapes are those of check_benchmark.py and a few of what `gen` alone makes much of; each grows by steps of two up to what its limit
+allows. What is counted is as it is there: instructions, where valgrind is there. The cost of a package without declarations is
+taken off. For each step comes the exponent of its growth, over the step's factor or that of the bytes read and written where this is
+larger, since the text of a coroutine grows with its points times its locals; what passes 1.10 at the last step is told as too much.
+For the largest package of each shape comes the least time of three runs of `gen`, and of `tcc -c` and `gcc -O0 -c` on the text that it
+writes, one after another in turn, with the factor of `gen`, which checks the package first, over `tcc -c`. Compilers that aren't there
+are skipped.
+"""
+import math
+import os
+import pathlib
+import shutil
+import subprocess
+import sys
+import tempfile
+import time
+
+import check_benchmark
+from check_benchmark import method, package
+
+COMPILERS = {"tcc": ["tcc", "-c"], "gcc": ["gcc", "-std=c99", "-O0", "-c"]}
+ROUNDS = 3
+
+
+def fields(n):
+    return package(method("f", "", "", [f"this.f{i % n} = {i}" for i in range(256)], mark="!"), fields="".join(f"f{i} : base.u32, " for i in range(n)))
+
+
+def structs(n):
+    return package(*(f"pub struct t{i}?(\n    n : base.u32,\n)\n" for i in range(n)))
+
+
+def statuses(n):
+    """Methods that each return a status of their own."""
+    return "".join(f'pub status "#s{i}"\n' for i in range(n)) + package(*(method(f"m{i}", "", "", [f'return "#s{i}"'], mark="?") for i in range(n)))
+
+
+def local_variables(n):
+    """A coroutine that keeps its locals at each of its points."""
+    body = [*(f"var x{i} : base.u32" for i in range(n)), *(f"x{i} = args.src.read_u32le?()" for i in range(n)), f"this.n = x{n - 1}"]
+    return package(method("f", "src: base.io_reader", "", body, mark="?"), fields="n : base.u32")
+
+
+def unread(n):
+    """A chain of `else if` that doesn't read an argument."""
+    lines = ["if args.a {", *["} else if args.a {"] * (n - 1), "}"]
+    return package(method("f", "a: base.bool, b: base.u32", "", lines))
+
+
+SHAPES = {
+    **check_benchmark.SHAPES,
+    "unread": (unread, (4096, 8192, 16384, 32768)),
+    "fields": (fields, (2048, 4096, 8192, 16384)),
+    "structs": (structs, (512, 1024, 2048, 4096)),
+    "statuses": (statuses, (128, 256, 512, 1024)),
+    "locals": (local_variables, (32, 64, 128, 256)),
+    "copying": (check_benchmark.copying, (105, 210, 420, 840)),
+}
+
+
+class Meter(check_benchmark.Meter):
+    """Runs `gen` on a text and tells what it costs."""
+
+    written = 0
+
+    def words(self, text):
+        (self.folder / "n.wuffs").write_text(text)
+        return [self.program, "gen", "n", "n.wuffs"]
+
+    def answer(self, words):
+        ran = subprocess.run(words, cwd=self.folder, capture_output=True, text=True)
+        if ran.returncode:
+            sys.exit(f"{' '.join(words)}: {ran.stdout}{ran.stderr}")
+        self.written = len(ran.stdout)
+        return ran
+
+
+def grows(meter, name, make, sizes):
+    """Prints the growth of one shape; whether it is within bounds."""
+    before, exponent = None, 0
+    for n in sizes:
+        text = make(n)
+        cost = meter.cost(text)[0] - meter.start[0]
+        size = len(text) + meter.written
+        if before:
+            exponent = math.log(cost / before[0]) / math.log(max(n / before[2], size / before[1]))
+        shown = f"{cost / 1e6:12.2f} M" if meter.counts else f"{cost:12.3f} s"
+        print(f"{name:14} {n:6} {len(text):8} bytes, {meter.written:8} of C {shown} {f'{exponent:6.2f}' if before else ''}", flush=True)
+        before = cost, size, n
+    if exponent > check_benchmark.MOST_EXPONENT:
+        print(f"{name}: it grows with an exponent of {exponent:.2f}, above {check_benchmark.MOST_EXPONENT}")
+    return exponent <= check_benchmark.MOST_EXPONENT
+
+
+def seconds(words, folder, out):
+    """The time of one run, whose output goes to a file."""
+    with open(folder / out, "wb") as file:
+        begun = time.perf_counter()
+        subprocess.run(words, cwd=folder, stdout=file, check=True)
+        return time.perf_counter() - begun
+
+
+def beside_compilers(meter, name, text):
+    """Prints the times on one package."""
+    words, least = meter.words(text), {}
+    compilers = {it: [*given, "n.c", "-o", "n.o"] for it, given in COMPILERS.items() if shutil.which(it)}
+    for _ in range(ROUNDS):
+        for it, given, out in [("gen", words, "n.c"), *((it, given, "said") for it, given in compilers.items())]:
+            took = seconds(given, meter.folder, out)
+            least[it] = min(took, least.get(it, took))
+    written = (meter.folder / "n.c").stat().st_size
+    times = ", ".join(f"{it} {took:.3f} s" for it, took in least.items())
+    factor = f", factor {least['gen'] / least['tcc']:.1f}" if "tcc" in least else ""
+    print(f"{name:14} {len(text):8} bytes, {written:8} of C: {times}{factor}", flush=True)
+
+
+def main():
+    if len(sys.argv) < 2 or any(name not in SHAPES for name in sys.argv[2:]):
+        print(__doc__)
+        return 2
+    with tempfile.TemporaryDirectory() as at:
+        meter = Meter(os.path.abspath(sys.argv[1]), pathlib.Path(at))
+        names = sys.argv[2:] or list(SHAPES)
+        good = [grows(meter, name, *SHAPES[name]) for name in names]
+        for name in names:
+            make, sizes = SHAPES[name]
+            beside_compilers(meter, name, make(sizes[-1]))
+    return 0 if all(good) else 1
+
+
+if __name__ == "__main__":
+    sys.exit(main())
