@@ -14,8 +14,8 @@ use crate::declarations::{
     WrittenConst, WrittenMethod, resolve_const, resolve_method, resolve_struct,
 };
 use std::alloc::Global;
-use wf_ast::parsed::{Block, Field, Name, TypeExpr, WrittenMark};
-use wf_ast::{ExprId, PackageNodes};
+use wf_ast::PackageNodes;
+use wf_ast::parsed::{Field, Name};
 use wf_named::NamedNodes;
 use wf_names_resolve::numbers::{PackageNumbers, ScopeNumbers};
 use wf_names_resolve::words::named_word;

@@ -15,8 +15,8 @@ ghost use Rattle.wf_names_nodes.specs.Declaring.{method_parsed, with_consts, wit
 use crate::adding::{put_const, put_method, put_status, put_struct};
 use crate::declarations::{WrittenConst, WrittenMethod};
 use std::alloc::Global;
-use wf_ast::parsed::{Block, Decl, DeclNode, Field, Name, TypeExpr, WrittenMark};
-use wf_ast::{ExprId, PackageNodes};
+use wf_ast::PackageNodes;
+use wf_ast::parsed::{Decl, DeclNode, Field, Name};
 use wf_named::NamedNodes;
 use wf_names_numbers::scopes::{add_constant, enter_method, enter_struct, outside};
 use wf_names_resolve::numbers::{PackageNumbers, ScopeNumbers};

@@ -51,10 +51,8 @@ pub fn doubles(
     let mut found = found;
     let mut seen = IndexSet::new(alloc);
     for name in names {
-        match seen.insert(name.text.0) {
-            Ok(fresh) => found = sooner(found, double_name(fresh, *name)),
-            Err(_) => return Err(NoMemory),
-        }
+        let fresh = seen.insert(name.text.0)?;
+        found = sooner(found, double_name(fresh, *name));
     }
     Ok(found)
 }

@@ -182,10 +182,7 @@ pub fn row(
     let mut row = Sequence::new(alloc);
     for field in fields {
         let part = field_part(parsed, constants, nothing, structs, &field.of);
-        match row.push(part) {
-            Ok(()) => {}
-            Err(_) => return Err(NoMemory),
-        }
+        row.push(part)?;
     }
     Ok(row)
 }

@@ -100,10 +100,8 @@ fn no_sizes(alloc: Global, count: usize) -> Result<Vec<Option<u32>>, NoMemory>
     ensures len { IfOk result (λ sizes. vec_len sizes ≡ count) }
     ensures none { IfOk result (λ sizes. sizes.items ≡ replicate count None) }
 {
-    match vec![in alloc; None; count] {
-        Ok(sizes) => Ok(sizes),
-        Err(_) => Err(NoMemory),
-    }
+    let sizes = vec![in alloc; None; count]?;
+    Ok(sizes)
 }
 
 /// The size of each struct's fields, of which numbers above 1,048,577 count as that. It is known wherever the fields
@@ -119,10 +117,7 @@ pub fn sizes(
     ensures settled { IfOk result (λ sizes. AreSettled flags.now sizes.items rows.now) }
     ensures sound { IfOk result (λ sizes. (d : Declared) → rows.now ≡ map (row_of d) d.structs → AreHolding d flags.now → AreSizes d sizes.items) }
 {
-    let mut sizes = match no_sizes(alloc, rows.len()) {
-        Ok(sizes) => sizes,
-        Err(fault) => return Err(fault),
-    };
+    let mut sizes = no_sizes(alloc, rows.len())?;
     for s in order {
         let s = *s as usize;
         settle(&mut sizes, row(rows, s), flags, s);

@@ -81,15 +81,11 @@ impl Building {
         ensures nodes { IfOk result (λ nodes. nodes ≡ self) }
         ensures built { IfOk result IsBuilt }
     {
-        match taken_apart(alloc, self.exprs) {
-            Ok(all) => {
-                let mut whole = self.rest;
-                whole.exprs = all.exprs;
-                whole.types = all.types;
-                whole.constants = all.constants;
-                Ok(whole)
-            }
-            Err(fault) => Err(fault),
-        }
+        let all = taken_apart(alloc, self.exprs)?;
+        let mut whole = self.rest;
+        whole.exprs = all.exprs;
+        whole.types = all.types;
+        whole.constants = all.constants;
+        Ok(whole)
     }
 }

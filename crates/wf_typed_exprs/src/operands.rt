@@ -26,14 +26,12 @@ pub fn with_sign(before: MadeOperands, sign: Place) -> Result<MadeOperands, NoMe
     ensures { IfOk result (λ all. all ≡ record before { signs = before.signs ++ sign ∷ [] }) }
 {
     let mut signs = before.signs;
-    match signs.push(sign) {
-        Ok(()) => Ok(MadeOperands {
-            parts: before.parts,
-            signs,
-            of: before.of,
-        }),
-        Err(_) => Err(NoMemory),
-    }
+    signs.push(sign)?;
+    Ok(MadeOperands {
+        parts: before.parts,
+        signs,
+        of: before.of,
+    })
 }
 
 /// One operand more.
@@ -41,17 +39,11 @@ pub fn with_operand(before: MadeOperands, next: Elaborated) -> Result<MadeOperan
     ensures { IfOk result (λ all. all ≡ record { parts = before.parts ++ next.node ∷ []; signs = before.signs; of = behind before.of next.value }) }
 {
     let mut parts = before.parts;
-    match parts.push(next.node) {
-        Ok(()) => {
-            match operand_behind(before.of, next.value) {
-                Ok(of) => Ok(MadeOperands {
-                    parts,
-                    signs: before.signs,
-                    of,
-                }),
-                Err(fault) => Err(fault),
-            }
-        }
-        Err(_) => Err(NoMemory),
-    }
+    parts.push(next.node)?;
+    let of = operand_behind(before.of, next.value)?;
+    Ok(MadeOperands {
+        parts,
+        signs: before.signs,
+        of,
+    })
 }

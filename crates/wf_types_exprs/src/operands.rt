@@ -27,10 +27,8 @@ pub fn no_operand(alloc: Global, found: Option<Refusal>) -> JudgedOperands
 fn pushed(mut os: Sequence<Operand>, o: Operand) -> Result<Sequence<Operand>, NoMemory>
     ensures { IfOk result (λ all. all ≡ os ++ o ∷ []) }
 {
-    match os.push(o) {
-        Ok(()) => Ok(os),
-        Err(_) => Err(NoMemory),
-    }
+    os.push(o)?;
+    Ok(os)
 }
 
 /// An operand behind others, where each means something.
@@ -42,10 +40,8 @@ pub fn operand_behind(
 {
     match (os, v.of) {
         (Some(os), Some(of)) => {
-            match pushed(os, Operand { at: v.at, of }) {
-                Ok(all) => Ok(Some(all)),
-                Err(fault) => Err(fault),
-            }
+            let all = pushed(os, Operand { at: v.at, of })?;
+            Ok(Some(all))
         }
         _ => Ok(None),
     }

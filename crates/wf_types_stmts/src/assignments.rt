@@ -176,14 +176,12 @@ fn judge_plain(
     ensures value { IfOk result (λ j. j.value ≡ right_value around.now (expr_at (exprs_of nodes.now) e)) }
     ensures lacks { IfOk result (λ j. j.lacks ≡ lacks_value around.now (expr_at (exprs_of nodes.now) e)) }
 {
-    match judge_value(alloc, found, nodes, around, e) {
-        Ok(j) => Ok(RightSide {
-            found: j.found,
-            value: j.value,
-            lacks: false,
-        }),
-        Err(fault) => Err(fault),
-    }
+    let j = judge_value(alloc, found, nodes, around, e)?;
+    Ok(RightSide {
+        found: j.found,
+        value: j.value,
+        lacks: false,
+    })
 }
 
 /// The right side of `=`.
@@ -201,17 +199,15 @@ pub fn judge_right(
 {
     match as_call(nodes, e) {
         Some(call) => {
-            match judge_whole_call(alloc, found, nodes, around, call) {
-                Ok(j) => Ok(RightSide {
-                    found: j.found,
-                    value: Value {
-                        of: j.of,
-                        at: place_of(nodes, e),
-                    },
-                    lacks: gives_no_value(around, call.callee),
-                }),
-                Err(fault) => Err(fault),
-            }
+            let j = judge_whole_call(alloc, found, nodes, around, call)?;
+            Ok(RightSide {
+                found: j.found,
+                value: Value {
+                    of: j.of,
+                    at: place_of(nodes, e),
+                },
+                lacks: gives_no_value(around, call.callee),
+            })
         }
         None => judge_plain(alloc, found, nodes, around, e),
     }
@@ -230,15 +226,9 @@ pub fn judge_equal(
     requires e { e.0 < length nodes.now.exprs }
     ensures { IfOk result (λ r. r ≡ judged around.now found (assigned (target_at (exprs_of nodes.now) target) None (expr_at (exprs_of nodes.now) e) ∷ (target_parts (target_at (exprs_of nodes.now) target) ++ value_parts None (expr_at (exprs_of nodes.now) e)))) }
 {
-    match judge_target(alloc, found, nodes, around, target) {
-        Ok(to) => {
-            match judge_right(alloc, to.found, nodes, around, e) {
-                Ok(right) => Ok(judged_assigned(right.found, to.value, right.value, right.lacks)),
-                Err(fault) => Err(fault),
-            }
-        }
-        Err(fault) => Err(fault),
-    }
+    let to = judge_target(alloc, found, nodes, around, target)?;
+    let right = judge_right(alloc, to.found, nodes, around, e)?;
+    Ok(judged_assigned(right.found, to.value, right.value, right.lacks))
 }
 
 /// An operator with `=`.
@@ -255,15 +245,9 @@ pub fn judge_update(
     requires e { e.0 < length nodes.now.exprs }
     ensures { IfOk result (λ r. r ≡ judged around.now found (assigned (target_at (exprs_of nodes.now) target) (Some op) (expr_at (exprs_of nodes.now) e) ∷ (target_parts (target_at (exprs_of nodes.now) target) ++ value_parts (Some op) (expr_at (exprs_of nodes.now) e)))) }
 {
-    match judge_target(alloc, found, nodes, around, target) {
-        Ok(to) => {
-            match judge_value(alloc, to.found, nodes, around, e) {
-                Ok(j) => Ok(judged_update(j.found, op, to.value, j.value)),
-                Err(fault) => Err(fault),
-            }
-        }
-        Err(fault) => Err(fault),
-    }
+    let to = judge_target(alloc, found, nodes, around, target)?;
+    let j = judge_value(alloc, to.found, nodes, around, e)?;
+    Ok(judged_update(j.found, op, to.value, j.value))
 }
 
 /// An assignment, with or without an operator.
@@ -299,13 +283,7 @@ pub fn judge_keep(
     requires args { ArgsBelow (length nodes.now.exprs) call.now.args }
     ensures { IfOk result (λ r. r ≡ judged around.now found (kept (target_at (exprs_of nodes.now) target) (call_at (exprs_of nodes.now) call.now) ∷ (target_parts (target_at (exprs_of nodes.now) target) ++ whole_call_parts (call_at (exprs_of nodes.now) call.now)))) }
 {
-    match judge_target(alloc, found, nodes, around, target) {
-        Ok(to) => {
-            match judge_whole_call(alloc, to.found, nodes, around, call) {
-                Ok(j) => Ok(judged_kept(j.found, around, to.value.of, call.callee, call.at)),
-                Err(fault) => Err(fault),
-            }
-        }
-        Err(fault) => Err(fault),
-    }
+    let to = judge_target(alloc, found, nodes, around, target)?;
+    let j = judge_whole_call(alloc, to.found, nodes, around, call)?;
+    Ok(judged_kept(j.found, around, to.value.of, call.callee, call.at))
 }

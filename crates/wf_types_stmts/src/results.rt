@@ -157,10 +157,8 @@ pub fn judge_condition(
     requires { e.0 < length nodes.now.exprs }
     ensures { IfOk result (λ r. r ≡ judged around.now found (condition_parts (expr_at (exprs_of nodes.now) e))) }
 {
-    match judge_value(alloc, found, nodes, around, e) {
-        Ok(j) => Ok(judged_condition(j.found, j.value)),
-        Err(fault) => Err(fault),
-    }
+    let j = judge_value(alloc, found, nodes, around, e)?;
+    Ok(judged_condition(j.found, j.value))
 }
 
 /// The promises of a loop.
@@ -176,10 +174,7 @@ pub fn judge_clauses(
 {
     let mut found = found;
     for clause in clauses {
-        match judge_condition(alloc, found, nodes, around, clause.condition) {
-            Ok(next) => found = next,
-            Err(fault) => return Err(fault),
-        }
+        found = judge_condition(alloc, found, nodes, around, clause.condition)?;
     }
     Ok(found)
 }
@@ -194,10 +189,8 @@ fn judge_letter(
     requires { e.0 < length nodes.now.exprs }
     ensures { IfOk result (λ r. r ≡ judged around.now found (letter_value (expr_at (exprs_of nodes.now) e) ∷ expr_parts (expr_at (exprs_of nodes.now) e))) }
 {
-    match judge_value(alloc, found, nodes, around, e) {
-        Ok(j) => Ok(judged_letter(j.found, j.value)),
-        Err(fault) => Err(fault),
-    }
+    let j = judge_value(alloc, found, nodes, around, e)?;
+    Ok(judged_letter(j.found, j.value))
 }
 
 /// What is given for the letters of an axiom.
@@ -213,10 +206,7 @@ pub fn judge_letters(
 {
     let mut found = found;
     for one in given {
-        match judge_letter(alloc, found, nodes, around, one.value) {
-            Ok(next) => found = next,
-            Err(fault) => return Err(fault),
-        }
+        found = judge_letter(alloc, found, nodes, around, one.value)?;
     }
     Ok(found)
 }
@@ -251,10 +241,8 @@ pub fn judge_claim(
     requires via { AxiomBelow (length nodes.now.texts) (length nodes.now.exprs) via.now }
     ensures { IfOk result (λ r. r ≡ judged around.now found (condition_parts (expr_at (exprs_of nodes.now) goal) ++ via_parts (via_at nodes.now.texts (exprs_of nodes.now) via.now))) }
 {
-    match judge_condition(alloc, found, nodes, around, goal) {
-        Ok(next) => judge_via(alloc, next, nodes, around, via),
-        Err(fault) => Err(fault),
-    }
+    let next = judge_condition(alloc, found, nodes, around, goal)?;
+    judge_via(alloc, next, nodes, around, via)
 }
 
 fn judge_end(
@@ -270,13 +258,11 @@ fn judge_end(
 {
     match value {
         Some(e) => {
-            match judge_value(alloc, found, nodes, around, e) {
-                Ok(j) => Ok(JudgedEnd {
-                    found: j.found,
-                    end: Some(j.value),
-                }),
-                Err(fault) => Err(fault),
-            }
+            let j = judge_value(alloc, found, nodes, around, e)?;
+            Ok(JudgedEnd {
+                found: j.found,
+                end: Some(j.value),
+            })
         }
         None => Ok(JudgedEnd { found, end: None }),
     }
@@ -294,10 +280,8 @@ pub fn judge_return(
     requires { IsBelow (length nodes.now.exprs) value }
     ensures { IfOk result (λ r. r ≡ judged around.now found (returned at (part_at (exprs_of nodes.now) value) ∷ end_parts (part_at (exprs_of nodes.now) value))) }
 {
-    match judge_end(alloc, found, nodes, around, value) {
-        Ok(j) => Ok(judged_return(j.found, around, j.end, at)),
-        Err(fault) => Err(fault),
-    }
+    let j = judge_end(alloc, found, nodes, around, value)?;
+    Ok(judged_return(j.found, around, j.end, at))
 }
 
 /// A `yield?` at this place.
@@ -312,11 +296,7 @@ pub fn judge_yield(
     requires { e.0 < length nodes.now.exprs }
     ensures { IfOk result (λ r. r ≡ judged around.now found (yielded at (expr_at (exprs_of nodes.now) e) ∷ expr_parts (expr_at (exprs_of nodes.now) e))) }
 {
-    match judge_value(alloc, found, nodes, around, e) {
-        Ok(j) => {
-            let suspension = suspends(nodes, around, e);
-            Ok(judged_yield(j.found, around, suspension, place_of(nodes, e), at))
-        }
-        Err(fault) => Err(fault),
-    }
+    let j = judge_value(alloc, found, nodes, around, e)?;
+    let suspension = suspends(nodes, around, e);
+    Ok(judged_yield(j.found, around, suspension, place_of(nodes, e), at))
 }

@@ -116,16 +116,14 @@ pub fn judge_value(
     ensures found { IfOk result (λ j. j.found ≡ judged around.now found (expr_parts (expr_at (exprs_of nodes.now) e))) }
     ensures value { IfOk result (λ j. j.value ≡ value_of around.now (expr_at (exprs_of nodes.now) e)) }
 {
-    match judge_expr(alloc, found, nodes, around, e) {
-        Ok(j) => Ok(JudgedValue {
-            found: j.found,
-            value: Value {
-                of: j.of,
-                at: place_of(nodes, e),
-            },
-        }),
-        Err(fault) => Err(fault),
-    }
+    let j = judge_expr(alloc, found, nodes, around, e)?;
+    Ok(JudgedValue {
+        found: j.found,
+        value: Value {
+            of: j.of,
+            at: place_of(nodes, e),
+        },
+    })
 }
 
 // An element, as an expression.
@@ -142,10 +140,8 @@ fn judge_element(
     ensures of { (at : _) → IfOk result (λ j. j.of ≡ meaning around.now (tree.index base (expr_at (exprs_of nodes.now) index) at)) }
 {
     let array = base_value(around, base);
-    match judge_value(alloc, found, nodes, around, index) {
-        Ok(j) => Ok(judged_index(j.found, array, j.value)),
-        Err(fault) => Err(fault),
-    }
+    let j = judge_value(alloc, found, nodes, around, index)?;
+    Ok(judged_index(j.found, array, j.value))
 }
 
 /// A target.
@@ -164,13 +160,11 @@ pub fn judge_target(
         NamedTarget::Path(path) => Ok(judged_path(found, around, path)),
         NamedTarget::Element { base, index, at } => {
             let begun = target_found(found, around, false, true, at);
-            match judge_element(alloc, begun, nodes, around, base, index) {
-                Ok(j) => Ok(JudgedValue {
-                    found: j.found,
-                    value: Value { of: j.of, at },
-                }),
-                Err(fault) => Err(fault),
-            }
+            let j = judge_element(alloc, begun, nodes, around, base, index)?;
+            Ok(JudgedValue {
+                found: j.found,
+                value: Value { of: j.of, at },
+            })
         }
     }
 }
