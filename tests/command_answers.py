@@ -2,7 +2,7 @@
 """The command ./wuffsc: with the proved program, which has to be built, and in a copy of the repository without it.
 
 usage: command_answers.py
-The copy answers from the kit's unproved run, which takes about two minutes.
+The copy answers from the kit's unproved run, which takes about a minute.
 """
 import os
 import pathlib
