@@ -9,10 +9,11 @@ ghost use Rattle.c_read_nodes.specs.Makers.{made, IsFit};
 ghost use Rattle.c_read.specs.Machines.{AnswersMeeting, AnswersToken, AnswersEnd, state_of};
 
 use c_read_grammar::{ItemSym, Sym, Want};
-use c_read_nodes::{Maker, Stack, Value};
+use c_read_nodes::{Maker, Value};
 use c_read_table::{Move, Wants, may_end, move_of};
 use c_read_tokens::Kind;
 use c_text::Unit;
+use stacks::Stack;
 use std::alloc::Global;
 use wf_text::NoMemory;
 

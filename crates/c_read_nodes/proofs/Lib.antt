@@ -1,6 +1,5 @@
 mod BlockLaws
 mod FitAt
-mod Fitting
 mod Kept
 mod MakeExprs
 mod MakeItems

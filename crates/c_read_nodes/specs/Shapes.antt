@@ -1,5 +1,6 @@
 -- The shapes of values, and which values the actions take from the top of the stack.
-use Rattle.std.specs.Prelude.{Bool, true, false, not, ◌&&◌, Option, None, Some, List, [], ◌∷◌, slice_get}
+use Rattle.std.specs.Prelude.{Bool, true, false, not, Option, None, Some, List, [], ◌∷◌, slice_get}
+use Rattle.stacks.specs.Shapes.{all_fit}
 use Rattle.c_text.specs.declared.ids.CExprId.{CExprId}
 use Rattle.c_text.specs.declared.kinds.COp.{COp}
 use Rattle.c_text.specs.declared.nodes.CType.TheVariants as types
@@ -42,15 +43,9 @@ is_shape shapes.Locals (vals.Locals _) = true
 is_shape shapes.Unit vals.Unit = true
 is_shape _ _ = false
 
-abbrev pub is_shape_at : Shape → Option Value → Bool
-is_shape_at s None = false
-is_shape_at s (Some v) = is_shape s v
-
 -- The topmost values have these shapes.
 abbrev pub fits : List Shape → List Value → Bool
-fits [] vs = true
-fits (s ∷ ss) [] = false
-fits (s ∷ ss) (v ∷ vs) = is_shape s v && fits ss vs
+fits ss vs = all_fit is_shape ss vs
 
 -- What an action takes, the topmost first.
 abbrev pub takes_expr : ExprAction → List Shape

@@ -16,10 +16,11 @@ ghost use Rattle.c_read_nodes.specs.declared.statements.Statement.TheVariants as
 
 use crate::maker::Maker;
 use crate::pops::{pop_arm, pop_block, pop_code, pop_name, pop_statement};
-use crate::shapes::{Shape, fits};
+use crate::shapes::Shape;
 use crate::statements::{Branch, Statement};
 use crate::values::{Arm, Value};
 use c_text::{CExpr, CStmt, CStmtId, Otherwise};
+use stacks::fits;
 use wf_text::NoMemory;
 
 /// Whether a label would have no statement behind it.

@@ -6,11 +6,11 @@ ghost use Rattle.c_text.specs.CNodes.{expr_of};
 ghost use Rattle.c_read_nodes.specs.Seen.{ValuesFit};
 ghost use Rattle.c_read_nodes.specs.Shapes.{value_expr, expr_in, is_pointer, is_target, repeats_lawfully, is_operation_of, meets};
 
-use crate::stack::Stack;
 use crate::values::Value;
 use c_read_grammar::{Action, ExprAction, StmtAction};
 use c_read_tokens::repeats;
 use c_text::{CExpr, CExprId, COp, Unit};
+use stacks::Stack;
 
 /// Whether an expression is a literal.
 fn is_literal(unit: &Unit, e: CExprId) -> bool

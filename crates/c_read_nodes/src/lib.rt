@@ -14,10 +14,8 @@ pub mod maker;
 pub mod making;
 pub mod pops;
 pub mod shapes;
-pub mod stack;
 pub mod statements;
 pub mod values;
 
 pub use maker::Maker;
-pub use stack::Stack;
 pub use values::Value;

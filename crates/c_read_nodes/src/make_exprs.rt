@@ -8,10 +8,10 @@ ghost use Rattle.c_read_nodes.specs.Shapes.{fits, takes_expr, is_plain};
 ghost use Rattle.c_read_nodes.specs.declared.shapes.Shape.TheVariants as shapes;
 
 use crate::pops::{pop_args, pop_expr, pop_name, pop_number, pop_operation, pop_type};
-use crate::stack::Stack;
 use crate::values::{OpenOperation, Product, Value};
 use c_read_grammar::ExprAction;
 use c_text::{CArg, CCall, CExpr, CList, COp, CUnary};
+use stacks::Stack;
 use std::alloc::Global;
 use wf_text::NoMemory;
 

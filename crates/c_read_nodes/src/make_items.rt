@@ -11,10 +11,10 @@ use crate::pops::{
     pop_code, pop_expr, pop_field, pop_fields, pop_locals, pop_name, pop_number, pop_outcome,
     pop_params, pop_some_fields, pop_text, pop_type, pop_unit,
 };
-use crate::stack::Stack;
 use crate::values::{Outcome, Product, Value};
 use c_read_grammar::ItemAction;
 use c_text::{CField, CFieldType, CItem, CList, CLocal, CParam, Linkage};
+use stacks::Stack;
 use std::alloc::Global;
 use wf_text::NoMemory;
 

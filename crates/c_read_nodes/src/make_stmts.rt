@@ -8,11 +8,11 @@ ghost use Rattle.c_read_nodes.specs.Shapes.{fits, takes_stmt, is_plain};
 ghost use Rattle.c_read_nodes.specs.declared.shapes.Shape.TheVariants as shapes;
 
 use crate::pops::{pop_args, pop_code, pop_expr, pop_name, pop_number};
-use crate::stack::Stack;
 use crate::statements::Statement;
 use crate::values::{Arm, Product, Value};
 use c_read_grammar::StmtAction;
 use c_text::CCall;
+use stacks::Stack;
 use std::alloc::Global;
 use wf_text::NoMemory;
 

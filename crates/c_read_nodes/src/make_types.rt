@@ -8,10 +8,10 @@ ghost use Rattle.c_read_nodes.specs.Shapes.{fits, takes_type, is_plain};
 ghost use Rattle.c_read_nodes.specs.declared.shapes.Shape.TheVariants as shapes;
 
 use crate::pops::{pop_name, pop_uint_type};
-use crate::stack::Stack;
 use crate::values::{Product, Value};
 use c_read_grammar::TypeAction;
 use c_text::CType;
+use stacks::Stack;
 use std::alloc::Global;
 use wf_text::NoMemory;
 

@@ -10,11 +10,11 @@ ghost use Rattle.c_read_nodes.specs.Shapes.{is_plain};
 
 use crate::conditions::meets;
 use crate::making::make;
-use crate::shapes::{fits, is_plain, takes};
-use crate::stack::Stack;
+use crate::shapes::{is_plain, takes};
 use crate::values::{Product, Value};
 use c_read_grammar::{Action, ExprAction, StmtAction};
 use c_text::{CExpr, CItem, Unit};
+use stacks::{Stack, fits};
 use std::alloc::Global;
 use wf_text::NoMemory;
 

@@ -4,10 +4,10 @@ ghost use Rattle.std.specs.Prelude.{◌≡◌, true, IfOk};
 ghost use Rattle.c_read_nodes.specs.Making.{making};
 ghost use Rattle.c_read_nodes.specs.Shapes.{fits, takes, is_plain};
 
-use crate::stack::Stack;
 use crate::values::{Product, Value};
 use crate::{make_exprs, make_items, make_stmts, make_types};
 use c_read_grammar::Action;
+use stacks::Stack;
 use std::alloc::Global;
 use wf_text::NoMemory;
 

@@ -6,13 +6,13 @@ ghost use Rattle.c_read_nodes.specs.Shapes.{fits};
 ghost use Rattle.c_read_nodes.specs.declared.shapes.Shape.TheVariants as shapes;
 ghost use Rattle.c_read_nodes.specs.declared.values.Value.TheVariants as vals;
 
-use crate::stack::Stack;
 use crate::statements::Statement;
 use crate::values::{Arm, OpenOperation, Outcome, Value};
 use c_text::{
     CArg, CExprId, CField, CList, CLocal, CNameId, CNumber, CParam, CStmtId, CStringId, CType,
     CUint,
 };
+use stacks::Stack;
 
 /// Takes a name from the top.
 pub fn pop_name(values: &mut Stack<Value>) -> CNameId

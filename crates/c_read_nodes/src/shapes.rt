@@ -1,12 +1,12 @@
 // The shapes of values, and which values the actions take from the top of the stack.
 
-ghost use Rattle.std.specs.Prelude.{◌≡◌, slice_get};
-ghost use Rattle.c_read_nodes.specs.Shapes.{is_shape, is_shape_at, fits, takes_expr, takes_type, takes_stmt, takes_item, takes, is_plain};
+ghost use Rattle.std.specs.Prelude.{◌≡◌};
+ghost use Rattle.c_read_nodes.specs.Shapes.{is_shape, takes_expr, takes_type, takes_stmt, takes_item, takes, is_plain};
 
-use crate::stack::Stack;
 use crate::values::Value;
 use c_read_grammar::{Action, ExprAction, ItemAction, StmtAction, TypeAction};
 use c_text::CType;
+use stacks::ShapeOf;
 
 /// The shape of a value: its variant, with what an action asks of it.
 #[derive(Clone, Copy, PartialEq, Eq)]
@@ -32,63 +32,33 @@ pub enum Shape {
     Unit,
 }
 
-/// Whether a value has this shape.
-fn is_shape(shape: Shape, value: &Value) -> bool
-    ensures { result ≡ is_shape shape value.now }
-{
-    match (shape, value) {
-        (Shape::Name, Value::Name(_)) => true,
-        (Shape::Number, Value::Number(_)) => true,
-        (Shape::Text, Value::Text(_)) => true,
-        (Shape::Expr, Value::Expr(_)) => true,
-        (Shape::Operation, Value::Operation(_)) => true,
-        (Shape::Args, Value::Args(_)) => true,
-        (Shape::Type, Value::Type(_)) => true,
-        (Shape::UintType, Value::Type(CType::Uint(_))) => true,
-        (Shape::Block, Value::Block) => true,
-        (Shape::Code, Value::Code(_)) => true,
-        (Shape::Statement, Value::Statement(_)) => true,
-        (Shape::Arm, Value::Arm(_)) => true,
-        (Shape::Field, Value::Field(_)) => true,
-        (Shape::Fields, Value::Fields(_)) => true,
-        (Shape::SomeFields, Value::Fields(fields)) => !fields.as_slice().is_empty(),
-        (Shape::Outcome, Value::Outcome(_)) => true,
-        (Shape::Params, Value::Params(_)) => true,
-        (Shape::Locals, Value::Locals(_)) => true,
-        (Shape::Unit, Value::Unit) => true,
-        _ => false,
-    }
-}
+impl ShapeOf<Value> for Shape {
+    ghost is_shape = { is_shape };
 
-/// Whether the value so far below the top has this shape.
-fn has_shape(values: &Stack<Value>, depth: usize, shape: Shape) -> bool
-    ensures { result ≡ is_shape_at shape (slice_get values.now depth) }
-{
-    match values.get(depth) {
-        Some(value) => is_shape(shape, value),
-        None => false,
-    }
-}
-
-/// The shape at this place, if there is one.
-fn shape_at(shapes: &[Shape], place: usize) -> Option<Shape>
-    ensures { result ≡ slice_get shapes.now place }
-{
-    shapes.get(place).copied()
-}
-
-/// Whether the topmost values have these shapes, the topmost first.
-pub fn fits(shapes: &[Shape], values: &Stack<Value>) -> bool
-    ensures { result ≡ fits shapes.now values.now }
-{
-    let mut depth: usize = 0;
-    while let Some(shape) = shape_at(shapes, depth) {
-        if !has_shape(values, depth, shape) {
-            return false;
+    fn is_of(self, value: &Value) -> bool {
+        match (self, value) {
+            (Shape::Name, Value::Name(_)) => true,
+            (Shape::Number, Value::Number(_)) => true,
+            (Shape::Text, Value::Text(_)) => true,
+            (Shape::Expr, Value::Expr(_)) => true,
+            (Shape::Operation, Value::Operation(_)) => true,
+            (Shape::Args, Value::Args(_)) => true,
+            (Shape::Type, Value::Type(_)) => true,
+            (Shape::UintType, Value::Type(CType::Uint(_))) => true,
+            (Shape::Block, Value::Block) => true,
+            (Shape::Code, Value::Code(_)) => true,
+            (Shape::Statement, Value::Statement(_)) => true,
+            (Shape::Arm, Value::Arm(_)) => true,
+            (Shape::Field, Value::Field(_)) => true,
+            (Shape::Fields, Value::Fields(_)) => true,
+            (Shape::SomeFields, Value::Fields(fields)) => !fields.as_slice().is_empty(),
+            (Shape::Outcome, Value::Outcome(_)) => true,
+            (Shape::Params, Value::Params(_)) => true,
+            (Shape::Locals, Value::Locals(_)) => true,
+            (Shape::Unit, Value::Unit) => true,
+            _ => false,
         }
-        depth += 1;
     }
-    true
 }
 
 /// The shapes of the values that an action takes, the topmost first.

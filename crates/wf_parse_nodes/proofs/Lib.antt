@@ -3,7 +3,6 @@ pub mod BranchMaking
 pub mod CallMaking
 pub mod DeclMaking
 pub mod ExprMaking
-pub mod Fitting
 pub mod Growth
 pub mod PathMaking
 pub mod Performing

@@ -1,5 +1,6 @@
 -- The shapes of values, and which values the actions take from the top of the stack.
-use Rattle.std.specs.Prelude.{Bool, true, false, ◌&&◌, Option, None, Some, List, [], ◌∷◌}
+use Rattle.std.specs.Prelude.{Bool, true, false, List, [], ◌∷◌}
+use Rattle.stacks.specs.Shapes.{all_fit}
 use Rattle.wf_parse_grammar.specs.declared.symbols.Action.{Action}
 use Rattle.wf_parse_grammar.specs.declared.symbols.Action.TheVariants as does
 use Rattle.wf_parse_nodes.specs.declared.shapes.Shape.{Shape}
@@ -37,15 +38,9 @@ is_shape shapes.Fields (vals.Fields _) = true
 is_shape shapes.Result (vals.Result _) = true
 is_shape _ _ = false
 
-abbrev pub is_shape_at : Shape → Option Value → Bool
-is_shape_at s None = false
-is_shape_at s (Some v) = is_shape s v
-
 -- The topmost values have these shapes.
 abbrev pub fits : List Shape → List Value → Bool
-fits [] vs = true
-fits (s ∷ ss) [] = false
-fits (s ∷ ss) (v ∷ vs) = is_shape s v && fits ss vs
+fits ss vs = all_fit is_shape ss vs
 
 -- What an action takes, the topmost first.
 abbrev pub takes : Action → List Shape

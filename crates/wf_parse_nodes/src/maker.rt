@@ -11,9 +11,9 @@ ghost use Rattle.wf_parse_nodes.specs.Makers.{made, nodes, IsSound, KeepsTexts};
 
 use crate::actions::{grown, lets_grow, made, pushed, pushes};
 use crate::products::Product;
-use crate::shapes::{fits, takes};
+use crate::shapes::takes;
 use crate::values::Value;
-use stacks::Stack;
+use stacks::{Stack, fits};
 use std::alloc::Global;
 use wf_ast::PackageNodes;
 use wf_parse_grammar::Action;

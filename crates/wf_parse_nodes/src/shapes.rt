@@ -1,10 +1,10 @@
 // The shapes of values, and which values the actions take from the top of the stack.
 
-ghost use Rattle.std.specs.Prelude.{◌≡◌, ◌<◌, List, [], ◌∷◌, slice_get};
-ghost use Rattle.wf_parse_nodes.specs.Shapes.{is_shape, is_shape_at, fits, takes};
+ghost use Rattle.std.specs.Prelude.{◌≡◌};
+ghost use Rattle.wf_parse_nodes.specs.Shapes.{is_shape, takes};
 
 use crate::values::Value;
-use stacks::Stack;
+use stacks::ShapeOf;
 use wf_parse_grammar::Action;
 
 /// The shape of a value, which is its variant.
@@ -39,71 +39,41 @@ pub enum Shape {
     Result,
 }
 
-/// Whether a value has this shape.
-fn is_shape(shape: Shape, value: &Value) -> bool
-    ensures { result ≡ is_shape shape value.now }
-{
-    match (shape, value) {
-        (Shape::Name, Value::Name(_)) => true,
-        (Shape::Place, Value::Place(_)) => true,
-        (Shape::Mark, Value::Mark(_)) => true,
-        (Shape::Public, Value::Public(_)) => true,
-        (Shape::Sign, Value::Sign(_)) => true,
-        (Shape::Path, Value::Path(_)) => true,
-        (Shape::Receiver, Value::Receiver(_)) => true,
-        (Shape::Expr, Value::Expr(_)) => true,
-        (Shape::Part, Value::Part(_)) => true,
-        (Shape::Chain, Value::Chain(_)) => true,
-        (Shape::Givens, Value::Givens(_)) => true,
-        (Shape::Call, Value::Call(_)) => true,
-        (Shape::Prefixes, Value::Prefixes(_)) => true,
-        (Shape::Core, Value::Core(_)) => true,
-        (Shape::Bounds, Value::Bounds(_)) => true,
-        (Shape::Type, Value::Type(_)) => true,
-        (Shape::Items, Value::Items(_)) => true,
-        (Shape::Block, Value::Block(_)) => true,
-        (Shape::Stmt, Value::Stmt(_)) => true,
-        (Shape::Target, Value::Target(_)) => true,
-        (Shape::Arms, Value::Arms(_)) => true,
-        (Shape::Otherwise, Value::Otherwise(_)) => true,
-        (Shape::Clauses, Value::Clauses(_)) => true,
-        (Shape::Label, Value::Label(_)) => true,
-        (Shape::Via, Value::Via(_)) => true,
-        (Shape::Fields, Value::Fields(_)) => true,
-        (Shape::Result, Value::Result(_)) => true,
-        _ => false,
-    }
-}
+impl ShapeOf<Value> for Shape {
+    ghost is_shape = { is_shape };
 
-/// Whether the value so far below the top has this shape.
-fn has_shape(values: &Stack<Value>, depth: usize, shape: Shape) -> bool
-    ensures { result ≡ is_shape_at shape (slice_get values.now depth) }
-{
-    match values.get(depth) {
-        Some(value) => is_shape(shape, value),
-        None => false,
-    }
-}
-
-/// The shape at this place, if there is one.
-fn shape_at(shapes: &[Shape], place: usize) -> Option<Shape>
-    ensures { result ≡ slice_get shapes.now place }
-{
-    shapes.get(place).copied()
-}
-
-/// Whether the topmost values have these shapes, the topmost first.
-pub fn fits(shapes: &[Shape], values: &Stack<Value>) -> bool
-    ensures { result ≡ fits shapes.now values.now }
-{
-    let mut depth: usize = 0;
-    while let Some(shape) = shape_at(shapes, depth) {
-        if !has_shape(values, depth, shape) {
-            return false;
+    fn is_of(self, value: &Value) -> bool {
+        match (self, value) {
+            (Shape::Name, Value::Name(_)) => true,
+            (Shape::Place, Value::Place(_)) => true,
+            (Shape::Mark, Value::Mark(_)) => true,
+            (Shape::Public, Value::Public(_)) => true,
+            (Shape::Sign, Value::Sign(_)) => true,
+            (Shape::Path, Value::Path(_)) => true,
+            (Shape::Receiver, Value::Receiver(_)) => true,
+            (Shape::Expr, Value::Expr(_)) => true,
+            (Shape::Part, Value::Part(_)) => true,
+            (Shape::Chain, Value::Chain(_)) => true,
+            (Shape::Givens, Value::Givens(_)) => true,
+            (Shape::Call, Value::Call(_)) => true,
+            (Shape::Prefixes, Value::Prefixes(_)) => true,
+            (Shape::Core, Value::Core(_)) => true,
+            (Shape::Bounds, Value::Bounds(_)) => true,
+            (Shape::Type, Value::Type(_)) => true,
+            (Shape::Items, Value::Items(_)) => true,
+            (Shape::Block, Value::Block(_)) => true,
+            (Shape::Stmt, Value::Stmt(_)) => true,
+            (Shape::Target, Value::Target(_)) => true,
+            (Shape::Arms, Value::Arms(_)) => true,
+            (Shape::Otherwise, Value::Otherwise(_)) => true,
+            (Shape::Clauses, Value::Clauses(_)) => true,
+            (Shape::Label, Value::Label(_)) => true,
+            (Shape::Via, Value::Via(_)) => true,
+            (Shape::Fields, Value::Fields(_)) => true,
+            (Shape::Result, Value::Result(_)) => true,
+            _ => false,
         }
-        depth += 1;
     }
-    true
 }
 
 /// The shapes of the values that an action takes, the topmost first.
