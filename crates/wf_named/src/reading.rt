@@ -13,13 +13,6 @@ use wf_ast::parsed::Name;
 use wf_ast::{ExprId, StmtId, TextId};
 
 impl NamedNodes {
-    /// The package's name.
-    pub fn package_name(&self) -> &[u8]
-        ensures { result.now ≡ self.now.package_name }
-    {
-        self.package_name.as_slice()
-    }
-
     /// How many texts the package has. Equal texts have equal numbers.
     pub fn texts(&self) -> usize
         ensures count { result ≡ length self.now.texts }
@@ -108,5 +101,12 @@ impl NamedNodes {
         ensures { result.now ≡ self.now.order }
     {
         self.order.as_slice()
+    }
+
+    /// The package's name.
+    pub fn package_name(&self) -> &[u8]
+        ensures { result.now ≡ self.now.package_name }
+    {
+        self.package_name.as_slice()
     }
 }

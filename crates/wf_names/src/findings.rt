@@ -29,7 +29,7 @@ pub struct Findings {
     pub refusal: Option<Refusal>,
     /// What the package declares.
     pub tables: Tables,
-    /// The numbers of all methods, each behind those that it calls, apart from those that can reach it by calls.
+    /// The numbers of all methods, each after those that it calls, apart from those that can reach it by calls.
     pub order: Vec<u32>,
 }
 

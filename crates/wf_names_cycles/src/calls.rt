@@ -39,10 +39,8 @@ fn row_within(
         (node_uses (expr_trees parsed.now.exprs) (stmt_trees parsed.now.exprs parsed.now.stmts) args.now gives.now body.now)) }
     ensures constants { OnOk result (TellsConstants (package_of parsed.now) scope.new) }
 {
-    match enter_method(alloc, scope, parsed, owner, args, body) {
-        Ok(()) => method_row(alloc, parsed, tables, scope, args, gives, body),
-        Err(fault) => Err(fault),
-    }
+    enter_method(alloc, scope, parsed, owner, args, body)?;
+    method_row(alloc, parsed, tables, scope, args, gives, body)
 }
 
 fn push_row(rows: &mut Vec<Row>, row: Row) -> Result<(), NoMemory>
@@ -75,19 +73,19 @@ fn add_row(
             gives,
             body,
             ..
-        } => match row_within(
-            alloc,
-            parsed,
-            tables,
-            scope,
-            *of,
-            args.as_slice(),
-            gives,
-            body,
-        ) {
-            Ok(row) => push_row(rows, row),
-            Err(fault) => Err(fault),
-        },
+        } => {
+            let row = row_within(
+                alloc,
+                parsed,
+                tables,
+                scope,
+                *of,
+                args.as_slice(),
+                gives,
+                body,
+            )?;
+            push_row(rows, row)
+        }
         Decl::Status(_) => Ok(()),
         Decl::Const { .. } => Ok(()),
         Decl::Struct { .. } => Ok(()),
@@ -108,10 +106,7 @@ fn rows_within(
     let mut rows = Vec::new(alloc);
     let mut number = 0;
     while number < parsed.decls().len() {
-        match add_row(alloc, &mut rows, parsed, tables, scope, parsed.decl(number)) {
-            Ok(()) => {}
-            Err(fault) => return Err(fault),
-        }
+        add_row(alloc, &mut rows, parsed, tables, scope, parsed.decl(number))?;
         number += 1;
     }
     Ok(rows)
@@ -128,8 +123,6 @@ pub(crate) fn call_rows(
     ensures { IfOk result (λ rows. AreRows (package_of parsed.now) rows.items (length (package_of parsed.now).methods)) }
 {
     let mut scope = outside(alloc);
-    match constants(alloc, None, parsed, tables, &mut scope) {
-        Ok(_) => rows_within(alloc, parsed, tables, &mut scope),
-        Err(fault) => Err(fault),
-    }
+    constants(alloc, None, parsed, tables, &mut scope)?;
+    rows_within(alloc, parsed, tables, &mut scope)
 }

@@ -27,7 +27,7 @@ impl Drop for NamedCycles {
 }
 
 impl NamedCycles {
-    /// The numbers alone, each behind those that it goes to, apart from those that have a way back to it.
+    /// The numbers alone, each after those that it goes to, apart from those that have a way back to it.
     pub fn into_order(self) -> Vec<u32>
         ensures { result ≡ self.cycles.order }
     {

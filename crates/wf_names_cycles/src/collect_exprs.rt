@@ -19,10 +19,8 @@ use wf_text::faults::NoMemory;
 fn add_method(row: &mut Row, m: usize) -> Result<(), NoMemory>
     ensures { OnOk result (row.new ≡ row.old ++ m ∷ []) }
 {
-    match row.push(m) {
-        Ok(()) => Ok(()),
-        Err(_) => Err(NoMemory),
-    }
+    row.push(m)?;
+    Ok(())
 }
 
 fn add_callee(row: &mut Row, callee: Callee) -> Result<(), NoMemory>
@@ -63,16 +61,12 @@ pub(crate) fn collect_expr(
         Expr::Slice { from, to, .. } => collect_parts(row, parsed, tables, scope, *from, *to),
         Expr::Call(call) => collect_call(row, parsed, tables, scope, call),
         Expr::Chain { first, links, .. } => {
-            match collect_expr(row, parsed, tables, scope, *first) {
-                Ok(()) => collect_links(row, parsed, tables, scope, links.as_slice()),
-                Err(fault) => Err(fault),
-            }
+            collect_expr(row, parsed, tables, scope, *first)?;
+            collect_links(row, parsed, tables, scope, links.as_slice())
         }
         Expr::Convert { of, to } => {
-            match collect_expr(row, parsed, tables, scope, *of) {
-                Ok(()) => collect_type(row, parsed, tables, scope, to),
-                Err(fault) => Err(fault),
-            }
+            collect_expr(row, parsed, tables, scope, *of)?;
+            collect_type(row, parsed, tables, scope, to)
         }
         Expr::Not(of) => collect_expr(row, parsed, tables, scope, *of),
     }
@@ -109,10 +103,8 @@ fn collect_parts(
     requires to { IsBelow (length parsed.now.exprs) to }
     ensures { OnOk result (row.new ≡ with_calls (known_by parsed.now.texts tables.now scope.now) row.old (part_uses (part_at (expr_trees parsed.now.exprs) from) ++ part_uses (part_at (expr_trees parsed.now.exprs) to))) }
 {
-    match collect_part(row, parsed, tables, scope, from) {
-        Ok(()) => collect_part(row, parsed, tables, scope, to),
-        Err(fault) => Err(fault),
-    }
+    collect_part(row, parsed, tables, scope, from)?;
+    collect_part(row, parsed, tables, scope, to)
 }
 
 #[cycle(collect_exprs)]
@@ -127,10 +119,7 @@ fn collect_links(
     ensures { OnOk result (row.new ≡ with_calls (known_by parsed.now.texts tables.now scope.now) row.old (link_uses (links_at (expr_trees parsed.now.exprs) links.now))) }
 {
     for link in links {
-        match collect_expr(row, parsed, tables, scope, link.operand) {
-            Ok(()) => {}
-            Err(fault) => return Err(fault),
-        }
+        collect_expr(row, parsed, tables, scope, link.operand)?;
     }
     Ok(())
 }
@@ -148,10 +137,7 @@ pub(crate) fn collect_given(
     ensures { OnOk result (row.new ≡ with_calls (known_by parsed.now.texts tables.now scope.now) row.old (given_uses (given_at (expr_trees parsed.now.exprs) args.now))) }
 {
     for given in args {
-        match collect_expr(row, parsed, tables, scope, given.value) {
-            Ok(()) => {}
-            Err(fault) => return Err(fault),
-        }
+        collect_expr(row, parsed, tables, scope, given.value)?;
     }
     Ok(())
 }
@@ -168,13 +154,9 @@ pub(crate) fn collect_call(
     requires { GivenBelow (length parsed.now.exprs) call.now.args }
     ensures { OnOk result (row.new ≡ with_calls (known_by parsed.now.texts tables.now scope.now) row.old (call_uses (call_at (expr_trees parsed.now.exprs) call.now))) }
 {
-    match collect_given(row, parsed, tables, scope, call.args.as_slice()) {
-        Ok(()) => {
-            let callee = callee_on(parsed, tables, scope, call.on, call.method.text);
-            add_callee(row, callee)
-        }
-        Err(fault) => Err(fault),
-    }
+    collect_given(row, parsed, tables, scope, call.args.as_slice())?;
+    let callee = callee_on(parsed, tables, scope, call.on, call.method.text);
+    add_callee(row, callee)
 }
 
 #[cycle(collect_exprs)]
@@ -206,10 +188,7 @@ fn collect_prefixes(
     ensures { OnOk result (row.new ≡ with_calls (known_by parsed.now.texts tables.now scope.now) row.old (flat_map (prefix_uses (expr_trees parsed.now.exprs)) prefixes.now)) }
 {
     for prefix in prefixes {
-        match collect_prefix(row, parsed, tables, scope, *prefix) {
-            Ok(()) => {}
-            Err(fault) => return Err(fault),
-        }
+        collect_prefix(row, parsed, tables, scope, *prefix)?;
     }
     Ok(())
 }
@@ -262,8 +241,6 @@ pub(crate) fn collect_type(
     requires { TypeBelow (length parsed.now.exprs) of.now }
     ensures { OnOk result (row.new ≡ with_calls (known_by parsed.now.texts tables.now scope.now) row.old (type_uses (type_at (expr_trees parsed.now.exprs) of.now))) }
 {
-    match collect_prefixes(row, parsed, tables, scope, of.prefixes.as_slice()) {
-        Ok(()) => collect_core(row, parsed, tables, scope, of.core, of.bounds),
-        Err(fault) => Err(fault),
-    }
+    collect_prefixes(row, parsed, tables, scope, of.prefixes.as_slice())?;
+    collect_core(row, parsed, tables, scope, of.core, of.bounds)
 }

@@ -42,10 +42,7 @@ fn collect_clauses(
     ensures { OnOk result (row.new ≡ with_calls (known_by parsed.now.texts tables.now scope.now) row.old (clause_uses (clauses_at (expr_trees parsed.now.exprs) clauses.now))) }
 {
     for clause in clauses {
-        match collect_expr(row, parsed, tables, scope, clause.condition) {
-            Ok(()) => {}
-            Err(fault) => return Err(fault),
-        }
+        collect_expr(row, parsed, tables, scope, clause.condition)?;
     }
     Ok(())
 }
@@ -79,10 +76,8 @@ fn collect_head(
     requires clauses { AllByRecursion (λ c. c.condition.0 < length parsed.now.exprs) clauses.now }
     ensures { OnOk result (row.new ≡ with_calls (known_by parsed.now.texts tables.now scope.now) row.old (uses_of (expr_at (expr_trees parsed.now.exprs) condition) ++ clause_uses (clauses_at (expr_trees parsed.now.exprs) clauses.now))) }
 {
-    match collect_expr(row, parsed, tables, scope, condition) {
-        Ok(()) => collect_clauses(row, parsed, tables, scope, clauses),
-        Err(fault) => Err(fault),
-    }
+    collect_expr(row, parsed, tables, scope, condition)?;
+    collect_clauses(row, parsed, tables, scope, clauses)
 }
 
 #[cycle(collect_stmts)]
@@ -100,16 +95,12 @@ fn collect_stmt(
     match &node.stmt {
         Stmt::Var { of, .. } => collect_type(row, parsed, tables, scope, of),
         Stmt::Assign { target, value, .. } => {
-            match collect_target(row, parsed, tables, scope, *target) {
-                Ok(()) => collect_expr(row, parsed, tables, scope, *value),
-                Err(fault) => Err(fault),
-            }
+            collect_target(row, parsed, tables, scope, *target)?;
+            collect_expr(row, parsed, tables, scope, *value)
         }
         Stmt::Keep { target, call } => {
-            match collect_target(row, parsed, tables, scope, *target) {
-                Ok(()) => collect_call(row, parsed, tables, scope, call),
-                Err(fault) => Err(fault),
-            }
+            collect_target(row, parsed, tables, scope, *target)?;
+            collect_call(row, parsed, tables, scope, call)
         }
         Stmt::Call(call) => collect_call(row, parsed, tables, scope, call),
         Stmt::If { arms, otherwise } => {
@@ -121,20 +112,16 @@ fn collect_stmt(
             body,
             ..
         } => {
-            match collect_head(row, parsed, tables, scope, *condition, clauses.as_slice()) {
-                Ok(()) => collect_block(row, parsed, tables, scope, body),
-                Err(fault) => Err(fault),
-            }
+            collect_head(row, parsed, tables, scope, *condition, clauses.as_slice())?;
+            collect_block(row, parsed, tables, scope, body)
         }
         Stmt::Break(_) => Ok(()),
         Stmt::Continue(_) => Ok(()),
         Stmt::Return(value) => collect_part(row, parsed, tables, scope, *value),
         Stmt::Yield(value) => collect_expr(row, parsed, tables, scope, *value),
         Stmt::Assert { goal, via } => {
-            match collect_expr(row, parsed, tables, scope, *goal) {
-                Ok(()) => collect_via(row, parsed, tables, scope, via),
-                Err(fault) => Err(fault),
-            }
+            collect_expr(row, parsed, tables, scope, *goal)?;
+            collect_via(row, parsed, tables, scope, via)
         }
     }
 }
@@ -153,10 +140,7 @@ pub(crate) fn collect_block(
     ensures { OnOk result (row.new ≡ with_calls (known_by parsed.now.texts tables.now scope.now) row.old (block_uses (block_at (stmt_trees parsed.now.exprs parsed.now.stmts) block.now))) }
 {
     for s in block.items.as_slice() {
-        match collect_stmt(row, parsed, tables, scope, *s) {
-            Ok(()) => {}
-            Err(fault) => return Err(fault),
-        }
+        collect_stmt(row, parsed, tables, scope, *s)?;
     }
     Ok(())
 }
@@ -173,10 +157,8 @@ fn collect_arm(
     requires body { BlockBelow (length parsed.now.stmts) arm.now.body }
     ensures { OnOk result (row.new ≡ with_calls (known_by parsed.now.texts tables.now scope.now) row.old (uses_of (expr_at (expr_trees parsed.now.exprs) arm.now.condition) ++ block_uses (block_at (stmt_trees parsed.now.exprs parsed.now.stmts) arm.now.body))) }
 {
-    match collect_expr(row, parsed, tables, scope, arm.condition) {
-        Ok(()) => collect_block(row, parsed, tables, scope, &arm.body),
-        Err(fault) => Err(fault),
-    }
+    collect_expr(row, parsed, tables, scope, arm.condition)?;
+    collect_block(row, parsed, tables, scope, &arm.body)
 }
 
 #[cycle(collect_stmts)]
@@ -210,10 +192,7 @@ fn collect_arms(
     ensures { OnOk result (row.new ≡ with_calls (known_by parsed.now.texts tables.now scope.now) row.old (arm_uses (arms_at (expr_trees parsed.now.exprs) (stmt_trees parsed.now.exprs parsed.now.stmts) arms.now (else_at (stmt_trees parsed.now.exprs parsed.now.stmts) otherwise.now)))) }
 {
     for arm in arms {
-        match collect_arm(row, parsed, tables, scope, arm) {
-            Ok(()) => {}
-            Err(fault) => return Err(fault),
-        }
+        collect_arm(row, parsed, tables, scope, arm)?;
     }
     collect_else(row, parsed, tables, scope, otherwise)
 }

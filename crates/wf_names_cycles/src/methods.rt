@@ -33,10 +33,7 @@ fn collect_fields(
     ensures { OnOk result (row.new ≡ with_calls (known_by parsed.now.texts tables.now scope.now) row.old (variable_uses (variables (fields_at (expr_trees parsed.now.exprs) fields.now)))) }
 {
     for field in fields {
-        match collect_type(row, parsed, tables, scope, &field.of) {
-            Ok(()) => {}
-            Err(fault) => return Err(fault),
-        }
+        collect_type(row, parsed, tables, scope, &field.of)?;
     }
     Ok(())
 }
@@ -75,28 +72,20 @@ pub(crate) fn method_row(
     ensures { IfOk result (λ row. row ≡ called_in (known_by parsed.now.texts tables.now scope.now) (node_uses (expr_trees parsed.now.exprs) (stmt_trees parsed.now.exprs parsed.now.stmts) args.now gives.now body.now)) }
 {
     let mut row = Row::new(alloc);
-    match collect_fields(&mut row, parsed, tables, scope, args) {
-        Ok(()) => {}
-        Err(fault) => return Err(fault),
-    }
-    match collect_result(&mut row, parsed, tables, scope, gives) {
-        Ok(()) => {}
-        Err(fault) => return Err(fault),
-    }
-    match collect_block(&mut row, parsed, tables, scope, body) {
-        Ok(()) => Ok(row),
-        Err(fault) => Err(fault),
-    }
+    collect_fields(&mut row, parsed, tables, scope, args)?;
+    collect_result(&mut row, parsed, tables, scope, gives)?;
+    collect_block(&mut row, parsed, tables, scope, body)?;
+    Ok(row)
 }
 
 fn add_name(names: &mut Vec<Name>, decl: &Decl) -> Result<(), NoMemory>
     ensures { OnOk result ((es : _) (ts : _) (public : _) (at : _) → names.new.items ≡ names.old.items ++ names_of_methods (methods_of (decl_made es ts public decl.now at ∷ []))) }
 {
     match decl {
-        Decl::Method { name, .. } => match names.push(*name) {
-            Ok(()) => Ok(()),
-            Err(_) => Err(NoMemory),
-        },
+        Decl::Method { name, .. } => {
+            names.push(*name)?;
+            Ok(())
+        }
         Decl::Status(_) => Ok(()),
         Decl::Const { .. } => Ok(()),
         Decl::Struct { .. } => Ok(()),
@@ -109,10 +98,7 @@ fn method_names(alloc: Global, decls: &[DeclNode]) -> Result<Vec<Name>, NoMemory
 {
     let mut names = Vec::new(alloc);
     for node in decls {
-        match add_name(&mut names, &node.decl) {
-            Ok(()) => {}
-            Err(fault) => return Err(fault),
-        }
+        add_name(&mut names, &node.decl)?;
     }
     Ok(names)
 }

@@ -21,10 +21,10 @@ fn add_name(names: &mut Vec<Name>, decl: &Decl) -> Result<(), NoMemory>
     ensures { OnOk result ((es : _) (ts : _) (public : _) (at : _) → names.new.items ≡ names.old.items ++ names_of (structs_of (decl_made es ts public decl.now at ∷ []))) }
 {
     match decl {
-        Decl::Struct { name, .. } => match names.push(*name) {
-            Ok(()) => Ok(()),
-            Err(_) => Err(NoMemory),
-        },
+        Decl::Struct { name, .. } => {
+            names.push(*name)?;
+            Ok(())
+        }
         Decl::Status(_) => Ok(()),
         Decl::Const { .. } => Ok(()),
         Decl::Method { .. } => Ok(()),
@@ -37,10 +37,7 @@ fn struct_names(alloc: Global, decls: &[DeclNode]) -> Result<Vec<Name>, NoMemory
 {
     let mut names = Vec::new(alloc);
     for node in decls {
-        match add_name(&mut names, &node.decl) {
-            Ok(()) => {}
-            Err(fault) => return Err(fault),
-        }
+        add_name(&mut names, &node.decl)?;
     }
     Ok(names)
 }
@@ -54,10 +51,7 @@ fn numbered(alloc: Global, names: &[Name]) -> Result<IndexMap<u32, usize>, NoMem
     let mut number = 0;
     for name in names {
         if !table.contains_key(&name.text.0) {
-            match table.insert(name.text.0, number) {
-                Ok(_) => {}
-                Err(_) => return Err(NoMemory),
-            }
+            table.insert(name.text.0, number)?;
         }
         number += 1;
     }
@@ -83,10 +77,10 @@ fn add_number(row: &mut Row, number: Option<usize>) -> Result<(), NoMemory>
     ensures { OnOk result (row.new ≡ row.old ++ one_number number) }
 {
     match number {
-        Some(number) => match row.push(number) {
-            Ok(()) => Ok(()),
-            Err(_) => Err(NoMemory),
-        },
+        Some(number) => {
+            row.push(number)?;
+            Ok(())
+        }
         None => Ok(()),
     }
 }
@@ -101,10 +95,7 @@ fn struct_row(
 {
     let mut row = Row::new(alloc);
     for field in fields {
-        match add_number(&mut row, held(numbers, &field.of)) {
-            Ok(()) => {}
-            Err(fault) => return Err(fault),
-        }
+        add_number(&mut row, held(numbers, &field.of))?;
     }
     Ok(row)
 }
@@ -118,13 +109,11 @@ fn add_row(
     ensures { OnOk result ((es : _) (ts : _) (public : _) (at : _) → rows.new.items ≡ rows.old.items ++ held_rows (get nat_eq numbers.now) (structs_of (decl_made es ts public decl.now at ∷ []))) }
 {
     match decl {
-        Decl::Struct { fields, .. } => match struct_row(alloc, numbers, fields.as_slice()) {
-            Ok(row) => match rows.push(row) {
-                Ok(()) => Ok(()),
-                Err(_) => Err(NoMemory),
-            },
-            Err(fault) => Err(fault),
-        },
+        Decl::Struct { fields, .. } => {
+            let row = struct_row(alloc, numbers, fields.as_slice())?;
+            rows.push(row)?;
+            Ok(())
+        }
         Decl::Status(_) => Ok(()),
         Decl::Const { .. } => Ok(()),
         Decl::Method { .. } => Ok(()),
@@ -142,10 +131,7 @@ fn struct_rows(
 {
     let mut rows = Vec::new(alloc);
     for node in decls {
-        match add_row(alloc, &mut rows, numbers, &node.decl) {
-            Ok(()) => {}
-            Err(fault) => return Err(fault),
-        }
+        add_row(alloc, &mut rows, numbers, &node.decl)?;
     }
     Ok(rows)
 }

@@ -28,10 +28,8 @@ fn judge_statuses(
 ) -> Result<Option<Refusal>, NoMemory>
     ensures { IfOk result (λ all. all ≡ statuses_found (declared parsed.now.texts (decl_trees parsed.now.exprs parsed.now.stmts parsed.now.decls)) found) }
 {
-    match status_names(alloc, parsed) {
-        Ok(names) => doubles(alloc, found, names.as_slice()),
-        Err(fault) => Err(fault),
-    }
+    let names = status_names(alloc, parsed)?;
+    doubles(alloc, found, names.as_slice())
 }
 
 fn judge_constants(
@@ -41,10 +39,8 @@ fn judge_constants(
 ) -> Result<Option<Refusal>, NoMemory>
     ensures { IfOk result (λ all. all ≡ constants_found (declared parsed.now.texts (decl_trees parsed.now.exprs parsed.now.stmts parsed.now.decls)) found) }
 {
-    match constant_names(alloc, parsed) {
-        Ok(names) => judge_names(alloc, found, parsed, names.as_slice()),
-        Err(fault) => Err(fault),
-    }
+    let names = constant_names(alloc, parsed)?;
+    judge_names(alloc, found, parsed, names.as_slice())
 }
 
 fn judge_structs(
@@ -54,10 +50,8 @@ fn judge_structs(
 ) -> Result<Option<Refusal>, NoMemory>
     ensures { IfOk result (λ all. all ≡ structs_found (declared parsed.now.texts (decl_trees parsed.now.exprs parsed.now.stmts parsed.now.decls)) found) }
 {
-    match struct_names(alloc, parsed) {
-        Ok(names) => judge_names(alloc, found, parsed, names.as_slice()),
-        Err(fault) => Err(fault),
-    }
+    let names = struct_names(alloc, parsed)?;
+    judge_names(alloc, found, parsed, names.as_slice())
 }
 
 fn judge_all_methods(
@@ -67,10 +61,8 @@ fn judge_all_methods(
 ) -> Result<Option<Refusal>, NoMemory>
     ensures { IfOk result (λ all. all ≡ methods_found (declared parsed.now.texts (decl_trees parsed.now.exprs parsed.now.stmts parsed.now.decls)) found) }
 {
-    match owned_methods(alloc, parsed) {
-        Ok(methods) => judge_methods(alloc, found, parsed, methods.as_slice()),
-        Err(fault) => Err(fault),
-    }
+    let methods = owned_methods(alloc, parsed)?;
+    judge_methods(alloc, found, parsed, methods.as_slice())
 }
 
 // The names of statuses, constants, structs and methods.
@@ -81,18 +73,10 @@ fn judge_package(
 ) -> Result<Option<Refusal>, NoMemory>
     ensures { IfOk result (λ all. all ≡ names_found (declared parsed.now.texts (decl_trees parsed.now.exprs parsed.now.stmts parsed.now.decls)) found) }
 {
-    let found = match judge_statuses(alloc, found, parsed) {
-        Ok(found) => found,
-        Err(fault) => return Err(fault),
-    };
-    let found = match judge_constants(alloc, found, parsed) {
-        Ok(found) => found,
-        Err(fault) => return Err(fault),
-    };
-    match judge_structs(alloc, found, parsed) {
-        Ok(found) => judge_all_methods(alloc, found, parsed),
-        Err(fault) => Err(fault),
-    }
+    let found = judge_statuses(alloc, found, parsed)?;
+    let found = judge_constants(alloc, found, parsed)?;
+    let found = judge_structs(alloc, found, parsed)?;
+    judge_all_methods(alloc, found, parsed)
 }
 
 fn judge_fields(
@@ -103,10 +87,8 @@ fn judge_fields(
 ) -> Result<Option<Refusal>, NoMemory>
     ensures { IfOk result (λ all. all ≡ names_judged parsed.now.texts found (names_of_fields fields.now)) }
 {
-    match field_names(alloc, fields) {
-        Ok(names) => judge_names(alloc, found, parsed, names.as_slice()),
-        Err(fault) => Err(fault),
-    }
+    let names = field_names(alloc, fields)?;
+    judge_names(alloc, found, parsed, names.as_slice())
 }
 
 // The fields of a struct; other declarations have none.
@@ -135,10 +117,7 @@ fn judge_all_fields(
 {
     let mut found = found;
     for number in 0..parsed.decls().len() {
-        match judge_struct(alloc, found, parsed, &parsed.decl(number).decl) {
-            Ok(next) => found = next,
-            Err(fault) => return Err(fault),
-        }
+        found = judge_struct(alloc, found, parsed, &parsed.decl(number).decl)?;
     }
     Ok(found)
 }
@@ -151,10 +130,8 @@ fn judge_arg_list(
 ) -> Result<Option<Refusal>, NoMemory>
     ensures { IfOk result (λ all. all ≡ args_judged parsed.now.texts found (names_of_fields args.now)) }
 {
-    match field_names(alloc, args) {
-        Ok(names) => judge_args(alloc, found, parsed, names.as_slice()),
-        Err(fault) => Err(fault),
-    }
+    let names = field_names(alloc, args)?;
+    judge_args(alloc, found, parsed, names.as_slice())
 }
 
 fn judge_body(
@@ -167,10 +144,8 @@ fn judge_body(
     requires { BlockBelow (length parsed.now.stmts) body.now }
     ensures { IfOk result (λ all. all ≡ locals_judged (get nat_eq constants.now) parsed.now.texts found (variable_names (locals_of (block_at (stmt_trees parsed.now.exprs parsed.now.stmts) body.now)))) }
 {
-    match local_names(alloc, parsed, body) {
-        Ok(names) => judge_locals(alloc, found, parsed, constants, names.as_slice()),
-        Err(fault) => Err(fault),
-    }
+    let names = local_names(alloc, parsed, body)?;
+    judge_locals(alloc, found, parsed, constants, names.as_slice())
 }
 
 fn judge_variables(
@@ -184,10 +159,8 @@ fn judge_variables(
     requires { BlockBelow (length parsed.now.stmts) body.now }
     ensures { IfOk result (λ all. all ≡ locals_judged (get nat_eq constants.now) parsed.now.texts (args_judged parsed.now.texts found (names_of_fields args.now)) (variable_names (locals_of (block_at (stmt_trees parsed.now.exprs parsed.now.stmts) body.now)))) }
 {
-    match judge_arg_list(alloc, found, parsed, args) {
-        Ok(found) => judge_body(alloc, found, parsed, constants, body),
-        Err(fault) => Err(fault),
-    }
+    let found = judge_arg_list(alloc, found, parsed, args)?;
+    judge_body(alloc, found, parsed, constants, body)
 }
 
 // The arguments and locals of a method; other declarations have none.
@@ -221,10 +194,7 @@ fn judge_all_variables(
 {
     let mut found = found;
     for number in 0..parsed.decls().len() {
-        match judge_method(alloc, found, parsed, constants, &parsed.decl(number).decl) {
-            Ok(next) => found = next,
-            Err(fault) => return Err(fault),
-        }
+        found = judge_method(alloc, found, parsed, constants, &parsed.decl(number).decl)?;
     }
     Ok(found)
 }
@@ -232,10 +202,8 @@ fn judge_all_variables(
 fn constants_by_text(alloc: Global, parsed: &PackageNodes) -> Result<IndexMap<u32, Name>, NoMemory>
     ensures { IfOk result (λ table. (text : ℕ) → get nat_eq table text ≡ first_spelt (constants_in (declared parsed.now.texts (decl_trees parsed.now.exprs parsed.now.stmts parsed.now.decls))) text) }
 {
-    match constant_names(alloc, parsed) {
-        Ok(names) => by_text(alloc, names.as_slice()),
-        Err(fault) => Err(fault),
-    }
+    let names = constant_names(alloc, parsed)?;
+    by_text(alloc, names.as_slice())
 }
 
 fn judge_methods_within(
@@ -245,10 +213,8 @@ fn judge_methods_within(
 ) -> Result<Option<Refusal>, NoMemory>
     ensures { IfOk result (λ all. all ≡ variables_found (declared parsed.now.texts (decl_trees parsed.now.exprs parsed.now.stmts parsed.now.decls)) found) }
 {
-    match constants_by_text(alloc, parsed) {
-        Ok(constants) => judge_all_variables(alloc, found, parsed, &constants),
-        Err(fault) => Err(fault),
-    }
+    let constants = constants_by_text(alloc, parsed)?;
+    judge_all_variables(alloc, found, parsed, &constants)
 }
 
 /// What decides of what was found before and what the declarations of a package break: a name that is declared twice,
@@ -261,12 +227,7 @@ pub fn declarations(
 ) -> Result<Option<Refusal>, NoMemory>
     ensures { IfOk result (λ all. all ≡ declarations_found (declared parsed.now.texts (decl_trees parsed.now.exprs parsed.now.stmts parsed.now.decls)) found) }
 {
-    let found = match judge_package(alloc, found, parsed) {
-        Ok(found) => found,
-        Err(fault) => return Err(fault),
-    };
-    match judge_all_fields(alloc, found, parsed) {
-        Ok(found) => judge_methods_within(alloc, found, parsed),
-        Err(fault) => Err(fault),
-    }
+    let found = judge_package(alloc, found, parsed)?;
+    let found = judge_all_fields(alloc, found, parsed)?;
+    judge_methods_within(alloc, found, parsed)
 }

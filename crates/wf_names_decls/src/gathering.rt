@@ -89,10 +89,10 @@ fn push_name(names: &mut Vec<Name>, name: Option<Name>) -> Result<(), NoMemory>
     ensures { OnOk result (names.new.items ≡ names.old.items ++ listed name) }
 {
     match name {
-        Some(name) => match names.push(name) {
-            Ok(()) => Ok(()),
-            Err(_) => Err(NoMemory),
-        },
+        Some(name) => {
+            names.push(name)?;
+            Ok(())
+        }
         None => Ok(()),
     }
 }
@@ -101,10 +101,10 @@ fn push_owned(methods: &mut Vec<Owned>, method: Option<Owned>) -> Result<(), NoM
     ensures { OnOk result (methods.new.items ≡ methods.old.items ++ listed method) }
 {
     match method {
-        Some(method) => match methods.push(method) {
-            Ok(()) => Ok(()),
-            Err(_) => Err(NoMemory),
-        },
+        Some(method) => {
+            methods.push(method)?;
+            Ok(())
+        }
         None => Ok(()),
     }
 }
@@ -115,10 +115,7 @@ pub(crate) fn status_names(alloc: Global, parsed: &PackageNodes) -> Result<Vec<N
 {
     let mut names = Vec::new(alloc);
     for number in 0..parsed.decls().len() {
-        match push_name(&mut names, status_name(&parsed.decl(number).decl)) {
-            Ok(()) => {}
-            Err(fault) => return Err(fault),
-        }
+        push_name(&mut names, status_name(&parsed.decl(number).decl))?;
     }
     Ok(names)
 }
@@ -129,10 +126,7 @@ pub(crate) fn constant_names(alloc: Global, parsed: &PackageNodes) -> Result<Vec
 {
     let mut names = Vec::new(alloc);
     for number in 0..parsed.decls().len() {
-        match push_name(&mut names, constant_name(&parsed.decl(number).decl)) {
-            Ok(()) => {}
-            Err(fault) => return Err(fault),
-        }
+        push_name(&mut names, constant_name(&parsed.decl(number).decl))?;
     }
     Ok(names)
 }
@@ -143,10 +137,7 @@ pub fn struct_names(alloc: Global, parsed: &PackageNodes) -> Result<Vec<Name>, N
 {
     let mut names = Vec::new(alloc);
     for number in 0..parsed.decls().len() {
-        match push_name(&mut names, struct_name(&parsed.decl(number).decl)) {
-            Ok(()) => {}
-            Err(fault) => return Err(fault),
-        }
+        push_name(&mut names, struct_name(&parsed.decl(number).decl))?;
     }
     Ok(names)
 }
@@ -157,10 +148,7 @@ pub(crate) fn owned_methods(alloc: Global, parsed: &PackageNodes) -> Result<Vec<
 {
     let mut methods = Vec::new(alloc);
     for number in 0..parsed.decls().len() {
-        match push_owned(&mut methods, owned_method(&parsed.decl(number).decl)) {
-            Ok(()) => {}
-            Err(fault) => return Err(fault),
-        }
+        push_owned(&mut methods, owned_method(&parsed.decl(number).decl))?;
     }
     Ok(methods)
 }
@@ -171,10 +159,7 @@ pub(crate) fn owned_names(alloc: Global, methods: &[Owned]) -> Result<Vec<Name>,
 {
     let mut names = Vec::new(alloc);
     for method in methods {
-        match names.push(method.name) {
-            Ok(()) => {}
-            Err(_) => return Err(NoMemory),
-        }
+        names.push(method.name)?;
     }
     Ok(names)
 }
@@ -185,10 +170,7 @@ pub(crate) fn field_names(alloc: Global, fields: &[Field]) -> Result<Vec<Name>, 
 {
     let mut names = Vec::new(alloc);
     for field in fields {
-        match names.push(field.name) {
-            Ok(()) => {}
-            Err(_) => return Err(NoMemory),
-        }
+        names.push(field.name)?;
     }
     Ok(names)
 }
@@ -204,10 +186,7 @@ pub fn local_names(
 {
     let mut names = Vec::new(alloc);
     for s in body.items.as_slice() {
-        match push_name(&mut names, local_name(&parsed.stmt(*s).stmt)) {
-            Ok(()) => {}
-            Err(fault) => return Err(fault),
-        }
+        push_name(&mut names, local_name(&parsed.stmt(*s).stmt))?;
     }
     Ok(names)
 }

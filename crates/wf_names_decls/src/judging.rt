@@ -27,10 +27,8 @@ pub(crate) fn judge_names(
 ) -> Result<Option<Refusal>, NoMemory>
     ensures { IfOk result (λ all. all ≡ names_judged parsed.now.texts found names.now) }
 {
-    match doubles(alloc, found, names) {
-        Ok(found) => Ok(reserved(found, parsed, names)),
-        Err(fault) => Err(fault),
-    }
+    let found = doubles(alloc, found, names)?;
+    Ok(reserved(found, parsed, names))
 }
 
 fn double_method(fresh: bool, name: Name) -> Option<Refusal>
@@ -56,17 +54,15 @@ fn owned_doubles(
     let mut found = found;
     let mut seen: IndexSet<(u32, u32)> = IndexSet::new(alloc);
     for method in methods {
-        match seen.insert((method.owner.text.0, method.name.text.0)) {
-            Ok(fresh) => found = sooner(found, double_method(fresh, method.name)),
-            Err(_) => return Err(NoMemory),
-        }
+        let fresh = seen.insert((method.owner.text.0, method.name.text.0))?;
+        found = sooner(found, double_method(fresh, method.name));
     }
     Ok(found)
 }
 
 /// The methods of a package: those of a struct that are declared twice, reserved names, `initialize`, and the one
-/// behind the 1,024 that a package may have.
-pub fn judge_methods(
+/// after the 1,024 that a package may have.
+pub(crate) fn judge_methods(
     alloc: Global,
     found: Option<Refusal>,
     parsed: &PackageNodes,
@@ -74,18 +70,11 @@ pub fn judge_methods(
 ) -> Result<Option<Refusal>, NoMemory>
     ensures { IfOk result (λ all. all ≡ methods_judged parsed.now.texts found methods.now) }
 {
-    let found = match owned_doubles(alloc, found, methods) {
-        Ok(found) => found,
-        Err(fault) => return Err(fault),
-    };
-    match owned_names(alloc, methods) {
-        Ok(names) => {
-            let found = reserved(found, parsed, names.as_slice());
-            let found = initializes(found, parsed, names.as_slice());
-            Ok(sooner(found, beyond(names.as_slice(), Rule::L6, 1024)))
-        }
-        Err(fault) => Err(fault),
-    }
+    let found = owned_doubles(alloc, found, methods)?;
+    let names = owned_names(alloc, methods)?;
+    let found = reserved(found, parsed, names.as_slice());
+    let found = initializes(found, parsed, names.as_slice());
+    Ok(sooner(found, beyond(names.as_slice(), Rule::L6, 1024)))
 }
 
 /// Each name by its text; of names that are spelt alike the first.
@@ -95,16 +84,13 @@ pub(crate) fn by_text(alloc: Global, names: &[Name]) -> Result<IndexMap<u32, Nam
     let mut table = IndexMap::new(alloc);
     for name in names {
         if !table.contains_key(&name.text.0) {
-            match table.insert(name.text.0, *name) {
-                Ok(_) => {}
-                Err(_) => return Err(NoMemory),
-            }
+            table.insert(name.text.0, *name)?;
         }
     }
     Ok(table)
 }
 
-// Of two names that mean different things and are spelt alike the one behind the other.
+// Of two names that mean different things and are spelt alike the one after the other.
 fn later_of(first: Name, second: Name) -> Refusal
     ensures { result ≡ later_named first second }
 {
@@ -146,8 +132,8 @@ fn hidden_locals(
     found
 }
 
-/// The arguments of a method: declared twice, reserved, and the one behind the 64 that a method may have.
-pub fn judge_args(
+/// The arguments of a method: declared twice, reserved, and the one after the 64 that a method may have.
+pub(crate) fn judge_args(
     alloc: Global,
     found: Option<Refusal>,
     parsed: &PackageNodes,
@@ -155,13 +141,11 @@ pub fn judge_args(
 ) -> Result<Option<Refusal>, NoMemory>
     ensures { IfOk result (λ all. all ≡ args_judged parsed.now.texts found args.now) }
 {
-    match judge_names(alloc, found, parsed, args) {
-        Ok(found) => Ok(sooner(found, beyond(args, Rule::L7, 64))),
-        Err(fault) => Err(fault),
-    }
+    let found = judge_names(alloc, found, parsed, args)?;
+    Ok(sooner(found, beyond(args, Rule::L7, 64)))
 }
 
-/// The locals of a method: declared twice, reserved, named as a constant, and the one behind the 256 that a method
+/// The locals of a method: declared twice, reserved, named as a constant, and the one after the 256 that a method
 /// may have.
 pub(crate) fn judge_locals(
     alloc: Global,
@@ -172,11 +156,7 @@ pub(crate) fn judge_locals(
 ) -> Result<Option<Refusal>, NoMemory>
     ensures { IfOk result (λ all. all ≡ locals_judged (get nat_eq constants.now) parsed.now.texts found locals.now) }
 {
-    match judge_names(alloc, found, parsed, locals) {
-        Ok(found) => {
-            let found = hidden_locals(found, constants, locals);
-            Ok(sooner(found, beyond(locals, Rule::L7, 256)))
-        }
-        Err(fault) => Err(fault),
-    }
+    let found = judge_names(alloc, found, parsed, locals)?;
+    let found = hidden_locals(found, constants, locals);
+    Ok(sooner(found, beyond(locals, Rule::L7, 256)))
 }

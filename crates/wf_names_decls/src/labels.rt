@@ -106,17 +106,10 @@ fn walk_loop(
     ensures loops { OnOk result (loops.new.items ≡ loops.old.items) }
 {
     let found = judge_loop(found, parsed, loops.as_slice(), label);
-    match loops.push(label) {
-        Ok(()) => {}
-        Err(_) => return Err(NoMemory),
-    }
-    match walk_block(found, parsed, loops, body) {
-        Ok(found) => {
-            loops.pop();
-            Ok(found)
-        }
-        Err(fault) => Err(fault),
-    }
+    loops.push(label)?;
+    let found = walk_block(found, parsed, loops, body)?;
+    loops.pop();
+    Ok(found)
 }
 
 #[cycle(walk_labels)]
@@ -161,10 +154,7 @@ fn walk_block(
 {
     let mut found = found;
     for s in block.items.as_slice() {
-        match walk_stmt(found, parsed, loops, *s) {
-            Ok(next) => found = next,
-            Err(fault) => return Err(fault),
-        }
+        found = walk_stmt(found, parsed, loops, *s)?;
     }
     Ok(found)
 }
@@ -201,10 +191,7 @@ fn walk_arms(
 {
     let mut found = found;
     for arm in arms {
-        match walk_block(found, parsed, loops, &arm.body) {
-            Ok(next) => found = next,
-            Err(fault) => return Err(fault),
-        }
+        found = walk_block(found, parsed, loops, &arm.body)?;
     }
     walk_else(found, parsed, loops, otherwise)
 }
@@ -239,10 +226,7 @@ pub fn labels(
 {
     let mut found = found;
     for number in 0..parsed.decls().len() {
-        match walk_decl(alloc, found, parsed, &parsed.decl(number).decl) {
-            Ok(next) => found = next,
-            Err(fault) => return Err(fault),
-        }
+        found = walk_decl(alloc, found, parsed, &parsed.decl(number).decl)?;
     }
     Ok(found)
 }

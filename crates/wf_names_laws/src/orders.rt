@@ -28,7 +28,7 @@ pub fn where_no_rule_is_broken_calls_are_open()
 {}
 
 /// With an order of the graph of calls a resolved package has all its methods in its order (clause `whole`), and each
-/// calls only those in front of it, if each call is of a method that may be called there (clause `front`).
+/// calls only those before it, if each call is of a method that may be called there (clause `front`).
 pub fn an_order_of_calls_is_one_of_the_package()
     ensures whole { (name : List ℕ) (texts : List (List ℕ)) (decls : List DeclTree) (order : List ℕ) (rows : List (List ℕ))
         → AreRows (declared texts decls) rows (length (methods_of decls)) → IsOrder rows order

@@ -43,7 +43,7 @@ pub fn what_keeps_the_rules_is_well_named()
 {}
 
 /// Where no rule is broken the scopes of the resolved package know what those of the package know: that of a constant with
-/// those in front of it, that of each struct and that of each method.
+/// those before it, that of each struct and that of each method.
 pub fn resolved_scopes_know_as_much()
     ensures consts { WhereNoRuleIsBroken (λ d p. (known : List Variable) (others : List Constant) → known ++ map as_variable others ≡ map as_variable d.constants
         → IsScopeOf d (constant_scope known) (scope_of_const p (length known))) }
@@ -51,7 +51,7 @@ pub fn resolved_scopes_know_as_much()
     ensures methods { WhereNoRuleIsBroken (λ d p. (mark : WrittenMark) (m : Method) → IsScopeOf d (method_scope d m) (scope_of_method p (method_in d mark m))) }
 {}
 
-/// Where no rule is broken all declarations of the resolved package are well named: constants, each by those in front of
+/// Where no rule is broken all declarations of the resolved package are well named: constants, each by those before
 /// it, the fields of structs, and methods with their bodies.
 pub fn declarations_are_well_named()
     ensures consts { WhereNoRuleIsBroken (λ d p. named_consts p 0 p.consts ≡ true) }
@@ -69,7 +69,7 @@ pub fn methods_have_few_variables()
     ensures { WhereNoRuleIsBroken (λ d p. list_all has_few_variables p.methods ≡ true) }
 {}
 
-/// Where no rule is broken the resolved package is well named, if its order has all methods, each behind those that it
+/// Where no rule is broken the resolved package is well named, if its order has all methods, each after those that it
 /// calls.
 pub fn a_package_that_breaks_no_rule_is_well_named()
     ensures { WhereNoRuleIsBroken (λ d p. HasOrder p → well_named p ≡ true) }

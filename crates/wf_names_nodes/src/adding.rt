@@ -1,4 +1,4 @@
-// Declarations added to the resolved package: each behind those of its kind.
+// Declarations added to the resolved package: each after those of its kind.
 
 ghost use Rattle.std.specs.Prelude.{◌≡◌, ◌<◌, [], ◌∷◌, length, OnOk};
 ghost use Rattle.wf_ast.specs.ParsedTrees.{expr_trees, stmt_trees, expr_at as parsed_expr_at, type_at as parsed_type_at, fields_at as parsed_fields_at};
@@ -14,14 +14,14 @@ use crate::declarations::{
     WrittenConst, WrittenMethod, resolve_const, resolve_method, resolve_struct,
 };
 use std::alloc::Global;
-use wf_ast::parsed::{Block, Field, Name, TypeExpr, WrittenMark};
-use wf_ast::{ExprId, PackageNodes};
+use wf_ast::PackageNodes;
+use wf_ast::parsed::{Field, Name};
 use wf_named::NamedNodes;
 use wf_names_resolve::numbers::{PackageNumbers, ScopeNumbers};
 use wf_names_resolve::words::named_word;
 use wf_text::faults::NoMemory;
 
-/// Adds a constant; `around` knows those in front of it.
+/// Adds a constant; `around` knows those before it.
 pub(crate) fn put_const(
     alloc: Global,
     nodes: &mut NamedNodes,

@@ -1,4 +1,4 @@
-// The declarations of a package: constants in order, each where those in front of it are known, then all others, where
+// The declarations of a package: constants in order, each where those before it are known, then all others, where
 // all constants are.
 
 ghost use Rattle.std.specs.Prelude.{◌≡◌, ◌<◌, ◌+◌, ◌-◌, ◌^◌, ◌++◌, [], ◌∷◌, List, map, length, IfOk, OnOk};
@@ -15,14 +15,14 @@ ghost use Rattle.wf_names_nodes.specs.Declaring.{method_parsed, with_consts, wit
 use crate::adding::{put_const, put_method, put_status, put_struct};
 use crate::declarations::{WrittenConst, WrittenMethod};
 use std::alloc::Global;
-use wf_ast::parsed::{Block, Decl, DeclNode, Field, Name, TypeExpr, WrittenMark};
-use wf_ast::{ExprId, PackageNodes};
+use wf_ast::PackageNodes;
+use wf_ast::parsed::{Decl, DeclNode, Field, Name};
 use wf_named::NamedNodes;
 use wf_names_numbers::scopes::{add_constant, enter_method, enter_struct, outside};
 use wf_names_resolve::numbers::{PackageNumbers, ScopeNumbers};
 use wf_text::faults::NoMemory;
 
-// A constant, which is known behind its declaration; `place` is how many are known in front of it.
+// A constant, which is known after its declaration; `place` is how many are known before it.
 fn next_const(
     alloc: Global,
     nodes: &mut NamedNodes,
@@ -44,7 +44,7 @@ fn next_const(
     add_constant(around, parsed, constant.name, constant.of, place)
 }
 
-// A declaration, which may be of a constant; how many constants are known behind it.
+// A declaration, which may be of a constant; how many constants are known after it.
 fn const_decl(
     alloc: Global,
     nodes: &mut NamedNodes,
@@ -79,7 +79,7 @@ fn const_decl(
     }
 }
 
-// The constants of a package. Behind them `around`, which knew nothing, knows all of them.
+// The constants of a package. After them `around`, which knew nothing, knows all of them.
 fn all_consts(
     alloc: Global,
     nodes: &mut NamedNodes,
@@ -245,7 +245,7 @@ fn all_decls(
 }
 
 /// The nodes of the resolved package. `numbers` are those of what the package declares; `order` has the numbers of all
-/// methods, each behind those that it calls. `Err` where memory was refused or no number is left.
+/// methods, each after those that it calls. `Err` where memory was refused or no number is left.
 pub fn resolve_package(
     alloc: Global,
     parsed: &PackageNodes,

@@ -29,15 +29,13 @@ fn put_number(table: &mut IndexMap<u32, u32>, name: TextId, number: u32) -> Resu
     if table.contains_key(&name.0) {
         return Ok(());
     }
-    match table.insert(name.0, number) {
-        Ok(_) => Ok(()),
-        Err(_) => Err(NoMemory),
-    }
+    table.insert(name.0, number)?;
+    Ok(())
 }
 
 /// Gives the name this number, unless it has one; the next number. `Err` where there is no such number, or memory was
 /// refused.
-pub fn add_number(
+pub(crate) fn add_number(
     table: &mut IndexMap<u32, u32>,
     name: TextId,
     number: usize,
@@ -45,15 +43,9 @@ pub fn add_number(
     ensures next { IfOk result (λ next. next ≡ number + 1) }
     ensures table { OnOk result ((text : ℕ) → get nat_eq table.new text ≡ with_first nat_eq (get nat_eq table.old) name.0 number text) }
 {
-    match numbered(number) {
-        Ok(given) => {
-            match put_number(table, name, given) {
-                Ok(()) => Ok(number + 1),
-                Err(fault) => Err(fault),
-            }
-        }
-        Err(fault) => Err(fault),
-    }
+    let given = numbered(number)?;
+    put_number(table, name, given)?;
+    Ok(number + 1)
 }
 
 fn put_field(
@@ -67,14 +59,12 @@ fn put_field(
     if fields.contains_key(&(owner.0, name.0)) {
         return Ok(());
     }
-    match fields.insert((owner.0, name.0), place) {
-        Ok(_) => Ok(()),
-        Err(_) => Err(NoMemory),
-    }
+    fields.insert((owner.0, name.0), place)?;
+    Ok(())
 }
 
 /// The same of a field of the struct with the name `owner`, and its place; the next place.
-pub fn add_field(
+pub(crate) fn add_field(
     fields: &mut IndexMap<(u32, u32), u32>,
     owner: TextId,
     name: TextId,
@@ -83,13 +73,7 @@ pub fn add_field(
     ensures next { IfOk result (λ next. next ≡ place + 1) }
     ensures table { OnOk result ((key : Pair) → get same_pair fields.new key ≡ with_first same_pair (get same_pair fields.old) (owner.0, name.0) place key) }
 {
-    match numbered(place) {
-        Ok(given) => {
-            match put_field(fields, owner, name, given) {
-                Ok(()) => Ok(place + 1),
-                Err(fault) => Err(fault),
-            }
-        }
-        Err(fault) => Err(fault),
-    }
+    let given = numbered(place)?;
+    put_field(fields, owner, name, given)?;
+    Ok(place + 1)
 }

@@ -46,10 +46,7 @@ fn status_numbers(alloc: Global, parsed: &PackageNodes) -> Result<IndexMap<u32, 
     let mut table = IndexMap::new(alloc);
     let mut next = BASE_STATUSES;
     for node in parsed.decls() {
-        match add_status(&mut table, node, next) {
-            Ok(behind) => next = behind,
-            Err(fault) => return Err(fault),
-        }
+        next = add_status(&mut table, node, next)?;
     }
     Ok(table)
 }
@@ -63,19 +60,12 @@ pub fn number_package(
     requires { TellsPackage (package_of parsed.now) tables }
     ensures { IfOk result (TellsNumbers (package_of parsed.now)) }
 {
-    let statuses = match status_numbers(alloc, parsed) {
-        Ok(statuses) => statuses,
-        Err(fault) => return Err(fault),
-    };
-    match struct_places(alloc, parsed) {
-        Ok(places) => {
-            Ok(PackageNumbers {
-                tables,
-                statuses,
-                structs: places.structs,
-                fields: places.fields,
-            })
-        }
-        Err(fault) => Err(fault),
-    }
+    let statuses = status_numbers(alloc, parsed)?;
+    let places = struct_places(alloc, parsed)?;
+    Ok(PackageNumbers {
+        tables,
+        statuses,
+        structs: places.structs,
+        fields: places.fields,
+    })
 }

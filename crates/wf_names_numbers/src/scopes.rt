@@ -32,7 +32,7 @@ pub fn outside(alloc: Global) -> ScopeNumbers
     }
 }
 
-/// Adds the constant behind those that are known; `place` is how many these are. `Err` where memory was refused or no
+/// Adds the constant after those that are known; `place` is how many these are. `Err` where memory was refused or no
 /// number is left.
 pub fn add_constant(
     around: &mut ScopeNumbers,
@@ -44,14 +44,9 @@ pub fn add_constant(
     ensures { OnOk result ((known : List Variable) → place ≡ length known → TellsPlaces (package_of parsed.now) (constant_scope known) around.old
         → TellsPlaces (package_of parsed.now) (constant_scope (known ++ record { name = name; of = type_at (expr_trees parsed.now.exprs) of.now } ∷ [])) around.new) }
 {
-    match scopes::add_constant(&mut around.scope, parsed, name, of) {
-        Ok(()) => {}
-        Err(fault) => return Err(fault),
-    }
-    match add_number(&mut around.constants, name.text, place) {
-        Ok(_) => Ok(()),
-        Err(fault) => Err(fault),
-    }
+    scopes::add_constant(&mut around.scope, parsed, name, of)?;
+    add_number(&mut around.constants, name.text, place)?;
+    Ok(())
 }
 
 /// On to a struct of this name.
@@ -78,18 +73,9 @@ pub fn enter_method(
     ensures places { OnOk result (TellsAllConstants (package_of parsed.now) around.old
         → TellsPlaces (package_of parsed.now) (scope_in (package_of parsed.now) owner (variables (fields_at (expr_trees parsed.now.exprs) args.now)) (locals_of (block_at (stmt_trees parsed.now.exprs parsed.now.stmts) body.now))) around.new) }
 {
-    let arguments = match argument_places(alloc, args) {
-        Ok(places) => places,
-        Err(fault) => return Err(fault),
-    };
-    let locals = match local_places(alloc, parsed, body) {
-        Ok(places) => places,
-        Err(fault) => return Err(fault),
-    };
-    match scopes::enter_method(alloc, &mut around.scope, parsed, owner, args, body) {
-        Ok(()) => {}
-        Err(fault) => return Err(fault),
-    }
+    let arguments = argument_places(alloc, args)?;
+    let locals = local_places(alloc, parsed, body)?;
+    scopes::enter_method(alloc, &mut around.scope, parsed, owner, args, body)?;
     around.args = arguments;
     around.locals = locals;
     Ok(())

@@ -36,15 +36,12 @@ fn add_fields(
 {
     let mut next = 0;
     for field in fields {
-        match add_field(table, owner, field.name.text, next) {
-            Ok(behind) => next = behind,
-            Err(fault) => return Err(fault),
-        }
+        next = add_field(table, owner, field.name.text, next)?;
     }
     Ok(())
 }
 
-// Adds a struct at the next place, unless its name is known already; the place behind it.
+// Adds a struct at the next place, unless its name is known already; the place after it.
 fn add_struct(
     places: &mut StructPlaces,
     name: Name,
@@ -59,10 +56,8 @@ fn add_struct(
     if places.structs.contains_key(&name.text.0) {
         return add_number(&mut places.structs, name.text, next);
     }
-    match add_fields(&mut places.fields, name.text, fields) {
-        Ok(()) => add_number(&mut places.structs, name.text, next),
-        Err(fault) => Err(fault),
-    }
+    add_fields(&mut places.fields, name.text, fields)?;
+    add_number(&mut places.structs, name.text, next)
 }
 
 fn add_decl(places: &mut StructPlaces, node: &DeclNode, next: usize) -> Result<usize, NoMemory>
@@ -90,10 +85,7 @@ pub(crate) fn struct_places(alloc: Global, parsed: &PackageNodes) -> Result<Stru
     };
     let mut next = 0;
     for node in parsed.decls() {
-        match add_decl(&mut places, node, next) {
-            Ok(behind) => next = behind,
-            Err(fault) => return Err(fault),
-        }
+        next = add_decl(&mut places, node, next)?;
     }
     Ok(places)
 }

@@ -23,10 +23,7 @@ pub(crate) fn argument_places(alloc: Global, args: &[Field]) -> Result<IndexMap<
     let mut table = IndexMap::new(alloc);
     let mut next = 0;
     for arg in args {
-        match add_number(&mut table, arg.name.text, next) {
-            Ok(behind) => next = behind,
-            Err(fault) => return Err(fault),
-        }
+        next = add_number(&mut table, arg.name.text, next)?;
     }
     Ok(table)
 }
@@ -61,10 +58,7 @@ pub(crate) fn local_places(
     let mut table = IndexMap::new(alloc);
     let mut next = 0;
     for s in body.items.as_slice() {
-        match add_local(&mut table, parsed, *s, next) {
-            Ok(behind) => next = behind,
-            Err(fault) => return Err(fault),
-        }
+        next = add_local(&mut table, parsed, *s, next)?;
     }
     Ok(table)
 }

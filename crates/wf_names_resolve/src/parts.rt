@@ -64,7 +64,7 @@ fn base_error(text: &[u8]) -> StatusId
     }
 }
 
-/// The number of a status of the language, by its text behind `base.`.
+/// The number of a status of the language, by its text after `base.`.
 pub fn base_status(text: &[u8]) -> StatusId
     ensures { result.0 ≡ base_status_number text.now }
 {
@@ -118,7 +118,7 @@ pub fn path(numbers: &PackageNumbers, around: &ScopeNumbers, path: Path) -> Name
 }
 
 /// What the method name of a call stands for, as the rules of names say it.
-pub fn callee(
+pub(crate) fn callee(
     parsed: &PackageNodes,
     numbers: &PackageNumbers,
     around: &ScopeNumbers,
@@ -228,7 +228,7 @@ fn base_type(name: &[u8]) -> Option<BaseType>
     }
 }
 
-/// What a type ends with, behind its prefixes and in front of its bounds.
+/// What a type ends with, after its prefixes and before its bounds.
 pub fn core(parsed: &PackageNodes, numbers: &PackageNumbers, of: Core) -> NamedCore
     ensures { result ≡ resolved_core (bytes_of parsed.now.texts) (get nat_eq numbers.now.structs) of }
 {

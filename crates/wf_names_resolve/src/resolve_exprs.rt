@@ -1,4 +1,4 @@
-// The walk over expressions, types and calls: it makes the resolved nodes of each, parts in front of their whole.
+// The walk over expressions, types and calls: it makes the resolved nodes of each, parts before their whole.
 
 ghost use Rattle.std.specs.Prelude.{◌≡◌, ◌<◌, length, IfOk, OnOk};
 ghost use Rattle.std.specs.List.{AllByRecursion};

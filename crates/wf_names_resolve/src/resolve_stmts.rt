@@ -1,4 +1,4 @@
-// The walk over statements and their blocks: it makes the resolved nodes of each, parts in front of their whole.
+// The walk over statements and their blocks: it makes the resolved nodes of each, parts before their whole.
 
 ghost use Rattle.std.specs.Prelude.{◌≡◌, ◌<◌, ◌++◌, ◌∷◌, [], length, IfOk, OnOk};
 ghost use Rattle.std.specs.List.{AllByRecursion};
@@ -68,7 +68,7 @@ fn add_stmt(made: &mut Sequence<StmtId>, one: Option<StmtId>) -> Result<(), NoMe
 }
 
 // Adds the nodes of a statement, none where it declares a local. `labels` are those of the loops round it, the
-// outermost first; they are as they were behind it.
+// outermost first; they are as they were after it.
 #[cycle(resolve_stmts)]
 fn resolve_stmt(
     alloc: Global,
@@ -198,7 +198,7 @@ fn resolve_arm(
     Ok(Arm { condition, body })
 }
 
-// The arms of an `if`, which make the same in front of whatever stands behind them.
+// The arms of an `if`, which make the same before whatever stands after them.
 #[cycle(resolve_stmts)]
 fn resolve_arms(
     alloc: Global,

@@ -32,10 +32,7 @@ fn given_names(alloc: Global, args: &[Given]) -> Result<Vec<Name>, NoMemory>
 {
     let mut names = Vec::new(alloc);
     for given in args {
-        match names.push(given.name) {
-            Ok(()) => {}
-            Err(_) => return Err(NoMemory),
-        }
+        names.push(given.name)?;
     }
     Ok(names)
 }
@@ -77,7 +74,7 @@ fn as_arg(path: Path) -> Option<Path>
     }
 }
 
-// One value behind those that passed the arguments in `seen`, which its own joins.
+// One value after those that passed the arguments in `seen`, which its own joins.
 fn passed_again(
     scope: &Scope,
     seen: &mut IndexSet<u32>,
@@ -88,16 +85,12 @@ fn passed_again(
 {
     match path {
         Some(path) => {
-            match seen.insert(path.name.text.0) {
-                Ok(fresh) => {
-                    Ok(refused_if(
-                        is_io_arg(scope, path.name.text) && !fresh,
-                        Rule::N2,
-                        path.at,
-                    ))
-                }
-                Err(_) => Err(NoMemory),
-            }
+            let fresh = seen.insert(path.name.text.0)?;
+            Ok(refused_if(
+                is_io_arg(scope, path.name.text) && !fresh,
+                Rule::N2,
+                path.at,
+            ))
         }
         None => Ok(None),
     }
@@ -116,10 +109,8 @@ fn passed_twice(
     let mut found = found;
     let mut seen = IndexSet::new(alloc);
     for given in args {
-        match passed_again(scope, &mut seen, passed(parsed, given.value)) {
-            Ok(now) => found = sooner(found, now),
-            Err(fault) => return Err(fault),
-        }
+        let now = passed_again(scope, &mut seen, passed(parsed, given.value))?;
+        found = sooner(found, now);
     }
     Ok(found)
 }
@@ -230,10 +221,7 @@ fn texts(alloc: Global, names: &[Name]) -> Result<IndexSet<u32>, NoMemory>
 {
     let mut set = IndexSet::new(alloc);
     for name in names {
-        match set.insert(name.text.0) {
-            Ok(_) => {}
-            Err(_) => return Err(NoMemory),
-        }
+        set.insert(name.text.0)?;
     }
     Ok(set)
 }
@@ -262,10 +250,8 @@ fn wanted_args(tables: &Tables, m: usize) -> &[u32]
 fn lacks_arg(alloc: Global, tables: &Tables, m: usize, names: &[Name]) -> Result<bool, NoMemory>
     ensures { IfOk result (λ lacking. lacking ≡ list_any (λ text. not (list_any (nat_eq text) (map (λ n. n.text.0) names.now))) (args_at tables.now m)) }
 {
-    match texts(alloc, names) {
-        Ok(given) => Ok(any_outside(wanted_args(tables, m), &given)),
-        Err(fault) => Err(fault),
-    }
+    let given = texts(alloc, names)?;
+    Ok(any_outside(wanted_args(tables, m), &given))
 }
 
 // Whether an argument of the method isn't among the given names.
@@ -302,21 +288,10 @@ pub fn arguments(
     requires { GivenBelow (length parsed.now.exprs) args.now }
     ensures { IfOk result (λ all. all ≡ args_judged (known_by parsed.now.texts tables.now scope.now) found (parameters_of (args_at tables.now) callee) name (map (λ g. g.name) args.now) (given_values (given_at (expr_trees parsed.now.exprs) args.now))) }
 {
-    let names = match given_names(alloc, args) {
-        Ok(names) => names,
-        Err(fault) => return Err(fault),
-    };
-    let doubled = match doubles(alloc, found, names.as_slice()) {
-        Ok(found) => found,
-        Err(fault) => return Err(fault),
-    };
-    let passed = match passed_twice(alloc, doubled, parsed, scope, args) {
-        Ok(found) => found,
-        Err(fault) => return Err(fault),
-    };
+    let names = given_names(alloc, args)?;
+    let doubled = doubles(alloc, found, names.as_slice())?;
+    let passed = passed_twice(alloc, doubled, parsed, scope, args)?;
     let unknown = unknown_args(passed, parsed, tables, callee, names.as_slice());
-    match lacks_one(alloc, parsed, tables, callee, names.as_slice()) {
-        Ok(lacking) => Ok(sooner(unknown, refused_if(lacking, Rule::N7, name.at))),
-        Err(fault) => Err(fault),
-    }
+    let lacking = lacks_one(alloc, parsed, tables, callee, names.as_slice())?;
+    Ok(sooner(unknown, refused_if(lacking, Rule::N7, name.at)))
 }

@@ -51,10 +51,8 @@ pub fn doubles(
     let mut found = found;
     let mut seen = IndexSet::new(alloc);
     for name in names {
-        match seen.insert(name.text.0) {
-            Ok(fresh) => found = sooner(found, double_name(fresh, *name)),
-            Err(_) => return Err(NoMemory),
-        }
+        let fresh = seen.insert(name.text.0)?;
+        found = sooner(found, double_name(fresh, *name));
     }
     Ok(found)
 }
@@ -124,7 +122,7 @@ pub fn flagged(found: Option<Refusal>, flags: &[bool], names: &[Name]) -> Option
     found
 }
 
-/// The name behind the first `limit` ones, if there are so many.
+/// The name after the first `limit` ones, if there are so many.
 pub fn beyond(names: &[Name], rule: Rule, limit: usize) -> Option<Refusal>
     ensures { result ≡ beyond_of rule limit names.now }
 {

@@ -12,7 +12,7 @@ use wf_ast::parsed::{Core, Prefix, TypeExpr};
 use wf_base::base_methods::Kind;
 use wf_base::widths::Width;
 
-/// The width of the numeric type with this name behind `base.`.
+/// The width of the numeric type with this name after `base.`.
 pub fn width_named(name: &[u8]) -> Option<Width>
     ensures { result ≡ width_by_name name.now }
 {
@@ -29,7 +29,7 @@ pub fn width_named(name: &[u8]) -> Option<Width>
     }
 }
 
-/// The width of a type that has no prefix in front of its core.
+/// The width of a type that has no prefix before its core.
 pub fn width(parsed: &PackageNodes, core: Core) -> Option<Width>
     ensures { (es : _) (bounds : _) → result ≡ width_of (bytes_of parsed.now.texts) (core_at es core bounds) }
 {

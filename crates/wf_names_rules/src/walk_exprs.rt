@@ -43,7 +43,7 @@ fn is_among(words: &[&str], name: &[u8]) -> bool
     words.iter().any(|word| word.as_bytes() == name)
 }
 
-/// Whether a status of the language is written so behind `base.`.
+/// Whether a status of the language is written so after `base.`.
 pub(crate) fn is_base_status(text: &[u8]) -> bool
     ensures { result ≡ is_of_language text.now }
 {
@@ -182,7 +182,7 @@ fn arguments_if(
     }
 }
 
-// A call behind what it is made on and its arguments' values; `given` tells what these broke, and whether all in them
+// A call after what it is made on and its arguments' values; `given` tells what these broke, and whether all in them
 // has a meaning.
 fn finish_call(
     alloc: Global,
@@ -198,10 +198,8 @@ fn finish_call(
     let callee = callee_on(parsed, tables, scope, call.on, call.method.text);
     let found = sooner(given.found, callee_refusal(callee, call.method));
     let known = both(is_known(callee), given.known);
-    match arguments_if(alloc, known, found, parsed, tables, scope, callee, call) {
-        Ok(found) => Ok(Seen { found, known }),
-        Err(fault) => Err(fault),
-    }
+    let found = arguments_if(alloc, known, found, parsed, tables, scope, callee, call)?;
+    Ok(Seen { found, known })
 }
 
 /// A walk past an expression.
@@ -235,16 +233,12 @@ pub fn walk_expr(
         }
         Expr::Call(call) => walk_call(alloc, seen, parsed, tables, scope, call),
         Expr::Chain { first, links, .. } => {
-            match walk_expr(alloc, seen, parsed, tables, scope, *first) {
-                Ok(seen) => walk_links(alloc, seen, parsed, tables, scope, links.as_slice()),
-                Err(fault) => Err(fault),
-            }
+            let seen = walk_expr(alloc, seen, parsed, tables, scope, *first)?;
+            walk_links(alloc, seen, parsed, tables, scope, links.as_slice())
         }
         Expr::Convert { of, to } => {
-            match walk_expr(alloc, seen, parsed, tables, scope, *of) {
-                Ok(seen) => walk_type(alloc, seen, parsed, tables, scope, to),
-                Err(fault) => Err(fault),
-            }
+            let seen = walk_expr(alloc, seen, parsed, tables, scope, *of)?;
+            walk_type(alloc, seen, parsed, tables, scope, to)
         }
         Expr::Not(of) => walk_expr(alloc, seen, parsed, tables, scope, *of),
     }
@@ -283,10 +277,8 @@ fn walk_parts(
     requires to { IsBelow (length parsed.now.exprs) to }
     ensures { IfOk result (λ all. all ≡ walked (known_by parsed.now.texts tables.now scope.now) seen (part_uses (part_at (expr_trees parsed.now.exprs) from) ++ part_uses (part_at (expr_trees parsed.now.exprs) to))) }
 {
-    match walk_part(alloc, seen, parsed, tables, scope, from) {
-        Ok(seen) => walk_part(alloc, seen, parsed, tables, scope, to),
-        Err(fault) => Err(fault),
-    }
+    let seen = walk_part(alloc, seen, parsed, tables, scope, from)?;
+    walk_part(alloc, seen, parsed, tables, scope, to)
 }
 
 #[cycle(walk_exprs)]
@@ -303,10 +295,7 @@ fn walk_links(
 {
     let mut seen = seen;
     for link in links {
-        match walk_expr(alloc, seen, parsed, tables, scope, link.operand) {
-            Ok(next) => seen = next,
-            Err(fault) => return Err(fault),
-        }
+        seen = walk_expr(alloc, seen, parsed, tables, scope, link.operand)?;
     }
     Ok(seen)
 }
@@ -326,10 +315,7 @@ pub(crate) fn walk_given(
 {
     let mut seen = seen;
     for given in args {
-        match walk_expr(alloc, seen, parsed, tables, scope, given.value) {
-            Ok(next) => seen = next,
-            Err(fault) => return Err(fault),
-        }
+        seen = walk_expr(alloc, seen, parsed, tables, scope, given.value)?;
     }
     Ok(seen)
 }
@@ -348,22 +334,16 @@ pub(crate) fn walk_call(
     ensures { IfOk result (λ all. all ≡ walked (known_by parsed.now.texts tables.now scope.now) seen (call_uses (call_at (expr_trees parsed.now.exprs) call.now))) }
 {
     let on = walk_receiver(seen, parsed, tables, scope, call.on);
-    match walk_given(
+    let given = walk_given(
         alloc,
         afresh(on),
         parsed,
         tables,
         scope,
         call.args.as_slice(),
-    ) {
-        Ok(given) => {
-            match finish_call(alloc, given, parsed, tables, scope, call) {
-                Ok(all) => Ok(joined(on, all)),
-                Err(fault) => Err(fault),
-            }
-        }
-        Err(fault) => Err(fault),
-    }
+    )?;
+    let all = finish_call(alloc, given, parsed, tables, scope, call)?;
+    Ok(joined(on, all))
 }
 
 // What was found, where nothing without a meaning has been seen yet.
@@ -418,10 +398,7 @@ fn walk_prefixes(
 {
     let mut seen = seen;
     for prefix in prefixes {
-        match walk_prefix(alloc, seen, parsed, tables, scope, *prefix) {
-            Ok(next) => seen = next,
-            Err(fault) => return Err(fault),
-        }
+        seen = walk_prefix(alloc, seen, parsed, tables, scope, *prefix)?;
     }
     Ok(seen)
 }
@@ -485,8 +462,6 @@ pub fn walk_type(
     requires { TypeBelow (length parsed.now.exprs) of.now }
     ensures { IfOk result (λ all. all ≡ walked (known_by parsed.now.texts tables.now scope.now) seen (type_uses (type_at (expr_trees parsed.now.exprs) of.now))) }
 {
-    match walk_prefixes(alloc, seen, parsed, tables, scope, of.prefixes.as_slice()) {
-        Ok(seen) => walk_core(alloc, seen, parsed, tables, scope, of.core, of.bounds),
-        Err(fault) => Err(fault),
-    }
+    let seen = walk_prefixes(alloc, seen, parsed, tables, scope, of.prefixes.as_slice())?;
+    walk_core(alloc, seen, parsed, tables, scope, of.core, of.bounds)
 }

@@ -49,10 +49,7 @@ fn walk_clauses(
 {
     let mut seen = seen;
     for clause in clauses {
-        match walk_expr(alloc, seen, parsed, tables, scope, clause.condition) {
-            Ok(next) => seen = next,
-            Err(fault) => return Err(fault),
-        }
+        seen = walk_expr(alloc, seen, parsed, tables, scope, clause.condition)?;
     }
     Ok(seen)
 }
@@ -88,10 +85,8 @@ fn walk_head(
     requires clauses { AllByRecursion (λ c. c.condition.0 < length parsed.now.exprs) clauses.now }
     ensures { IfOk result (λ all. all ≡ walked (known_by parsed.now.texts tables.now scope.now) seen (uses_of (expr_at (expr_trees parsed.now.exprs) condition) ++ clause_uses (clauses_at (expr_trees parsed.now.exprs) clauses.now))) }
 {
-    match walk_expr(alloc, seen, parsed, tables, scope, condition) {
-        Ok(seen) => walk_clauses(alloc, seen, parsed, tables, scope, clauses),
-        Err(fault) => Err(fault),
-    }
+    let seen = walk_expr(alloc, seen, parsed, tables, scope, condition)?;
+    walk_clauses(alloc, seen, parsed, tables, scope, clauses)
 }
 
 #[cycle(walk_stmts)]
@@ -110,16 +105,12 @@ fn walk_stmt(
     match &node.stmt {
         Stmt::Var { of, .. } => walk_type(alloc, seen, parsed, tables, scope, of),
         Stmt::Assign { target, value, .. } => {
-            match walk_target(alloc, seen, parsed, tables, scope, *target) {
-                Ok(seen) => walk_expr(alloc, seen, parsed, tables, scope, *value),
-                Err(fault) => Err(fault),
-            }
+            let seen = walk_target(alloc, seen, parsed, tables, scope, *target)?;
+            walk_expr(alloc, seen, parsed, tables, scope, *value)
         }
         Stmt::Keep { target, call } => {
-            match walk_target(alloc, seen, parsed, tables, scope, *target) {
-                Ok(seen) => walk_call(alloc, seen, parsed, tables, scope, call),
-                Err(fault) => Err(fault),
-            }
+            let seen = walk_target(alloc, seen, parsed, tables, scope, *target)?;
+            walk_call(alloc, seen, parsed, tables, scope, call)
         }
         Stmt::Call(call) => walk_call(alloc, seen, parsed, tables, scope, call),
         Stmt::If { arms, otherwise } => walk_arms(
@@ -137,7 +128,7 @@ fn walk_stmt(
             body,
             ..
         } => {
-            match walk_head(
+            let seen = walk_head(
                 alloc,
                 seen,
                 parsed,
@@ -145,20 +136,16 @@ fn walk_stmt(
                 scope,
                 *condition,
                 clauses.as_slice(),
-            ) {
-                Ok(seen) => walk_block(alloc, seen, parsed, tables, scope, body),
-                Err(fault) => Err(fault),
-            }
+            )?;
+            walk_block(alloc, seen, parsed, tables, scope, body)
         }
         Stmt::Break(_) => Ok(seen),
         Stmt::Continue(_) => Ok(seen),
         Stmt::Return(value) => walk_part(alloc, seen, parsed, tables, scope, *value),
         Stmt::Yield(value) => walk_expr(alloc, seen, parsed, tables, scope, *value),
         Stmt::Assert { goal, via } => {
-            match walk_expr(alloc, seen, parsed, tables, scope, *goal) {
-                Ok(seen) => walk_via(alloc, seen, parsed, tables, scope, via),
-                Err(fault) => Err(fault),
-            }
+            let seen = walk_expr(alloc, seen, parsed, tables, scope, *goal)?;
+            walk_via(alloc, seen, parsed, tables, scope, via)
         }
     }
 }
@@ -178,10 +165,7 @@ pub fn walk_block(
 {
     let mut seen = seen;
     for s in block.items.as_slice() {
-        match walk_stmt(alloc, seen, parsed, tables, scope, *s) {
-            Ok(next) => seen = next,
-            Err(fault) => return Err(fault),
-        }
+        seen = walk_stmt(alloc, seen, parsed, tables, scope, *s)?;
     }
     Ok(seen)
 }
@@ -199,10 +183,8 @@ fn walk_arm(
     requires body { BlockBelow (length parsed.now.stmts) arm.now.body }
     ensures { IfOk result (λ all. all ≡ walked (known_by parsed.now.texts tables.now scope.now) seen (uses_of (expr_at (expr_trees parsed.now.exprs) arm.now.condition) ++ block_uses (block_at (stmt_trees parsed.now.exprs parsed.now.stmts) arm.now.body))) }
 {
-    match walk_expr(alloc, seen, parsed, tables, scope, arm.condition) {
-        Ok(seen) => walk_block(alloc, seen, parsed, tables, scope, &arm.body),
-        Err(fault) => Err(fault),
-    }
+    let seen = walk_expr(alloc, seen, parsed, tables, scope, arm.condition)?;
+    walk_block(alloc, seen, parsed, tables, scope, &arm.body)
 }
 
 #[cycle(walk_stmts)]
@@ -239,10 +221,7 @@ fn walk_arms(
 {
     let mut seen = seen;
     for arm in arms {
-        match walk_arm(alloc, seen, parsed, tables, scope, arm) {
-            Ok(next) => seen = next,
-            Err(fault) => return Err(fault),
-        }
+        seen = walk_arm(alloc, seen, parsed, tables, scope, arm)?;
     }
     walk_else(alloc, seen, parsed, tables, scope, otherwise)
 }

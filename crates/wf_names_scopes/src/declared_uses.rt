@@ -99,7 +99,7 @@ pub struct WrittenMethod<'a> {
 }
 
 /// A walk past a method: its owner, its arguments, what it gives, and its body.
-pub fn walk_method(
+pub(crate) fn walk_method(
     alloc: Global,
     seen: Seen,
     parsed: &PackageNodes,

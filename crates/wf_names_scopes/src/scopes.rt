@@ -29,7 +29,7 @@ pub fn outside(alloc: Global) -> Scope
     }
 }
 
-/// Adds the constant behind those that are known.
+/// Adds the constant after those that are known.
 pub fn add_constant(
     scope: &mut Scope,
     parsed: &PackageNodes,

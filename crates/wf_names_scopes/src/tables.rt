@@ -124,7 +124,7 @@ fn add_struct(
     }
 }
 
-// A method behind those that the tables tell: its number is how many these are.
+// A method after those that the tables tell: its number is how many these are.
 fn add_method(
     alloc: Global,
     tables: &mut Tables,

@@ -1,4 +1,4 @@
-// The walk over every use of a name in a package: constants in order, each with those in front of it, structs, and
+// The walk over every use of a name in a package: constants in order, each with those before it, structs, and
 // methods.
 
 ghost use Rattle.std.specs.Prelude.{◌≡◌, ◌<◌, ◌++◌, ◌∷◌, [], true, List, map, length, IfOk, OnOk};
@@ -27,7 +27,7 @@ fn begin(found: Option<Refusal>) -> Seen
     Seen { found, known: true }
 }
 
-// What a constant's declaration uses, where those in front of it are known.
+// What a constant's declaration uses, where those before it are known.
 fn constant_uses(
     alloc: Global,
     found: Option<Refusal>,
@@ -47,7 +47,7 @@ fn constant_uses(
     Ok(seen.found)
 }
 
-// A constant's declaration: what it uses, and the constant behind those that are known.
+// A constant's declaration: what it uses, and the constant after those that are known.
 fn constant_next(
     alloc: Global,
     found: Option<Refusal>,
@@ -97,7 +97,7 @@ fn constant_decl(
 }
 
 /// The constants of a package in order: what decides of what was found before and of what their declarations use, each
-/// where those in front of it are known. Behind them `scope`, which knew nothing, knows all constants. `Err` where
+/// where those before it are known. After them `scope`, which knew nothing, knows all constants. `Err` where
 /// memory was refused.
 pub fn constants(
     alloc: Global,

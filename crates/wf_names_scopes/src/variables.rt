@@ -27,8 +27,8 @@ fn add_sort(table: &mut IndexMap<u32, Sort>, name: TextId, sort: Sort) -> Result
     Ok(())
 }
 
-/// Adds a variable behind those that the table tells.
-pub fn add_variable(
+/// Adds a variable after those that the table tells.
+pub(crate) fn add_variable(
     table: &mut IndexMap<u32, Sort>,
     parsed: &PackageNodes,
     name: Name,

@@ -153,10 +153,8 @@ fn add_local(hidden: &mut IndexSet<u32>, parsed: &PackageNodes, s: StmtId) -> Re
     let node = parsed.stmt(s);
     match &node.stmt {
         Stmt::Var { name, .. } => {
-            match hidden.insert(name.text.0) {
-                Ok(_) => Ok(()),
-                Err(_) => Err(NoMemory),
-            }
+            hidden.insert(name.text.0)?;
+            Ok(())
         }
         Stmt::Assign { .. } => Ok(()),
         Stmt::Keep { .. } => Ok(()),
@@ -182,10 +180,7 @@ fn local_names(
 {
     let mut hidden = IndexSet::new(alloc);
     for s in body.items.as_slice() {
-        match add_local(&mut hidden, parsed, *s) {
-            Ok(()) => {}
-            Err(fault) => return Err(fault),
-        }
+        add_local(&mut hidden, parsed, *s)?;
     }
     Ok(hidden)
 }
@@ -246,13 +241,9 @@ fn long_variables(
     requires body { BlockBelow (length parsed.now.stmts) body.now }
     ensures { IfOk result (λ all. all ≡ soonest found (map (long_item (of_package parsed.now) (locals_of (block_at (stmt_trees parsed.now.exprs parsed.now.stmts) body.now))) (variables (fields_at (expr_trees parsed.now.exprs) args.now)) ++ map (long_item (of_package parsed.now) (locals_of (block_at (stmt_trees parsed.now.exprs parsed.now.stmts) body.now))) (locals_of (block_at (stmt_trees parsed.now.exprs parsed.now.stmts) body.now)))) }
 {
-    match local_names(alloc, parsed, body) {
-        Ok(hidden) => {
-            let found = long_fields(found, parsed, constants, &hidden, args);
-            Ok(long_locals(found, parsed, constants, &hidden, body))
-        }
-        Err(fault) => Err(fault),
-    }
+    let hidden = local_names(alloc, parsed, body)?;
+    let found = long_fields(found, parsed, constants, &hidden, args);
+    Ok(long_locals(found, parsed, constants, &hidden, body))
 }
 
 // The same of the method that a declaration declares, if it declares one.
@@ -290,10 +281,7 @@ fn long_in_methods(
 {
     let mut found = found;
     for number in 0..parsed.decls().len() {
-        match long_in_method(alloc, found, parsed, constants, number) {
-            Ok(next) => found = next,
-            Err(fault) => return Err(fault),
-        }
+        found = long_in_method(alloc, found, parsed, constants, number)?;
     }
     Ok(found)
 }

@@ -17,7 +17,7 @@ pub struct Chain {
 }
 
 /// A chain of one operand.
-pub fn started(first: Option<Value>) -> Option<Chain>
+pub(crate) fn started(first: Option<Value>) -> Option<Chain>
     ensures runs { Runs result (start_of (sized first)) }
     ensures stays { (op : _) → ChainStays op result }
 {
@@ -94,7 +94,7 @@ fn joined_or_shifted(op: Op, chain: Chain, b: Value) -> Option<Chain>
 }
 
 /// A chain with one operand more.
-pub fn run(op: Op, so_far: Option<Chain>, operand: Option<Value>) -> Option<Chain>
+pub(crate) fn run(op: Op, so_far: Option<Chain>, operand: Option<Value>) -> Option<Chain>
     requires { ChainStays op so_far }
     ensures runs { (r : Option Running) → Runs so_far r → Runs result (run_on op r (sized operand)) }
     ensures stays { ChainStays op result }
@@ -116,7 +116,7 @@ fn ended_at(width: Option<Width>, number: Option<u64>) -> Option<Value>
 }
 
 /// The value of a whole chain.
-pub fn ended(chain: Option<Chain>) -> Option<Value>
+pub(crate) fn ended(chain: Option<Chain>) -> Option<Value>
     ensures { (r : Option Running) → Runs chain r → sized result ≡ end_of r }
 {
     match chain {

@@ -94,7 +94,7 @@ fn refined(
     }
 }
 
-// The value of a constant by those in front of it. Nothing is hidden.
+// The value of a constant by those before it. Nothing is hidden.
 fn constant_value(
     parsed: &PackageNodes,
     constants: &IndexMap<u32, Option<Value>>,
@@ -131,10 +131,8 @@ fn note(
     if constants.contains_key(&text) {
         return Ok(());
     }
-    match constants.insert(text, value) {
-        Ok(_) => Ok(()),
-        Err(_) => Err(NoMemory),
-    }
+    constants.insert(text, value)?;
+    Ok(())
 }
 
 // Notes the constant that a declaration declares, if it declares one.
@@ -170,10 +168,7 @@ fn noted(
 {
     let mut constants = IndexMap::new(alloc);
     for number in 0..parsed.decls().len() {
-        match note_decl(&mut constants, nothing, parsed, number) {
-            Ok(()) => {}
-            Err(fault) => return Err(fault),
-        }
+        note_decl(&mut constants, nothing, parsed, number)?;
     }
     Ok(constants)
 }

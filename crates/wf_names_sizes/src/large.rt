@@ -150,15 +150,13 @@ fn known_sizes(
     ensures settled { IfOk result (λ sizes. AreSettled flags.now sizes.items (map (row_of (of_package parsed.now)) (of_package parsed.now).structs)) }
     ensures sound { IfOk result (λ sizes. AreSizes (of_package parsed.now) sizes.items) }
 {
-    match rows(alloc, parsed, constants, nothing, structs) {
-        Ok(rows) => sizes(alloc, rows.as_slice(), flags, order),
-        Err(fault) => Err(fault),
-    }
+    let rows = rows(alloc, parsed, constants, nothing, structs)?;
+    sizes(alloc, rows.as_slice(), flags, order)
 }
 
 /// Structs whose fields take more than 1,048,576 bytes together, each refused by L7 at the field that passes this
 /// limit, and what decides of these and of what was found before. A flag tells of each struct whether it holds itself;
-/// `order` has the numbers of all structs, each behind those that it holds, but for those that hold themselves.
+/// `order` has the numbers of all structs, each after those that it holds, but for those that hold themselves.
 pub(crate) fn large_structs(
     alloc: Global,
     found: Option<Refusal>,
@@ -174,26 +172,21 @@ pub(crate) fn large_structs(
     requires order { IsHoldingOrder (of_package parsed.now) order.now }
     ensures { IfOk result (λ all. DecidesBehind (HasLargeField (of_package parsed.now)) found all) }
 {
-    let structs = match numbers(alloc, parsed) {
-        Ok(structs) => structs,
-        Err(fault) => return Err(fault),
-    };
-    match known_sizes(alloc, parsed, constants, nothing, &structs, flags, order) {
-        Ok(sizes) => Ok(large_in_structs(
-            found,
-            parsed,
-            constants,
-            nothing,
-            &structs,
-            flags,
-            sizes.as_slice(),
-        )),
-        Err(fault) => Err(fault),
-    }
+    let structs = numbers(alloc, parsed)?;
+    let sizes = known_sizes(alloc, parsed, constants, nothing, &structs, flags, order)?;
+    Ok(large_in_structs(
+        found,
+        parsed,
+        constants,
+        nothing,
+        &structs,
+        flags,
+        sizes.as_slice(),
+    ))
 }
 
 /// Arrays that are too long and structs that are too large, and what decides of these and of what was found before.
-/// A flag tells of each struct whether it holds itself; `order` has the numbers of all structs, each behind those that
+/// A flag tells of each struct whether it holds itself; `order` has the numbers of all structs, each after those that
 /// it holds, but for those that hold themselves. `Err` where memory was refused.
 pub fn size_breaks(
     alloc: Global,
@@ -206,15 +199,8 @@ pub fn size_breaks(
     requires order { IsHoldingOrder (of_package parsed.now) order.now }
     ensures { IfOk result (λ all. DecidesBehind (SizeBreaks (declared parsed.now.texts (decl_trees parsed.now.exprs parsed.now.stmts parsed.now.decls))) found all) }
 {
-    let constants = match constants(alloc, parsed) {
-        Ok(constants) => constants,
-        Err(fault) => return Err(fault),
-    };
-    match long_by_constants(alloc, found, parsed, &constants) {
-        Ok(found) => {
-            let nothing = IndexSet::new(alloc);
-            large_structs(alloc, found, parsed, &constants, &nothing, flags, order)
-        }
-        Err(fault) => Err(fault),
-    }
+    let constants = constants(alloc, parsed)?;
+    let found = long_by_constants(alloc, found, parsed, &constants)?;
+    let nothing = IndexSet::new(alloc);
+    large_structs(alloc, found, parsed, &constants, &nothing, flags, order)
 }

@@ -34,8 +34,8 @@ pub fn circles_are_the_structs_that_hold_themselves()
         → AreCircles rows flags (length d.structs) → AreHolding d flags }
 {}
 
-/// An order of all numbers of that graph, in which what a number goes to stands in front of it or has a way to it, has
-/// each struct behind those that it holds, but for those that hold themselves.
+/// An order of all numbers of that graph, in which what a number goes to stands before it or has a way to it, has
+/// each struct after those that it holds, but for those that hold themselves.
 pub fn numbers_left_by_a_walk_are_an_order_of_structs()
     ensures { (d : Declared) (rows : List (List ℕ)) (order : List ℕ) → ((a b : ℕ) → goes rows a b ≡ holds_struct d a b)
         → ((s : ℕ) → s < length d.structs → holds order s ≡ true) → ((s : ℕ) → holds order s ≡ true → s < length d.structs)

@@ -15,7 +15,7 @@ pub struct Value {
 }
 
 /// The bits of a width, 64 without one.
-pub fn bits(width: Option<Width>) -> u32
+pub(crate) fn bits(width: Option<Width>) -> u32
     ensures bits { result ≡ bits_or_most (bits_in width) }
     ensures most { result ≤ 64 }
 {
@@ -26,7 +26,7 @@ pub fn bits(width: Option<Width>) -> u32
 }
 
 /// How many numbers a width has; without one there are as many as in 64 bits.
-pub fn count(width: Option<Width>) -> u128
+pub(crate) fn count(width: Option<Width>) -> u128
     ensures count { result ≡ 2 ^ bits_or_most (bits_in width) }
     ensures most { result ≤ 2 ^ 64 }
 {
@@ -40,7 +40,7 @@ pub fn count(width: Option<Width>) -> u128
 }
 
 /// The number as a value of a width, where it lies in it.
-pub fn fitted(width: Option<Width>, number: u64) -> Option<Value>
+pub(crate) fn fitted(width: Option<Width>, number: u64) -> Option<Value>
     ensures { sized result ≡ fits_in (bits_in width) number }
 {
     if (number as u128) < count(width) {
@@ -51,7 +51,7 @@ pub fn fitted(width: Option<Width>, number: u64) -> Option<Value>
 }
 
 /// The one width of two operands, None where they can't have one.
-pub fn joined(a: Option<Width>, b: Option<Width>) -> Option<Option<Width>>
+pub(crate) fn joined(a: Option<Width>, b: Option<Width>) -> Option<Option<Width>>
     ensures { option_map bits_in result ≡ joined_bits (bits_in a) (bits_in b) }
 {
     match (a, b) {

@@ -47,7 +47,7 @@ fn width_bytes(width: Option<Width>) -> u64
     }
 }
 
-// The bytes of a type of this name behind `base.`.
+// The bytes of a type of this name after `base.`.
 fn named_bytes(name: &[u8]) -> u64
     ensures bytes { result ≡ flag_bytes (bytes_eq name.now (codes "bool")) (bytes_of_width (width_by_name name.now)) }
     ensures most { result ≤ 8 }
@@ -165,7 +165,7 @@ pub(crate) fn field_part(
 }
 
 /// The fields of a struct in order.
-pub fn row(
+pub(crate) fn row(
     alloc: Global,
     parsed: &PackageNodes,
     constants: &IndexMap<u32, Option<Value>>,
@@ -182,10 +182,7 @@ pub fn row(
     let mut row = Sequence::new(alloc);
     for field in fields {
         let part = field_part(parsed, constants, nothing, structs, &field.of);
-        match row.push(part) {
-            Ok(()) => {}
-            Err(_) => return Err(NoMemory),
-        }
+        row.push(part)?;
     }
     Ok(row)
 }

@@ -1,4 +1,4 @@
-// The sizes of structs, found in one pass along an order: each struct stands behind those that it holds, but for those
+// The sizes of structs, found in one pass along an order: each struct stands after those that it holds, but for those
 // that hold themselves, so that the sizes that it needs are known when its turn comes. The time is that of a walk over
 // all fields.
 
@@ -20,7 +20,7 @@ fn capped_sum(a: u32, b: u32) -> u32
 }
 
 /// Two sizes together, where both are known.
-pub fn added(a: Option<u32>, b: Option<u32>) -> Option<u32>
+pub(crate) fn added(a: Option<u32>, b: Option<u32>) -> Option<u32>
     ensures { result ≡ sum_of_both a b }
 {
     match (a, b) {
@@ -100,14 +100,12 @@ fn no_sizes(alloc: Global, count: usize) -> Result<Vec<Option<u32>>, NoMemory>
     ensures len { IfOk result (λ sizes. vec_len sizes ≡ count) }
     ensures none { IfOk result (λ sizes. sizes.items ≡ replicate count None) }
 {
-    match vec![in alloc; None; count] {
-        Ok(sizes) => Ok(sizes),
-        Err(_) => Err(NoMemory),
-    }
+    let sizes = vec![in alloc; None; count]?;
+    Ok(sizes)
 }
 
 /// The size of each struct's fields, of which numbers above 1,048,577 count as that. It is known wherever the fields
-/// have one. A struct that is flagged counts 8 bytes in those that hold it; each other stands in `order` in front of
+/// have one. A struct that is flagged counts 8 bytes in those that hold it; each other stands in `order` before
 /// those that hold it. `Err` where memory was refused.
 pub fn sizes(
     alloc: Global,
@@ -119,10 +117,7 @@ pub fn sizes(
     ensures settled { IfOk result (λ sizes. AreSettled flags.now sizes.items rows.now) }
     ensures sound { IfOk result (λ sizes. (d : Declared) → rows.now ≡ map (row_of d) d.structs → AreHolding d flags.now → AreSizes d sizes.items) }
 {
-    let mut sizes = match no_sizes(alloc, rows.len()) {
-        Ok(sizes) => sizes,
-        Err(fault) => return Err(fault),
-    };
+    let mut sizes = no_sizes(alloc, rows.len())?;
     for s in order {
         let s = *s as usize;
         settle(&mut sizes, row(rows, s), flags, s);

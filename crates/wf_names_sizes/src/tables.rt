@@ -28,10 +28,8 @@ fn note(structs: &mut IndexMap<u32, usize>, text: u32, number: usize) -> Result<
     if structs.contains_key(&text) {
         return Ok(());
     }
-    match structs.insert(text, number) {
-        Ok(_) => Ok(()),
-        Err(_) => Err(NoMemory),
-    }
+    structs.insert(text, number)?;
+    Ok(())
 }
 
 // Notes the struct that a declaration declares, if it declares one; how many structs there are with it, which is no
@@ -53,10 +51,8 @@ fn note_decl(
     let node = parsed.decl(number);
     match &node.decl {
         Decl::Struct { name, .. } => {
-            match note(structs, name.text.0, count) {
-                Ok(()) => Ok(count + 1),
-                Err(fault) => Err(fault),
-            }
+            note(structs, name.text.0, count)?;
+            Ok(count + 1)
         }
         Decl::Status(_) => Ok(count),
         Decl::Const { .. } => Ok(count),
@@ -65,16 +61,16 @@ fn note_decl(
 }
 
 /// The numbers of the structs by their names; of structs of one name that of the first.
-pub fn numbers(alloc: Global, parsed: &PackageNodes) -> Result<IndexMap<u32, usize>, NoMemory>
+pub(crate) fn numbers(
+    alloc: Global,
+    parsed: &PackageNodes,
+) -> Result<IndexMap<u32, usize>, NoMemory>
     ensures { IfOk result (λ table. AreNumbers table (of_package parsed.now).structs) }
 {
     let mut structs = IndexMap::new(alloc);
     let mut count = 0;
     for number in 0..parsed.decls().len() {
-        match note_decl(&mut structs, parsed, number, count, number + 1) {
-            Ok(next) => count = next,
-            Err(fault) => return Err(fault),
-        }
+        count = note_decl(&mut structs, parsed, number, count, number + 1)?;
     }
     Ok(structs)
 }
@@ -99,22 +95,16 @@ fn add_row(
     let node = parsed.decl(number);
     match &node.decl {
         Decl::Struct { fields, .. } => {
-            match row(
+            let row = row(
                 alloc,
                 parsed,
                 constants,
                 nothing,
                 structs,
                 fields.as_slice(),
-            ) {
-                Ok(row) => {
-                    match rows.push(row) {
-                        Ok(()) => Ok(()),
-                        Err(_) => Err(NoMemory),
-                    }
-                }
-                Err(fault) => Err(fault),
-            }
+            )?;
+            rows.push(row)?;
+            Ok(())
         }
         Decl::Status(_) => Ok(()),
         Decl::Const { .. } => Ok(()),
@@ -123,7 +113,7 @@ fn add_row(
 }
 
 /// The fields of each struct, by number.
-pub fn rows(
+pub(crate) fn rows(
     alloc: Global,
     parsed: &PackageNodes,
     constants: &IndexMap<u32, Option<Value>>,
@@ -137,12 +127,9 @@ pub fn rows(
 {
     let mut rows = Vec::new(alloc);
     for number in 0..parsed.decls().len() {
-        match add_row(
+        add_row(
             alloc, &mut rows, parsed, constants, nothing, structs, number,
-        ) {
-            Ok(()) => {}
-            Err(fault) => return Err(fault),
-        }
+        )?;
     }
     Ok(rows)
 }

@@ -35,7 +35,7 @@ pub fn variables_by_the_rules_of_names()
     ensures no_target { uses_found (doing (set (field "gone" 5) (one 17))) None ≡ refused N1 (here 10) }
 {}
 
-/// Constants, which know those in front of them: one in front, one behind, itself, in a value and in a bound, and a field.
+/// Constants, which know those before them: one before, one after, itself, in a value and in a bound, and a field.
 pub fn constants_by_the_rules_of_names()
     ensures in_front { uses_found (with_constants (constant_k 9 ∷ constant_l 10 (tree.path (bare "K" 26)) ∷ [])) None ≡ None }
     ensures behind { uses_found (with_constants (constant_l 9 (tree.path (bare "K" 26)) ∷ constant_k 10 ∷ [])) None ≡ refused N1 (here 26) }
@@ -45,7 +45,7 @@ pub fn constants_by_the_rules_of_names()
     ensures a_field { uses_found (with_constants (constant_l 9 (tree.path (field "n" 26)) ∷ [])) None ≡ refused N1 (here 31) }
 {}
 
-/// Structs: as the type of a field, in front of its declaration and where there is none; in an array, whose length is a
+/// Structs: as the type of a field, before its declaration and where there is none; in an array, whose length is a
 /// constant; and as the owner of a method.
 pub fn structs_by_the_rules_of_names()
     ensures in_front_of_it { uses_found (with_field (struct "p" (here 9))) None ≡ None }

@@ -17,7 +17,7 @@ pub fn names_are_decided()
     ensures { NamesAreDecided }
 {}
 
-/// The methods of a package that breaks no rule of names have an order in which each stands behind those that it calls.
+/// The methods of a package that breaks no rule of names have an order in which each stands after those that it calls.
 pub fn kept_packages_have_an_order()
     ensures { KeptPackagesHaveAnOrder }
 {}

@@ -1,4 +1,4 @@
-// The nodes of a typed package, as they are built. A node's parts stand in front of it.
+// The nodes of a typed package, as they are built. A node's parts stand before it.
 
 ghost use Rattle.std.specs.Prelude.{◌≡◌, ◌<◌, ◌++◌, [], ◌∷◌, true, length, IfOk, OnOk, OnErr};
 ghost use Rattle.wf_ast.specs.TypedTrees.{tree_of, made_or_number, type_of_node, constant_of_node};
@@ -81,15 +81,11 @@ impl Building {
         ensures nodes { IfOk result (λ nodes. nodes ≡ self) }
         ensures built { IfOk result IsBuilt }
     {
-        match taken_apart(alloc, self.exprs) {
-            Ok(all) => {
-                let mut whole = self.rest;
-                whole.exprs = all.exprs;
-                whole.types = all.types;
-                whole.constants = all.constants;
-                Ok(whole)
-            }
-            Err(fault) => Err(fault),
-        }
+        let all = taken_apart(alloc, self.exprs)?;
+        let mut whole = self.rest;
+        whole.exprs = all.exprs;
+        whole.types = all.types;
+        whole.constants = all.constants;
+        Ok(whole)
     }
 }

@@ -16,7 +16,7 @@ pub struct Columns {
 }
 
 /// The parts of these expressions, in order.
-pub fn taken_apart(alloc: Global, exprs: Vec<TypedExpr>) -> Result<Columns, NoMemory>
+pub(crate) fn taken_apart(alloc: Global, exprs: Vec<TypedExpr>) -> Result<Columns, NoMemory>
     ensures { IfOk result (λ c. c ≡ record { exprs = map (λ x. x.node) exprs.items; types = map (λ x. x.ty) exprs.items; constants = map (λ x. x.constant) exprs.items }) }
 {
     let mut all = Columns {
@@ -25,10 +25,7 @@ pub fn taken_apart(alloc: Global, exprs: Vec<TypedExpr>) -> Result<Columns, NoMe
         constants: Sequence::new(alloc),
     };
     for one in exprs {
-        match with_one(all, one) {
-            Ok(more) => all = more,
-            Err(fault) => return Err(fault),
-        }
+        all = with_one(all, one)?;
     }
     Ok(all)
 }
@@ -40,18 +37,9 @@ fn with_one(all: Columns, one: TypedExpr) -> Result<Columns, NoMemory>
     let mut exprs = all.exprs;
     let mut types = all.types;
     let mut constants = all.constants;
-    match exprs.push(one.node) {
-        Ok(()) => {}
-        Err(_) => return Err(NoMemory),
-    }
-    match types.push(one.ty) {
-        Ok(()) => {}
-        Err(_) => return Err(NoMemory),
-    }
-    match constants.push(one.constant) {
-        Ok(()) => {}
-        Err(_) => return Err(NoMemory),
-    }
+    exprs.push(one.node)?;
+    types.push(one.ty)?;
+    constants.push(one.constant)?;
     Ok(Columns {
         exprs,
         types,

@@ -52,7 +52,7 @@ pub fn unrefined(ty: Ty) -> Ty
 }
 
 /// The node of an expression without signs.
-pub fn unsigned(alloc: Global, expr: Expr, at: Place) -> ExprNode
+pub(crate) fn unsigned(alloc: Global, expr: Expr, at: Place) -> ExprNode
     ensures { result ≡ record { expr = expr; at = at; signs = [] } }
 {
     ExprNode {
@@ -74,7 +74,7 @@ fn expr_naming(of: Variable) -> Expr
 }
 
 /// The node of a path.
-pub fn path_node(alloc: Global, around: &Setting, path: NamedPath) -> MadeNode
+pub(crate) fn path_node(alloc: Global, around: &Setting, path: NamedPath) -> MadeNode
     ensures { result ≡ record { node = record { expr = naming path.of; at = path.at; signs = [] }; of = variable_in around.now path.of } }
 {
     MadeNode {
@@ -84,7 +84,7 @@ pub fn path_node(alloc: Global, around: &Setting, path: NamedPath) -> MadeNode
 }
 
 /// The number of the node of an end that may be absent.
-pub fn node_of(end: Option<Elaborated>) -> Option<ExprId>
+pub(crate) fn node_of(end: Option<Elaborated>) -> Option<ExprId>
     ensures { result ≡ node_in end }
 {
     match end {
@@ -103,7 +103,7 @@ fn if_end(end: Option<Elaborated>, ty: Option<Ty>) -> Option<Ty>
 }
 
 /// What a slice of an array or of a slice means, by what its ends do.
-pub fn slice_meant(
+pub(crate) fn slice_meant(
     base: Option<Meaning>,
     from: Option<Elaborated>,
     to: Option<Elaborated>,
@@ -114,7 +114,7 @@ pub fn slice_meant(
 }
 
 /// What a chain means, where each of its operands means something.
-pub fn chain_meant(op: Op, operands: Option<Sequence<Operand>>) -> Option<Meaning>
+pub(crate) fn chain_meant(op: Op, operands: Option<Sequence<Operand>>) -> Option<Meaning>
     ensures { result ≡ option_and_then (meaning_given (sort_of op)) operands }
 {
     match operands {
@@ -136,7 +136,7 @@ fn core_width(core: NamedCore) -> Option<Width>
 }
 
 /// The width of a numeric type without bounds.
-pub fn plain_width(of: &NamedType) -> Option<Width>
+pub(crate) fn plain_width(of: &NamedType) -> Option<Width>
     ensures { (ts : _) → result ≡ width_written (type_at ts of.now) }
 {
     match of.bounds {

@@ -1,5 +1,5 @@
 // From the resolved tree of a package that breaks no rule to the nodes of its typed tree. The typed tree is a function of
-// the resolved one; the code makes its nodes, those of a part in front of those of the whole.
+// the resolved one; the code makes its nodes, those of a part before those of the whole.
 #![tactic(auto)]
 
 pub mod building;

@@ -11,7 +11,7 @@ use wf_text::faults::NoMemory;
 use wf_types_exprs::operands::operand_behind;
 
 /// No operand yet.
-pub fn no_operand(alloc: Global) -> MadeOperands
+pub(crate) fn no_operand(alloc: Global) -> MadeOperands
     ensures { result ≡ record { parts = []; signs = []; of = Some [] } }
 {
     MadeOperands {
@@ -22,36 +22,28 @@ pub fn no_operand(alloc: Global) -> MadeOperands
 }
 
 /// One sign more.
-pub fn with_sign(before: MadeOperands, sign: Place) -> Result<MadeOperands, NoMemory>
+pub(crate) fn with_sign(before: MadeOperands, sign: Place) -> Result<MadeOperands, NoMemory>
     ensures { IfOk result (λ all. all ≡ record before { signs = before.signs ++ sign ∷ [] }) }
 {
     let mut signs = before.signs;
-    match signs.push(sign) {
-        Ok(()) => Ok(MadeOperands {
-            parts: before.parts,
-            signs,
-            of: before.of,
-        }),
-        Err(_) => Err(NoMemory),
-    }
+    signs.push(sign)?;
+    Ok(MadeOperands {
+        parts: before.parts,
+        signs,
+        of: before.of,
+    })
 }
 
 /// One operand more.
-pub fn with_operand(before: MadeOperands, next: Elaborated) -> Result<MadeOperands, NoMemory>
+pub(crate) fn with_operand(before: MadeOperands, next: Elaborated) -> Result<MadeOperands, NoMemory>
     ensures { IfOk result (λ all. all ≡ record { parts = before.parts ++ next.node ∷ []; signs = before.signs; of = behind before.of next.value }) }
 {
     let mut parts = before.parts;
-    match parts.push(next.node) {
-        Ok(()) => {
-            match operand_behind(before.of, next.value) {
-                Ok(of) => Ok(MadeOperands {
-                    parts,
-                    signs: before.signs,
-                    of,
-                }),
-                Err(fault) => Err(fault),
-            }
-        }
-        Err(_) => Err(NoMemory),
-    }
+    parts.push(next.node)?;
+    let of = operand_behind(before.of, next.value)?;
+    Ok(MadeOperands {
+        parts,
+        signs: before.signs,
+        of,
+    })
 }

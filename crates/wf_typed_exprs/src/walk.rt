@@ -1,4 +1,4 @@
-// The walk over expressions: it makes the nodes of each, parts in front of their whole, and tells what it means.
+// The walk over expressions: it makes the nodes of each, parts before their whole, and tells what it means.
 
 ghost use Rattle.std.specs.Prelude.{◌≡◌, ◌<◌, ◌+◌, ◌++◌, ◌∷◌, [], true, length, IfOk, OnOk};
 ghost use Rattle.wf_ast.specs.ParsedParts.{IsBelow, LinksBelow};
@@ -53,13 +53,11 @@ fn put(nodes: &mut Building, made: MadeNode, at: Place) -> Result<Elaborated, No
         ty: type_meant(of),
         constant: number_in(of),
     };
-    match nodes.push_expr(one) {
-        Ok(node) => Ok(Elaborated {
-            node,
-            value: Value { of, at },
-        }),
-        Err(_) => Err(NoMemory),
-    }
+    let node = nodes.push_expr(one)?;
+    Ok(Elaborated {
+        node,
+        value: Value { of, at },
+    })
 }
 
 /// Adds the node of a path. `Err` also comes where no number is left.
@@ -77,10 +75,8 @@ pub fn elaborate_path(
     ensures number { IfOk result (λ r. r.node.0 ≡ length nodes.old.exprs) }
     ensures count { OnOk result (length nodes.new.exprs ≡ length nodes.old.exprs + 1) }
 {
-    match put(nodes, path_node(alloc, around, path), path.at) {
-        Ok(made) => Ok(made),
-        Err(fault) => Err(fault),
-    }
+    let made = put(nodes, path_node(alloc, around, path), path.at)?;
+    Ok(made)
 }
 
 /// Adds the nodes of an expression that breaks no rule, and tells what it means; what was there keeps its numbers, its
@@ -100,10 +96,8 @@ pub fn elaborate_expr(
     ensures stands { IfOk result (λ r. StandsForExpr around.now (expr_at (exprs_of named.now) e) nodes.new r.node) }
     ensures value { IfOk result (λ r. r.value ≡ value_of around.now (expr_at (exprs_of named.now) e)) }
 {
-    match elaborate_node(alloc, nodes, named, around, e) {
-        Ok(made) => put(nodes, made, place_of(named, e)),
-        Err(fault) => Err(fault),
-    }
+    let made = elaborate_node(alloc, nodes, named, around, e)?;
+    put(nodes, made, place_of(named, e))
 }
 
 /// Adds the nodes of an element that is written to, as those of the expression that it would be. `Err` also comes where no
@@ -124,10 +118,8 @@ pub fn elaborate_element(
     ensures stands { IfOk result (λ r. StandsForExpr around.now (tree.index base (expr_at (exprs_of named.now) index) at) nodes.new r.node) }
     ensures value { IfOk result (λ r. r.value ≡ value_of around.now (tree.index base (expr_at (exprs_of named.now) index) at)) }
 {
-    match elaborate_index(alloc, nodes, named, around, base, index, at) {
-        Ok(made) => put(nodes, made, at),
-        Err(fault) => Err(fault),
-    }
+    let made = elaborate_index(alloc, nodes, named, around, base, index, at)?;
+    put(nodes, made, at)
 }
 
 // The node of an expression, whose parts are added.
@@ -212,25 +204,19 @@ fn elaborate_index(
     ensures entries { OnOk result (AddsEntries nodes.old nodes.new (part_entries around.now (tree.index base (expr_at (exprs_of named.now) index) at))) }
     ensures made { IfOk result (λ n. MakesExpr around.now (tree.index base (expr_at (exprs_of named.now) index) at) nodes.new n) }
 {
-    match elaborate_path(alloc, nodes, around, base) {
-        Ok(cells) => {
-            match elaborate_expr(alloc, nodes, named, around, index) {
-                Ok(index) => Ok(MadeNode {
-                    node: unsigned(
-                        alloc,
-                        Expr::Index {
-                            base: cells.node,
-                            at: index.node,
-                        },
-                        at,
-                    ),
-                    of: typed(if_number(index.value.of, elements(cells.value.of))),
-                }),
-                Err(fault) => Err(fault),
-            }
-        }
-        Err(fault) => Err(fault),
-    }
+    let cells = elaborate_path(alloc, nodes, around, base)?;
+    let index = elaborate_expr(alloc, nodes, named, around, index)?;
+    Ok(MadeNode {
+        node: unsigned(
+            alloc,
+            Expr::Index {
+                base: cells.node,
+                at: index.node,
+            },
+            at,
+        ),
+        of: typed(if_number(index.value.of, elements(cells.value.of))),
+    })
 }
 
 // A slice of what a path stands for.
@@ -252,26 +238,20 @@ fn elaborate_slice(
     ensures entries { OnOk result (AddsEntries nodes.old nodes.new (part_entries around.now (tree.slice base (part_at (exprs_of named.now) from) (part_at (exprs_of named.now) to) at))) }
     ensures made { IfOk result (λ n. MakesExpr around.now (tree.slice base (part_at (exprs_of named.now) from) (part_at (exprs_of named.now) to) at) nodes.new n) }
 {
-    match elaborate_path(alloc, nodes, around, base) {
-        Ok(cells) => {
-            match elaborate_ends(alloc, nodes, named, around, from, to) {
-                Ok((from, to)) => Ok(MadeNode {
-                    node: unsigned(
-                        alloc,
-                        Expr::Cut {
-                            base: cells.node,
-                            from: node_of(from),
-                            to: node_of(to),
-                        },
-                        at,
-                    ),
-                    of: slice_meant(cells.value.of, from, to),
-                }),
-                Err(fault) => Err(fault),
-            }
-        }
-        Err(fault) => Err(fault),
-    }
+    let cells = elaborate_path(alloc, nodes, around, base)?;
+    let (from, to) = elaborate_ends(alloc, nodes, named, around, from, to)?;
+    Ok(MadeNode {
+        node: unsigned(
+            alloc,
+            Expr::Cut {
+                base: cells.node,
+                from: node_of(from),
+                to: node_of(to),
+            },
+            at,
+        ),
+        of: slice_meant(cells.value.of, from, to),
+    })
 }
 
 // Both ends of a slice.
@@ -293,15 +273,9 @@ fn elaborate_ends(
     ensures from { IfOk result (λ r. StandsForEnd around.now (part_at (exprs_of named.now) from) nodes.new r.0) }
     ensures to { IfOk result (λ r. StandsForEnd around.now (part_at (exprs_of named.now) to) nodes.new r.1) }
 {
-    match elaborate_end(alloc, nodes, named, around, from) {
-        Ok(from) => {
-            match elaborate_end(alloc, nodes, named, around, to) {
-                Ok(to) => Ok((from, to)),
-                Err(fault) => Err(fault),
-            }
-        }
-        Err(fault) => Err(fault),
-    }
+    let from = elaborate_end(alloc, nodes, named, around, from)?;
+    let to = elaborate_end(alloc, nodes, named, around, to)?;
+    Ok((from, to))
 }
 
 // An end of a slice, which may be absent.
@@ -321,10 +295,8 @@ fn elaborate_end(
 {
     match end {
         Some(e) => {
-            match elaborate_expr(alloc, nodes, named, around, e) {
-                Ok(made) => Ok(Some(made)),
-                Err(fault) => Err(fault),
-            }
+            let made = elaborate_expr(alloc, nodes, named, around, e)?;
+            Ok(Some(made))
         }
         None => Ok(None),
     }
@@ -344,20 +316,18 @@ fn elaborate_answer(
 {
     match call.callee {
         NamedCallee::Base { on, sig } => {
-            match elaborate_path(alloc, nodes, around, on) {
-                Ok(asked) => Ok(MadeNode {
-                    node: unsigned(
-                        alloc,
-                        Expr::Base {
-                            on: asked.node,
-                            sig,
-                        },
-                        call.at,
-                    ),
-                    of: inner_answer(around, call),
-                }),
-                Err(fault) => Err(fault),
-            }
+            let asked = elaborate_path(alloc, nodes, around, on)?;
+            Ok(MadeNode {
+                node: unsigned(
+                    alloc,
+                    Expr::Base {
+                        on: asked.node,
+                        sig,
+                    },
+                    call.at,
+                ),
+                of: inner_answer(around, call),
+            })
         }
         NamedCallee::Own(_) => unreachable!(),
         NamedCallee::Sub { .. } => unreachable!(),
@@ -383,20 +353,18 @@ fn elaborate_chain(
     ensures entries { OnOk result (AddsEntries nodes.old nodes.new (part_entries around.now (tree.chain op (expr_at (exprs_of named.now) first) (links_at (exprs_of named.now) links.now) at))) }
     ensures made { IfOk result (λ n. MakesExpr around.now (tree.chain op (expr_at (exprs_of named.now) first) (links_at (exprs_of named.now) links.now) at) nodes.new n) }
 {
-    match elaborate_operands(alloc, nodes, named, around, first, links) {
-        Ok(operands) => Ok(MadeNode {
-            node: ExprNode {
-                expr: Expr::Chain {
-                    op,
-                    parts: operands.parts,
-                },
-                at,
-                signs: operands.signs,
+    let operands = elaborate_operands(alloc, nodes, named, around, first, links)?;
+    Ok(MadeNode {
+        node: ExprNode {
+            expr: Expr::Chain {
+                op,
+                parts: operands.parts,
             },
-            of: chain_meant(op, operands.of),
-        }),
-        Err(fault) => Err(fault),
-    }
+            at,
+            signs: operands.signs,
+        },
+        of: chain_meant(op, operands.of),
+    })
 }
 
 // The operands of a chain.
@@ -417,18 +385,12 @@ fn elaborate_operands(
     ensures entries { OnOk result (AddsEntries nodes.old nodes.new (expr_entries around.now (expr_at (exprs_of named.now) first) ++ link_entries around.now (links_at (exprs_of named.now) links.now))) }
     ensures all { IfOk result (λ all. AreOperands around.now (expr_at (exprs_of named.now) first) (links_at (exprs_of named.now) links.now) nodes.new all) }
 {
-    match elaborate_operand(alloc, no_operand(alloc), nodes, named, around, first) {
-        Ok(begun) => {
-            match elaborate_links(alloc, begun, nodes, named, around, links) {
-                Ok(all) => Ok(all),
-                Err(fault) => Err(fault),
-            }
-        }
-        Err(fault) => Err(fault),
-    }
+    let begun = elaborate_operand(alloc, no_operand(alloc), nodes, named, around, first)?;
+    let all = elaborate_links(alloc, begun, nodes, named, around, links)?;
+    Ok(all)
 }
 
-// An operand behind others.
+// An operand after others.
 #[cycle(elaborate_exprs)]
 fn elaborate_operand(
     alloc: Global,
@@ -444,13 +406,11 @@ fn elaborate_operand(
     ensures entries { OnOk result (AddsEntries nodes.old nodes.new (expr_entries around.now (expr_at (exprs_of named.now) e))) }
     ensures adds { IfOk result (λ all. AddsOperand around.now (expr_at (exprs_of named.now) e) nodes.new before all) }
 {
-    match elaborate_expr(alloc, nodes, named, around, e) {
-        Ok(next) => with_operand(before, next),
-        Err(fault) => Err(fault),
-    }
+    let next = elaborate_expr(alloc, nodes, named, around, e)?;
+    with_operand(before, next)
 }
 
-// The operands behind the first, each with the sign in front of it.
+// The operands after the first, each with the sign before it.
 #[cycle(elaborate_exprs)]
 fn elaborate_links(
     alloc: Global,
@@ -468,15 +428,12 @@ fn elaborate_links(
 {
     let mut all = before;
     for link in links {
-        match elaborate_link(alloc, all, nodes, named, around, *link) {
-            Ok(next) => all = next,
-            Err(fault) => return Err(fault),
-        }
+        all = elaborate_link(alloc, all, nodes, named, around, *link)?;
     }
     Ok(all)
 }
 
-// An operand with the sign in front of it.
+// An operand with the sign before it.
 #[cycle(elaborate_exprs)]
 fn elaborate_link(
     alloc: Global,
@@ -492,10 +449,8 @@ fn elaborate_link(
     ensures entries { OnOk result (AddsEntries nodes.old nodes.new (expr_entries around.now (expr_at (exprs_of named.now) link.operand))) }
     ensures adds { IfOk result (λ all. AddsOperand around.now (expr_at (exprs_of named.now) link.operand) nodes.new (record before { signs = before.signs ++ link.sign ∷ [] }) all) }
 {
-    match with_sign(before, link.sign) {
-        Ok(signed) => elaborate_operand(alloc, signed, nodes, named, around, link.operand),
-        Err(fault) => Err(fault),
-    }
+    let signed = with_sign(before, link.sign)?;
+    elaborate_operand(alloc, signed, nodes, named, around, link.operand)
 }
 
 // A conversion to numbers of a width.
@@ -517,20 +472,18 @@ fn elaborate_convert(
 {
     match plain_width(to) {
         Some(width) => {
-            match elaborate_expr(alloc, nodes, named, around, of) {
-                Ok(made) => Ok(MadeNode {
-                    node: unsigned(
-                        alloc,
-                        Expr::Convert {
-                            of: made.node,
-                            to: width,
-                        },
-                        at,
-                    ),
-                    of: conversion(Some(width), made.value.of),
-                }),
-                Err(fault) => Err(fault),
-            }
+            let made = elaborate_expr(alloc, nodes, named, around, of)?;
+            Ok(MadeNode {
+                node: unsigned(
+                    alloc,
+                    Expr::Convert {
+                        of: made.node,
+                        to: width,
+                    },
+                    at,
+                ),
+                of: conversion(Some(width), made.value.of),
+            })
         }
         None => unreachable!(),
     }
@@ -552,11 +505,9 @@ fn elaborate_negation(
     ensures entries { OnOk result (AddsEntries nodes.old nodes.new (part_entries around.now (tree.negation (expr_at (exprs_of named.now) of) at))) }
     ensures made { IfOk result (λ n. MakesExpr around.now (tree.negation (expr_at (exprs_of named.now) of) at) nodes.new n) }
 {
-    match elaborate_expr(alloc, nodes, named, around, of) {
-        Ok(made) => Ok(MadeNode {
-            node: unsigned(alloc, Expr::Not(made.node), at),
-            of: as_flag(made.value.of),
-        }),
-        Err(fault) => Err(fault),
-    }
+    let made = elaborate_expr(alloc, nodes, named, around, of)?;
+    Ok(MadeNode {
+        node: unsigned(alloc, Expr::Not(made.node), at),
+        of: as_flag(made.value.of),
+    })
 }

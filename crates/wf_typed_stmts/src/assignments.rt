@@ -28,7 +28,7 @@ use wf_types_meanings::marks::is_pure;
 use wf_types_rules::Setting;
 use wf_types_stmts::assignments::as_call;
 
-/// An assignment as it is written. `sign` is the place of the `=` with what stands in front of it, and `at` that of the
+/// An assignment as it is written. `sign` is the place of the `=` with what stands before it, and `at` that of the
 /// statement.
 #[derive(Clone, Copy)]
 pub struct Assignment {
@@ -81,7 +81,7 @@ fn add_assigned(
     })
 }
 
-// Adds the nodes of the right side of `=` behind a target whose node is there.
+// Adds the nodes of the right side of `=` after a target whose node is there.
 fn add_right(
     alloc: Global,
     nodes: &mut BodyBuilding,
@@ -171,7 +171,7 @@ fn add_update(
 }
 
 /// Adds the nodes of an assignment's parts, with or without an operator, and answers it.
-pub fn add_assign(
+pub(crate) fn add_assign(
     alloc: Global,
     nodes: &mut BodyBuilding,
     named: &NamedNodes,
@@ -195,7 +195,7 @@ pub fn add_assign(
 }
 
 /// Adds the nodes of what stands round `=?`, and answers the call.
-pub fn add_keep(
+pub(crate) fn add_keep(
     alloc: Global,
     nodes: &mut BodyBuilding,
     named: &NamedNodes,

@@ -1,4 +1,4 @@
-// The walk over the statements of a body: it makes the nodes of each, parts in front of their whole.
+// The walk over the statements of a body: it makes the nodes of each, parts before their whole.
 
 ghost use Rattle.std.specs.Prelude.{◌≡◌, ◌<◌, ◌+◌, ◌^◌, suc, [], ◌∷◌, length, IfOk, OnOk, ◌++◌};
 ghost use Rattle.std.specs.List.{AllByRecursion};
@@ -27,7 +27,7 @@ use wf_text::Place;
 use wf_text::faults::NoMemory;
 use wf_types_rules::Setting;
 
-// The number of a loop that is still to come, behind the statements of its body. `Err` comes where no number is left.
+// The number of a loop that is still to come, after the statements of its body. `Err` comes where no number is left.
 fn loop_to_come(
     nodes: &BodyBuilding,
     named: &NamedNodes,
@@ -190,7 +190,7 @@ fn elaborate_arms(
     Ok(made)
 }
 
-// Adds the nodes of what stands behind the last `else`.
+// Adds the nodes of what stands after the last `else`.
 #[cycle(elaborate_stmts)]
 fn elaborate_else(
     alloc: Global,

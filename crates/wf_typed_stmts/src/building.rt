@@ -1,4 +1,4 @@
-// The nodes of a typed package with its statements, as they are built. A statement's parts stand in front of it, but for the
+// The nodes of a typed package with its statements, as they are built. A statement's parts stand before it, but for the
 // loop that a jump tells.
 
 ghost use Rattle.std.specs.Prelude.{◌≡◌, ◌<◌, ◌+◌, ◌++◌, [], ◌∷◌, true, length, IfOk, OnOk, None};

@@ -103,7 +103,7 @@ fn add_callee(
 
 /// Adds the nodes of a call's parts, and answers the call. `target` is what it assigns to, if anything, and `keep` tells
 /// whether the target takes whatever status it comes to; `at` is the statement's place.
-pub fn add_call(
+pub(crate) fn add_call(
     alloc: Global,
     nodes: &mut BodyBuilding,
     named: &NamedNodes,

@@ -1,4 +1,4 @@
-// How many statements a block has, with those inside them: the number of a loop stands behind those of its body, and a jump
+// How many statements a block has, with those inside them: the number of a loop stands after those of its body, and a jump
 // in the body tells it.
 
 ghost use Rattle.std.specs.Prelude.{◌≡◌, ◌+◌, ◌<◌, length, IfOk};
@@ -14,7 +14,7 @@ use wf_named::{NamedNodes, NamedStmt};
 use wf_text::faults::NoMemory;
 
 /// Two counts. `Err` comes where no number is left.
-pub fn sum(a: u32, b: u32) -> Result<u32, NoMemory>
+pub(crate) fn sum(a: u32, b: u32) -> Result<u32, NoMemory>
     ensures { IfOk result (λ n. n ≡ a + b) }
 {
     let both = a as u64 + b as u64;
@@ -53,7 +53,7 @@ fn count_stmt(named: &NamedNodes, s: StmtId) -> Result<u32, NoMemory>
 
 /// The number of statements in a block, with those inside them. `Err` comes where no number is left.
 #[cycle(counting)]
-pub fn count_block(named: &NamedNodes, block: &Block) -> Result<u32, NoMemory>
+pub(crate) fn count_block(named: &NamedNodes, block: &Block) -> Result<u32, NoMemory>
     requires { BlockBelow (length named.now.stmts) block.now }
     ensures { IfOk result (λ n. n ≡ stmts_in_block (block_at (stmts_of named.now) block.now)) }
 {

@@ -23,7 +23,7 @@ use wf_types_rules::Setting;
 use wf_types_stmts::ends::block_leaves;
 
 /// Adds the nodes of a condition, or of another expression of which the tree alone is wanted.
-pub fn add_tree(
+pub(crate) fn add_tree(
     alloc: Global,
     nodes: &mut BodyBuilding,
     named: &NamedNodes,
@@ -66,8 +66,8 @@ fn add_clauses(
     Ok(made)
 }
 
-/// Adds the nodes of what stands in front of a loop's body.
-pub fn add_head(
+/// Adds the nodes of what stands before a loop's body.
+pub(crate) fn add_head(
     alloc: Global,
     nodes: &mut BodyBuilding,
     named: &NamedNodes,
@@ -121,7 +121,7 @@ fn add_letters(
 }
 
 /// Adds the nodes of an axiom, if one is named.
-pub fn add_via(
+pub(crate) fn add_via(
     alloc: Global,
     nodes: &mut BodyBuilding,
     named: &NamedNodes,

@@ -1,5 +1,5 @@
 // From the resolved body of a method that breaks no rule to the nodes of its typed tree: statements above the expressions in
-// them, those inside a statement in front of it.
+// them, those inside a statement before it.
 #![tactic(auto)]
 
 pub mod assignments;

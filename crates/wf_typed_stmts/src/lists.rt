@@ -7,7 +7,7 @@ use wf_ast::{Sequence, StmtNode};
 use wf_text::faults::NoMemory;
 
 /// A list of one.
-pub fn one<T: Drop>(alloc: Global, a: T) -> Result<Sequence<T>, NoMemory>
+pub(crate) fn one<T: Drop>(alloc: Global, a: T) -> Result<Sequence<T>, NoMemory>
     ensures { IfOk result (λ all. all ≡ a ∷ []) }
 {
     let mut all = Sequence::new(alloc);
@@ -16,7 +16,7 @@ pub fn one<T: Drop>(alloc: Global, a: T) -> Result<Sequence<T>, NoMemory>
 }
 
 /// A list of two.
-pub fn two<T: Drop>(alloc: Global, a: T, b: T) -> Result<Sequence<T>, NoMemory>
+pub(crate) fn two<T: Drop>(alloc: Global, a: T, b: T) -> Result<Sequence<T>, NoMemory>
     ensures { IfOk result (λ all. all ≡ a ∷ b ∷ []) }
 {
     let first = one(alloc, a)?;
@@ -26,7 +26,7 @@ pub fn two<T: Drop>(alloc: Global, a: T, b: T) -> Result<Sequence<T>, NoMemory>
 }
 
 /// The statements of a vector.
-pub fn all_of(alloc: Global, stmts: Vec<StmtNode>) -> Result<Sequence<StmtNode>, NoMemory>
+pub(crate) fn all_of(alloc: Global, stmts: Vec<StmtNode>) -> Result<Sequence<StmtNode>, NoMemory>
     ensures { IfOk result (λ all. all ≡ stmts.items) }
 {
     let mut all = Sequence::new(alloc);
@@ -36,8 +36,8 @@ pub fn all_of(alloc: Global, stmts: Vec<StmtNode>) -> Result<Sequence<StmtNode>,
     Ok(all)
 }
 
-/// A number in front of others.
-pub fn in_front(alloc: Global, first: u32, others: &[u32]) -> Result<Vec<u32>, NoMemory>
+/// A number before others.
+pub(crate) fn in_front(alloc: Global, first: u32, others: &[u32]) -> Result<Vec<u32>, NoMemory>
     ensures { IfOk result (λ all. all.items ≡ first ∷ others.now) }
 {
     let mut all = Vec::new(alloc);

@@ -27,7 +27,7 @@ use wf_text::{Place, StatusId};
 use wf_types_rules::Setting;
 
 /// Adds the nodes of a call that is a whole statement.
-pub fn add_do_call(
+pub(crate) fn add_do_call(
     alloc: Global,
     nodes: &mut BodyBuilding,
     named: &NamedNodes,
@@ -49,7 +49,7 @@ pub fn add_do_call(
 
 /// The number of the loop that stands so many loops outwards. `loops` are those of the loops round a jump, the innermost
 /// first.
-pub fn loop_number(loops: &[u32], outwards: u32) -> StmtId
+pub(crate) fn loop_number(loops: &[u32], outwards: u32) -> StmtId
     requires { nat_lt outwards (length loops.now) ≡ true }
     ensures { result.0 ≡ loop_meant loops.now outwards }
 {
@@ -85,7 +85,7 @@ fn add_part(
 }
 
 /// Adds the nodes of what a `return` gives.
-pub fn add_return(
+pub(crate) fn add_return(
     alloc: Global,
     nodes: &mut BodyBuilding,
     named: &NamedNodes,
@@ -130,7 +130,7 @@ fn status_of(named: &NamedNodes, e: ExprId) -> StatusId
 }
 
 /// A `yield?`, which has no parts.
-pub fn yield_node(nodes: &BodyBuilding, named: &NamedNodes, e: ExprId, at: Place) -> StmtNode
+pub(crate) fn yield_node(nodes: &BodyBuilding, named: &NamedNodes, e: ExprId, at: Place) -> StmtNode
     requires there { e.0 < length named.now.exprs }
     requires begun { IsBegun named.now nodes.now }
     requires right { nat_lt (status_in (expr_at (exprs_of named.now) e)) (known_in (named_package named.now)).statuses ≡ true }
@@ -144,7 +144,7 @@ pub fn yield_node(nodes: &BodyBuilding, named: &NamedNodes, e: ExprId, at: Place
 }
 
 /// Adds the nodes of an `assert`'s parts.
-pub fn add_claim(
+pub(crate) fn add_claim(
     alloc: Global,
     nodes: &mut BodyBuilding,
     named: &NamedNodes,

@@ -18,7 +18,7 @@ use wf_typed_exprs::Elaborated;
 use wf_types_rules::Setting;
 
 /// Adds the nodes of a target, and tells what it means.
-pub fn add_target(
+pub(crate) fn add_target(
     alloc: Global,
     nodes: &mut BodyBuilding,
     named: &NamedNodes,

@@ -45,7 +45,7 @@ pub fn the_examples_keep_the_rules()
     ensures other_trees { list_all (λ p. well_typed (typed_package p)) samples.other_samples ≡ true }
 {}
 
-/// A constant beside a number takes its width and stands as its value; a chain is one operator in front of the other.
+/// A constant beside a number takes its width and stands as its value; a chain is one operator before the other.
 pub fn typed_trees_of_operators()
     ensures constant_beside { body_typed samples.constant_beside ≡ alone (assign to_x None (numeric (link (here 30) (here 30) plus 8 false (typed_number 48 28) (typed_a 32)))) }
     ensures product_beside { body_typed samples.product_beside ≡ alone (assign to_x None (numeric (link (here 30) (here 30) minus 8 false (typed_number 24 12) (typed_a 32)))) }
@@ -59,7 +59,7 @@ pub fn typed_trees_of_operators()
     ensures element_update { body_typed samples.element_update ≡ alone (assign (to_element (here 11) byte (array (here 5) byte 4 (field 2)) (typed_number 1 12)) (Some bits_or) (numeric (link (here 15) (here 15) bits_or 8 false (element (here 11) byte (array (here 5) byte 4 (field 2)) (typed_number 1 12)) (typed_x 18)))) }
 {}
 
-/// An `else if` is chained to the `if` in front of it, and has its number. A loop has the number behind those of its body.
+/// An `else if` is chained to the `if` before it, and has its number. A loop has the number after those of its body.
 pub fn typed_trees_of_blocks()
     ensures else_if { body_typed samples.else_if ≡ choose (site 3 (here 5)) false (flag (here 8) (local 3)) (plain (site 0 (here 5)) (assign to_x None (numeric (typed_number 1 11))) end) (choose (site 3 (here 5)) true (compare (here 30) (here 30) (typed_x 28) less (typed_a 32)) (plain (site 1 (here 5)) (assign to_x None (numeric (typed_number 2 41))) end) (plain (site 2 (here 5)) (assign to_x None (numeric (typed_number 3 51))) end) end) end }
     ensures loops { body_typed samples.loops ≡ loop (site 3 (here 5)) (record { cond = compare (here 30) (here 30) (typed_x 28) less (typed_number 10 32); clauses = (Inv, compare (here 30) (here 30) (typed_a 28) at_least (typed_x 33)) ∷ []; is_left = true; close = here 60 }) (loop (site 1 (here 40)) (record { cond = truth (here 41) true; clauses = []; is_left = false; close = here 47 }) (plain (site 0 (here 44)) (break_from 3) end) (plain (site 2 (here 50)) (continue_in 3) end)) end }

@@ -31,7 +31,7 @@ pub fn what_stands_round_a_body_agrees()
 {}
 
 /// The declarations of the typed tree of a package that breaks no rule keep the rules of typed packages: no struct
-/// holds itself, each type may stand where it does, a method calls only methods in front of it, and a method with a
+/// holds itself, each type may stand where it does, a method calls only methods before it, and a method with a
 /// result never reaches its end.
 pub fn declarations_keep_the_rules()
     ensures structs { (p : NamedPackageTree) → deciding p ≡ None → well_named p ≡ true → all_structs_whole (typed_package p) 0 (typed_package p).structs ≡ true }
@@ -48,7 +48,7 @@ pub fn typed_packages_keep_the_rules()
     ensures { (p : NamedPackageTree) → deciding p ≡ None → well_named p ≡ true → package_by_grammar p ≡ true → well_typed (typed_package p) ≡ true }
 {}
 
-/// The statements of the typed tree of a package of the grammar are numbered in order, method by method, each behind those
+/// The statements of the typed tree of a package of the grammar are numbered in order, method by method, each after those
 /// inside it.
 pub fn statements_are_numbered_in_order()
     ensures { (p : NamedPackageTree) → package_by_grammar p ≡ true → flat_map (λ m. numbers_in m.body) (typed_package p).methods ≡ numbers_from 0 (count_methods p.methods) }

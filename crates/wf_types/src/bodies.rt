@@ -37,7 +37,7 @@ pub struct MadeBodies {
     pub first_locals: Sequence<ExprId>,
 }
 
-// Adds the nodes of a method: of the names of its locals, and behind them those of its body. `inside` stands round the body.
+// Adds the nodes of a method: of the names of its locals, and after them those of its body. `inside` stands round the body.
 fn elaborate_method(
     alloc: Global,
     nodes: &mut BodyBuilding,

@@ -40,7 +40,7 @@ fn variable(of: &NamedVar, ty: Option<Ty>) -> Var
 }
 
 /// Fields, arguments or locals with their types, in order.
-pub fn variables(
+pub(crate) fn variables(
     alloc: Global,
     of: &[NamedVar],
     types: &[Option<Ty>],
@@ -56,7 +56,11 @@ pub fn variables(
 }
 
 /// A struct, whose fields have these types.
-pub fn structure(alloc: Global, of: &NamedStruct, types: &[Option<Ty>]) -> Result<Struct, NoMemory>
+pub(crate) fn structure(
+    alloc: Global,
+    of: &NamedStruct,
+    types: &[Option<Ty>],
+) -> Result<Struct, NoMemory>
     requires { length types.now ≡ length of.now.fields }
     ensures { IfOk result (λ s. s ≡ struct_with of.now types.now) }
 {
@@ -88,7 +92,7 @@ pub fn structs(
 }
 
 /// A method, where `head` has the types of what it declares.
-pub fn method(alloc: Global, of: &NamedMethod, head: &Head) -> Result<Method, NoMemory>
+pub(crate) fn method(alloc: Global, of: &NamedMethod, head: &Head) -> Result<Method, NoMemory>
     requires args { length head.now.args ≡ length of.now.args }
     requires locals { length head.now.locals ≡ length of.now.locals }
     ensures { IfOk result (λ m. m ≡ method_with of.now head.now.args head.now.locals head.now.gives) }

@@ -29,7 +29,7 @@ fn with_bytes(text: Sequence<u8>, bytes: &[u8]) -> Result<Sequence<u8>, NoMemory
 }
 
 /// A copy of these numbers.
-pub fn numbers_copied(alloc: Global, numbers: &[u32]) -> Result<Sequence<u32>, NoMemory>
+pub(crate) fn numbers_copied(alloc: Global, numbers: &[u32]) -> Result<Sequence<u32>, NoMemory>
     ensures { IfOk result (λ all. all ≡ numbers.now) }
 {
     let mut all = Sequence::new(alloc);
@@ -87,7 +87,11 @@ fn seen_from(
 }
 
 /// The text of a status of the package with this name, as a caller sees it.
-pub fn seen_text(alloc: Global, package_name: &[u8], text: &[u8]) -> Result<Sequence<u8>, NoMemory>
+pub(crate) fn seen_text(
+    alloc: Global,
+    package_name: &[u8],
+    text: &[u8],
+) -> Result<Sequence<u8>, NoMemory>
     ensures { IfOk result (λ all. all ≡ text_seen package_name.now text.now) }
 {
     match text {

@@ -87,7 +87,7 @@ fn typed(alloc: Global, named: &NamedNodes, judged: Judged) -> Result<Typed, NoM
 /// breaks by what has the least place, and of one place by the rule that is named first. `Memory` where memory was refused,
 /// or more is counted than there are numbers for. What the typed package declares has the names, the places and the types of the
 /// resolved one. Beside the expressions in bodies, it has one for each local of each method: its path, at the place of its name.
-/// What holds of every typed package is told of it too, for the phases behind this one.
+/// What holds of every typed package is told of it too, for the phases after this one.
 pub fn type_check(alloc: Global, named: Named) -> Result<Typed, PhaseFault>
     ensures refused { IfErr result (IsMistyped named) }
     ensures typed { IfOk result (IsElaborated named) }

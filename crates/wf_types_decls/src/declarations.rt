@@ -23,13 +23,13 @@ use wf_text::precedence::sooner;
 use wf_text::rules::{Refusal, Rule};
 use wf_text::status_text::category;
 use wf_types_exprs::found::Value;
+use wf_types_exprs::walk::judge_value;
 use wf_types_exprs::whole::judge_type;
 use wf_types_meanings::places::{at_if, told};
 use wf_types_meanings::types::{constant_with, lies_in};
 use wf_types_meanings::values::number_in;
 use wf_types_operators::meanings::is_constant;
 use wf_types_rules::{Constant, Meaning, Role, Setting};
-use wf_types_stmts::targets::judge_value;
 
 const BASE_STATUSES: [&str; 10] = [
     "",
@@ -79,7 +79,7 @@ fn lies_outside(ty: Option<Ty>, n: Option<u64>) -> bool
 }
 
 /// What the value of a constant of this type breaks.
-pub fn judged_constant(found: Option<Refusal>, ty: Option<Ty>, v: Value) -> Option<Refusal>
+pub(crate) fn judged_constant(found: Option<Refusal>, ty: Option<Ty>, v: Value) -> Option<Refusal>
     ensures { result ≡ constant_found ty v found }
 {
     let wrong = at_if(is_no_constant(v.of), v.at);
@@ -90,8 +90,8 @@ pub fn judged_constant(found: Option<Refusal>, ty: Option<Ty>, v: Value) -> Opti
     )
 }
 
-/// A constant, where `around` knows those in front of it.
-pub fn judge_const(
+/// A constant, where `around` knows those before it.
+pub(crate) fn judge_const(
     alloc: Global,
     found: Option<Refusal>,
     nodes: &NamedNodes,
@@ -111,7 +111,7 @@ pub fn judge_const(
 }
 
 /// A setting that knows nothing.
-pub fn nothing_known(alloc: Global) -> Setting
+pub(crate) fn nothing_known(alloc: Global) -> Setting
     ensures { result ≡ among_constants [] }
 {
     Setting {
@@ -134,7 +134,7 @@ fn with_constant(around: Setting, of: Option<Constant>) -> Result<Setting, NoMem
     Ok(around)
 }
 
-// A constant behind those that are known.
+// A constant after those that are known.
 fn judge_next(
     alloc: Global,
     before: JudgedConsts,
@@ -153,7 +153,7 @@ fn judge_next(
     })
 }
 
-/// All constants, each of which knows those in front of it.
+/// All constants, each of which knows those before it.
 pub fn judge_consts(alloc: Global, nodes: &NamedNodes) -> Result<JudgedConsts, NoMemory>
     ensures found { IfOk result (λ j. j.found ≡ decided None (const_sites [] (map (const_made nodes.now.texts (exprs_of nodes.now)) nodes.now.consts))) }
     ensures around { IfOk result (λ j. j.around ≡ among_constants (constants_after [] (map (const_made nodes.now.texts (exprs_of nodes.now)) nodes.now.consts))) }
@@ -190,7 +190,7 @@ fn two_questions(text: &[u8]) -> bool
 }
 
 /// Whether a text may be that of a status: it begins with the byte of a kind, goes on, and has no two `?` in a row.
-pub fn is_status_text(text: &[u8]) -> bool
+pub(crate) fn is_status_text(text: &[u8]) -> bool
     ensures { result ≡ text_of_status text.now }
 {
     match text {

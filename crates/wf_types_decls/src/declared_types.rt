@@ -53,7 +53,7 @@ fn with_type(before: JudgedTypes, next: JudgedType) -> Result<JudgedTypes, NoMem
     })
 }
 
-// A variable behind others.
+// A variable after others.
 fn judge_variable(
     alloc: Global,
     before: JudgedTypes,
@@ -118,7 +118,7 @@ pub fn judge_result(
     }
 }
 
-// The fields of a struct behind those of others.
+// The fields of a struct after those of others.
 fn judge_struct(
     alloc: Global,
     before: JudgedFields,
@@ -167,7 +167,10 @@ pub fn judge_fields(
 }
 
 /// A copy of these types.
-pub fn types_copied(alloc: Global, types: &[Option<Ty>]) -> Result<Sequence<Option<Ty>>, NoMemory>
+pub(crate) fn types_copied(
+    alloc: Global,
+    types: &[Option<Ty>],
+) -> Result<Sequence<Option<Ty>>, NoMemory>
     ensures { IfOk result (λ all. all ≡ types.now) }
 {
     let mut all = Sequence::new(alloc);
@@ -178,7 +181,7 @@ pub fn types_copied(alloc: Global, types: &[Option<Ty>]) -> Result<Sequence<Opti
 }
 
 /// The types of the fields of a struct, of those of all.
-pub fn fields_of(
+pub(crate) fn fields_of(
     alloc: Global,
     fields: &[Sequence<Option<Ty>>],
     of: StructId,

@@ -15,7 +15,7 @@ use wf_types_operators::meanings::is_constant;
 use wf_types_rules::{Meaning, Operand};
 
 /// No operand yet.
-pub fn no_operand(alloc: Global, found: Option<Refusal>) -> JudgedOperands
+pub(crate) fn no_operand(alloc: Global, found: Option<Refusal>) -> JudgedOperands
     ensures { result ≡ record { found = found; of = Some [] } }
 {
     JudgedOperands {
@@ -27,13 +27,11 @@ pub fn no_operand(alloc: Global, found: Option<Refusal>) -> JudgedOperands
 fn pushed(mut os: Sequence<Operand>, o: Operand) -> Result<Sequence<Operand>, NoMemory>
     ensures { IfOk result (λ all. all ≡ os ++ o ∷ []) }
 {
-    match os.push(o) {
-        Ok(()) => Ok(os),
-        Err(_) => Err(NoMemory),
-    }
+    os.push(o)?;
+    Ok(os)
 }
 
-/// An operand behind others, where each means something.
+/// An operand after others, where each means something.
 pub fn operand_behind(
     os: Option<Sequence<Operand>>,
     v: Value,
@@ -42,17 +40,15 @@ pub fn operand_behind(
 {
     match (os, v.of) {
         (Some(os), Some(of)) => {
-            match pushed(os, Operand { at: v.at, of }) {
-                Ok(all) => Ok(Some(all)),
-                Err(fault) => Err(fault),
-            }
+            let all = pushed(os, Operand { at: v.at, of })?;
+            Ok(Some(all))
         }
         _ => Ok(None),
     }
 }
 
-/// An argument behind others.
-pub fn with_argument(before: JudgedArgs, next: JudgedArgs) -> JudgedArgs
+/// An argument after others.
+pub(crate) fn with_argument(before: JudgedArgs, next: JudgedArgs) -> JudgedArgs
     ensures { result ≡ record { found = next.found; fit = before.fit && next.fit } }
 {
     JudgedArgs {
@@ -71,7 +67,7 @@ fn is_not_constant(of: Option<Meaning>) -> bool
 }
 
 /// What has to be a constant number, by whether it names anything but constants, and what it means.
-pub fn bound(others: bool, v: Value) -> Bound
+pub(crate) fn bound(others: bool, v: Value) -> Bound
     ensures { result ≡ record { unfit = others || fails means_constant v.of; number = option_and_then number_meant v.of; at = v.at } }
 {
     Bound {

@@ -63,7 +63,7 @@ fn no_value(v: Value) -> Option<Place>
 }
 
 /// A path: whether it may stand as a value.
-pub fn judged_path(found: Option<Refusal>, around: &Setting, path: NamedPath) -> Judged
+pub(crate) fn judged_path(found: Option<Refusal>, around: &Setting, path: NamedPath) -> Judged
     ensures found { result.found ≡ sooner_of found (told_by rules.T1 (no_value_at (record { of = variable_in around.now path.of; at = path.at }))) }
     ensures of { result.of ≡ meaning around.now (tree.path path) }
 {
@@ -163,7 +163,7 @@ fn no_slice(base: Value, from: Option<Value>, to: Option<Value>) -> Option<Place
 }
 
 /// A slice of what a path stands for, by its ends.
-pub fn judged_slice(ends: JudgedEnds, base: Value) -> Judged
+pub(crate) fn judged_slice(ends: JudgedEnds, base: Value) -> Judged
     ensures found { result.found ≡ sooner_of ends.found (told_by rules.T1 (no_slice_at base ends.from ends.to)) }
     ensures of { result.of ≡ option_map meanings.Typed (end_kept ends.from (end_kept ends.to (option_and_then slice_in base.of))) }
 {
@@ -185,7 +185,7 @@ fn found_in_chain(found: Option<Refusal>, op: Op, os: &[Operand], at: Place) -> 
 }
 
 /// A chain of operands, where each means something.
-pub fn judged_chain(operands: &JudgedOperands, op: Op, at: Place) -> Judged
+pub(crate) fn judged_chain(operands: &JudgedOperands, op: Op, at: Place) -> Judged
     ensures found { result.found ≡ chain_found (sort_of op) operands.now.of at operands.now.found }
     ensures of { result.of ≡ option_and_then (operator_means (sort_of op)) operands.now.of }
 {
@@ -211,7 +211,7 @@ fn is_cut(of: Option<Meaning>, width: Option<Width>) -> bool
 }
 
 /// A conversion to numbers of a width.
-pub fn judged_conversion(
+pub(crate) fn judged_conversion(
     found: Option<Refusal>,
     v: Value,
     width: Option<Width>,
@@ -228,7 +228,7 @@ pub fn judged_conversion(
 }
 
 /// A `not`.
-pub fn judged_negation(found: Option<Refusal>, v: Value) -> Judged
+pub(crate) fn judged_negation(found: Option<Refusal>, v: Value) -> Judged
     ensures found { result.found ≡ sooner_of found (told_by rules.T1 (no_flag_at v)) }
     ensures of { result.of ≡ option_and_then (only_where means_flag) v.of }
 {
@@ -251,7 +251,7 @@ fn is_wrong_argument(ty: Option<Ty>, of: Option<Meaning>) -> bool
 }
 
 /// An argument, by the type that is wanted of it.
-pub fn judged_argument(found: Option<Refusal>, ty: Option<Ty>, v: Value) -> JudgedArgs
+pub(crate) fn judged_argument(found: Option<Refusal>, ty: Option<Ty>, v: Value) -> JudgedArgs
     ensures found { result.found ≡ argument_found ty v found }
     ensures fit { result.fit ≡ fits_argument ty v.of }
 {
@@ -282,7 +282,7 @@ fn has_other_mark(around: &Setting, call: &NamedCall) -> bool
 }
 
 /// What a call breaks by its mark; `inside` tells whether it stands inside an expression.
-pub fn judged_calling(
+pub(crate) fn judged_calling(
     found: Option<Refusal>,
     around: &Setting,
     call: &NamedCall,
@@ -324,7 +324,7 @@ pub fn inner_answer(around: &Setting, call: &NamedCall) -> Option<Meaning>
 }
 
 /// What a call means as the whole right side of `=`, by whether its arguments fit.
-pub fn whole_answer(around: &Setting, callee: NamedCallee, fit: bool) -> Option<Meaning>
+pub(crate) fn whole_answer(around: &Setting, callee: NamedCallee, fit: bool) -> Option<Meaning>
     ensures { result ≡ (if fit then option_map meanings.Typed (type_answered around.now callee) else None) }
 {
     if fit {

@@ -66,7 +66,7 @@ fn is_constant_name(of: Variable) -> bool
 
 /// Whether an expression names anything but constants, or isn't made of operators, literals and names alone.
 #[cycle(names_others)]
-pub fn names_others(nodes: &NamedNodes, e: ExprId) -> bool
+pub(crate) fn names_others(nodes: &NamedNodes, e: ExprId) -> bool
     requires { e.0 < length nodes.now.exprs }
     ensures { result ≡ other_names (expr_at (exprs_of nodes.now) e) }
 {

@@ -35,7 +35,7 @@ fn slices_of(plain: Option<Width>) -> Option<Ty>
 }
 
 /// A slice of elements of this type.
-pub fn written_slice(element: WrittenType, at: Place) -> WrittenType
+pub(crate) fn written_slice(element: WrittenType, at: Place) -> WrittenType
     ensures { result ≡ record { found = slice_type_found element.kind element.plain at element.found; of = option_map types.Slice element.plain; kind = form_with_elements forms.Slice element.kind; plain = None; at = at } }
 {
     let wrong = at_if(element.kind.is_some() && !element.plain.is_some(), at);
@@ -85,7 +85,7 @@ fn is_zero(n: Option<u64>) -> bool
 }
 
 /// An array of so many elements of this type. `found` is what decides so far, its length included.
-pub fn written_array(
+pub(crate) fn written_array(
     found: Option<Refusal>,
     count: Bound,
     element: WrittenType,
@@ -122,7 +122,7 @@ fn plain_of(of: BaseType) -> Option<Width>
 
 /// A type that begins with `base`, without bounds.
 #[tactic(auto, unfolding(crate::specs::Judged::judged))]
-pub fn written_plain(found: Option<Refusal>, of: Option<BaseType>, at: Place) -> WrittenType
+pub(crate) fn written_plain(found: Option<Refusal>, of: Option<BaseType>, at: Place) -> WrittenType
     ensures { (s : _) → TellsType s found (tree.base_type of at tree.unrefined) result }
 {
     match of {
@@ -145,7 +145,7 @@ pub fn written_plain(found: Option<Refusal>, of: Option<BaseType>, at: Place) ->
 
 /// A struct.
 #[tactic(auto, unfolding(crate::specs::Judged::judged))]
-pub fn written_struct(found: Option<Refusal>, of: StructId, at: Place) -> WrittenType
+pub(crate) fn written_struct(found: Option<Refusal>, of: StructId, at: Place) -> WrittenType
     ensures { (s : _) → TellsType s found (tree.struct_type of.0 at) result }
 {
     WrittenType {
@@ -284,7 +284,7 @@ fn refined_form(of: Option<BaseType>, low: Option<Bound>, high: Bound) -> Option
 }
 
 /// A type that begins with `base`, with bounds. `found` is what decides so far, the bounds included.
-pub fn written_refined(
+pub(crate) fn written_refined(
     found: Option<Refusal>,
     of: Option<BaseType>,
     low: Option<Bound>,
@@ -334,7 +334,7 @@ fn begins_above_zero(role: Role, ty: Option<Ty>) -> bool
 }
 
 /// A type at its place.
-pub fn found_at_place(found: Option<Refusal>, role: Role, of: WrittenType) -> Option<Refusal>
+pub(crate) fn found_at_place(found: Option<Refusal>, role: Role, of: WrittenType) -> Option<Refusal>
     ensures { result ≡ placed_found role of.of of.kind of.plain of.at found }
 {
     let misplaced = at_if(is_misplaced(role, of.kind, of.plain), of.at);

@@ -69,51 +69,39 @@ pub fn judge_expr(
         NamedExpr::Path(path) => Ok(judged_path(found, around, *path)),
         NamedExpr::Index { base, index } => {
             let array = base_value(around, *base);
-            match judge_value(alloc, found, nodes, around, *index) {
-                Ok(j) => Ok(judged_index(j.found, array, j.value)),
-                Err(fault) => Err(fault),
-            }
+            let j = judge_value(alloc, found, nodes, around, *index)?;
+            Ok(judged_index(j.found, array, j.value))
         }
         NamedExpr::Slice { base, from, to } => {
             let whole = base_value(around, *base);
-            match judge_ends(alloc, found, nodes, around, *from, *to) {
-                Ok(ends) => Ok(judged_slice(ends, whole)),
-                Err(fault) => Err(fault),
-            }
+            let ends = judge_ends(alloc, found, nodes, around, *from, *to)?;
+            Ok(judged_slice(ends, whole))
         }
         NamedExpr::Call(call) => {
-            match judge_call(alloc, found, nodes, around, call, true) {
-                Ok(args) => Ok(Judged {
-                    found: args.found,
-                    of: inner_answer(around, call),
-                }),
-                Err(fault) => Err(fault),
-            }
+            let args = judge_call(alloc, found, nodes, around, call, true)?;
+            Ok(Judged {
+                found: args.found,
+                of: inner_answer(around, call),
+            })
         }
         NamedExpr::Chain { op, first, links } => {
-            match judge_operands(alloc, found, nodes, around, *first, links.as_slice()) {
-                Ok(operands) => Ok(judged_chain(&operands, *op, node.at)),
-                Err(fault) => Err(fault),
-            }
+            let operands = judge_operands(alloc, found, nodes, around, *first, links.as_slice())?;
+            Ok(judged_chain(&operands, *op, node.at))
         }
         NamedExpr::Convert { of, to } => {
-            match judge_conversion(alloc, found, nodes, around, *of, to) {
-                Ok(j) => Ok(judged_conversion(j.found, j.value, j.plain, node.at)),
-                Err(fault) => Err(fault),
-            }
+            let j = judge_conversion(alloc, found, nodes, around, *of, to)?;
+            Ok(judged_conversion(j.found, j.value, j.plain, node.at))
         }
         NamedExpr::Not(of) => {
-            match judge_value(alloc, found, nodes, around, *of) {
-                Ok(j) => Ok(judged_negation(j.found, j.value)),
-                Err(fault) => Err(fault),
-            }
+            let j = judge_value(alloc, found, nodes, around, *of)?;
+            Ok(judged_negation(j.found, j.value))
         }
     }
 }
 
-// An expression, with its place.
+/// An expression, with its place.
 #[cycle(judge_exprs)]
-fn judge_value(
+pub fn judge_value(
     alloc: Global,
     found: Option<Refusal>,
     nodes: &NamedNodes,
@@ -124,21 +112,19 @@ fn judge_value(
     ensures found { IfOk result (λ j. j.found ≡ judged around.now found (expr_parts (expr_at (exprs_of nodes.now) e))) }
     ensures value { IfOk result (λ j. j.value ≡ value_of around.now (expr_at (exprs_of nodes.now) e)) }
 {
-    match judge_expr(alloc, found, nodes, around, e) {
-        Ok(j) => Ok(JudgedValue {
-            found: j.found,
-            value: Value {
-                of: j.of,
-                at: place_of(nodes, e),
-            },
-        }),
-        Err(fault) => Err(fault),
-    }
+    let j = judge_expr(alloc, found, nodes, around, e)?;
+    Ok(JudgedValue {
+        found: j.found,
+        value: Value {
+            of: j.of,
+            at: place_of(nodes, e),
+        },
+    })
 }
 
-// An end of a slice.
+/// An expression that may be absent, as the end of a slice and the value of a `return`.
 #[cycle(judge_exprs)]
-fn judge_end(
+pub fn judge_end(
     alloc: Global,
     found: Option<Refusal>,
     nodes: &NamedNodes,
@@ -151,13 +137,11 @@ fn judge_end(
 {
     match end {
         Some(e) => {
-            match judge_value(alloc, found, nodes, around, e) {
-                Ok(j) => Ok(JudgedEnd {
-                    found: j.found,
-                    end: Some(j.value),
-                }),
-                Err(fault) => Err(fault),
-            }
+            let j = judge_value(alloc, found, nodes, around, e)?;
+            Ok(JudgedEnd {
+                found: j.found,
+                end: Some(j.value),
+            })
         }
         None => Ok(JudgedEnd { found, end: None }),
     }
@@ -179,22 +163,16 @@ fn judge_ends(
     ensures from { IfOk result (λ j. j.from ≡ end_value around.now (part_at (exprs_of nodes.now) from)) }
     ensures to { IfOk result (λ j. j.to ≡ end_value around.now (part_at (exprs_of nodes.now) to)) }
 {
-    match judge_end(alloc, found, nodes, around, from) {
-        Ok(first) => {
-            match judge_end(alloc, first.found, nodes, around, to) {
-                Ok(last) => Ok(JudgedEnds {
-                    found: last.found,
-                    from: first.end,
-                    to: last.end,
-                }),
-                Err(fault) => Err(fault),
-            }
-        }
-        Err(fault) => Err(fault),
-    }
+    let first = judge_end(alloc, found, nodes, around, from)?;
+    let last = judge_end(alloc, first.found, nodes, around, to)?;
+    Ok(JudgedEnds {
+        found: last.found,
+        from: first.end,
+        to: last.end,
+    })
 }
 
-// An operand behind others.
+// An operand after others.
 #[cycle(judge_exprs)]
 fn judge_operand(
     alloc: Global,
@@ -207,21 +185,15 @@ fn judge_operand(
     ensures found { IfOk result (λ j. j.found ≡ judged around.now before.found (expr_parts (expr_at (exprs_of nodes.now) e))) }
     ensures of { IfOk result (λ j. j.of ≡ behind before.of (value_of around.now (expr_at (exprs_of nodes.now) e))) }
 {
-    match judge_value(alloc, before.found, nodes, around, e) {
-        Ok(next) => {
-            match operand_behind(before.of, next.value) {
-                Ok(of) => Ok(JudgedOperands {
-                    found: next.found,
-                    of,
-                }),
-                Err(fault) => Err(fault),
-            }
-        }
-        Err(fault) => Err(fault),
-    }
+    let next = judge_value(alloc, before.found, nodes, around, e)?;
+    let of = operand_behind(before.of, next.value)?;
+    Ok(JudgedOperands {
+        found: next.found,
+        of,
+    })
 }
 
-// The operands of a chain behind its first.
+// The operands of a chain after its first.
 #[cycle(judge_exprs)]
 fn judge_links(
     alloc: Global,
@@ -236,10 +208,7 @@ fn judge_links(
 {
     let mut all = before;
     for link in links {
-        match judge_operand(alloc, all, nodes, around, link.operand) {
-            Ok(next) => all = next,
-            Err(fault) => return Err(fault),
-        }
+        all = judge_operand(alloc, all, nodes, around, link.operand)?;
     }
     Ok(all)
 }
@@ -259,15 +228,9 @@ pub fn judge_operands(
     ensures found { IfOk result (λ j. j.found ≡ judged around.now found (expr_parts (expr_at (exprs_of nodes.now) first) ++ links_parts (links_at (exprs_of nodes.now) links.now))) }
     ensures of { IfOk result (λ j. j.of ≡ operands around.now (expr_at (exprs_of nodes.now) first) (links_at (exprs_of nodes.now) links.now)) }
 {
-    match judge_operand(alloc, no_operand(alloc, found), nodes, around, first) {
-        Ok(begun) => {
-            match judge_links(alloc, begun, nodes, around, links) {
-                Ok(all) => Ok(all),
-                Err(fault) => Err(fault),
-            }
-        }
-        Err(fault) => Err(fault),
-    }
+    let begun = judge_operand(alloc, no_operand(alloc, found), nodes, around, first)?;
+    let all = judge_links(alloc, begun, nodes, around, links)?;
+    Ok(all)
 }
 
 // The argument with the number `n`.
@@ -289,10 +252,8 @@ fn judge_argument(
     match as_path(nodes, e) {
         Some(path) => Ok(judged_argument(found, ty, base_value(around, path))),
         None => {
-            match judge_value(alloc, found, nodes, around, e) {
-                Ok(j) => Ok(judged_argument(j.found, ty, j.value)),
-                Err(fault) => Err(fault),
-            }
+            let j = judge_value(alloc, found, nodes, around, e)?;
+            Ok(judged_argument(j.found, ty, j.value))
         }
     }
 }
@@ -314,10 +275,8 @@ pub fn judge_args(
     let mut all = JudgedArgs { found, fit: true };
     let mut n = 0;
     while n < args.len() {
-        match judge_argument(alloc, all.found, nodes, around, callee, n, args[n]) {
-            Ok(next) => all = with_argument(all, next),
-            Err(fault) => return Err(fault),
-        }
+        let next = judge_argument(alloc, all.found, nodes, around, callee, n, args[n])?;
+        all = with_argument(all, next);
         n += 1;
     }
     Ok(all)
@@ -338,17 +297,15 @@ pub fn judge_call(
     ensures fit { IfOk result (λ j. j.fit ≡ are_arguments around.now call.now.callee 0 (args_at (exprs_of nodes.now) call.now.args)) }
 {
     let begun = judged_calling(found, around, call, inside);
-    match judge_args(
+    let all = judge_args(
         alloc,
         begun,
         nodes,
         around,
         call.callee,
         call.args.as_slice(),
-    ) {
-        Ok(all) => Ok(all),
-        Err(fault) => Err(fault),
-    }
+    )?;
+    Ok(all)
 }
 
 // The operand and the type of an `as`.
@@ -367,19 +324,13 @@ fn judge_conversion(
     ensures value { IfOk result (λ j. j.value ≡ value_of around.now (expr_at (exprs_of nodes.now) of)) }
     ensures plain { IfOk result (λ j. j.plain ≡ plain_width (type_at (exprs_of nodes.now) to.now)) }
 {
-    match judge_value(alloc, found, nodes, around, of) {
-        Ok(j) => {
-            match judge_written(alloc, j.found, nodes, around, to) {
-                Ok(written) => Ok(JudgedConversion {
-                    found: found_at_place(written.found, Role::Conversion, written),
-                    value: j.value,
-                    plain: written.plain,
-                }),
-                Err(fault) => Err(fault),
-            }
-        }
-        Err(fault) => Err(fault),
-    }
+    let j = judge_value(alloc, found, nodes, around, of)?;
+    let written = judge_written(alloc, j.found, nodes, around, to)?;
+    Ok(JudgedConversion {
+        found: found_at_place(written.found, Role::Conversion, written),
+        value: j.value,
+        plain: written.plain,
+    })
 }
 
 // What has to be a constant number.
@@ -395,13 +346,11 @@ fn judge_bound(
     ensures found { IfOk result (λ j. j.found ≡ judged around.now found (expr_parts (expr_at (exprs_of nodes.now) e))) }
     ensures bound { IfOk result (λ j. j.bound ≡ bound_of around.now (expr_at (exprs_of nodes.now) e)) }
 {
-    match judge_value(alloc, found, nodes, around, e) {
-        Ok(j) => Ok(JudgedBound {
-            found: j.found,
-            bound: bound(names_others(nodes, e), j.value),
-        }),
-        Err(fault) => Err(fault),
-    }
+    let j = judge_value(alloc, found, nodes, around, e)?;
+    Ok(JudgedBound {
+        found: j.found,
+        bound: bound(names_others(nodes, e), j.value),
+    })
 }
 
 // A bound below that may be absent.
@@ -419,13 +368,11 @@ fn judge_low(
 {
     match low {
         Some(e) => {
-            match judge_bound(alloc, found, nodes, around, e) {
-                Ok(j) => Ok(JudgedLow {
-                    found: j.found,
-                    low: Some(j.bound),
-                }),
-                Err(fault) => Err(fault),
-            }
+            let j = judge_bound(alloc, found, nodes, around, e)?;
+            Ok(JudgedLow {
+                found: j.found,
+                low: Some(j.bound),
+            })
         }
         None => Ok(JudgedLow { found, low: None }),
     }
@@ -445,15 +392,9 @@ fn judge_refined(
     requires { BoundsBelow (length nodes.now.exprs) (Some bounds) }
     ensures { IfOk result (λ w. TellsType around.now found (tree.base_type of at (bounds_at (exprs_of nodes.now) (Some bounds))) w) }
 {
-    match judge_low(alloc, found, nodes, around, bounds.low) {
-        Ok(low) => {
-            match judge_bound(alloc, low.found, nodes, around, bounds.high) {
-                Ok(high) => Ok(written_refined(high.found, of, low.low, high.bound, at)),
-                Err(fault) => Err(fault),
-            }
-        }
-        Err(fault) => Err(fault),
-    }
+    let low = judge_low(alloc, found, nodes, around, bounds.low)?;
+    let high = judge_bound(alloc, low.found, nodes, around, bounds.high)?;
+    Ok(written_refined(high.found, of, low.low, high.bound, at))
 }
 
 // A type without prefixes.
@@ -480,7 +421,7 @@ fn judge_core(
     }
 }
 
-// A prefix in front of a type.
+// A prefix before a type.
 #[cycle(judge_exprs)]
 fn judge_prefix(
     alloc: Global,
@@ -495,15 +436,13 @@ fn judge_prefix(
     match prefix {
         Prefix::Slice(at) => Ok(written_slice(element, at)),
         Prefix::Array { length, at } => {
-            match judge_bound(alloc, element.found, nodes, around, length) {
-                Ok(count) => Ok(written_array(count.found, count.bound, element, at)),
-                Err(fault) => Err(fault),
-            }
+            let count = judge_bound(alloc, element.found, nodes, around, length)?;
+            Ok(written_array(count.found, count.bound, element, at))
         }
     }
 }
 
-// Prefixes in front of a type, from the last to the first.
+// Prefixes before a type, from the last to the first.
 #[cycle(judge_exprs)]
 fn judge_prefixes(
     alloc: Global,
@@ -519,17 +458,14 @@ fn judge_prefixes(
     let mut left = prefixes.len();
     while left > 0 {
         left -= 1;
-        match judge_prefix(alloc, written, nodes, around, prefixes[left]) {
-            Ok(next) => written = next,
-            Err(fault) => return Err(fault),
-        }
+        written = judge_prefix(alloc, written, nodes, around, prefixes[left])?;
     }
     Ok(written)
 }
 
 /// A type that is written anywhere, with all types that stand in it.
 #[cycle(judge_exprs)]
-pub fn judge_written(
+pub(crate) fn judge_written(
     alloc: Global,
     found: Option<Refusal>,
     nodes: &NamedNodes,
@@ -539,8 +475,6 @@ pub fn judge_written(
     requires { NamedTypeBelow (length nodes.now.exprs) of.now }
     ensures { IfOk result (λ w. TellsType around.now found (type_at (exprs_of nodes.now) of.now) w) }
 {
-    match judge_core(alloc, found, nodes, around, of.core, of.bounds) {
-        Ok(core) => { judge_prefixes(alloc, core, nodes, around, of.prefixes.as_slice()) }
-        Err(fault) => Err(fault),
-    }
+    let core = judge_core(alloc, found, nodes, around, of.core, of.bounds)?;
+    judge_prefixes(alloc, core, nodes, around, of.prefixes.as_slice())
 }

@@ -19,7 +19,7 @@ use wf_text::rules::Refusal;
 use wf_types_meanings::types::allowed;
 use wf_types_rules::{Role, Setting};
 
-/// A type at its place: a declaration's, or the one behind `as`.
+/// A type at its place: a declaration's, or the one after `as`.
 pub fn judge_type(
     alloc: Global,
     found: Option<Refusal>,
@@ -32,13 +32,11 @@ pub fn judge_type(
     ensures found { IfOk result (λ j. j.found ≡ judged around.now found (declared_parts role (type_at (exprs_of nodes.now) of.now))) }
     ensures of { IfOk result (λ j. j.of ≡ declared around.now role (type_at (exprs_of nodes.now) of.now)) }
 {
-    match judge_written(alloc, found, nodes, around, of) {
-        Ok(written) => Ok(JudgedType {
-            found: found_at_place(written.found, role, written),
-            of: allowed(role, written.of),
-        }),
-        Err(fault) => Err(fault),
-    }
+    let written = judge_written(alloc, found, nodes, around, of)?;
+    Ok(JudgedType {
+        found: found_at_place(written.found, role, written),
+        of: allowed(role, written.of),
+    })
 }
 
 /// A call that is a whole statement, or the whole right side of `=` or `=?`, and what it gives.
@@ -53,11 +51,9 @@ pub fn judge_whole_call(
     ensures found { IfOk result (λ j. j.found ≡ judged around.now found (whole_call_parts (call_at (exprs_of nodes.now) call.now))) }
     ensures of { IfOk result (λ j. j.of ≡ answers_whole around.now (call_at (exprs_of nodes.now) call.now)) }
 {
-    match judge_call(alloc, found, nodes, around, call, false) {
-        Ok(args) => Ok(Judged {
-            found: args.found,
-            of: whole_answer(around, call.callee, args.fit),
-        }),
-        Err(fault) => Err(fault),
-    }
+    let args = judge_call(alloc, found, nodes, around, call, false)?;
+    Ok(Judged {
+        found: args.found,
+        of: whole_answer(around, call.callee, args.fit),
+    })
 }

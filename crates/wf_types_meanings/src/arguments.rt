@@ -14,7 +14,7 @@ use wf_types_operators::meanings::all_of;
 use wf_types_rules::{MethodType, Setting};
 
 /// The kind of values that a base method is called on.
-pub fn kind(sig: BaseSig) -> Kind
+pub(crate) fn kind(sig: BaseSig) -> Kind
     ensures { result ≡ (row_of sig).on }
 {
     match sig {
@@ -50,7 +50,7 @@ fn slice_on(kind: Kind) -> Ty
 }
 
 /// The type that an argument of a base method has, on values of this kind.
-pub fn base_arg(kind: Kind, of: ArgTy) -> Ty
+pub(crate) fn base_arg(kind: Kind, of: ArgTy) -> Ty
     ensures { result ≡ base_type_wanted kind of }
 {
     match of {

@@ -18,7 +18,7 @@ use wf_types_operators::meanings::all_of;
 use wf_types_rules::{Meaning, MethodType, Setting};
 
 /// The type of what a base method gives.
-pub fn given_by_base(gives: Gives) -> Option<Ty>
+pub(crate) fn given_by_base(gives: Gives) -> Option<Ty>
     ensures { result ≡ base_gives gives }
 {
     match gives {

@@ -13,7 +13,7 @@ use wf_named::BaseType;
 use wf_types_operators::meanings::{all_of, greatest};
 use wf_types_rules::{Constant, Form, Role};
 
-/// The type that has a name behind `base.`.
+/// The type that has a name after `base.`.
 pub fn base_of(of: BaseType) -> Ty
     ensures { result ≡ type_of_base of }
 {
@@ -64,7 +64,7 @@ pub fn array_type(count: Option<u64>, element: Option<Ty>) -> Option<Ty>
 }
 
 /// The form of a type.
-pub fn form_of(ty: Ty) -> Form
+pub(crate) fn form_of(ty: Ty) -> Form
     ensures { result ≡ form_of_type ty }
 {
     match ty {
@@ -79,7 +79,7 @@ pub fn form_of(ty: Ty) -> Form
     }
 }
 
-/// The form of the type that has a name behind `base.`.
+/// The form of the type that has a name after `base.`.
 pub fn base_form(of: BaseType) -> Form
     ensures { result ≡ form_of_base of }
 {
@@ -168,7 +168,7 @@ pub fn is_zero_kept(role: Role, ty: Ty) -> bool
 }
 
 /// The type, where it may stand there.
-pub fn if_allowed(role: Role, ty: Ty) -> Option<Ty>
+pub(crate) fn if_allowed(role: Role, ty: Ty) -> Option<Ty>
     ensures { result ≡ only_if_allowed role ty }
 {
     if may_have(role, form_of(ty)) && is_zero_kept(role, ty) {

@@ -91,7 +91,7 @@ pub fn slices(of: Option<Meaning>) -> Option<Ty>
     }
 }
 
-/// The type, where the number in front of it is one.
+/// The type, where the number before it is one.
 pub fn if_number(of: Option<Meaning>, ty: Option<Ty>) -> Option<Ty>
     ensures { result ≡ only_for_number of ty }
 {
@@ -121,7 +121,7 @@ fn converted_to(width: Width, m: Meaning) -> Option<Meaning>
 }
 
 /// What `as` makes of a value: a number of the type, which a constant has to lie in.
-pub fn converted(width: Option<Width>, m: Meaning) -> Option<Meaning>
+pub(crate) fn converted(width: Option<Width>, m: Meaning) -> Option<Meaning>
     ensures { result ≡ converts width m }
 {
     match width {

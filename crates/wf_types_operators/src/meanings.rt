@@ -122,7 +122,7 @@ pub fn width_of(m: Meaning) -> Option<Width>
 }
 
 /// Of two widths the first that is there.
-pub fn first_of(a: Option<Width>, b: Option<Width>) -> Option<Width>
+pub(crate) fn first_of(a: Option<Width>, b: Option<Width>) -> Option<Width>
     ensures { result ≡ first_there a b }
 {
     match a {

@@ -32,7 +32,7 @@ fn first_no_status(os: &[Operand]) -> Option<Place>
     None
 }
 
-// The first operand that is no number, or of another width than one in front of it.
+// The first operand that is no number, or of another width than one before it.
 fn not_of_one_width(os: &[Operand]) -> Option<Place>
     ensures { result ≡ first_of_other_width None os.now }
 {
@@ -72,7 +72,7 @@ fn not_shifted(os: &[Operand]) -> Option<Place>
     }
 }
 
-// `==` and `<>`: behind a status statuses, else numbers.
+// `==` and `<>`: after a status statuses, else numbers.
 fn not_compared(os: &[Operand]) -> Option<Place>
     ensures { result ≡ first_uncompared os.now }
 {

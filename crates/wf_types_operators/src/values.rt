@@ -18,7 +18,7 @@ use wf_base::Width;
 use wf_types_rules::{Meaning, Operand};
 
 /// Whether all operands are constant.
-pub fn are_constants(os: &[Operand]) -> bool
+pub(crate) fn are_constants(os: &[Operand]) -> bool
     ensures { result ≡ list_all (λ o. means_constant o.of) os.now }
 {
     for o in os {

@@ -7,7 +7,7 @@ ghost use Rattle.wf_types_rules.specs.Operands.{bits_in};
 use wf_base::Width;
 
 /// The bits of a width, 64 without one.
-pub fn bits(width: Option<Width>) -> u32
+pub(crate) fn bits(width: Option<Width>) -> u32
     ensures bits { result ≡ bits_in width }
     ensures most { result ≤ 64 }
 {
@@ -18,7 +18,7 @@ pub fn bits(width: Option<Width>) -> u32
 }
 
 /// How many numbers a width has; without one there are as many as in 64 bits.
-pub fn count(width: Option<Width>) -> u128
+pub(crate) fn count(width: Option<Width>) -> u128
     ensures count { result ≡ 2 ^ bits_in width }
     ensures most { result ≤ 2 ^ 64 }
 {
@@ -32,7 +32,7 @@ pub fn count(width: Option<Width>) -> u128
 }
 
 /// The number, where it lies in the width.
-pub fn fitted(width: Option<Width>, n: u128) -> Option<u64>
+pub(crate) fn fitted(width: Option<Width>, n: u128) -> Option<u64>
     ensures { result ≡ fits_in (bits_in width) n }
 {
     if n < count(width) {
@@ -43,7 +43,7 @@ pub fn fitted(width: Option<Width>, n: u128) -> Option<u64>
 }
 
 /// The same of a number that may not be there.
-pub fn fitted_if(width: Option<Width>, n: Option<u64>) -> Option<u64>
+pub(crate) fn fitted_if(width: Option<Width>, n: Option<u64>) -> Option<u64>
     ensures { result ≡ option_and_then (fits_in (bits_in width)) n }
 {
     match n {
@@ -53,28 +53,28 @@ pub fn fitted_if(width: Option<Width>, n: Option<u64>) -> Option<u64>
 }
 
 /// The number that is left of one when its width is full.
-pub fn reduced(width: Option<Width>, n: u128) -> u64
+pub(crate) fn reduced(width: Option<Width>, n: u128) -> u64
     ensures { result ≡ n % 2 ^ bits_in width }
 {
     (n % count(width)) as u64
 }
 
 /// The number, or the greatest of the width where it is greater.
-pub fn saturated(width: Option<Width>, n: u128) -> u64
+pub(crate) fn saturated(width: Option<Width>, n: u128) -> u64
     ensures { result ≡ min n (2 ^ bits_in width - 1) }
 {
     n.min(count(width) - 1) as u64
 }
 
 /// The product of two numbers.
-pub fn wide_product(m: u64, n: u64) -> u128
+pub(crate) fn wide_product(m: u64, n: u64) -> u128
     ensures { result ≡ m * n }
 {
     m as u128 * n as u128
 }
 
 /// The number shifted to the left by less than 64 bits.
-pub fn wide_shift(m: u64, n: u32) -> u128
+pub(crate) fn wide_shift(m: u64, n: u32) -> u128
     requires { n < 64 }
     ensures { result ≡ m * 2 ^ n }
 {
@@ -82,7 +82,7 @@ pub fn wide_shift(m: u64, n: u32) -> u128
 }
 
 /// A difference that mustn't fall below 0.
-pub fn difference(width: Option<Width>, m: u64, n: u64) -> Option<u64>
+pub(crate) fn difference(width: Option<Width>, m: u64, n: u64) -> Option<u64>
     ensures { result ≡ only_if (nat_le n m) (fits_in (bits_in width) (m - n)) }
 {
     if n <= m {
@@ -93,7 +93,7 @@ pub fn difference(width: Option<Width>, m: u64, n: u64) -> Option<u64>
 }
 
 /// A quotient, whose divisor mustn't be 0.
-pub fn quotient(width: Option<Width>, m: u64, n: u64) -> Option<u64>
+pub(crate) fn quotient(width: Option<Width>, m: u64, n: u64) -> Option<u64>
     ensures { result ≡ (if nat_eq n 0 then None else fits_in (bits_in width) (m / n)) }
 {
     if n == 0 {
@@ -104,7 +104,7 @@ pub fn quotient(width: Option<Width>, m: u64, n: u64) -> Option<u64>
 }
 
 /// What is left by a division, whose divisor mustn't be 0.
-pub fn remainder(width: Option<Width>, m: u64, n: u64) -> Option<u64>
+pub(crate) fn remainder(width: Option<Width>, m: u64, n: u64) -> Option<u64>
     ensures { result ≡ (if nat_eq n 0 then None else fits_in (bits_in width) (m % n)) }
 {
     if n == 0 {
@@ -115,7 +115,7 @@ pub fn remainder(width: Option<Width>, m: u64, n: u64) -> Option<u64>
 }
 
 /// A shift to the left by less than the bits of the width, which the number mustn't leave.
-pub fn shifted_left(width: Option<Width>, m: u64, n: u64) -> Option<u64>
+pub(crate) fn shifted_left(width: Option<Width>, m: u64, n: u64) -> Option<u64>
     ensures { result ≡ only_if (nat_lt n (bits_in width)) (fits_in (bits_in width) (m * 2 ^ n)) }
 {
     if n < bits(width) as u64 {
@@ -126,7 +126,7 @@ pub fn shifted_left(width: Option<Width>, m: u64, n: u64) -> Option<u64>
 }
 
 /// A shift to the right by less than the bits of the width.
-pub fn shifted_right(width: Option<Width>, m: u64, n: u64) -> Option<u64>
+pub(crate) fn shifted_right(width: Option<Width>, m: u64, n: u64) -> Option<u64>
     ensures { result ≡ only_if (nat_lt n (bits_in width)) (fits_in (bits_in width) (m / 2 ^ n)) }
 {
     if n < bits(width) as u64 {
@@ -137,7 +137,7 @@ pub fn shifted_right(width: Option<Width>, m: u64, n: u64) -> Option<u64>
 }
 
 /// A shift to the left by less than the bits of the width, to which the number is cut.
-pub fn shifted_within(width: Option<Width>, m: u64, n: u64) -> Option<u64>
+pub(crate) fn shifted_within(width: Option<Width>, m: u64, n: u64) -> Option<u64>
     ensures { result ≡ only_if (nat_lt n (bits_in width)) (Some ((m * 2 ^ n) % 2 ^ bits_in width)) }
 {
     if n < bits(width) as u64 {

@@ -39,7 +39,7 @@ pub fn constants_by_the_rules_of_types()
 {}
 
 /// Assignments of operators: of one width, of two, of a bool, of a constant that doesn't fit, of a whole array,
-/// and with the operator in front of the `=`.
+/// and with the operator before the `=`.
 pub fn operands_by_the_rules_of_types()
     ensures one_width { deciding (doing Impure (assigning x_path (pair ops.Add (x_at 10) (path (arg 0 (here 14)))))) ≡ None }
     ensures two_widths { deciding (doing Impure (assigning x_path (pair ops.Add (x_at 10) (path (local 1 (here 14)))))) ≡ Some (refused T1 (at 9 14)) }

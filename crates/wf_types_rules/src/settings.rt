@@ -55,6 +55,6 @@ pub enum Role {
     Local,
     /// At the result of a method with this mark.
     Result(Mark),
-    /// Behind `as`.
+    /// After `as`.
     Conversion,
 }

@@ -10,7 +10,7 @@ ghost use Rattle.wf_types_exprs.specs.Judged.{judged, value_of};
 ghost use Rattle.wf_types_stmts.specs.Statements.{type_of as type_meant, assigned_found, two_operands, operands_found, kept_found};
 ghost use Rattle.wf_types_stmts.specs.Targets.{call_in, right_value, lacks_value};
 
-use crate::targets::{judge_target, judge_value};
+use crate::targets::judge_target;
 use std::alloc::Global;
 use wf_ast::{ExprId, Op, Ty};
 use wf_named::{NamedCall, NamedCallee, NamedExpr, NamedNodes, NamedTarget};
@@ -18,8 +18,9 @@ use wf_text::Place;
 use wf_text::faults::NoMemory;
 use wf_text::precedence::sooner;
 use wf_text::rules::{Refusal, Rule};
-use wf_types_exprs::found::{JudgedValue, Value};
+use wf_types_exprs::found::Value;
 use wf_types_exprs::reading::place_of;
+use wf_types_exprs::walk::judge_value;
 use wf_types_exprs::whole::judge_whole_call;
 use wf_types_meanings::calls::{gives_no_value, is_coroutine_called};
 use wf_types_meanings::marks::is_coroutine;
@@ -49,7 +50,7 @@ fn type_of(of: Option<Meaning>) -> Option<Ty>
 }
 
 /// Whether a type doesn't take a value, where both are known.
-pub fn is_not_taken(ty: Option<Ty>, of: Option<Meaning>) -> bool
+pub(crate) fn is_not_taken(ty: Option<Ty>, of: Option<Meaning>) -> bool
     ensures { result ≡ both_fail takes_value ty of }
 {
     match (ty, of) {
@@ -61,7 +62,7 @@ pub fn is_not_taken(ty: Option<Ty>, of: Option<Meaning>) -> bool
 }
 
 /// Whether it means something that is no status.
-pub fn is_no_status(of: Option<Meaning>) -> bool
+pub(crate) fn is_no_status(of: Option<Meaning>) -> bool
     ensures { result ≡ fails means_status of }
 {
     match of {
@@ -71,7 +72,7 @@ pub fn is_no_status(of: Option<Meaning>) -> bool
 }
 
 /// What `=` breaks. `lacks` tells whether the value is a call that gives none.
-pub fn judged_assigned(
+pub(crate) fn judged_assigned(
     found: Option<Refusal>,
     target: Value,
     value: Value,
@@ -95,7 +96,12 @@ fn operands_judged(found: Option<Refusal>, op: Op, os: &[Operand]) -> Option<Ref
 }
 
 /// What an operator with `=` breaks.
-pub fn judged_update(found: Option<Refusal>, op: Op, target: Value, value: Value) -> Option<Refusal>
+pub(crate) fn judged_update(
+    found: Option<Refusal>,
+    op: Op,
+    target: Value,
+    value: Value,
+) -> Option<Refusal>
     ensures { result ≡ operands_found op (two_operands target value) found }
 {
     match (target.of, value.of) {
@@ -119,7 +125,7 @@ pub fn judged_update(found: Option<Refusal>, op: Op, target: Value, value: Value
 }
 
 /// What `=?` breaks, by the meaning of its target.
-pub fn judged_kept(
+pub(crate) fn judged_kept(
     found: Option<Refusal>,
     around: &Setting,
     target: Option<Meaning>,
@@ -176,18 +182,16 @@ fn judge_plain(
     ensures value { IfOk result (λ j. j.value ≡ right_value around.now (expr_at (exprs_of nodes.now) e)) }
     ensures lacks { IfOk result (λ j. j.lacks ≡ lacks_value around.now (expr_at (exprs_of nodes.now) e)) }
 {
-    match judge_value(alloc, found, nodes, around, e) {
-        Ok(j) => Ok(RightSide {
-            found: j.found,
-            value: j.value,
-            lacks: false,
-        }),
-        Err(fault) => Err(fault),
-    }
+    let j = judge_value(alloc, found, nodes, around, e)?;
+    Ok(RightSide {
+        found: j.found,
+        value: j.value,
+        lacks: false,
+    })
 }
 
 /// The right side of `=`.
-pub fn judge_right(
+pub(crate) fn judge_right(
     alloc: Global,
     found: Option<Refusal>,
     nodes: &NamedNodes,
@@ -201,24 +205,22 @@ pub fn judge_right(
 {
     match as_call(nodes, e) {
         Some(call) => {
-            match judge_whole_call(alloc, found, nodes, around, call) {
-                Ok(j) => Ok(RightSide {
-                    found: j.found,
-                    value: Value {
-                        of: j.of,
-                        at: place_of(nodes, e),
-                    },
-                    lacks: gives_no_value(around, call.callee),
-                }),
-                Err(fault) => Err(fault),
-            }
+            let j = judge_whole_call(alloc, found, nodes, around, call)?;
+            Ok(RightSide {
+                found: j.found,
+                value: Value {
+                    of: j.of,
+                    at: place_of(nodes, e),
+                },
+                lacks: gives_no_value(around, call.callee),
+            })
         }
         None => judge_plain(alloc, found, nodes, around, e),
     }
 }
 
 /// `=`.
-pub fn judge_equal(
+pub(crate) fn judge_equal(
     alloc: Global,
     found: Option<Refusal>,
     nodes: &NamedNodes,
@@ -230,19 +232,13 @@ pub fn judge_equal(
     requires e { e.0 < length nodes.now.exprs }
     ensures { IfOk result (λ r. r ≡ judged around.now found (assigned (target_at (exprs_of nodes.now) target) None (expr_at (exprs_of nodes.now) e) ∷ (target_parts (target_at (exprs_of nodes.now) target) ++ value_parts None (expr_at (exprs_of nodes.now) e)))) }
 {
-    match judge_target(alloc, found, nodes, around, target) {
-        Ok(to) => {
-            match judge_right(alloc, to.found, nodes, around, e) {
-                Ok(right) => Ok(judged_assigned(right.found, to.value, right.value, right.lacks)),
-                Err(fault) => Err(fault),
-            }
-        }
-        Err(fault) => Err(fault),
-    }
+    let to = judge_target(alloc, found, nodes, around, target)?;
+    let right = judge_right(alloc, to.found, nodes, around, e)?;
+    Ok(judged_assigned(right.found, to.value, right.value, right.lacks))
 }
 
 /// An operator with `=`.
-pub fn judge_update(
+pub(crate) fn judge_update(
     alloc: Global,
     found: Option<Refusal>,
     nodes: &NamedNodes,
@@ -255,19 +251,13 @@ pub fn judge_update(
     requires e { e.0 < length nodes.now.exprs }
     ensures { IfOk result (λ r. r ≡ judged around.now found (assigned (target_at (exprs_of nodes.now) target) (Some op) (expr_at (exprs_of nodes.now) e) ∷ (target_parts (target_at (exprs_of nodes.now) target) ++ value_parts (Some op) (expr_at (exprs_of nodes.now) e)))) }
 {
-    match judge_target(alloc, found, nodes, around, target) {
-        Ok(to) => {
-            match judge_value(alloc, to.found, nodes, around, e) {
-                Ok(j) => Ok(judged_update(j.found, op, to.value, j.value)),
-                Err(fault) => Err(fault),
-            }
-        }
-        Err(fault) => Err(fault),
-    }
+    let to = judge_target(alloc, found, nodes, around, target)?;
+    let j = judge_value(alloc, to.found, nodes, around, e)?;
+    Ok(judged_update(j.found, op, to.value, j.value))
 }
 
 /// An assignment, with or without an operator.
-pub fn judge_assign(
+pub(crate) fn judge_assign(
     alloc: Global,
     found: Option<Refusal>,
     nodes: &NamedNodes,
@@ -287,7 +277,7 @@ pub fn judge_assign(
 }
 
 /// `=?`.
-pub fn judge_keep(
+pub(crate) fn judge_keep(
     alloc: Global,
     found: Option<Refusal>,
     nodes: &NamedNodes,
@@ -299,13 +289,7 @@ pub fn judge_keep(
     requires args { ArgsBelow (length nodes.now.exprs) call.now.args }
     ensures { IfOk result (λ r. r ≡ judged around.now found (kept (target_at (exprs_of nodes.now) target) (call_at (exprs_of nodes.now) call.now) ∷ (target_parts (target_at (exprs_of nodes.now) target) ++ whole_call_parts (call_at (exprs_of nodes.now) call.now)))) }
 {
-    match judge_target(alloc, found, nodes, around, target) {
-        Ok(to) => {
-            match judge_whole_call(alloc, to.found, nodes, around, call) {
-                Ok(j) => Ok(judged_kept(j.found, around, to.value.of, call.callee, call.at)),
-                Err(fault) => Err(fault),
-            }
-        }
-        Err(fault) => Err(fault),
-    }
+    let to = judge_target(alloc, found, nodes, around, target)?;
+    let j = judge_whole_call(alloc, to.found, nodes, around, call)?;
+    Ok(judged_kept(j.found, around, to.value.of, call.callee, call.at))
 }

@@ -22,7 +22,7 @@ use wf_types_meanings::places::{at_if, told};
 use wf_types_rules::Setting;
 
 /// Whether an expression is the word `true`.
-pub fn is_word_true(nodes: &NamedNodes, e: ExprId) -> bool
+pub(crate) fn is_word_true(nodes: &NamedNodes, e: ExprId) -> bool
     requires { e.0 < length nodes.now.exprs }
     ensures { result ≡ word_true (expr_at (exprs_of nodes.now) e) }
 {
@@ -131,7 +131,7 @@ fn loop_stops(nodes: &NamedNodes, condition: ExprId, body: &Block) -> bool
 
 /// Whether a statement never goes on.
 #[cycle(stopping)]
-pub fn stmt_stops(nodes: &NamedNodes, s: StmtId) -> bool
+pub(crate) fn stmt_stops(nodes: &NamedNodes, s: StmtId) -> bool
     requires { s.0 < length nodes.now.stmts }
     ensures { result ≡ stops_at_stmt (stmt_at (stmts_of nodes.now) s) }
 {
@@ -156,7 +156,7 @@ pub fn stmt_stops(nodes: &NamedNodes, s: StmtId) -> bool
 
 /// Whether a block never goes on: a statement in it doesn't.
 #[cycle(stopping)]
-pub fn block_stops(nodes: &NamedNodes, block: &Block) -> bool
+pub(crate) fn block_stops(nodes: &NamedNodes, block: &Block) -> bool
     requires { BlockBelow (length nodes.now.stmts) block.now }
     ensures { result ≡ stops_in_block (block_at (stmts_of nodes.now) block.now) }
 {
@@ -194,7 +194,7 @@ fn arms_stop(nodes: &NamedNodes, arms: &[Arm], otherwise: &Option<Block>) -> boo
 }
 
 /// What the end of a body at this closing brace breaks, by whether the body never goes on.
-pub fn judged_end(
+pub(crate) fn judged_end(
     found: Option<Refusal>,
     around: &Setting,
     stops: bool,

@@ -9,11 +9,10 @@ ghost use Rattle.wf_named.specs.NamedTrees.{expr_at, part_at, clauses_at, letter
 ghost use Rattle.wf_types_rules.specs.Judgements.{fails, wrong_result, is_suspension_text};
 ghost use Rattle.wf_types_rules.specs.Meanings.{is_flag as means_flag, is_number as means_number};
 ghost use Rattle.wf_types_rules.specs.Parts.{letter_value, returned, yielded, end_parts, expr_parts, condition_parts, clauses_parts, letters_parts, via_parts};
-ghost use Rattle.wf_types_exprs.specs.Judged.{judged, end_value};
+ghost use Rattle.wf_types_exprs.specs.Judged.{judged};
 ghost use Rattle.wf_types_stmts.specs.Statements.{condition_found, letter_found, is_wrong_result as wrong_result_in, return_found, yield_found};
 
 use crate::assignments::{is_no_status, is_not_taken};
-use crate::targets::judge_value;
 use std::alloc::Global;
 use wf_ast::parsed::{Given, LoopClause, Via};
 use wf_ast::{ExprId, Sequence, Ty};
@@ -24,8 +23,9 @@ use wf_text::precedence::sooner;
 use wf_text::rules::{Refusal, Rule};
 use wf_text::status_text::category;
 use wf_text::{Place, StatusId};
-use wf_types_exprs::found::{JudgedEnd, Value};
+use wf_types_exprs::found::Value;
 use wf_types_exprs::reading::place_of;
+use wf_types_exprs::walk::{judge_end, judge_value};
 use wf_types_meanings::marks::is_coroutine;
 use wf_types_meanings::places::{at_if, told};
 use wf_types_operators::meanings::{is_flag, is_number};
@@ -50,14 +50,14 @@ fn is_no_number(of: Option<Meaning>) -> bool
 }
 
 /// What a condition breaks.
-pub fn judged_condition(found: Option<Refusal>, v: Value) -> Option<Refusal>
+pub(crate) fn judged_condition(found: Option<Refusal>, v: Value) -> Option<Refusal>
     ensures { result ≡ condition_found v found }
 {
     sooner(found, told(Rule::T3, at_if(is_no_flag(v.of), v.at)))
 }
 
 /// What a value breaks that is given for a letter of an axiom.
-pub fn judged_letter(found: Option<Refusal>, v: Value) -> Option<Refusal>
+pub(crate) fn judged_letter(found: Option<Refusal>, v: Value) -> Option<Refusal>
     ensures { result ≡ letter_found v found }
 {
     sooner(found, told(Rule::T1, at_if(is_no_number(v.of), v.at)))
@@ -88,7 +88,7 @@ fn is_wrong_result(around: &Setting, value: Option<Value>) -> bool
 }
 
 /// What a `return` breaks, whose value may be absent.
-pub fn judged_return(
+pub(crate) fn judged_return(
     found: Option<Refusal>,
     around: &Setting,
     value: Option<Value>,
@@ -101,7 +101,7 @@ pub fn judged_return(
 }
 
 /// What a `yield?` breaks. `suspends` tells whether a suspension's text stands there, at `place`.
-pub fn judged_yield(
+pub(crate) fn judged_yield(
     found: Option<Refusal>,
     around: &Setting,
     suspends: bool,
@@ -127,7 +127,7 @@ fn is_suspension_at(statuses: &[Sequence<u8>], status: StatusId) -> bool
 }
 
 /// Whether an expression is the text of a suspension.
-pub fn suspends(nodes: &NamedNodes, around: &Setting, e: ExprId) -> bool
+pub(crate) fn suspends(nodes: &NamedNodes, around: &Setting, e: ExprId) -> bool
     requires { e.0 < length nodes.now.exprs }
     ensures { result ≡ is_suspension_text around.now (expr_at (exprs_of nodes.now) e) }
 {
@@ -147,7 +147,7 @@ pub fn suspends(nodes: &NamedNodes, around: &Setting, e: ExprId) -> bool
 }
 
 /// A condition of `if`, `while`, a clause or `assert`.
-pub fn judge_condition(
+pub(crate) fn judge_condition(
     alloc: Global,
     found: Option<Refusal>,
     nodes: &NamedNodes,
@@ -157,14 +157,12 @@ pub fn judge_condition(
     requires { e.0 < length nodes.now.exprs }
     ensures { IfOk result (λ r. r ≡ judged around.now found (condition_parts (expr_at (exprs_of nodes.now) e))) }
 {
-    match judge_value(alloc, found, nodes, around, e) {
-        Ok(j) => Ok(judged_condition(j.found, j.value)),
-        Err(fault) => Err(fault),
-    }
+    let j = judge_value(alloc, found, nodes, around, e)?;
+    Ok(judged_condition(j.found, j.value))
 }
 
 /// The promises of a loop.
-pub fn judge_clauses(
+pub(crate) fn judge_clauses(
     alloc: Global,
     found: Option<Refusal>,
     nodes: &NamedNodes,
@@ -176,10 +174,7 @@ pub fn judge_clauses(
 {
     let mut found = found;
     for clause in clauses {
-        match judge_condition(alloc, found, nodes, around, clause.condition) {
-            Ok(next) => found = next,
-            Err(fault) => return Err(fault),
-        }
+        found = judge_condition(alloc, found, nodes, around, clause.condition)?;
     }
     Ok(found)
 }
@@ -194,14 +189,12 @@ fn judge_letter(
     requires { e.0 < length nodes.now.exprs }
     ensures { IfOk result (λ r. r ≡ judged around.now found (letter_value (expr_at (exprs_of nodes.now) e) ∷ expr_parts (expr_at (exprs_of nodes.now) e))) }
 {
-    match judge_value(alloc, found, nodes, around, e) {
-        Ok(j) => Ok(judged_letter(j.found, j.value)),
-        Err(fault) => Err(fault),
-    }
+    let j = judge_value(alloc, found, nodes, around, e)?;
+    Ok(judged_letter(j.found, j.value))
 }
 
 /// What is given for the letters of an axiom.
-pub fn judge_letters(
+pub(crate) fn judge_letters(
     alloc: Global,
     found: Option<Refusal>,
     nodes: &NamedNodes,
@@ -213,16 +206,13 @@ pub fn judge_letters(
 {
     let mut found = found;
     for one in given {
-        match judge_letter(alloc, found, nodes, around, one.value) {
-            Ok(next) => found = next,
-            Err(fault) => return Err(fault),
-        }
+        found = judge_letter(alloc, found, nodes, around, one.value)?;
     }
     Ok(found)
 }
 
 /// The axiom of an assertion, if it names one.
-pub fn judge_via(
+pub(crate) fn judge_via(
     alloc: Global,
     found: Option<Refusal>,
     nodes: &NamedNodes,
@@ -239,7 +229,7 @@ pub fn judge_via(
 }
 
 /// An assertion: its condition, and what is given to its axiom.
-pub fn judge_claim(
+pub(crate) fn judge_claim(
     alloc: Global,
     found: Option<Refusal>,
     nodes: &NamedNodes,
@@ -251,39 +241,12 @@ pub fn judge_claim(
     requires via { AxiomBelow (length nodes.now.texts) (length nodes.now.exprs) via.now }
     ensures { IfOk result (λ r. r ≡ judged around.now found (condition_parts (expr_at (exprs_of nodes.now) goal) ++ via_parts (via_at nodes.now.texts (exprs_of nodes.now) via.now))) }
 {
-    match judge_condition(alloc, found, nodes, around, goal) {
-        Ok(next) => judge_via(alloc, next, nodes, around, via),
-        Err(fault) => Err(fault),
-    }
-}
-
-fn judge_end(
-    alloc: Global,
-    found: Option<Refusal>,
-    nodes: &NamedNodes,
-    around: &Setting,
-    value: Option<ExprId>,
-) -> Result<JudgedEnd, NoMemory>
-    requires { IsBelow (length nodes.now.exprs) value }
-    ensures found { IfOk result (λ j. j.found ≡ judged around.now found (end_parts (part_at (exprs_of nodes.now) value))) }
-    ensures end { IfOk result (λ j. j.end ≡ end_value around.now (part_at (exprs_of nodes.now) value)) }
-{
-    match value {
-        Some(e) => {
-            match judge_value(alloc, found, nodes, around, e) {
-                Ok(j) => Ok(JudgedEnd {
-                    found: j.found,
-                    end: Some(j.value),
-                }),
-                Err(fault) => Err(fault),
-            }
-        }
-        None => Ok(JudgedEnd { found, end: None }),
-    }
+    let next = judge_condition(alloc, found, nodes, around, goal)?;
+    judge_via(alloc, next, nodes, around, via)
 }
 
 /// A `return` at this place.
-pub fn judge_return(
+pub(crate) fn judge_return(
     alloc: Global,
     found: Option<Refusal>,
     nodes: &NamedNodes,
@@ -294,14 +257,12 @@ pub fn judge_return(
     requires { IsBelow (length nodes.now.exprs) value }
     ensures { IfOk result (λ r. r ≡ judged around.now found (returned at (part_at (exprs_of nodes.now) value) ∷ end_parts (part_at (exprs_of nodes.now) value))) }
 {
-    match judge_end(alloc, found, nodes, around, value) {
-        Ok(j) => Ok(judged_return(j.found, around, j.end, at)),
-        Err(fault) => Err(fault),
-    }
+    let j = judge_end(alloc, found, nodes, around, value)?;
+    Ok(judged_return(j.found, around, j.end, at))
 }
 
 /// A `yield?` at this place.
-pub fn judge_yield(
+pub(crate) fn judge_yield(
     alloc: Global,
     found: Option<Refusal>,
     nodes: &NamedNodes,
@@ -312,11 +273,7 @@ pub fn judge_yield(
     requires { e.0 < length nodes.now.exprs }
     ensures { IfOk result (λ r. r ≡ judged around.now found (yielded at (expr_at (exprs_of nodes.now) e) ∷ expr_parts (expr_at (exprs_of nodes.now) e))) }
 {
-    match judge_value(alloc, found, nodes, around, e) {
-        Ok(j) => {
-            let suspension = suspends(nodes, around, e);
-            Ok(judged_yield(j.found, around, suspension, place_of(nodes, e), at))
-        }
-        Err(fault) => Err(fault),
-    }
+    let j = judge_value(alloc, found, nodes, around, e)?;
+    let suspension = suspends(nodes, around, e);
+    Ok(judged_yield(j.found, around, suspension, place_of(nodes, e), at))
 }

@@ -30,10 +30,8 @@ fn judge_do_call(
     requires { ArgsBelow (length nodes.now.exprs) call.now.args }
     ensures { IfOk result (λ r. r ≡ judged around.now found (whole_call_parts (call_at (exprs_of nodes.now) call.now))) }
 {
-    match judge_whole_call(alloc, found, nodes, around, call) {
-        Ok(j) => Ok(j.found),
-        Err(fault) => Err(fault),
-    }
+    let j = judge_whole_call(alloc, found, nodes, around, call)?;
+    Ok(j.found)
 }
 
 // A loop's condition and promises.
@@ -49,10 +47,8 @@ fn judge_head(
     requires clauses { AllByRecursion (λ c. c.condition.0 < length nodes.now.exprs) clauses.now }
     ensures { IfOk result (λ r. r ≡ judged around.now found (condition_parts (expr_at (exprs_of nodes.now) condition) ++ clauses_parts (clauses_at (exprs_of nodes.now) clauses.now))) }
 {
-    match judge_condition(alloc, found, nodes, around, condition) {
-        Ok(next) => judge_clauses(alloc, next, nodes, around, clauses),
-        Err(fault) => Err(fault),
-    }
+    let next = judge_condition(alloc, found, nodes, around, condition)?;
+    judge_clauses(alloc, next, nodes, around, clauses)
 }
 
 /// A statement with all that stands in it.
@@ -87,10 +83,8 @@ pub fn judge_stmt(
             clauses,
             body,
         } => {
-            match judge_head(alloc, found, nodes, around, *condition, clauses.as_slice()) {
-                Ok(next) => judge_block(alloc, next, nodes, around, body),
-                Err(fault) => Err(fault),
-            }
+            let next = judge_head(alloc, found, nodes, around, *condition, clauses.as_slice())?;
+            judge_block(alloc, next, nodes, around, body)
         }
         NamedStmt::Break(_) => Ok(found),
         NamedStmt::Continue(_) => Ok(found),
@@ -114,10 +108,7 @@ pub fn judge_block(
 {
     let mut found = found;
     for s in block.items.as_slice() {
-        match judge_stmt(alloc, found, nodes, around, *s) {
-            Ok(next) => found = next,
-            Err(fault) => return Err(fault),
-        }
+        found = judge_stmt(alloc, found, nodes, around, *s)?;
     }
     Ok(found)
 }
@@ -134,10 +125,8 @@ fn judge_arm(
     requires body { BlockBelow (length nodes.now.stmts) arm.now.body }
     ensures { IfOk result (λ r. r ≡ judged around.now found (condition_parts (expr_at (exprs_of nodes.now) arm.now.condition) ++ block_parts (block_at (stmts_of nodes.now) arm.now.body))) }
 {
-    match judge_condition(alloc, found, nodes, around, arm.condition) {
-        Ok(next) => judge_block(alloc, next, nodes, around, &arm.body),
-        Err(fault) => Err(fault),
-    }
+    let next = judge_condition(alloc, found, nodes, around, arm.condition)?;
+    judge_block(alloc, next, nodes, around, &arm.body)
 }
 
 #[cycle(judge_stmts)]
@@ -173,10 +162,7 @@ fn judge_arms(
 {
     let mut found = found;
     for arm in arms {
-        match judge_arm(alloc, found, nodes, around, arm) {
-            Ok(next) => found = next,
-            Err(fault) => return Err(fault),
-        }
+        found = judge_arm(alloc, found, nodes, around, arm)?;
     }
     judge_else(alloc, found, nodes, around, otherwise)
 }

@@ -8,7 +8,7 @@ ghost use Rattle.wf_types_rules.specs.ExprTypes.{meaning};
 ghost use Rattle.wf_types_rules.specs.Judgements.{is_no_target_of as no_target_of, is_field as field_named, target_meaning, fails};
 ghost use Rattle.wf_types_rules.specs.Meanings.{is_value as means_value};
 ghost use Rattle.wf_types_rules.specs.Parts.{target_parts, expr_parts};
-ghost use Rattle.wf_types_exprs.specs.Judged.{judged, value_of};
+ghost use Rattle.wf_types_exprs.specs.Judged.{judged};
 ghost use Rattle.wf_types_stmts.specs.Statements.{target_found as found_at_target};
 ghost use Rattle.wf_types_stmts.specs.Targets.{target_value};
 
@@ -21,8 +21,7 @@ use wf_text::precedence::sooner;
 use wf_text::rules::{Refusal, Rule};
 use wf_types_exprs::found::{Judged, JudgedValue, Value};
 use wf_types_exprs::parts::{base_value, judged_index};
-use wf_types_exprs::reading::place_of;
-use wf_types_exprs::walk::judge_expr;
+use wf_types_exprs::walk::judge_value;
 use wf_types_meanings::marks::is_pure;
 use wf_types_meanings::places::{at_if, told};
 use wf_types_meanings::variables::variable;
@@ -39,7 +38,7 @@ fn is_no_value(of: Option<Meaning>) -> bool
 }
 
 /// Whether nothing may be written to a variable: a constant, an argument, a whole array or a struct.
-pub fn is_no_target_of(around: &Setting, of: Variable) -> bool
+pub(crate) fn is_no_target_of(around: &Setting, of: Variable) -> bool
     ensures { result ≡ no_target_of around.now of }
 {
     match of {
@@ -62,7 +61,7 @@ fn is_field(of: Variable) -> bool
 }
 
 /// What a target breaks: `wrong` is what may not be written to, `outside` what only a method that isn't pure writes to.
-pub fn target_found(
+pub(crate) fn target_found(
     found: Option<Refusal>,
     around: &Setting,
     wrong: bool,
@@ -90,7 +89,7 @@ fn path_written(around: &Setting, path: NamedPath) -> Option<Meaning>
 }
 
 /// A path as a target.
-pub fn judged_path(found: Option<Refusal>, around: &Setting, path: NamedPath) -> JudgedValue
+pub(crate) fn judged_path(found: Option<Refusal>, around: &Setting, path: NamedPath) -> JudgedValue
     ensures found { result.found ≡ judged around.now found (target_parts (tree.to_path path)) }
     ensures value { result.value ≡ target_value around.now (tree.to_path path) }
 {
@@ -101,30 +100,6 @@ pub fn judged_path(found: Option<Refusal>, around: &Setting, path: NamedPath) ->
             of: path_written(around, path),
             at: path.at,
         },
-    }
-}
-
-/// An expression, with its place.
-pub fn judge_value(
-    alloc: Global,
-    found: Option<Refusal>,
-    nodes: &NamedNodes,
-    around: &Setting,
-    e: ExprId,
-) -> Result<JudgedValue, NoMemory>
-    requires { e.0 < length nodes.now.exprs }
-    ensures found { IfOk result (λ j. j.found ≡ judged around.now found (expr_parts (expr_at (exprs_of nodes.now) e))) }
-    ensures value { IfOk result (λ j. j.value ≡ value_of around.now (expr_at (exprs_of nodes.now) e)) }
-{
-    match judge_expr(alloc, found, nodes, around, e) {
-        Ok(j) => Ok(JudgedValue {
-            found: j.found,
-            value: Value {
-                of: j.of,
-                at: place_of(nodes, e),
-            },
-        }),
-        Err(fault) => Err(fault),
     }
 }
 
@@ -142,14 +117,12 @@ fn judge_element(
     ensures of { (at : _) → IfOk result (λ j. j.of ≡ meaning around.now (tree.index base (expr_at (exprs_of nodes.now) index) at)) }
 {
     let array = base_value(around, base);
-    match judge_value(alloc, found, nodes, around, index) {
-        Ok(j) => Ok(judged_index(j.found, array, j.value)),
-        Err(fault) => Err(fault),
-    }
+    let j = judge_value(alloc, found, nodes, around, index)?;
+    Ok(judged_index(j.found, array, j.value))
 }
 
 /// A target.
-pub fn judge_target(
+pub(crate) fn judge_target(
     alloc: Global,
     found: Option<Refusal>,
     nodes: &NamedNodes,
@@ -164,13 +137,11 @@ pub fn judge_target(
         NamedTarget::Path(path) => Ok(judged_path(found, around, path)),
         NamedTarget::Element { base, index, at } => {
             let begun = target_found(found, around, false, true, at);
-            match judge_element(alloc, begun, nodes, around, base, index) {
-                Ok(j) => Ok(JudgedValue {
-                    found: j.found,
-                    value: Value { of: j.of, at },
-                }),
-                Err(fault) => Err(fault),
-            }
+            let j = judge_element(alloc, begun, nodes, around, base, index)?;
+            Ok(JudgedValue {
+                found: j.found,
+                value: Value { of: j.of, at },
+            })
         }
     }
 }

@@ -5,8 +5,8 @@ use Rattle.wf_names_scopes.proofs.PackageLemmas.{on_ok}
 use Rattle.wf_names_cycles.proofs.RowLemmas.{method-added}
 use Rattle.wf_names_cycles.proofs.calls.add_row.Goals as goal
 
-pub returns-in-Ok-clause-rows : goal.returns-in-Ok-clause-rows
-returns-in-Ok-clause-rows c =
+pub returns-in_ok-row-in-Method-clause-rows : goal.returns-in_ok-row-in-Method-clause-rows
+returns-in_ok-row-in-Method-clause-rows c =
     let p = c.args.parsed.now in
     let es = expr_trees p.exprs in
     let ts = stmt_trees p.exprs p.stmts in
@@ -19,6 +19,6 @@ returns-in-Ok-clause-rows c =
       locals = locals_of (block_at ts c.in-Method.body);
       body = block_at ts c.in-Method.body;
     } in
-    let made = rw c.as_slice.ensures at c.in-Ok.ensures.row in
+    let made = rw c.as_slice.ensures at c.in_ok-row-in-Method.ensures.row in
     rw c.in-Method.is
-    (on_ok c.push_row.result (method-added (package_of p) m c.args.rows.now.items c.push_row.new.rows.items c.in-Ok.row made) c.push_row.ensures)
+    (on_ok c.push_row.result (method-added (package_of p) m c.args.rows.now.items c.push_row.new.rows.items c.in_ok-row-in-Method.row made) c.push_row.ensures)

@@ -10,13 +10,13 @@ use Rattle.wf_names_cycles.specs.Called.{called_in, node_uses}
 use Rattle.wf_names_cycles.proofs.RowLemmas.{called-there}
 use Rattle.wf_names_cycles.proofs.calls.row_within.Goals as goal
 
-pub returns-in-Ok-clause-row : goal.returns-in-Ok-clause-row
-returns-in-Ok-clause-row c =
+pub returns-clause-row : goal.returns-clause-row
+returns-clause-row c =
     let p = c.args.parsed.now in
     let es = expr_trees p.exprs in
     let ts = stmt_trees p.exprs p.stmts in
     let uses = node_uses es ts c.args.args.now c.args.gives.now c.args.body.now in
     let scope = scope_in (package_of p) c.args.owner (variables (fields_at es c.args.args.now)) (locals_of (block_at ts c.args.body.now)) in
     if_ok (λ row. row ≡ called_in (known_by p.texts c.args.tables.now c.enter_method.new.scope) uses) (λ row. row ≡ called_in (known_at (package_of p) scope) uses) c.method_row.result
-    (λ row e. called-there p c.args.tables.now c.enter_method.new.scope scope row uses c.requires.tables (c.in-Ok.ensures c.requires.constants) e)
+    (λ row e. called-there p c.args.tables.now c.enter_method.new.scope scope row uses c.requires.tables (c.in_ok-enter_method.ensures c.requires.constants) e)
     c.method_row.ensures

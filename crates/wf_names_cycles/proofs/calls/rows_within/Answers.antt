@@ -9,7 +9,7 @@ loop-number-init c = (c.requires.constants, rows-begun c.args.parsed.now c.new-r
 pub loop-number-preserved : goal.loop-number-preserved
 loop-number-preserved c =
     let p = c.args.parsed.now in (
-      c.in-Ok.ensures.constants,
+      c.in_ok-add_row.ensures.constants,
       rows-next (package_of p) (expr_trees p.exprs) (stmt_trees p.exprs p.stmts) p.decls c.loop-number.number c.decl.result.now c.decl.ensures.node c.loop-number.rows.items c.add_row.new.rows.items
-          c.in-Ok.ensures.rows c.loop-number.invariant.1,
+          c.in_ok-add_row.ensures.rows c.loop-number.invariant.1,
     )

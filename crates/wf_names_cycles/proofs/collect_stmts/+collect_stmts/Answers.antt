@@ -12,57 +12,57 @@ use Rattle.wf_names_rules.proofs.StmtLemmas.{stmts_above, else_above, arms_above
 use Rattle.wf_names_cycles.proofs.CallLemmas.{row_append, row_append_more, stmt_step, arm_step}
 use Rattle.wf_names_cycles.proofs.collect_stmts.+collect_stmts.Goals as goal
 
-pub collect_arm-returns-in-Ok : goal.collect_arm-returns-in-Ok
-collect_arm-returns-in-Ok t c =
+pub collect_arm-returns : goal.collect_arm-returns
+collect_arm-returns t c =
     let k = known_by c.args.parsed.now.texts c.args.tables.now c.args.scope.now in
     let condition = uses_of (expr_at (expr_trees c.args.parsed.now.exprs) c.args.arm.now.condition) in
     let body = block_uses (block_at (stmt_trees c.args.parsed.now.exprs c.args.parsed.now.stmts) c.args.arm.now.body) in
-    row_append k c.args.row.now c.collect_expr.new.row condition body c.collect_block.result c.collect_block.new.row c.in-Ok.ensures c.collect_block.ensures
+    row_append k c.args.row.now c.collect_expr.new.row condition body c.collect_block.result c.collect_block.new.row c.in_ok-collect_expr.ensures c.collect_block.ensures
 
 pub collect_arms-loop-arm-preserved : goal.collect_arms-loop-arm-preserved
 collect_arms-loop-arm-preserved t c =
     let k = known_by c.args.parsed.now.texts c.args.tables.now c.args.scope.now in
     let es = expr_trees c.args.parsed.now.exprs in
     let ts = stmt_trees c.args.parsed.now.exprs c.args.parsed.now.stmts in
-    arm_step k c.loop-arm.row c.collect_arm.new.row es ts c.args.arms.now (else_at ts c.args.otherwise.now) c.loop-arm.arm-index c.arm-item.result c.arm-item.is c.loop-arm-test.true c.in-Ok.ensures ∙ c.loop-arm.invariant
+    arm_step k c.loop-arm.row c.collect_arm.new.row es ts c.args.arms.now (else_at ts c.args.otherwise.now) c.loop-arm.arm-index c.arm-item.result c.arm-item.is c.loop-arm-test.true c.in_ok-collect_arm.ensures ∙ c.loop-arm.invariant
 
 pub collect_block-loop-s-preserved : goal.collect_block-loop-s-preserved
 collect_block-loop-s-preserved t c =
     let k = known_by c.args.parsed.now.texts c.args.tables.now c.args.scope.now in
     let ts = stmt_trees c.args.parsed.now.exprs c.args.parsed.now.stmts in
     let inside : c.loop-s.s-index < length c.args.block.now.items = rw (← c.as_slice-s-items.ensures) c.loop-s-test.true in
-    let one = rw c.as_slice-s-items.ensures at c.in-Ok.ensures in
+    let one = rw c.as_slice-s-items.ensures at c.in_ok-collect_stmt.ensures in
     stmt_step k c.loop-s.row c.collect_stmt.new.row ts c.args.block.now.items c.args.block.now.close c.loop-s.s-index (record { 0 = 0 }) inside one ∙ c.loop-s.invariant
 
-pub collect_stmt-returns-in-Ok : goal.collect_stmt-returns-in-Ok
-collect_stmt-returns-in-Ok t c =
+pub collect_stmt-returns-in_ok-collect_target-in-Assign : goal.collect_stmt-returns-in_ok-collect_target-in-Assign
+collect_stmt-returns-in_ok-collect_target-in-Assign t c =
     let k = known_by c.args.parsed.now.texts c.args.tables.now c.args.scope.now in
     let es = expr_trees c.args.parsed.now.exprs in
     rw (c.stmt-node.ensures.made, c.in-Assign.is)
-    (row_append k c.args.row.now c.collect_target.new.row (target_uses (target_at es c.in-Assign.target)) (uses_of (expr_at es c.in-Assign.value)) c.collect_expr.result c.collect_expr.new.row c.in-Ok.ensures c.collect_expr.ensures)
+    (row_append k c.args.row.now c.collect_target.new.row (target_uses (target_at es c.in-Assign.target)) (uses_of (expr_at es c.in-Assign.value)) c.collect_expr.result c.collect_expr.new.row c.in_ok-collect_target-in-Assign.ensures c.collect_expr.ensures)
 
-pub collect_stmt-returns-in-Ok-collect_target : goal.collect_stmt-returns-in-Ok-collect_target
-collect_stmt-returns-in-Ok-collect_target t c =
+pub collect_stmt-returns-in_ok-collect_target-in-Keep : goal.collect_stmt-returns-in_ok-collect_target-in-Keep
+collect_stmt-returns-in_ok-collect_target-in-Keep t c =
     let k = known_by c.args.parsed.now.texts c.args.tables.now c.args.scope.now in
     let es = expr_trees c.args.parsed.now.exprs in
     rw (c.stmt-node.ensures.made, c.in-Keep.is)
-    (row_append k c.args.row.now c.collect_target-in-Keep.new.row (target_uses (target_at es c.in-Keep.target)) (call_uses (call_at es c.in-Keep.call)) c.collect_call.result c.collect_call.new.row c.in-Ok-collect_target.ensures c.collect_call.ensures)
+    (row_append k c.args.row.now c.collect_target-in-Keep.new.row (target_uses (target_at es c.in-Keep.target)) (call_uses (call_at es c.in-Keep.call)) c.collect_call.result c.collect_call.new.row c.in_ok-collect_target-in-Keep.ensures c.collect_call.ensures)
 
-pub collect_stmt-returns-in-Ok-collect_head : goal.collect_stmt-returns-in-Ok-collect_head
-collect_stmt-returns-in-Ok-collect_head t c =
+pub collect_stmt-returns-in_ok-collect_head-in-While : goal.collect_stmt-returns-in_ok-collect_head-in-While
+collect_stmt-returns-in_ok-collect_head-in-While t c =
     let k = known_by c.args.parsed.now.texts c.args.tables.now c.args.scope.now in
     let es = expr_trees c.args.parsed.now.exprs in
     let ts = stmt_trees c.args.parsed.now.exprs c.args.parsed.now.stmts in
-    let head = rw c.as_slice-in-While.ensures at c.in-Ok-collect_head.ensures in
+    let head = rw c.as_slice-in-While.ensures at c.in_ok-collect_head-in-While.ensures in
     rw (c.stmt-node.ensures.made, c.in-While.is)
     (row_append_more k c.args.row.now c.collect_head.new.row (uses_of (expr_at es c.in-While.condition)) (clause_uses (clauses_at es c.in-While.clauses)) (block_uses (block_at ts c.in-While.body)) c.collect_block.result c.collect_block.new.row head c.collect_block.ensures)
 
-pub collect_stmt-returns-in-Ok-collect_expr : goal.collect_stmt-returns-in-Ok-collect_expr
-collect_stmt-returns-in-Ok-collect_expr t c =
+pub collect_stmt-returns-in_ok-collect_expr-in-Assert : goal.collect_stmt-returns-in_ok-collect_expr-in-Assert
+collect_stmt-returns-in_ok-collect_expr-in-Assert t c =
     let k = known_by c.args.parsed.now.texts c.args.tables.now c.args.scope.now in
     let es = expr_trees c.args.parsed.now.exprs in
     rw (c.stmt-node.ensures.made, c.in-Assert.is)
-    (row_append k c.args.row.now c.collect_expr-in-Assert.new.row (uses_of (expr_at es c.in-Assert.goal)) (via_uses (via_at es c.in-Assert.via)) c.collect_via.result c.collect_via.new.row c.in-Ok-collect_expr.ensures c.collect_via.ensures)
+    (row_append k c.args.row.now c.collect_expr-in-Assert.new.row (uses_of (expr_at es c.in-Assert.goal)) (via_uses (via_at es c.in-Assert.via)) c.collect_via.result c.collect_via.new.row c.in_ok-collect_expr-in-Assert.ensures c.collect_via.ensures)
 
 pub collect_arms-collect_arm-requires : goal.collect_arms-collect_arm-requires
 collect_arms-collect_arm-requires t c =

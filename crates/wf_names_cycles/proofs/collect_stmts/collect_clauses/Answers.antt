@@ -7,4 +7,4 @@ use Rattle.wf_names_cycles.proofs.collect_stmts.collect_clauses.Goals as goal
 pub loop-clause-preserved : goal.loop-clause-preserved
 loop-clause-preserved c =
     let k = known_by c.args.parsed.now.texts c.args.tables.now c.args.scope.now in
-    clause_step k c.loop-clause.row c.collect_expr.new.row (expr_trees c.args.parsed.now.exprs) c.args.clauses.now c.loop-clause.clause-index _ c.loop-clause-test.true c.in-Ok.ensures ∙ c.loop-clause.invariant
+    clause_step k c.loop-clause.row c.collect_expr.new.row (expr_trees c.args.parsed.now.exprs) c.args.clauses.now c.loop-clause.clause-index _ c.loop-clause-test.true c.in_ok-collect_expr.ensures ∙ c.loop-clause.invariant

@@ -6,4 +6,4 @@ use Rattle.wf_names_cycles.proofs.structs.struct_row.Goals as goal
 pub loop-field-preserved : goal.loop-field-preserved
 loop-field-preserved c = λ es.
     field-step es (get nat_eq c.args.numbers.now) c.args.fields.now c.loop-field.field-index c.field-item.result c.field-item.is c.loop-field-test.true c.loop-field.row c.add_number.new.row
-    (c.in-Ok.ensures ∙ ap (λ l. c.loop-field.row ++ l) (c.held.ensures es)) ∙ c.loop-field.invariant es
+    (c.in_ok-add_number.ensures ∙ ap (λ l. c.loop-field.row ++ l) (c.held.ensures es)) ∙ c.loop-field.invariant es

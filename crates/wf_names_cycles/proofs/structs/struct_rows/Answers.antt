@@ -6,4 +6,4 @@ use Rattle.wf_names_cycles.proofs.structs.struct_rows.Goals as goal
 pub loop-node-preserved : goal.loop-node-preserved
 loop-node-preserved c = λ es ts.
     rows-step es ts c.args.decls.now c.loop-node.node-index c.node-item.result (get nat_eq c.args.numbers.now) c.node-item.is c.loop-node-test.true c.loop-node.rows.items c.add_row.new.rows.items
-    (c.in-Ok.ensures es ts c.node-item.result.public c.node-item.result.at) ∙ c.loop-node.invariant es ts
+    (c.in_ok-add_row.ensures es ts c.node-item.result.public c.node-item.result.at) ∙ c.loop-node.invariant es ts

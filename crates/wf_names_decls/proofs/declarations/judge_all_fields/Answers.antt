@@ -8,8 +8,8 @@ use Rattle.wf_names_decls.proofs.declarations.judge_all_fields.Goals as goal
 pub loop-number-preserved : goal.loop-number-preserved
 loop-number-preserved c =
     let ts = stmt_trees c.args.parsed.now.exprs c.args.parsed.now.stmts in
-    struct_step (expr_trees c.args.parsed.now.exprs) ts c.args.parsed.now.decls c.loop-number.number c.decl.result.now c.loop-number.found c.in-Ok.next (struct_judged c.args.parsed.now.texts) c.decl.ensures.node
-    (c.in-Ok.ensures c.decl.result.now.public c.decl.result.now.at)
+    struct_step (expr_trees c.args.parsed.now.exprs) ts c.args.parsed.now.decls c.loop-number.number c.decl.result.now c.loop-number.found _ (struct_judged c.args.parsed.now.texts) c.decl.ensures.node
+    (c.in_ok-found.ensures c.decl.result.now.public c.decl.result.now.at)
     ∙ c.loop-number.invariant
 
 pub returns : goal.returns

@@ -8,11 +8,11 @@ use Rattle.wf_names_decls.proofs.LabelSteps.{ok_same}
 use Rattle.wf_names_decls.proofs.ConstantTables.{methods-same}
 use Rattle.wf_names_decls.proofs.declarations.judge_methods_within.Goals as goal
 
-pub returns-in-Ok : goal.returns-in-Ok
-returns-in-Ok c =
+pub returns : goal.returns
+returns c =
     let texts = c.args.parsed.now.texts in
     let trees = decl_trees c.args.parsed.now.exprs c.args.parsed.now.stmts c.args.parsed.now.decls in
-    let one = get nat_eq c.in-Ok.constants in
+    let one = get nat_eq c.in_ok-constants.constants in
     let other = first_spelt (constant_names (declared texts trees)) in
     ok_same c.judge_all_variables.result (fold (method_judged one texts) c.args.found (methods_of trees)) (fold (method_judged other texts) c.args.found (methods_of trees))
-    (methods-same one other c.in-Ok.ensures texts c.args.found (methods_of trees)) c.judge_all_variables.ensures
+    (methods-same one other c.in_ok-constants.ensures texts c.args.found (methods_of trees)) c.judge_all_variables.ensures

@@ -9,7 +9,7 @@ loop-number-preserved c =
     let es = expr_trees c.args.parsed.now.exprs in
     let ts = stmt_trees c.args.parsed.now.exprs c.args.parsed.now.stmts in
     gather_step methods_in methods-split es ts c.args.parsed.now.decls c.loop-number.number c.decl.result.now c.decl.ensures.node c.loop-number.methods.items c.push_owned.new.methods.items (listed c.owned_method.result)
-    (c.owned_method.ensures es ts c.decl.result.now.public c.decl.result.now.at) c.in-Ok.ensures
+    (c.owned_method.ensures es ts c.decl.result.now.public c.decl.result.now.at) c.in_ok-push_owned.ensures
     ∙ c.loop-number.invariant
 
 pub returns : goal.returns

@@ -9,7 +9,7 @@ loop-number-preserved c =
     let es = expr_trees c.args.parsed.now.exprs in
     let ts = stmt_trees c.args.parsed.now.exprs c.args.parsed.now.stmts in
     gather_step structs_in structs-split es ts c.args.parsed.now.decls c.loop-number.number c.decl.result.now c.decl.ensures.node c.loop-number.names.items c.push_name.new.names.items (listed c.struct_name.result)
-    (c.struct_name.ensures es ts c.decl.result.now.public c.decl.result.now.at) c.in-Ok.ensures
+    (c.struct_name.ensures es ts c.decl.result.now.public c.decl.result.now.at) c.in_ok-push_name.ensures
     ∙ c.loop-number.invariant
 
 pub returns : goal.returns

@@ -19,10 +19,10 @@ pub walk_arms-loop-arm-preserved : goal.walk_arms-loop-arm-preserved
 walk_arms-loop-arm-preserved t c =
     let es = expr_trees c.args.parsed.now.exprs in
     let ts = stmt_trees c.args.parsed.now.exprs c.args.parsed.now.stmts in
-    let one = rw c.loop-arm.invariant.1 at c.in-Ok.ensures.found in (
-      arm_step c.args.parsed.now.texts c.loop-arm.found c.in-Ok.next c.args.loops.now.items es ts c.args.arms.now (else_at ts c.args.otherwise.now) c.loop-arm.arm-index c.arm-item.result c.arm-item.is c.loop-arm-test.true one
+    let one = rw c.loop-arm.invariant.1 at c.in_ok-found.ensures.found in (
+      arm_step c.args.parsed.now.texts c.loop-arm.found _ c.args.loops.now.items es ts c.args.arms.now (else_at ts c.args.otherwise.now) c.loop-arm.arm-index c.arm-item.result c.arm-item.is c.loop-arm-test.true one
           ∙ c.loop-arm.invariant.0,
-      c.in-Ok.ensures.loops ∙ c.loop-arm.invariant.1,
+      c.in_ok-found.ensures.loops ∙ c.loop-arm.invariant.1,
     )
 
 pub walk_block-walk_stmt-requires : goal.walk_block-walk_stmt-requires
@@ -37,10 +37,10 @@ pub walk_block-loop-s-preserved : goal.walk_block-loop-s-preserved
 walk_block-loop-s-preserved t c =
     let ts = stmt_trees c.args.parsed.now.exprs c.args.parsed.now.stmts in
     let inside : c.loop-s.s-index < length c.args.block.now.items = rw (← c.as_slice-s-items.ensures) c.loop-s-test.true in
-    let one = rw (c.as_slice-s-items.ensures, c.loop-s.invariant.1) at c.in-Ok.ensures.found in (
-      stmt_step c.args.parsed.now.texts c.loop-s.found c.in-Ok.next c.args.loops.now.items ts c.args.block.now.items c.args.block.now.close c.loop-s.s-index (record { 0 = 0 }) inside one
+    let one = rw (c.as_slice-s-items.ensures, c.loop-s.invariant.1) at c.in_ok-found.ensures.found in (
+      stmt_step c.args.parsed.now.texts c.loop-s.found _ c.args.loops.now.items ts c.args.block.now.items c.args.block.now.close c.loop-s.s-index (record { 0 = 0 }) inside one
           ∙ c.loop-s.invariant.0,
-      c.in-Ok.ensures.loops ∙ c.loop-s.invariant.1,
+      c.in_ok-found.ensures.loops ∙ c.loop-s.invariant.1,
     )
 
 pub walk_stmt-walk_arms-requires : goal.walk_stmt-walk_arms-requires

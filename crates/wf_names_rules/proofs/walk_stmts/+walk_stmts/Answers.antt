@@ -11,12 +11,12 @@ use Rattle.wf_names_rules.specs.Tables.{known_by}
 use Rattle.wf_names_rules.proofs.StmtLemmas.{ok_append, ok_append_more, stmts_above, else_above, arms_above, else_more, arms_more, stmt_at_place, arm_at_place, stmt_step, arm_step}
 use Rattle.wf_names_rules.proofs.walk_stmts.+walk_stmts.Goals as goal
 
-pub walk_arm-returns-in-Ok : goal.walk_arm-returns-in-Ok
-walk_arm-returns-in-Ok t c =
+pub walk_arm-returns : goal.walk_arm-returns
+walk_arm-returns t c =
     let k = known_by c.args.parsed.now.texts c.args.tables.now c.args.scope.now in
     let condition = uses_of (expr_at (expr_trees c.args.parsed.now.exprs) c.args.arm.now.condition) in
     let body = block_uses (block_at (stmt_trees c.args.parsed.now.exprs c.args.parsed.now.stmts) c.args.arm.now.body) in
-    ok_append k c.args.seen c.in-Ok.seen condition body c.walk_block.result c.in-Ok.ensures c.walk_block.ensures
+    ok_append k c.args.seen c.in_ok-seen.seen condition body c.walk_block.result c.in_ok-seen.ensures c.walk_block.ensures
 
 pub walk_arms-walk_arm-requires : goal.walk_arms-walk_arm-requires
 walk_arms-walk_arm-requires t c =
@@ -28,7 +28,7 @@ walk_arms-loop-arm-preserved t c =
     let k = known_by c.args.parsed.now.texts c.args.tables.now c.args.scope.now in
     let es = expr_trees c.args.parsed.now.exprs in
     let ts = stmt_trees c.args.parsed.now.exprs c.args.parsed.now.stmts in
-    arm_step k c.loop-arm.seen c.in-Ok.next es ts c.args.arms.now (else_at ts c.args.otherwise.now) c.loop-arm.arm-index c.arm-item.result c.arm-item.is c.loop-arm-test.true c.in-Ok.ensures ∙ c.loop-arm.invariant
+    arm_step k c.loop-arm.seen _ es ts c.args.arms.now (else_at ts c.args.otherwise.now) c.loop-arm.arm-index c.arm-item.result c.arm-item.is c.loop-arm-test.true c.in_ok-seen.ensures ∙ c.loop-arm.invariant
 
 pub walk_block-walk_stmt-requires : goal.walk_block-walk_stmt-requires
 walk_block-walk_stmt-requires t c =
@@ -43,8 +43,8 @@ walk_block-loop-s-preserved t c =
     let k = known_by c.args.parsed.now.texts c.args.tables.now c.args.scope.now in
     let ts = stmt_trees c.args.parsed.now.exprs c.args.parsed.now.stmts in
     let inside : c.loop-s.s-index < length c.args.block.now.items = rw (← c.as_slice-s-items.ensures) c.loop-s-test.true in
-    let one = rw c.as_slice-s-items.ensures at c.in-Ok.ensures in
-    stmt_step k c.loop-s.seen c.in-Ok.next ts c.args.block.now.items c.args.block.now.close c.loop-s.s-index (record { 0 = 0 }) inside one ∙ c.loop-s.invariant
+    let one = rw c.as_slice-s-items.ensures at c.in_ok-seen.ensures in
+    stmt_step k c.loop-s.seen _ ts c.args.block.now.items c.args.block.now.close c.loop-s.s-index (record { 0 = 0 }) inside one ∙ c.loop-s.invariant
 
 pub walk_stmt-walk_arms-requires : goal.walk_stmt-walk_arms-requires
 walk_stmt-walk_arms-requires t c =
@@ -63,32 +63,32 @@ walk_stmt-walk_block-requires t c =
     let more : c.args.s.0 ≤ length c.args.parsed.now.stmts = omega (arith, c.requires) in
     (omega (arith, stmts_above c.args.s.0 c.in-While.body.items parts.2, c.decreases), BlockBelow-more c.args.s.0 (length c.args.parsed.now.stmts) more c.in-While.body parts.2)
 
-pub walk_stmt-returns-in-Ok : goal.walk_stmt-returns-in-Ok
-walk_stmt-returns-in-Ok t c =
+pub walk_stmt-returns-in_ok-seen-in-Assign : goal.walk_stmt-returns-in_ok-seen-in-Assign
+walk_stmt-returns-in_ok-seen-in-Assign t c =
     let k = known_by c.args.parsed.now.texts c.args.tables.now c.args.scope.now in
     let es = expr_trees c.args.parsed.now.exprs in
     rw (c.stmt-node.ensures.made, c.in-Assign.is)
-    (ok_append k c.args.seen c.in-Ok.seen (target_uses (target_at es c.in-Assign.target)) (uses_of (expr_at es c.in-Assign.value)) c.walk_expr.result c.in-Ok.ensures c.walk_expr.ensures)
+    (ok_append k c.args.seen c.in_ok-seen-in-Assign.seen (target_uses (target_at es c.in-Assign.target)) (uses_of (expr_at es c.in-Assign.value)) c.walk_expr.result c.in_ok-seen-in-Assign.ensures c.walk_expr.ensures)
 
-pub walk_stmt-returns-in-Ok-walk_target : goal.walk_stmt-returns-in-Ok-walk_target
-walk_stmt-returns-in-Ok-walk_target t c =
+pub walk_stmt-returns-in_ok-seen-in-Keep : goal.walk_stmt-returns-in_ok-seen-in-Keep
+walk_stmt-returns-in_ok-seen-in-Keep t c =
     let k = known_by c.args.parsed.now.texts c.args.tables.now c.args.scope.now in
     let es = expr_trees c.args.parsed.now.exprs in
     rw (c.stmt-node.ensures.made, c.in-Keep.is)
-    (ok_append k c.args.seen c.in-Ok-walk_target.seen (target_uses (target_at es c.in-Keep.target)) (call_uses (call_at es c.in-Keep.call)) c.walk_call.result c.in-Ok-walk_target.ensures c.walk_call.ensures)
+    (ok_append k c.args.seen c.in_ok-seen-in-Keep.seen (target_uses (target_at es c.in-Keep.target)) (call_uses (call_at es c.in-Keep.call)) c.walk_call.result c.in_ok-seen-in-Keep.ensures c.walk_call.ensures)
 
-pub walk_stmt-returns-in-Ok-walk_head : goal.walk_stmt-returns-in-Ok-walk_head
-walk_stmt-returns-in-Ok-walk_head t c =
+pub walk_stmt-returns-in_ok-seen-in-While : goal.walk_stmt-returns-in_ok-seen-in-While
+walk_stmt-returns-in_ok-seen-in-While t c =
     let k = known_by c.args.parsed.now.texts c.args.tables.now c.args.scope.now in
     let es = expr_trees c.args.parsed.now.exprs in
     let ts = stmt_trees c.args.parsed.now.exprs c.args.parsed.now.stmts in
-    let head = rw c.as_slice-in-While.ensures at c.in-Ok-walk_head.ensures in
+    let head = rw c.as_slice-in-While.ensures at c.in_ok-seen-in-While.ensures in
     rw (c.stmt-node.ensures.made, c.in-While.is)
-    (ok_append_more k c.args.seen c.in-Ok-walk_head.seen (uses_of (expr_at es c.in-While.condition)) (clause_uses (clauses_at es c.in-While.clauses)) (block_uses (block_at ts c.in-While.body)) c.walk_block.result head c.walk_block.ensures)
+    (ok_append_more k c.args.seen c.in_ok-seen-in-While.seen (uses_of (expr_at es c.in-While.condition)) (clause_uses (clauses_at es c.in-While.clauses)) (block_uses (block_at ts c.in-While.body)) c.walk_block.result head c.walk_block.ensures)
 
-pub walk_stmt-returns-in-Ok-walk_expr : goal.walk_stmt-returns-in-Ok-walk_expr
-walk_stmt-returns-in-Ok-walk_expr t c =
+pub walk_stmt-returns-in_ok-seen-in-Assert : goal.walk_stmt-returns-in_ok-seen-in-Assert
+walk_stmt-returns-in_ok-seen-in-Assert t c =
     let k = known_by c.args.parsed.now.texts c.args.tables.now c.args.scope.now in
     let es = expr_trees c.args.parsed.now.exprs in
     rw (c.stmt-node.ensures.made, c.in-Assert.is)
-    (ok_append k c.args.seen c.in-Ok-walk_expr.seen (uses_of (expr_at es c.in-Assert.goal)) (via_uses (via_at es c.in-Assert.via)) c.walk_via.result c.in-Ok-walk_expr.ensures c.walk_via.ensures)
+    (ok_append k c.args.seen c.in_ok-seen-in-Assert.seen (uses_of (expr_at es c.in-Assert.goal)) (via_uses (via_at es c.in-Assert.via)) c.walk_via.result c.in_ok-seen-in-Assert.ensures c.walk_via.ensures)

@@ -7,4 +7,4 @@ use Rattle.wf_names_rules.proofs.walk_stmts.walk_clauses.Goals as goal
 pub loop-clause-preserved : goal.loop-clause-preserved
 loop-clause-preserved c =
     let k = known_by c.args.parsed.now.texts c.args.tables.now c.args.scope.now in
-    clause_step k c.loop-clause.seen c.in-Ok.next (expr_trees c.args.parsed.now.exprs) c.args.clauses.now c.loop-clause.clause-index _ c.loop-clause-test.true c.in-Ok.ensures ∙ c.loop-clause.invariant
+    clause_step k c.loop-clause.seen _ (expr_trees c.args.parsed.now.exprs) c.args.clauses.now c.loop-clause.clause-index _ c.loop-clause-test.true c.in_ok-seen.ensures ∙ c.loop-clause.invariant

@@ -4,8 +4,8 @@ use Rattle.wf_names_rules.specs.Tables.{known_by}
 use Rattle.wf_names_rules.proofs.StmtLemmas.{ok_append}
 use Rattle.wf_names_rules.proofs.walk_stmts.walk_head.Goals as goal
 
-pub returns-in-Ok : goal.returns-in-Ok
-returns-in-Ok c =
+pub returns : goal.returns
+returns c =
     let k = known_by c.args.parsed.now.texts c.args.tables.now c.args.scope.now in
     let ts = expr_trees c.args.parsed.now.exprs in
-    ok_append k c.args.seen c.in-Ok.seen (uses_of (expr_at ts c.args.condition)) (clause_uses (clauses_at ts c.args.clauses.now)) c.walk_clauses.result c.in-Ok.ensures c.walk_clauses.ensures
+    ok_append k c.args.seen c.in_ok-seen.seen (uses_of (expr_at ts c.args.condition)) (clause_uses (clauses_at ts c.args.clauses.now)) c.walk_clauses.result c.in_ok-seen.ensures c.walk_clauses.ensures

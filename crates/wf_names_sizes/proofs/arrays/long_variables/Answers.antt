@@ -7,13 +7,13 @@ use Rattle.wf_names_sizes.specs.LongArrays.{long_item}
 use Rattle.wf_names_sizes.proofs.ArrayLemmas.{soonest-append, longs_by, locals_hide}
 use Rattle.wf_names_sizes.proofs.arrays.long_variables.Goals as goal
 
-pub returns-in-Ok : goal.returns-in-Ok
-returns-in-Ok c =
+pub returns : goal.returns
+returns c =
     let d = of_package c.args.parsed.now in
     let locals = locals_of (block_at (stmt_trees c.args.parsed.now.exprs c.args.parsed.now.stmts) c.args.body.now) in
     let args = variables (fields_at (expr_trees c.args.parsed.now.exprs) c.args.args.now) in
-    let hides = locals_hide c.in-Ok.hidden locals c.in-Ok.ensures in
-    let longs = longs_by d locals c.args.constants.now c.in-Ok.hidden c.requires.knows hides in
+    let hides = locals_hide c.in_ok-hidden.hidden locals c.in_ok-hidden.ensures in
+    let longs = longs_by d locals c.args.constants.now c.in_ok-hidden.hidden c.requires.knows hides in
     c.long_locals.ensures ∙ ap (soonest c.long_fields-found.result) (longs locals)
     ∙ ap (λ x. soonest x (map (long_item d locals) locals)) (c.long_fields-found.ensures ∙ ap (soonest c.args.found) (longs args))
     ∙ sym (soonest-append c.args.found (map (long_item d locals) args) (map (long_item d locals) locals))

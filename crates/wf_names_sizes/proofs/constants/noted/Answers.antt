@@ -18,7 +18,7 @@ loop-number-preserved c =
     let known = c.loop-number.invariant.0 in
     let t = decl_made (expr_trees p.exprs) (stmt_trees p.exprs p.stmts) there.0.public there.0.decl there.0.at in (
       known_from (of_package p) known (constants_of (t ∷ [])),
-      (c.in-Ok.ensures known there.0 there.1 c.loop-number.invariant.1.0, constants_step (of_package p) known p.exprs p.stmts p.decls c.loop-number.number there.0 there.1 ∙ c.loop-number.invariant.1.1),
+      (c.in_ok-note_decl.ensures known there.0 there.1 c.loop-number.invariant.1.0, constants_step (of_package p) known p.exprs p.stmts p.decls c.loop-number.number there.0 there.1 ∙ c.loop-number.invariant.1.1),
     )
 
 pub returns : goal.returns

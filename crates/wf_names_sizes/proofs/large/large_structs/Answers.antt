@@ -6,9 +6,9 @@ use Rattle.wf_names_sizes.specs.StructSizes.{HasLargeField}
 use Rattle.wf_names_sizes.proofs.DecidingLaws.{large-behind}
 use Rattle.wf_names_sizes.proofs.large.large_structs.Goals as goal
 
-pub returns-in-Ok-known_sizes : goal.returns-in-Ok-known_sizes
-returns-in-Ok-known_sizes c =
+pub returns : goal.returns
+returns c =
     let d = of_package c.args.parsed.now in
-    let slice : c.as_slice.result.now ≡ c.in-Ok-known_sizes.sizes.items = c.as_slice.ensures.value in
+    let slice : c.as_slice.result.now ≡ c.in_ok-sizes.sizes.items = c.as_slice.ensures.value in
     let P : Option Refusal → Type 0 = DecidesBehind (HasLargeField d) c.args.found in
-    subst P (sym (rw slice at c.large_in_structs.ensures)) (large-behind d c.args.flags.now c.in-Ok-known_sizes.sizes.items c.requires.holding c.in-Ok-known_sizes.ensures.sound c.in-Ok-known_sizes.ensures.settled c.args.found)
+    subst P (sym (rw slice at c.large_in_structs.ensures)) (large-behind d c.args.flags.now c.in_ok-sizes.sizes.items c.requires.holding c.in_ok-sizes.ensures.sound c.in_ok-sizes.ensures.settled c.args.found)

@@ -7,10 +7,10 @@ use Rattle.wf_names_sizes.proofs.struct_sizes.sizes.Goals as goal
 
 pub loop-s-init : goal.loop-s-init
 loop-s-init c = (
-  ap length c.in-Ok.ensures.none ∙ length-replicate (length c.args.rows.now) None,
+  ap length c.in_ok-sizes.ensures.none ∙ length-replicate (length c.args.rows.now) None,
   (
     (λ t h. absurd (cc h)),
-    (λ d same holding. let P : List (Option ℕ) → Type 0 = AreSizes d in subst P (sym c.in-Ok.ensures.none) (no-sizes d (length c.args.rows.now))),
+    (λ d same holding. let P : List (Option ℕ) → Type 0 = AreSizes d in subst P (sym c.in_ok-sizes.ensures.none) (no-sizes d (length c.args.rows.now))),
   ),
 )
 

@@ -16,9 +16,9 @@ loop-number-preserved c =
     let p = c.args.parsed.now in
     let within : c.loop-number.number < length p.decls = rw c.decls-number-end.ensures at c.loop-number-test.true in
     let there = item-there p.decls c.loop-number.number within in (
-      c.in-Ok.ensures.most,
+      c.in_ok-count.ensures.most,
       λ text.
-          c.in-Ok.ensures.numbers there.0 there.1 text (structs_of (drop (c.loop-number.number + 1) (decl_trees p.exprs p.stmts p.decls)))
+          c.in_ok-count.ensures.numbers there.0 there.1 text (structs_of (drop (c.loop-number.number + 1) (decl_trees p.exprs p.stmts p.decls)))
           ∙ ap (λ xs. option_or (get nat_eq c.loop-number.structs text) (position_from (λ (s : Structure). is_spelt text s.name) c.loop-number.count xs)) (sym (structs_next p.exprs p.stmts p.decls c.loop-number.number there.0 there.1))
           ∙ c.loop-number.invariant.1 text,
     )

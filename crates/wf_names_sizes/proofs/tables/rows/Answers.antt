@@ -13,7 +13,7 @@ loop-number-preserved c =
     let there = item-there p.decls c.loop-number.number within in
     let these = structs_of (decl_made (expr_trees p.exprs) (stmt_trees p.exprs p.stmts) there.0.public there.0.decl there.0.at ∷ []) in
     rows_step (of_package p) c.loop-number.rows.items _ these (structs_of (drop (c.loop-number.number + 1) (decl_trees p.exprs p.stmts p.decls))) (structs_of (drop c.loop-number.number (decl_trees p.exprs p.stmts p.decls)))
-    (c.in-Ok.ensures there.0 there.1) (structs_next p.exprs p.stmts p.decls c.loop-number.number there.0 there.1)
+    (c.in_ok-add_row.ensures there.0 there.1) (structs_next p.exprs p.stmts p.decls c.loop-number.number there.0 there.1)
     ∙ c.loop-number.invariant
 
 pub returns : goal.returns

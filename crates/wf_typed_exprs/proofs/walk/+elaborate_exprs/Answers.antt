@@ -21,14 +21,14 @@ elaborate_chain-elaborate_operands-requires t c =
     let parts = chain-right c.args.around.now c.args.nodes.now (length c.args.nodes.now.statuses) c.args.op (expr_at es c.args.first) (links_at es c.args.links.now) c.args.at c.requires.right in
     (omega (arith, c.decreases), (c.requires.first, (c.requires.links, (parts.0, parts.1))))
 
-pub elaborate_chain-returns-in-Ok-clause-made : goal.elaborate_chain-returns-in-Ok-clause-made
-elaborate_chain-returns-in-Ok-clause-made t c =
+pub elaborate_chain-returns-clause-made : goal.elaborate_chain-returns-clause-made
+elaborate_chain-returns-clause-made t c =
     let s = c.args.around.now in
     let es = expr_trees c.args.named.now.exprs in
     let nodes = c.elaborate_operands.new.nodes in
     let whole = chain c.args.op (expr_at es c.args.first) (links_at es c.args.links.now) c.args.at in
     rw c.chain_meant.ensures
-    (chain-makes s nodes c.args.op (expr_at es c.args.first) (links_at es c.args.links.now) c.args.at c.in-Ok.operands (right_kept s c.args.nodes.now nodes c.in-Ok.ensures.grows whole c.requires.right) c.in-Ok.ensures.all)
+    (chain-makes s nodes c.args.op (expr_at es c.args.first) (links_at es c.args.links.now) c.args.at c.in_ok-operands.operands (right_kept s c.args.nodes.now nodes c.in_ok-operands.ensures.grows whole c.requires.right) c.in_ok-operands.ensures.all)
 
 pub elaborate_convert-elaborate_expr-requires : goal.elaborate_convert-elaborate_expr-requires
 elaborate_convert-elaborate_expr-requires t c =
@@ -50,21 +50,21 @@ elaborate_index-elaborate_expr-requires t c =
     let s = c.args.around.now in
     let i = expr_at (expr_trees c.args.named.now.exprs) c.args.index in
     let right = (index-right s c.args.nodes.now (length c.args.nodes.now.statuses) c.args.base i c.args.at c.requires.right).1 in
-    (omega (arith, c.decreases), (c.requires.there, right_kept s c.args.nodes.now c.elaborate_path.new.nodes c.in-Ok.ensures.grows i right))
+    (omega (arith, c.decreases), (c.requires.there, right_kept s c.args.nodes.now c.elaborate_path.new.nodes c.in_ok-cells.ensures.grows i right))
 
-pub elaborate_index-returns-in-Ok-elaborate_expr-clause-made : goal.elaborate_index-returns-in-Ok-elaborate_expr-clause-made
-elaborate_index-returns-in-Ok-elaborate_expr-clause-made t c =
+pub elaborate_index-returns-clause-made : goal.elaborate_index-returns-clause-made
+elaborate_index-returns-clause-made t c =
     let s = c.args.around.now in
     let p = c.args.base in
     let i = expr_at (expr_trees c.args.named.now.exprs) c.args.index in
     let mid = c.elaborate_path.new.nodes in
     let after = c.elaborate_expr.new.nodes in
-    let all = grows_more c.args.nodes.now mid after c.in-Ok.ensures.grows c.in-Ok-elaborate_expr.ensures.grows in
-    let base = stands_kept (path_tree s p) (variable s p.of) mid after c.in-Ok.cells.node c.in-Ok-elaborate_expr.ensures.grows c.in-Ok.ensures.stands in
-    let cells : c.in-Ok.cells.value.of ≡ variable s p.of = ap (λ (v : Value). v.of) c.in-Ok.ensures.value in
-    let place : c.in-Ok-elaborate_expr.index.value.of ≡ meaning s i = ap (λ (v : Value). v.of) c.in-Ok-elaborate_expr.ensures.value in
+    let all = grows_more c.args.nodes.now mid after c.in_ok-cells.ensures.grows c.in_ok-index.ensures.grows in
+    let base = stands_kept (path_tree s p) (variable s p.of) mid after c.in_ok-cells.cells.node c.in_ok-index.ensures.grows c.in_ok-cells.ensures.stands in
+    let cells : c.in_ok-cells.cells.value.of ≡ variable s p.of = ap (λ (v : Value). v.of) c.in_ok-cells.ensures.value in
+    let place : c.in_ok-index.index.value.of ≡ meaning s i = ap (λ (v : Value). v.of) c.in_ok-index.ensures.value in
     rw (c.unsigned.ensures, c.typed.ensures, c.if_number.ensures, c.elements.ensures, place, cells)
-    (index-makes s after p i c.args.at c.in-Ok.cells.node c.in-Ok-elaborate_expr.index.node (right_kept s c.args.nodes.now after all (index p i c.args.at) c.requires.right) base c.in-Ok-elaborate_expr.ensures.stands)
+    (index-makes s after p i c.args.at c.in_ok-cells.cells.node c.in_ok-index.index.node (right_kept s c.args.nodes.now after all (index p i c.args.at) c.requires.right) base c.in_ok-index.ensures.stands)
 
 pub elaborate_links-elaborate_link-requires : goal.elaborate_links-elaborate_link-requires
 elaborate_links-elaborate_link-requires t c =
@@ -81,10 +81,10 @@ elaborate_links-loop-link-preserved t c =
     let es = expr_trees c.args.named.now.exprs in
     let l = c.loop-link in
     let after = c.elaborate_link.new.nodes in (
-      grows_more c.args.nodes.now l.nodes after l.invariant.0 c.in-Ok.ensures.grows,
+      grows_more c.args.nodes.now l.nodes after l.invariant.0 c.in_ok-all.ensures.grows,
       (
-        left_next s es c.args.links.now l.link-index _ l.nodes after c.args.before l.all c.in-Ok.next c.loop-link-test.true l.invariant.1.0 c.in-Ok.ensures.grows c.in-Ok.ensures.adds,
-        entries_next s es c.args.links.now l.link-index _ c.args.nodes.now l.nodes after c.loop-link-test.true l.invariant.1.1 c.in-Ok.ensures.entries,
+        left_next s es c.args.links.now l.link-index _ l.nodes after c.args.before l.all _ c.loop-link-test.true l.invariant.1.0 c.in_ok-all.ensures.grows c.in_ok-all.ensures.adds,
+        entries_next s es c.args.links.now l.link-index _ c.args.nodes.now l.nodes after c.loop-link-test.true l.invariant.1.1 c.in_ok-all.ensures.entries,
       ),
     )
 
@@ -123,37 +123,37 @@ elaborate_slice-elaborate_ends-requires t c =
     let s = c.args.around.now in
     let es = expr_trees c.args.named.now.exprs in
     let right = (slice-right s c.args.nodes.now (length c.args.nodes.now.statuses) c.args.base (part_at es c.args.from) (part_at es c.args.to) c.args.at c.requires.right).1 in
-    let kept = end_right_kept s c.args.nodes.now c.elaborate_path.new.nodes c.in-Ok.ensures.grows in
+    let kept = end_right_kept s c.args.nodes.now c.elaborate_path.new.nodes c.in_ok-cells.ensures.grows in
     (omega (arith, c.decreases), (c.requires.from, (c.requires.to, (kept (part_at es c.args.from) right.0, kept (part_at es c.args.to) right.1))))
 
-pub elaborate_slice-returns-in-Ok-elaborate_ends-clause-made : goal.elaborate_slice-returns-in-Ok-elaborate_ends-clause-made
-elaborate_slice-returns-in-Ok-elaborate_ends-clause-made t c =
+pub elaborate_slice-returns-clause-made : goal.elaborate_slice-returns-clause-made
+elaborate_slice-returns-clause-made t c =
     let s = c.args.around.now in
     let p = c.args.base in
     let es = expr_trees c.args.named.now.exprs in
     let mid = c.elaborate_path.new.nodes in
     let after = c.elaborate_ends.new.nodes in
-    let ends = c.in-Ok-elaborate_ends in
-    let all = grows_more c.args.nodes.now mid after c.in-Ok.ensures.grows ends.ensures.grows in
-    let base = stands_kept (path_tree s p) (variable s p.of) mid after c.in-Ok.cells.node ends.ensures.grows c.in-Ok.ensures.stands in
-    let cells : c.in-Ok.cells.value.of ≡ variable s p.of = ap (λ (v : Value). v.of) c.in-Ok.ensures.value in
-    rw (c.unsigned.ensures, c.slice_meant.ensures, c.node_of.ensures, c.node_of-in-Ok-elaborate_ends.ensures, cells)
-    (slice-makes s after p (part_at es c.args.from) (part_at es c.args.to) c.args.at c.in-Ok.cells.node ends.from ends.to
+    let ends = c.in_ok-from in
+    let all = grows_more c.args.nodes.now mid after c.in_ok-cells.ensures.grows ends.ensures.grows in
+    let base = stands_kept (path_tree s p) (variable s p.of) mid after c.in_ok-cells.cells.node ends.ensures.grows c.in_ok-cells.ensures.stands in
+    let cells : c.in_ok-cells.cells.value.of ≡ variable s p.of = ap (λ (v : Value). v.of) c.in_ok-cells.ensures.value in
+    rw (c.unsigned.ensures, c.slice_meant.ensures, c.node_of.ensures, c.node_of-2.ensures, cells)
+    (slice-makes s after p (part_at es c.args.from) (part_at es c.args.to) c.args.at c.in_ok-cells.cells.node ends.from ends.to
     (right_kept s c.args.nodes.now after all (slice p (part_at es c.args.from) (part_at es c.args.to) c.args.at) c.requires.right) base ends.ensures.from ends.ensures.to)
 
-pub elaborate_expr-returns-in-Ok-clause-entries : goal.elaborate_expr-returns-in-Ok-clause-entries
-elaborate_expr-returns-in-Ok-clause-entries t c =
-    made_adds c.args.around.now (expr_at (expr_trees c.args.named.now.exprs) c.args.e) c.args.nodes.now c.elaborate_node.new.nodes c.put.new.nodes c.in-Ok.made c.put.result c.in-Ok.ensures.entries c.in-Ok.ensures.made c.put.ensures.entries
+pub elaborate_expr-returns-clause-entries : goal.elaborate_expr-returns-clause-entries
+elaborate_expr-returns-clause-entries t c =
+    made_adds c.args.around.now (expr_at (expr_trees c.args.named.now.exprs) c.args.e) c.args.nodes.now c.elaborate_node.new.nodes c.put.new.nodes c.in_ok-made.made c.put.result c.in_ok-made.ensures.entries c.in_ok-made.ensures.made c.put.ensures.entries
 
-pub elaborate_index-returns-in-Ok-elaborate_expr-clause-entries : goal.elaborate_index-returns-in-Ok-elaborate_expr-clause-entries
-elaborate_index-returns-in-Ok-elaborate_expr-clause-entries t c =
+pub elaborate_index-returns-clause-entries : goal.elaborate_index-returns-clause-entries
+elaborate_index-returns-clause-entries t c =
     let s = c.args.around.now in
     let i = expr_at (expr_trees c.args.named.now.exprs) c.args.index in
-    adds_then c.args.nodes.now c.elaborate_path.new.nodes c.elaborate_expr.new.nodes (path_entry s c.args.base ∷ []) (expr_entries s i) c.in-Ok.ensures.entries c.in-Ok-elaborate_expr.ensures.entries
+    adds_then c.args.nodes.now c.elaborate_path.new.nodes c.elaborate_expr.new.nodes (path_entry s c.args.base ∷ []) (expr_entries s i) c.in_ok-cells.ensures.entries c.in_ok-index.ensures.entries
 
-pub elaborate_slice-returns-in-Ok-elaborate_ends-clause-entries : goal.elaborate_slice-returns-in-Ok-elaborate_ends-clause-entries
-elaborate_slice-returns-in-Ok-elaborate_ends-clause-entries t c =
+pub elaborate_slice-returns-clause-entries : goal.elaborate_slice-returns-clause-entries
+elaborate_slice-returns-clause-entries t c =
     let s = c.args.around.now in
     let es = expr_trees c.args.named.now.exprs in
     adds_then c.args.nodes.now c.elaborate_path.new.nodes c.elaborate_ends.new.nodes (path_entry s c.args.base ∷ []) (end_entries s (part_at es c.args.from) ++ end_entries s (part_at es c.args.to))
-    c.in-Ok.ensures.entries c.in-Ok-elaborate_ends.ensures.entries
+    c.in_ok-cells.ensures.entries c.in_ok-from.ensures.entries

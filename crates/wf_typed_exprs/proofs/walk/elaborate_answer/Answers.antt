@@ -12,16 +12,16 @@ elaborate_path-requires c =
 pub unreachable-requires : goal.unreachable-requires
 unreachable-requires c = let means = rw c.in-Own.is at c.requires.right.means in absurd (cc means)
 
-pub returns-in-Ok-clause-made : goal.returns-in-Ok-clause-made
-returns-in-Ok-clause-made c = λ args.
+pub returns-clause-made : goal.returns-clause-made
+returns-clause-made c = λ args.
     let s = c.args.around.now in
     let nodes = c.elaborate_path.new.nodes in
     let right = rw c.in-Base.is at c.requires.right in
     let inner = rw c.in-Base.is at (c.inner_answer.ensures args) in
     let made =
-    answer-makes s nodes c.in-Base.on c.in-Base.sig c.args.call.now.at c.args.call.now.mark c.requires.args c.in-Ok.asked.node
-    (right_kept s c.args.nodes.now nodes c.in-Ok.ensures.grows (answer (call _ c.args.call.now.at c.args.call.now.mark c.requires.args)) right) c.in-Ok.ensures.stands in
+    answer-makes s nodes c.in-Base.on c.in-Base.sig c.args.call.now.at c.args.call.now.mark c.requires.args c.in_ok-asked-in-Base.asked.node
+    (right_kept s c.args.nodes.now nodes c.in_ok-asked-in-Base.ensures.grows (answer (call _ c.args.call.now.at c.args.call.now.mark c.requires.args)) right) c.in_ok-asked-in-Base.ensures.stands in
     rw (c.in-Base.is, c.unsigned.ensures, inner) made
 
-pub returns-in-Ok-clause-entries : goal.returns-in-Ok-clause-entries
-returns-in-Ok-clause-entries c = rw c.in-Base.is c.in-Ok.ensures.entries
+pub returns-clause-entries : goal.returns-clause-entries
+returns-clause-entries c = rw c.in-Base.is c.in_ok-asked-in-Base.ensures.entries

@@ -8,12 +8,12 @@ use Rattle.wf_typed_exprs.proofs.walk.elaborate_path.Goals as goal
 pub put-requires-clause-fits : goal.put-requires-clause-fits
 put-requires-clause-fits c = rw c.path_node.ensures (path-makes c.args.around.now c.args.nodes.now c.args.path c.requires).fits
 
-pub returns-in-Ok-clause-stands : goal.returns-in-Ok-clause-stands
-returns-in-Ok-clause-stands c =
+pub returns-clause-stands : goal.returns-clause-stands
+returns-clause-stands c =
     let s = c.args.around.now in
     let p = c.args.path in
     let made : Makes p.at (path_tree s p) (variable s p.of) c.args.nodes.now c.path_node.result = rw c.path_node.ensures (path-makes s c.args.nodes.now p c.requires) in
-    makes_stands p.at (path_tree s p) (variable s p.of) c.args.nodes.now c.put.new.nodes c.path_node.result c.in-Ok.made.node made c.in-Ok.ensures.stands
+    makes_stands p.at (path_tree s p) (variable s p.of) c.args.nodes.now c.put.new.nodes c.path_node.result c.in_ok-made.made.node made c.in_ok-made.ensures.stands
 
-pub returns-in-Ok-clause-entries : goal.returns-in-Ok-clause-entries
-returns-in-Ok-clause-entries c = rw c.path_node.ensures at c.in-Ok.ensures.entries
+pub returns-clause-entries : goal.returns-clause-entries
+returns-clause-entries c = rw c.path_node.ensures at c.in_ok-made.ensures.entries

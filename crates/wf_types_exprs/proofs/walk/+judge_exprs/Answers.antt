@@ -44,46 +44,46 @@ pub judge_expr-returns-in-Path-clause-found : goal.judge_expr-returns-in-Path-cl
 judge_expr-returns-in-Path-clause-found t c =
     rw (c.expr-node.ensures.made, c.in-Path.is) (c.judged_path.ensures.found ∙ path_found c.args.around.now c.args.found c.in-Path.path)
 
-pub judge_expr-returns-in-Ok-clause-found : goal.judge_expr-returns-in-Ok-clause-found
-judge_expr-returns-in-Ok-clause-found t c =
+pub judge_expr-returns-in_ok-j-in-Index-clause-found : goal.judge_expr-returns-in_ok-j-in-Index-clause-found
+judge_expr-returns-in_ok-j-in-Index-clause-found t c =
     let i = expr_at (expr_trees c.args.nodes.now.exprs) c.in-Index.index in
     rw (c.expr-node.ensures.made, c.in-Index.is)
     (c.judged_index.ensures.found
-    ∙ index_found c.args.around.now c.args.found c.in-Ok.j.found c.in-Index.base i c.expr-node.result.now.at c.base_value-array.result c.in-Ok.j.value c.base_value-array.ensures c.in-Ok.ensures.value c.in-Ok.ensures.found)
+    ∙ index_found c.args.around.now c.args.found c.in_ok-j-in-Index.j.found c.in-Index.base i c.expr-node.result.now.at c.base_value-array.result c.in_ok-j-in-Index.j.value c.base_value-array.ensures c.in_ok-j-in-Index.ensures.value c.in_ok-j-in-Index.ensures.found)
 
-pub judge_expr-returns-in-Ok-judge_ends-clause-found : goal.judge_expr-returns-in-Ok-judge_ends-clause-found
-judge_expr-returns-in-Ok-judge_ends-clause-found t c =
+pub judge_expr-returns-in_ok-ends-in-Slice-clause-found : goal.judge_expr-returns-in_ok-ends-in-Slice-clause-found
+judge_expr-returns-in_ok-ends-in-Slice-clause-found t c =
     let es = expr_trees c.args.nodes.now.exprs in
-    let ends = c.in-Ok-judge_ends.ends in
+    let ends = c.in_ok-ends-in-Slice.ends in
     rw (c.expr-node.ensures.made, c.in-Slice.is)
     (c.judged_slice.ensures.found
     ∙ slice_found c.args.around.now c.args.found ends.found c.in-Slice.base (part_at es c.in-Slice.from) (part_at es c.in-Slice.to) c.expr-node.result.now.at c.base_value-whole.result ends.from ends.to
-    c.base_value-whole.ensures c.in-Ok-judge_ends.ensures.from c.in-Ok-judge_ends.ensures.to c.in-Ok-judge_ends.ensures.found)
+    c.base_value-whole.ensures c.in_ok-ends-in-Slice.ensures.from c.in_ok-ends-in-Slice.ensures.to c.in_ok-ends-in-Slice.ensures.found)
 
-pub judge_expr-returns-in-Ok-judge_operands-clause-found : goal.judge_expr-returns-in-Ok-judge_operands-clause-found
-judge_expr-returns-in-Ok-judge_operands-clause-found t c =
+pub judge_expr-returns-in_ok-operands-in-Chain-clause-found : goal.judge_expr-returns-in_ok-operands-in-Chain-clause-found
+judge_expr-returns-in_ok-operands-in-Chain-clause-found t c =
     let es = expr_trees c.args.nodes.now.exprs in
-    let os = c.in-Ok-judge_operands.operands in
-    let found = rw c.as_slice.ensures at c.in-Ok-judge_operands.ensures.found in
-    let of = rw c.as_slice.ensures at c.in-Ok-judge_operands.ensures.of in
+    let os = c.in_ok-operands-in-Chain.operands in
+    let found = rw c.as_slice.ensures at c.in_ok-operands-in-Chain.ensures.found in
+    let of = rw c.as_slice.ensures at c.in_ok-operands-in-Chain.ensures.of in
     rw (c.expr-node.ensures.made, c.in-Chain.is)
     (c.judged_chain.ensures.found ∙ chain_judged c.args.around.now c.args.found os.found c.in-Chain.op (expr_at es c.in-Chain.first) (links_at es c.in-Chain.links) c.expr-node.result.now.at os.of of found)
 
-pub judge_expr-returns-in-Ok-judge_conversion-clause-found : goal.judge_expr-returns-in-Ok-judge_conversion-clause-found
-judge_expr-returns-in-Ok-judge_conversion-clause-found t c =
+pub judge_expr-returns-in_ok-j-in-Convert-clause-found : goal.judge_expr-returns-in_ok-j-in-Convert-clause-found
+judge_expr-returns-in_ok-j-in-Convert-clause-found t c =
     let es = expr_trees c.args.nodes.now.exprs in
-    let j = c.in-Ok-judge_conversion.j in
+    let j = c.in_ok-j-in-Convert.j in
     rw (c.expr-node.ensures.made, c.in-Convert.is)
     (c.judged_conversion.ensures.found
     ∙ conversion_judged c.args.around.now c.args.found j.found (expr_at es c.in-Convert.of) (type_at es c.in-Convert.to) c.expr-node.result.now.at j.value j.plain
-    c.in-Ok-judge_conversion.ensures.value c.in-Ok-judge_conversion.ensures.plain c.in-Ok-judge_conversion.ensures.found)
+    c.in_ok-j-in-Convert.ensures.value c.in_ok-j-in-Convert.ensures.plain c.in_ok-j-in-Convert.ensures.found)
 
-pub judge_expr-returns-in-Ok-judge_value-clause-found : goal.judge_expr-returns-in-Ok-judge_value-clause-found
-judge_expr-returns-in-Ok-judge_value-clause-found t c =
+pub judge_expr-returns-in_ok-j-in-Not-clause-found : goal.judge_expr-returns-in_ok-j-in-Not-clause-found
+judge_expr-returns-in_ok-j-in-Not-clause-found t c =
     let e = expr_at (expr_trees c.args.nodes.now.exprs) c.in-Not.of in
-    let j = c.in-Ok-judge_value.j in
+    let j = c.in_ok-j-in-Not.j in
     rw (c.expr-node.ensures.made, c.in-Not.is)
-    (c.judged_negation.ensures.found ∙ negation_found c.args.around.now c.args.found j.found e c.expr-node.result.now.at j.value c.in-Ok-judge_value.ensures.value c.in-Ok-judge_value.ensures.found)
+    (c.judged_negation.ensures.found ∙ negation_found c.args.around.now c.args.found j.found e c.expr-node.result.now.at j.value c.in_ok-j-in-Not.ensures.value c.in_ok-j-in-Not.ensures.found)
 
 pub judge_end-returns-in-None-clause-found : goal.judge_end-returns-in-None-clause-found
 judge_end-returns-in-None-clause-found t c = rw c.in-None.is (judged-none c.args.around.now c.args.found)
@@ -91,11 +91,11 @@ judge_end-returns-in-None-clause-found t c = rw c.in-None.is (judged-none c.args
 pub judge_low-returns-in-None-clause-found : goal.judge_low-returns-in-None-clause-found
 judge_low-returns-in-None-clause-found t c = rw c.in-None.is (judged-none c.args.around.now c.args.found)
 
-pub judge_ends-returns-in-Ok-judge_end-clause-found : goal.judge_ends-returns-in-Ok-judge_end-clause-found
-judge_ends-returns-in-Ok-judge_end-clause-found t c =
+pub judge_ends-returns-clause-found : goal.judge_ends-returns-clause-found
+judge_ends-returns-clause-found t c =
     let s = c.args.around.now in
     let es = expr_trees c.args.nodes.now.exprs in
-    c.in-Ok-judge_end.ensures.found ∙ ap (λ f. judged s f (end_parts (part_at es c.args.to))) c.in-Ok.ensures.found
+    c.in_ok-last.ensures.found ∙ ap (λ f. judged s f (end_parts (part_at es c.args.to))) c.in_ok-first.ensures.found
     ∙ sym (judged-append s c.args.found (end_parts (part_at es c.args.from)) (end_parts (part_at es c.args.to)))
 
 pub judge_links-judge_operand-requires : goal.judge_links-judge_operand-requires
@@ -108,8 +108,8 @@ judge_links-loop-link-preserved t c =
     let s = c.args.around.now in
     let es = expr_trees c.args.nodes.now.exprs in
     let l = c.loop-link in (
-      link_found s es c.args.links.now l.link-index _ c.loop-link-test.true l.all.found c.in-Ok.next.found c.in-Ok.ensures.found ∙ l.invariant.0,
-      link_joined s es c.args.links.now l.link-index _ c.loop-link-test.true l.all.of c.in-Ok.next.of c.in-Ok.ensures.of ∙ l.invariant.1,
+      link_found s es c.args.links.now l.link-index _ c.loop-link-test.true l.all.found _ c.in_ok-all.ensures.found ∙ l.invariant.0,
+      link_joined s es c.args.links.now l.link-index _ c.loop-link-test.true l.all.of _ c.in_ok-all.ensures.of ∙ l.invariant.1,
     )
 
 pub judge_links-returns-clause-found : goal.judge_links-returns-clause-found
@@ -120,22 +120,22 @@ judge_links-returns-clause-found t c =
     let over = drop_all l.link-index c.args.links.now (omega (arith, c.loop-link-test.false)) in
     judged-none s l.all.found ∙ sym (ap (λ ls. judged s l.all.found (links_parts (links_at es ls))) over) ∙ l.invariant.0
 
-pub judge_operands-returns-in-Ok-judge_links-clause-found : goal.judge_operands-returns-in-Ok-judge_links-clause-found
-judge_operands-returns-in-Ok-judge_links-clause-found t c =
+pub judge_operands-returns-clause-found : goal.judge_operands-returns-clause-found
+judge_operands-returns-clause-found t c =
     let s = c.args.around.now in
     let es = expr_trees c.args.nodes.now.exprs in
     let front = expr_parts (expr_at es c.args.first) in
     let none : c.no_operand.result.found ≡ c.args.found = ap (λ (j : JudgedOperands). j.found) c.no_operand.ensures in
-    let first : c.in-Ok.begun.found ≡ judged s c.args.found front = c.in-Ok.ensures.found ∙ ap (λ f. judged s f front) none in
-    c.in-Ok-judge_links.ensures.found ∙ ap (λ f. judged s f (links_parts (links_at es c.args.links.now))) first ∙ sym (judged-append s c.args.found front (links_parts (links_at es c.args.links.now)))
+    let first : c.in_ok-begun.begun.found ≡ judged s c.args.found front = c.in_ok-begun.ensures.found ∙ ap (λ f. judged s f front) none in
+    c.in_ok-all.ensures.found ∙ ap (λ f. judged s f (links_parts (links_at es c.args.links.now))) first ∙ sym (judged-append s c.args.found front (links_parts (links_at es c.args.links.now)))
 
-pub judge_operands-returns-in-Ok-judge_links-clause-of : goal.judge_operands-returns-in-Ok-judge_links-clause-of
-judge_operands-returns-in-Ok-judge_links-clause-of t c =
+pub judge_operands-returns-clause-of : goal.judge_operands-returns-clause-of
+judge_operands-returns-clause-of t c =
     let s = c.args.around.now in
     let es = expr_trees c.args.nodes.now.exprs in
     let first = expr_at es c.args.first in
-    let begun : c.in-Ok.begun.of ≡ operand_behind (Some []) (value_of s first) = c.in-Ok.ensures.of ∙ ap (λ (j : JudgedOperands). operand_behind j.of (value_of s first)) c.no_operand.ensures in
-    c.in-Ok-judge_links.ensures.of ∙ operands_begun s first (links_at es c.args.links.now) c.in-Ok.begun.of begun
+    let begun : c.in_ok-begun.begun.of ≡ operand_behind (Some []) (value_of s first) = c.in_ok-begun.ensures.of ∙ ap (λ (j : JudgedOperands). operand_behind j.of (value_of s first)) c.no_operand.ensures in
+    c.in_ok-all.ensures.of ∙ operands_begun s first (links_at es c.args.links.now) c.in_ok-begun.begun.of begun
 
 pub judge_argument-returns-in-Some-clause-found : goal.judge_argument-returns-in-Some-clause-found
 judge_argument-returns-in-Some-clause-found t c =
@@ -143,17 +143,17 @@ judge_argument-returns-in-Some-clause-found t c =
     c.judged_argument.ensures.found
     ∙ path_handed c.args.around.now c.args.found c.args.callee c.args.n e c.in-Some.path c.wanted-ty.result c.base_value.result (sym c.as_path.ensures ∙ c.in-Some.is) c.wanted-ty.ensures c.base_value.ensures
 
-pub judge_argument-returns-in-Ok-clause-found : goal.judge_argument-returns-in-Ok-clause-found
-judge_argument-returns-in-Ok-clause-found t c =
+pub judge_argument-returns-in_ok-j-in-None-clause-found : goal.judge_argument-returns-in_ok-j-in-None-clause-found
+judge_argument-returns-in_ok-j-in-None-clause-found t c =
     let e = expr_at (expr_trees c.args.nodes.now.exprs) c.args.e in
-    let j = c.in-Ok.j in
-    c.judged_argument-in-Ok.ensures.found
-    ∙ argument_behind c.args.around.now c.args.found j.found c.args.callee c.args.n e c.wanted-ty.result j.value (sym c.as_path.ensures ∙ c.in-None.is) c.wanted-ty.ensures c.in-Ok.ensures.value c.in-Ok.ensures.found
+    let j = c.in_ok-j-in-None.j in
+    c.judged_argument-in-None.ensures.found
+    ∙ argument_behind c.args.around.now c.args.found j.found c.args.callee c.args.n e c.wanted-ty.result j.value (sym c.as_path.ensures ∙ c.in-None.is) c.wanted-ty.ensures c.in_ok-j-in-None.ensures.value c.in_ok-j-in-None.ensures.found
 
-pub judge_argument-returns-in-Ok-clause-fit : goal.judge_argument-returns-in-Ok-clause-fit
-judge_argument-returns-in-Ok-clause-fit t c =
+pub judge_argument-returns-in_ok-j-in-None-clause-fit : goal.judge_argument-returns-in_ok-j-in-None-clause-fit
+judge_argument-returns-in_ok-j-in-None-clause-fit t c =
     let e = expr_at (expr_trees c.args.nodes.now.exprs) c.args.e in
-    c.judged_argument-in-Ok.ensures.fit ∙ argument_fits c.args.around.now c.args.callee c.args.n e c.wanted-ty.result c.in-Ok.j.value (sym c.as_path.ensures ∙ c.in-None.is) c.wanted-ty.ensures c.in-Ok.ensures.value
+    c.judged_argument-in-None.ensures.fit ∙ argument_fits c.args.around.now c.args.callee c.args.n e c.wanted-ty.result c.in_ok-j-in-None.j.value (sym c.as_path.ensures ∙ c.in-None.is) c.wanted-ty.ensures c.in_ok-j-in-None.ensures.value
 
 pub judge_args-judge_argument-requires : goal.judge_args-judge_argument-requires
 judge_args-judge_argument-requires t c =
@@ -166,8 +166,8 @@ judge_args-loop-n-preserved t c =
     let es = expr_trees c.args.nodes.now.exprs in
     let l = c.loop-n in
     rw c.with_argument-all.ensures (
-      arg_found s es c.args.callee c.args.args.now l.n _ c.loop-n-test.true l.all.found c.in-Ok.next.found c.in-Ok.ensures.found ∙ l.invariant.0,
-      args_fit s es c.args.callee c.args.args.now l.n _ c.loop-n-test.true l.all.fit c.in-Ok.next.fit c.in-Ok.ensures.fit ∙ l.invariant.1,
+      arg_found s es c.args.callee c.args.args.now l.n _ c.loop-n-test.true l.all.found c.in_ok-next.next.found c.in_ok-next.ensures.found ∙ l.invariant.0,
+      args_fit s es c.args.callee c.args.args.now l.n _ c.loop-n-test.true l.all.fit c.in_ok-next.next.fit c.in_ok-next.ensures.fit ∙ l.invariant.1,
     )
 
 pub judge_args-returns-clause-found : goal.judge_args-returns-clause-found
@@ -178,28 +178,28 @@ judge_args-returns-clause-found t c =
     let over = drop_all l.n c.args.args.now (omega (arith, c.loop-n-test.false)) in
     judged-none s l.all.found ∙ sym (ap (λ xs. judged s l.all.found (args_parts c.args.callee l.n (args_at es xs))) over) ∙ l.invariant.0
 
-pub judge_call-returns-in-Ok-clause-found : goal.judge_call-returns-in-Ok-clause-found
-judge_call-returns-in-Ok-clause-found t c =
+pub judge_call-returns-clause-found : goal.judge_call-returns-clause-found
+judge_call-returns-clause-found t c =
     let args = args_at (expr_trees c.args.nodes.now.exprs) c.args.call.now.args in
-    let all = rw (c.as_slice.ensures, c.judged_calling-begun.ensures) at c.in-Ok.ensures.found in
-    call_found c.args.around.now c.args.found c.in-Ok.all.found c.args.inside c.args.call.now.callee c.args.call.now.at c.args.call.now.mark args all
+    let all = rw (c.as_slice.ensures, c.judged_calling-begun.ensures) at c.in_ok-all.ensures.found in
+    call_found c.args.around.now c.args.found c.in_ok-all.all.found c.args.inside c.args.call.now.callee c.args.call.now.at c.args.call.now.mark args all
 
-pub judge_conversion-returns-in-Ok-judge_written-clause-found : goal.judge_conversion-returns-in-Ok-judge_written-clause-found
-judge_conversion-returns-in-Ok-judge_written-clause-found t c =
+pub judge_conversion-returns-clause-found : goal.judge_conversion-returns-clause-found
+judge_conversion-returns-clause-found t c =
     let es = expr_trees c.args.nodes.now.exprs in
     c.found_at_place.ensures
-    ∙ converted_found c.args.around.now c.args.found c.in-Ok.j.found (expr_at es c.args.of) (type_at es c.args.to.now) c.in-Ok-judge_written.written c.in-Ok.ensures.found c.in-Ok-judge_written.ensures
+    ∙ converted_found c.args.around.now c.args.found c.in_ok-j.j.found (expr_at es c.args.of) (type_at es c.args.to.now) c.in_ok-written.written c.in_ok-j.ensures.found c.in_ok-written.ensures
 
-pub judge_refined-returns-in-Ok-judge_bound : goal.judge_refined-returns-in-Ok-judge_bound
-judge_refined-returns-in-Ok-judge_bound t c =
+pub judge_refined-returns : goal.judge_refined-returns
+judge_refined-returns t c =
     let s = c.args.around.now in
     let es = expr_trees c.args.nodes.now.exprs in
     let low = part_at es c.args.bounds.low in
     let high = expr_at es c.args.bounds.high in
-    let before : c.in-Ok-judge_bound.high.found ≡ judged s c.args.found (end_parts low ++ expr_parts high) =
-    c.in-Ok-judge_bound.ensures.found ∙ ap (λ f. judged s f (expr_parts high)) c.in-Ok.ensures.found ∙ sym (judged-append s c.args.found (end_parts low) (expr_parts high)) in
-    refined_tells s c.args.found c.in-Ok-judge_bound.high.found c.args.of c.args.at low high c.in-Ok.low.low c.in-Ok-judge_bound.high.bound c.written_refined.result
-    c.written_refined.ensures c.in-Ok.ensures.low c.in-Ok-judge_bound.ensures.bound before
+    let before : c.in_ok-high.high.found ≡ judged s c.args.found (end_parts low ++ expr_parts high) =
+    c.in_ok-high.ensures.found ∙ ap (λ f. judged s f (expr_parts high)) c.in_ok-low.ensures.found ∙ sym (judged-append s c.args.found (end_parts low) (expr_parts high)) in
+    refined_tells s c.args.found c.in_ok-high.high.found c.args.of c.args.at low high c.in_ok-low.low.low c.in_ok-high.high.bound c.written_refined.result
+    c.written_refined.ensures c.in_ok-low.ensures.low c.in_ok-high.ensures.bound before
 
 pub judge_core-returns-in-None : goal.judge_core-returns-in-None
 judge_core-returns-in-None t c = rw (c.in-Base.is, c.in-None.is) (c.written_plain.ensures c.args.around.now)
@@ -211,10 +211,10 @@ pub judge_prefix-returns-in-Slice : goal.judge_prefix-returns-in-Slice
 judge_prefix-returns-in-Slice t c = λ before of h.
     rw c.in-Slice.is (slice_tells c.args.around.now before of c.in-Slice.at c.args.element c.written_slice.result h c.written_slice.ensures)
 
-pub judge_prefix-returns-in-Ok : goal.judge_prefix-returns-in-Ok
-judge_prefix-returns-in-Ok t c = λ before of h.
+pub judge_prefix-returns-in_ok-count-in-Array : goal.judge_prefix-returns-in_ok-count-in-Array
+judge_prefix-returns-in_ok-count-in-Array t c = λ before of h.
     let n = expr_at (expr_trees c.args.nodes.now.exprs) c.in-Array.length in
-    rw c.in-Array.is (array_tells c.args.around.now before c.in-Ok.count.found n of c.in-Array.at c.in-Ok.count.bound c.args.element c.written_array.result h c.written_array.ensures c.in-Ok.ensures.bound c.in-Ok.ensures.found)
+    rw c.in-Array.is (array_tells c.args.around.now before c.in_ok-count-in-Array.count.found n of c.in-Array.at c.in_ok-count-in-Array.count.bound c.args.element c.written_array.result h c.written_array.ensures c.in_ok-count-in-Array.ensures.bound c.in_ok-count-in-Array.ensures.found)
 
 pub judge_prefixes-judge_prefix-requires : goal.judge_prefixes-judge_prefix-requires
 judge_prefixes-judge_prefix-requires t c =
@@ -227,8 +227,8 @@ judge_prefixes-loop-left-preserved t c =
     let l = c.loop-left in (
       omega (arith, l.invariant.0),
       λ before of h.
-          prefix_next c.args.around.now es c.args.prefixes.now l.left _ before of c.in-Ok.next c.loop-left-test.true l.invariant.0
-          (c.in-Ok.ensures before (all_prefixed es (drop l.left c.args.prefixes.now) of) (l.invariant.1 before of h)),
+          prefix_next c.args.around.now es c.args.prefixes.now l.left _ before of _ c.loop-left-test.true l.invariant.0
+          (c.in_ok-written.ensures before (all_prefixed es (drop l.left c.args.prefixes.now) of) (l.invariant.1 before of h)),
     )
 
 pub judge_prefixes-returns : goal.judge_prefixes-returns

@@ -3,10 +3,10 @@ use Rattle.wf_named.specs.NamedTrees.{expr_trees, expr_at, target_at}
 use Rattle.wf_types_stmts.proofs.StatementLemmas.{assigned_judged}
 use Rattle.wf_types_stmts.proofs.assignments.judge_equal.Goals as goal
 
-pub returns-in-Ok-judge_right : goal.returns-in-Ok-judge_right
-returns-in-Ok-judge_right c =
+pub returns : goal.returns
+returns c =
     let es = expr_trees c.args.nodes.now.exprs in
-    let right = c.in-Ok-judge_right.right in
+    let right = c.in_ok-right.right in
     c.judged_assigned.ensures
-    ∙ assigned_judged c.args.around.now c.args.found c.in-Ok.to.found right.found (target_at es c.args.target) (expr_at es c.args.e) c.in-Ok.to.value right.value right.lacks c.in-Ok.ensures.value
-    c.in-Ok-judge_right.ensures.value c.in-Ok-judge_right.ensures.lacks c.in-Ok.ensures.found c.in-Ok-judge_right.ensures.found
+    ∙ assigned_judged c.args.around.now c.args.found c.in_ok-to.to.found right.found (target_at es c.args.target) (expr_at es c.args.e) c.in_ok-to.to.value right.value right.lacks c.in_ok-to.ensures.value
+    c.in_ok-right.ensures.value c.in_ok-right.ensures.lacks c.in_ok-to.ensures.found c.in_ok-right.ensures.found

@@ -3,10 +3,10 @@ use Rattle.wf_named.specs.NamedTrees.{expr_trees, args_at, target_at}
 use Rattle.wf_types_stmts.proofs.StatementLemmas.{kept_judged}
 use Rattle.wf_types_stmts.proofs.assignments.judge_keep.Goals as goal
 
-pub returns-in-Ok-judge_whole_call : goal.returns-in-Ok-judge_whole_call
-returns-in-Ok-judge_whole_call c =
+pub returns : goal.returns
+returns c =
     let es = expr_trees c.args.nodes.now.exprs in
     let call = c.args.call.now in
     c.judged_kept.ensures
-    ∙ kept_judged c.args.around.now c.args.found c.in-Ok.to.found c.in-Ok-judge_whole_call.j.found (target_at es c.args.target) call.callee call.at call.mark (args_at es call.args) c.in-Ok.to.value
-    c.in-Ok.ensures.value c.in-Ok.ensures.found c.in-Ok-judge_whole_call.ensures.found
+    ∙ kept_judged c.args.around.now c.args.found c.in_ok-to.to.found c.in_ok-j.j.found (target_at es c.args.target) call.callee call.at call.mark (args_at es call.args) c.in_ok-to.to.value
+    c.in_ok-to.ensures.value c.in_ok-to.ensures.found c.in_ok-j.ensures.found

@@ -4,17 +4,17 @@ use Rattle.wf_types_exprs.specs.Judged.{judged}
 use Rattle.wf_types_stmts.proofs.StatementLemmas.{plain_right, plain_parts, plain_lacks}
 use Rattle.wf_types_stmts.proofs.assignments.judge_plain.Goals as goal
 
-pub returns-in-Ok-clause-found : goal.returns-in-Ok-clause-found
-returns-in-Ok-clause-found c =
+pub returns-clause-found : goal.returns-clause-found
+returns-clause-found c =
     let e = expr_at (expr_trees c.args.nodes.now.exprs) c.args.e in
-    c.in-Ok.ensures.found ∙ sym (ap (judged c.args.around.now c.args.found) (plain_parts e c.requires.plain))
+    c.in_ok-j.ensures.found ∙ sym (ap (judged c.args.around.now c.args.found) (plain_parts e c.requires.plain))
 
-pub returns-in-Ok-clause-value : goal.returns-in-Ok-clause-value
-returns-in-Ok-clause-value c =
+pub returns-clause-value : goal.returns-clause-value
+returns-clause-value c =
     let e = expr_at (expr_trees c.args.nodes.now.exprs) c.args.e in
-    c.in-Ok.ensures.value ∙ sym (plain_right c.args.around.now e c.requires.plain)
+    c.in_ok-j.ensures.value ∙ sym (plain_right c.args.around.now e c.requires.plain)
 
-pub returns-in-Ok-clause-lacks : goal.returns-in-Ok-clause-lacks
-returns-in-Ok-clause-lacks c =
+pub returns-clause-lacks : goal.returns-clause-lacks
+returns-clause-lacks c =
     let e = expr_at (expr_trees c.args.nodes.now.exprs) c.args.e in
     sym (plain_lacks c.args.around.now e c.requires.plain)

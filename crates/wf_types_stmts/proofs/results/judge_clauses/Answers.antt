@@ -10,7 +10,7 @@ use Rattle.wf_types_stmts.proofs.results.judge_clauses.Goals as goal
 pub loop-clause-preserved : goal.loop-clause-preserved
 loop-clause-preserved c =
     let l = c.loop-clause in
-    clause_next c.args.around.now (expr_trees c.args.nodes.now.exprs) c.args.clauses.now l.clause-index _ c.loop-clause-test.true l.found c.in-Ok.next c.in-Ok.ensures ∙ l.invariant
+    clause_next c.args.around.now (expr_trees c.args.nodes.now.exprs) c.args.clauses.now l.clause-index _ c.loop-clause-test.true l.found _ c.in_ok-found.ensures ∙ l.invariant
 
 pub returns : goal.returns
 returns c =

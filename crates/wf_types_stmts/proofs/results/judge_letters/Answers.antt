@@ -10,7 +10,7 @@ use Rattle.wf_types_stmts.proofs.results.judge_letters.Goals as goal
 pub loop-one-preserved : goal.loop-one-preserved
 loop-one-preserved c =
     let l = c.loop-one in
-    letter_next c.args.around.now c.args.nodes.now.texts (expr_trees c.args.nodes.now.exprs) c.args.given.now l.one-index _ c.loop-one-test.true l.found c.in-Ok.next c.in-Ok.ensures ∙ l.invariant
+    letter_next c.args.around.now c.args.nodes.now.texts (expr_trees c.args.nodes.now.exprs) c.args.given.now l.one-index _ c.loop-one-test.true l.found _ c.in_ok-found.ensures ∙ l.invariant
 
 pub returns : goal.returns
 returns c =

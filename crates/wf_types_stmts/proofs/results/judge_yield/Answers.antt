@@ -3,8 +3,8 @@ use Rattle.wf_named.specs.NamedTrees.{expr_trees, expr_at}
 use Rattle.wf_types_stmts.proofs.StatementLemmas.{yield_judged}
 use Rattle.wf_types_stmts.proofs.results.judge_yield.Goals as goal
 
-pub returns-in-Ok : goal.returns-in-Ok
-returns-in-Ok c =
+pub returns : goal.returns
+returns c =
     c.judged_yield.ensures
-    ∙ yield_judged c.args.around.now c.args.found c.in-Ok.j.found c.args.at c.place_of.result (expr_at (expr_trees c.args.nodes.now.exprs) c.args.e) c.suspends-suspension.result
-    c.suspends-suspension.ensures c.place_of.ensures c.in-Ok.ensures.found
+    ∙ yield_judged c.args.around.now c.args.found c.in_ok-j.j.found c.args.at c.place_of.result (expr_at (expr_trees c.args.nodes.now.exprs) c.args.e) c.suspends-suspension.result
+    c.suspends-suspension.ensures c.place_of.ensures c.in_ok-j.ensures.found

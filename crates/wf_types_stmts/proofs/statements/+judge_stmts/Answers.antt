@@ -33,17 +33,17 @@ judge_stmt-judge_block-requires t c =
     let parts = rw c.in-While.is at c.stmt-node.ensures.parts in
     (omega (arith, block_above k c.in-While.body parts.2, c.decreases), block_more k (length c.args.nodes.now.stmts) (omega (arith, c.requires)) c.in-While.body parts.2)
 
-pub judge_stmt-returns-in-Ok : goal.judge_stmt-returns-in-Ok
-judge_stmt-returns-in-Ok t c =
+pub judge_stmt-returns-in_ok-next-in-While : goal.judge_stmt-returns-in_ok-next-in-While
+judge_stmt-returns-in_ok-next-in-While t c =
     let s = c.args.around.now in
     let es = expr_trees c.args.nodes.now.exprs in
     let ts = stmt_trees c.args.nodes.now.texts c.args.nodes.now.exprs c.args.nodes.now.stmts in
     let xs = condition_parts (expr_at es c.in-While.condition) in
     let ys = clauses_parts (clauses_at es c.in-While.clauses) in
     let zs = block_parts (block_at ts c.in-While.body) in
-    let head = rw c.as_slice-in-While.ensures at c.in-Ok.ensures in
+    let head = rw c.as_slice-in-While.ensures at c.in_ok-next-in-While.ensures in
     let P : Option Refusal → Type 0 = λ x. IfOk c.judge_block.result (λ r. r ≡ x) in
-    rw (c.stmt-node.ensures.made, c.in-While.is) (subst P (three_parts s c.args.found c.in-Ok.next xs ys zs head) c.judge_block.ensures)
+    rw (c.stmt-node.ensures.made, c.in-While.is) (subst P (three_parts s c.args.found c.in_ok-next-in-While.next xs ys zs head) c.judge_block.ensures)
 
 pub judge_stmt-returns-in-Break : goal.judge_stmt-returns-in-Break
 judge_stmt-returns-in-Break t c = rw (c.stmt-node.ensures.made, c.in-Break.is) (judged-none c.args.around.now c.args.found)
@@ -64,8 +64,8 @@ judge_block-loop-s-preserved t c =
     let ts = stmt_trees c.args.nodes.now.texts c.args.nodes.now.exprs c.args.nodes.now.stmts in
     let l = c.loop-s in
     let inside : l.s-index < length c.args.block.now.items = rw (← c.as_slice-s-items.ensures) c.loop-s-test.true in
-    let one = rw c.as_slice-s-items.ensures at c.in-Ok.ensures in
-    stmt_next ts c.args.block.now.items c.args.block.now.close l.s-index (record { 0 = 0 }) inside c.args.around.now l.found c.in-Ok.next one ∙ l.invariant
+    let one = rw c.as_slice-s-items.ensures at c.in_ok-found.ensures in
+    stmt_next ts c.args.block.now.items c.args.block.now.close l.s-index (record { 0 = 0 }) inside c.args.around.now l.found _ one ∙ l.invariant
 
 pub judge_block-returns : goal.judge_block-returns
 judge_block-returns t c =
@@ -76,13 +76,13 @@ judge_block-returns t c =
     let over : drop l.s-index items ≡ [] = drop_all l.s-index items (omega (arith, c.loop-s-test.false, ap length c.as_slice-s-items.ensures)) in
     judged-none s l.found ∙ sym (ap (λ ss. judged s l.found (block_parts (items_at ts ss c.args.block.now.close))) over) ∙ l.invariant
 
-pub judge_arm-returns-in-Ok : goal.judge_arm-returns-in-Ok
-judge_arm-returns-in-Ok t c =
+pub judge_arm-returns : goal.judge_arm-returns
+judge_arm-returns t c =
     let s = c.args.around.now in
     let xs = condition_parts (expr_at (expr_trees c.args.nodes.now.exprs) c.args.arm.now.condition) in
     let ys = block_parts (block_at (stmt_trees c.args.nodes.now.texts c.args.nodes.now.exprs c.args.nodes.now.stmts) c.args.arm.now.body) in
     let P : Option Refusal → Type 0 = λ x. IfOk c.judge_block.result (λ r. r ≡ x) in
-    subst P (two_parts s c.args.found c.in-Ok.next xs ys c.in-Ok.ensures) c.judge_block.ensures
+    subst P (two_parts s c.args.found c.in_ok-next.next xs ys c.in_ok-next.ensures) c.judge_block.ensures
 
 pub judge_else-returns-in-None : goal.judge_else-returns-in-None
 judge_else-returns-in-None t c = rw c.in-None.is (judged-none c.args.around.now c.args.found)
@@ -97,7 +97,7 @@ judge_arms-loop-arm-preserved t c =
     let es = expr_trees c.args.nodes.now.exprs in
     let ts = stmt_trees c.args.nodes.now.texts c.args.nodes.now.exprs c.args.nodes.now.stmts in
     let l = c.loop-arm in
-    arm_next es ts (else_at ts c.args.otherwise.now) c.args.arms.now l.arm-index c.arm-item.result c.arm-item.is c.loop-arm-test.true c.args.around.now l.found c.in-Ok.next c.in-Ok.ensures ∙ l.invariant
+    arm_next es ts (else_at ts c.args.otherwise.now) c.args.arms.now l.arm-index c.arm-item.result c.arm-item.is c.loop-arm-test.true c.args.around.now l.found _ c.in_ok-found.ensures ∙ l.invariant
 
 pub judge_arms-returns : goal.judge_arms-returns
 judge_arms-returns t c =

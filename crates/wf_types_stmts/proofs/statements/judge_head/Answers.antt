@@ -5,8 +5,8 @@ use Rattle.wf_types_rules.specs.Parts.{condition_parts, clauses_parts}
 use Rattle.wf_types_stmts.proofs.BlockLemmas.{two_parts}
 use Rattle.wf_types_stmts.proofs.statements.judge_head.Goals as goal
 
-pub returns-in-Ok : goal.returns-in-Ok
-returns-in-Ok c =
+pub returns : goal.returns
+returns c =
     let es = expr_trees c.args.nodes.now.exprs in
     let P : Option Refusal → Type 0 = λ x. IfOk c.judge_clauses.result (λ r. r ≡ x) in
-    subst P (two_parts c.args.around.now c.args.found c.in-Ok.next (condition_parts (expr_at es c.args.condition)) (clauses_parts (clauses_at es c.args.clauses.now)) c.in-Ok.ensures) c.judge_clauses.ensures
+    subst P (two_parts c.args.around.now c.args.found c.in_ok-next.next (condition_parts (expr_at es c.args.condition)) (clauses_parts (clauses_at es c.args.clauses.now)) c.in_ok-next.ensures) c.judge_clauses.ensures
