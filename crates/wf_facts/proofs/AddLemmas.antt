@@ -1,5 +1,5 @@
 -- Facts come into the list.
-use Rattle.std.proofs.Common.{◌≡◌, ℕ, ◌+◌, ◌<◌, ◌≤◌, Bool, true, false, not, ◌&&◌, ◌||◌, List, [], ◌∷◌, ◌++◌, length, get_or, take, drop, map, refl, sym, ap, ◌∙◌, subst, arith}
+use Rattle.std.proofs.Common.{◌≡◌, ℕ, zero, suc, ◌+◌, ◌<◌, ◌≤◌, Bool, true, false, not, ◌&&◌, ◌||◌, List, [], ◌∷◌, ◌++◌, length, get_or, take, drop, map, refl, sym, ap, ◌∙◌, subst, arith}
 use Rattle.std.specs.Prelude.{filter, nat_eq}
 use Rattle.std.proofs.lemmas.List.{take_more, drop_more, length-take-le, length-map, map-append}
 use Rattle.std.proofs.lemmas.List.Elements.{All-push}
@@ -28,6 +28,15 @@ pub among_more : (nodes : TypedNodes) (fs : List Fact) (i : ℕ) (d : Fact) (c :
     → same_claim (claim_in nodes (get_or fs i d)) c ≡ false → is_among (claims_in nodes (drop (i + 1) fs)) c ≡ is_among (claims_in nodes fs) c
 among_more nodes fs i d c h left other = sym (among_next nodes fs i d c h ∙ rw other refl) ∙ left
 
+pub among_at : (nodes : TypedNodes) (fs : List Fact) (i : ℕ) (d : Fact) (c : Claim) → i < length fs → same_claim (claim_in nodes (get_or fs i d)) c ≡ true → is_among (claims_in nodes fs) c ≡ true
+among_at nodes [] i d c h same = absurd (omega (arith, h))
+among_at nodes (f ∷ fs) zero d c h same = rw same refl
+among_at nodes (f ∷ fs) (suc i) d c h same = by (same_claim (claim_in nodes f) c) (among_at nodes fs i d c (omega (arith, h)) same)
+  where
+    by : (b : Bool) → is_among (claims_in nodes fs) c ≡ true → (b || is_among (claims_in nodes fs) c) ≡ true
+    by true there = refl
+    by false there = there
+
 -- The marks of a test.
 pub marks-more : (p : Fact → Bool) (fs : List Fact) (i : ℕ) (d : Fact) → i < length fs → (words written : List ℕ) → IsSetOf words (map p (take i fs))
     → (b : Bool) → b ≡ p (get_or fs i d) → ((k : ℕ) → k < 512 → member written k ≡ ((nat_eq k i && b) || member words k)) → IsSetOf written (map p (take (i + 1) fs))
@@ -37,6 +46,22 @@ marks-more p fs i d h words written set b is put =
     let P : List Bool → Type 0 = IsSetOf written in
     let more : map p (take (i + 1) fs) ≡ map p (take i fs) ++ p (get_or fs i d) ∷ [] = ap (map p) (take_more fs i d h) ∙ map-append p (take i fs) (get_or fs i d ∷ []) in
     subst P (ap (λ c. map p (take i fs) ++ c ∷ []) is ∙ sym more) (IsSetOf-put words written (map p (take i fs)) b set (subst Q (sym e) put))
+
+pub marks-none : (p : Fact → Bool) (fs : List Fact) (i : ℕ) (d : Fact) → i < length fs → (words : List ℕ) → IsSetOf words (map p (take i fs)) → p (get_or fs i d) ≡ false
+    → IsSetOf words (map p (take (i + 1) fs))
+marks-none p fs i d h words set none = marks-more p fs i d h words words set false (sym none) (λ k low. by (nat_eq k i) (member words k))
+  where
+    by : (e b : Bool) → b ≡ ((e && false) || b)
+    by true b = refl
+    by false b = refl
+
+pub marks-one : (p : Fact → Bool) (fs : List Fact) (i : ℕ) (d : Fact) → i < length fs → (words written : List ℕ) → IsSetOf words (map p (take i fs)) → p (get_or fs i d) ≡ true
+    → ((k : ℕ) → k < 512 → member written k ≡ (nat_eq k i || member words k)) → IsSetOf written (map p (take (i + 1) fs))
+marks-one p fs i d h words written set one put = marks-more p fs i d h words written set true (sym one) (λ k low. put k low ∙ by (nat_eq k i) (member words k))
+  where
+    by : (e b : Bool) → (e || b) ≡ ((e && true) || b)
+    by true b = refl
+    by false b = refl
 
 filtered : (nodes : TypedNodes) (q : Claim → Bool) (fs : List Fact) → claims_in nodes (unmarked (map (λ f. not (q (claim_in nodes f))) fs) fs) ≡ filter q (claims_in nodes fs)
 filtered nodes q [] = refl

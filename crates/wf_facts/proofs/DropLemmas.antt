@@ -14,7 +14,7 @@ use Rattle.wf_facts.specs.declared.sets.FactSet.{FactSet}
 use Rattle.wf_facts.specs.Sets.{member, members, IsSetOf, unmarked}
 use Rattle.wf_facts.specs.FactLists.{without}
 use Rattle.wf_facts.specs.IndexedFacts.{FactList, IsOver, has_set, set_number, set_of, mentioning, words_at}
-use Rattle.wf_facts.proofs.SetLemmas.{length-members, unmarked-push, unmarked_none, unmarked_one, members_known, IsSetOf-put}
+use Rattle.wf_facts.proofs.SetLemmas.{length-members, unmarked-push, unmarked_none, unmarked_one, members_known, IsSetOf-put, all_stay, stays_before}
 
 -- What stays of the first `i` stands in front, and the rest is as it was.
 pub record Closes {X : Type 0} (dropped : List ℕ) (xs ys : List X) (stay i : ℕ) : Type 0 where
@@ -70,6 +70,9 @@ module _ {X : Type 0} (dropped : List ℕ) (xs ys : List X) (stay i : ℕ) (c : 
   pub Closes-kept : (d : X) → member dropped i ≡ false → Closes dropped xs (slice_set ys stay (get_or ys i d)) (stay + 1) (i + 1)
   Closes-kept d h = kept_on dropped xs ys stay i c inside (get_or ys i d) (get_or_default ys i d (get_or ys i d) within) h
 
+pub Closes-first : {X : Type 0} (dropped : List ℕ) (xs : List X) (first : ℕ) → ((k : ℕ) → k < first → member dropped k ≡ false) → Closes dropped xs xs first first
+Closes-first dropped xs first before = record { front = sym (all_stay dropped first (take first xs) before); rest = refl; behind = omega arith; long = refl }
+
 pub Closes-all : {X : Type 0} (dropped : List ℕ) (xs ys : List X) (stay i : ℕ) → Closes dropped xs ys stay i → length xs ≤ i → i ≤ length xs → take stay ys ≡ unmarked (members dropped (length xs)) xs
 Closes-all dropped xs ys stay i c h k =
     let e : i ≡ length xs = omega (arith, h, k) in
@@ -99,14 +102,27 @@ words_set_other (r ∷ sets) zero (suc j) s h = refl
 words_set_other (r ∷ sets) (suc k) zero s h = refl
 words_set_other (r ∷ sets) (suc k) (suc j) s h = words_set_other sets k j s (λ e. h (ap suc e))
 
+-- A set of marks has become that of those that are left.
+abbrev pub Leaves : (dropped : List ℕ) (n : ℕ) (before after : List ℕ) → Type 0
+Leaves dropped n before after = (marks : List Bool) → length marks ≡ n → IsSetOf before marks → IsSetOf after (unmarked (members dropped n) marks)
+
+pub Leaves-moved : (dropped : List ℕ) (n : ℕ) (before after : List ℕ) → n ≤ 512 → IsSetOf after (unmarked (members dropped n) (members before n)) → Leaves dropped n before after
+Leaves-moved dropped n before after few set marks count is =
+    let P : List Bool → Type 0 = λ ms. IsSetOf after (unmarked (members dropped n) ms) in
+    subst P (members_known before marks is n (sym count) few) set
+
+pub Leaves-same : (dropped : List ℕ) (n first : ℕ) (own : List ℕ) → first ≤ n → n ≤ 512 → ((k : ℕ) → k < first → member dropped k ≡ false)
+    → ((k : ℕ) → first ≤ k → k < n → member own k ≡ false) → Leaves dropped n own own
+Leaves-same dropped n first own h few before none marks count is = stays_before dropped own marks first n count h few before none is
+
 -- The sets up to `i` have moved, and the others stand as they were.
 pub record MovesSets (dropped : List ℕ) (n : ℕ) (xs ys : List FactSet) (i : ℕ) : Type 0 where
-  pub done : (k : ℕ) → k < i → IsSetOf (words_at ys k) (unmarked (members dropped n) (members (words_at xs k) n))
+  pub done : (k : ℕ) → k < i → Leaves dropped n (words_at xs k) (words_at ys k)
   pub rest : (k : ℕ) → i ≤ k → words_at ys k ≡ words_at xs k
   pub long : length ys ≡ length xs
 
 pub MovesSets-more : (dropped : List ℕ) (n : ℕ) (xs ys : List FactSet) (i : ℕ) → MovesSets dropped n xs ys i → i < length ys → (old : List ℕ) (moved : FactSet) → words_at ys i ≡ old
-    → IsSetOf moved.words (unmarked (members dropped n) (members old n)) → MovesSets dropped n xs (slice_set ys i moved) (i + 1)
+    → Leaves dropped n old moved.words → MovesSets dropped n xs (slice_set ys i moved) (i + 1)
 MovesSets-more dropped n xs ys i m within old moved is set = record {
   done = λ k h. by k h (cases_eq k i);
   rest = λ k h. words_set_other ys i k moved (λ e. absurd (omega (arith, e, h))) ∙ m.rest k (omega (arith, h));
@@ -116,15 +132,31 @@ MovesSets-more dropped n xs ys i m within old moved is set = record {
     own : old ≡ words_at xs i
     own = sym is ∙ m.rest i (omega arith)
 
-    by : (k : ℕ) → k < i + 1 → (k ≡ i) ⊎ (k ≡ i → ⊥) → IsSetOf (words_at (slice_set ys i moved) k) (unmarked (members dropped n) (members (words_at xs k) n))
+    by : (k : ℕ) → k < i + 1 → (k ≡ i) ⊎ (k ≡ i → ⊥) → Leaves dropped n (words_at xs k) (words_at (slice_set ys i moved) k)
     by k h (inl e) =
-        let P : List ℕ → Type 0 = λ ws. IsSetOf ws (unmarked (members dropped n) (members (words_at xs i) n)) in
-        let Q : List ℕ → Type 0 = λ ws. IsSetOf moved.words (unmarked (members dropped n) (members ws n)) in
-        let R : ℕ → Type 0 = λ j. IsSetOf (words_at (slice_set ys i moved) j) (unmarked (members dropped n) (members (words_at xs j) n)) in
+        let P : List ℕ → Type 0 = Leaves dropped n (words_at xs i) in
+        let Q : List ℕ → Type 0 = λ ws. Leaves dropped n ws moved.words in
+        let R : ℕ → Type 0 = λ j. Leaves dropped n (words_at xs j) (words_at (slice_set ys i moved) j) in
         subst R (sym e) (subst P (sym (words_set ys i moved within)) (subst Q own set))
     by k h (inr e) =
-        let P : List ℕ → Type 0 = λ ws. IsSetOf ws (unmarked (members dropped n) (members (words_at xs k) n)) in
+        let P : List ℕ → Type 0 = Leaves dropped n (words_at xs k) in
         subst P (sym (words_set_other ys i k moved e)) (m.done k (omega (arith, h, e)))
+
+pub MovesSets-same : (dropped : List ℕ) (n : ℕ) (xs ys : List FactSet) (i : ℕ) → MovesSets dropped n xs ys i → (old : List ℕ) → words_at ys i ≡ old → Leaves dropped n old old
+    → MovesSets dropped n xs ys (i + 1)
+MovesSets-same dropped n xs ys i m old is set = record {
+  done = λ k h. by k h (cases_eq k i);
+  rest = λ k h. m.rest k (omega (arith, h));
+  long = m.long;
+}
+  where
+    by : (k : ℕ) → k < i + 1 → (k ≡ i) ⊎ (k ≡ i → ⊥) → Leaves dropped n (words_at xs k) (words_at ys k)
+    by k h (inl e) =
+        let P : List ℕ → Type 0 = λ ws. Leaves dropped n ws (words_at ys i) in
+        let Q : List ℕ → Type 0 = λ ws. Leaves dropped n ws ws in
+        let R : ℕ → Type 0 = λ j. Leaves dropped n (words_at xs j) (words_at ys j) in
+        subst R (sym e) (subst P (m.rest i (omega arith)) (subst Q (sym is) set))
+    by k h (inr e) = m.done k (omega (arith, h, e))
 
 -- What stays has the marks that stay.
 map-unmarked : {X Y : Type 0} (f : X → Y) (ms : List Bool) (xs : List X) → map f (unmarked ms xs) ≡ unmarked ms (map f xs)
@@ -154,26 +186,24 @@ number_below (things.Field x) h = absurd (cc (h))
 number_below (things.Arg x) h = absurd (cc (h))
 
 pub IsOver-dropped : (nodes : TypedNodes) (old : FactList) (dropped : List ℕ) (sets : List FactSet) → length old.list ≤ 512 → length old.sets ≡ 260
-    → ((k : ℕ) → k < length old.sets → IsSetOf (words_at sets k) (unmarked (members dropped (length old.list)) (members (words_at old.sets k) (length old.list))))
+    → ((k : ℕ) → k < length old.sets → Leaves dropped (length old.list) (words_at old.sets k) (words_at sets k))
     → IsOver nodes old → IsOver nodes (record { list = unmarked (members dropped (length old.list)) old.list; sets = sets })
 IsOver-dropped nodes old dropped sets few whole moved over = record {
   facts = facts-unmarked nodes (members dropped (length old.list)) old.list over.facts;
   sets = λ x h.
-      let ms = members dropped (length old.list) in
-      let known : members (set_of old x) (length old.list) ≡ mentioning nodes x old.list =
-      members_known (set_of old x) (mentioning nodes x old.list) (over.sets x h) (length old.list) (length-mentioning nodes x old.list) few in
-      let P : List Bool → Type 0 = λ bs. IsSetOf (words_at sets (set_number x)) bs in
-      subst P (ap (unmarked ms) known ∙ sym (map-unmarked (λ f. claim_mentions x (claim_in nodes f)) ms old.list)) (moved (set_number x) (omega (arith, number_below x h, whole)));
+      let P : List Bool → Type 0 = IsSetOf (words_at sets (set_number x)) in
+      subst P (sym (map-unmarked (λ f. claim_mentions x (claim_in nodes f)) (members dropped (length old.list)) old.list))
+      (moved (set_number x) (omega (arith, number_below x h, whole)) (mentioning nodes x old.list) (sym (length-mentioning nodes x old.list)) (over.sets x h));
 }
 
 -- The same with what stood before named anew.
 pub IsOver-left : (nodes : TypedNodes) (old : FactList) (dropped : List ℕ) (list : List Fact) (before sets kept : List FactSet) (n : ℕ) → n ≡ length old.list → before ≡ old.sets → kept ≡ sets
     → length old.list ≤ 512 → length old.sets ≡ 260 → list ≡ unmarked (members dropped (length old.list)) old.list
-    → ((k : ℕ) → k < length before → IsSetOf (words_at sets k) (unmarked (members dropped n) (members (words_at before k) n)))
+    → ((k : ℕ) → k < length before → Leaves dropped n (words_at before k) (words_at sets k))
     → IsOver nodes old → IsOver nodes (record { list = list; sets = kept })
 IsOver-left nodes old dropped list before sets kept n count same kept_is few whole left moved over =
-    let P : List FactSet → Type 0 = λ bs. (k : ℕ) → k < length bs → IsSetOf (words_at sets k) (unmarked (members dropped n) (members (words_at bs k) n)) in
-    let Q : ℕ → Type 0 = λ m. (k : ℕ) → k < length old.sets → IsSetOf (words_at sets k) (unmarked (members dropped m) (members (words_at old.sets k) m)) in
+    let P : List FactSet → Type 0 = λ bs. (k : ℕ) → k < length bs → Leaves dropped n (words_at bs k) (words_at sets k) in
+    let Q : ℕ → Type 0 = λ m. (k : ℕ) → k < length old.sets → Leaves dropped m (words_at old.sets k) (words_at sets k) in
     let R : List Fact → Type 0 = λ fs. IsOver nodes (record { list = fs; sets = kept }) in
     let S : List FactSet → Type 0 = λ ss. IsOver nodes (record { list = unmarked (members dropped (length old.list)) old.list; sets = ss }) in
     subst R (sym left) (subst S (sym kept_is) (IsOver-dropped nodes old dropped sets few whole (subst Q count (subst P same moved)) over))

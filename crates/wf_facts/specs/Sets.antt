@@ -1,5 +1,5 @@
 -- Sets of facts of a list: a fact is told by its place in the list, and a set by eight words of 64 bits.
-use Rattle.std.specs.Prelude.{◌≡◌, ℕ, zero, suc, ◌/◌, ◌%◌, ◌<◌, Bool, true, false, List, [], ◌∷◌, ◌++◌, nat_eq, slice_index}
+use Rattle.std.specs.Prelude.{◌≡◌, ℕ, zero, suc, ◌/◌, ◌%◌, ◌<◌, Bool, true, false, List, [], ◌∷◌, ◌++◌, if◌then◌else◌, nat_eq, slice_index}
 use Rattle.std.specs.Int.{bit_at}
 
 -- Bit `i mod 64` of word `i / 64` is that of place `i`.
@@ -27,3 +27,12 @@ unmarked [] xs = xs
 unmarked (m ∷ ms) [] = []
 unmarked (true ∷ ms) (x ∷ xs) = unmarked ms xs
 unmarked (false ∷ ms) (x ∷ xs) = x ∷ unmarked ms xs
+
+-- How many of the first places aren't in the set.
+abbrev pub staying : (dropped : List ℕ) → ℕ → ℕ
+staying dropped zero = 0
+staying dropped (suc i) = if member dropped i then staying dropped i else suc (staying dropped i)
+
+-- Where each of the first n places is once those of the set are gone.
+abbrev pub ArePlaces : (dropped places : List ℕ) → ℕ → Type 0
+ArePlaces dropped places n = (i : ℕ) → i < n → slice_index places i ≡ staying dropped i

@@ -1,6 +1,6 @@
 // Facts come into the list.
 
-ghost use Rattle.std.specs.Prelude.{◌≡◌, ◌≤◌, not, true, false, length, map, OnOk, OnErr, IfOk};
+ghost use Rattle.std.specs.Prelude.{◌≡◌, ◌≤◌, ◌<◌, not, true, false, length, map, is_some, OnOk, OnErr, IfOk, IfSome, IsTrue};
 ghost use Rattle.wf_facts_exprs.specs.Claims.{claim_in, claims_in, is_among, is_fact, AreFacts};
 ghost use Rattle.wf_facts.specs.FactLists.{added, common};
 ghost use Rattle.wf_facts.specs.IndexedFacts.{IsOver, IsFullFor};
@@ -80,15 +80,26 @@ fn stands_in(t: &Typed, list: &[Fact], f: Fact) -> bool
     requires facts { AreFacts t.now list.now }
     ensures { result ≡ is_among (claims_in t.now list.now) (claim_in t.now f) }
 {
-    for i in 0..list.len() {
-        if same_fact(t, list[i], f) {
-            return true;
-        }
-    }
-    false
+    place_in(t, list, f).is_some()
 }
 
-// The facts of a list that don't stand in another.
+// A place of a list at which a fact stands.
+fn place_in(t: &Typed, list: &[Fact], f: Fact) -> Option<usize>
+    requires fact { is_fact t.now f ≡ true }
+    requires facts { AreFacts t.now list.now }
+    ensures among { is_some result ≡ is_among (claims_in t.now list.now) (claim_in t.now f) }
+    ensures place { IfSome result (λ place. place < length list.now) }
+{
+    for i in 0..list.len() {
+        if same_fact(t, list[i], f) {
+            return Some(i);
+        }
+    }
+    None
+}
+
+// The facts of a list that don't stand in another. Most stand there in the same order, so each is looked for first where
+// the one before it was found.
 fn lacking(t: &Typed, list: &[Fact], others: &[Fact]) -> FactSet
     requires few { length list.now ≤ 512 }
     requires facts { AreFacts t.now list.now }
@@ -96,8 +107,27 @@ fn lacking(t: &Typed, list: &[Fact], others: &[Fact]) -> FactSet
     ensures { IsSetOf result.words (map (λ f. not (is_among (claims_in t.now others.now) (claim_in t.now f))) list.now) }
 {
     let mut lacking = FactSet::new();
+    let mut next = 0;
     for i in 0..list.len() {
-        lacking.put(i, !stands_in(t, others, list[i]));
+        if stands_at(t, others, next, list[i]) {
+            next += 1;
+            continue;
+        }
+        let Some(place) = place_in(t, others, list[i]) else {
+            lacking.insert(i);
+            continue;
+        };
+        next = place + 1;
     }
     lacking
+}
+
+// Whether a place of a list is one at which a fact stands.
+fn stands_at(t: &Typed, list: &[Fact], place: usize, f: Fact) -> bool
+    requires fact { is_fact t.now f ≡ true }
+    requires facts { AreFacts t.now list.now }
+    ensures among { IsTrue result → is_among (claims_in t.now list.now) (claim_in t.now f) ≡ true }
+    ensures place { IsTrue result → place < length list.now }
+{
+    place < list.len() && same_fact(t, list[place], f)
 }

@@ -1,6 +1,6 @@
 // Facts leave the list, and all sets move with it.
 
-ghost use Rattle.std.specs.Prelude.{◌≡◌, ◌≤◌, ◌<◌, ℕ, length, take, true, false};
+ghost use Rattle.std.specs.Prelude.{◌≡◌, ◌≤◌, ◌<◌, ℕ, Bool, List, length, take, true, false};
 ghost use Rattle.wf_ast.specs.declared.typed_nodes.TypedNodes.{TypedNodes};
 ghost use Rattle.wf_facts_exprs.specs.Claims.{claims_in};
 ghost use Rattle.wf_facts.specs.FactLists.{without};
@@ -9,7 +9,7 @@ ghost use Rattle.wf_facts.specs.Sets.{member, members, IsSetOf, unmarked};
 
 use crate::list::{Facts, has_set, set_number};
 use crate::mentioning::fact_mentions;
-use crate::sets::FactSet;
+use crate::sets::{FactSet, places_left};
 use wf_ast::{Thing, Typed};
 use wf_facts_exprs::Fact;
 
@@ -61,19 +61,25 @@ impl Facts {
         ensures over { (nodes : TypedNodes) → IsOver nodes self.old → IsOver nodes self.new }
     {
         let n = self.list.len();
-        let stay = close_up(self.list.as_mut_slice(), dropped);
+        let first = dropped.first(0, n);
+        if first >= n {
+            return;
+        }
+        let stay = close_up(self.list.as_mut_slice(), dropped, first);
         self.list.truncate(stay);
-        move_sets(self.sets.as_mut_slice(), dropped, n);
+        move_sets(self.sets.as_mut_slice(), dropped, first, n);
     }
 }
 
-// Moves the facts that aren't of the set to the front, and answers how many they are.
-fn close_up(list: &mut [Fact], dropped: &FactSet) -> usize
-    requires { length list.old ≤ 512 }
+// Moves the facts that aren't of the set to the front, where none before `first` is of it, and answers how many they are.
+fn close_up(list: &mut [Fact], dropped: &FactSet, first: usize) -> usize
+    requires few { length list.old ≤ 512 }
+    requires first { first ≤ length list.old }
+    requires before { (k : ℕ) → k < first → member dropped.now.words k ≡ false }
     ensures { take result list.new ≡ unmarked (members dropped.now.words (length list.old)) list.old }
 {
-    let mut stay = 0;
-    for i in 0..list.len() {
+    let mut stay = first;
+    for i in first..list.len() {
         if dropped.has(i) {
             continue;
         }
@@ -83,12 +89,18 @@ fn close_up(list: &mut [Fact], dropped: &FactSet) -> usize
     stay
 }
 
-// Moves the places in each set once those of `dropped` leave a list of `n`.
-fn move_sets(sets: &mut [FactSet], dropped: &FactSet, n: usize)
-    requires { n ≤ 512 }
-    ensures { (k : ℕ) → k < length sets.old → IsSetOf (words_at sets.new k) (unmarked (members dropped.now.words n) (members (words_at sets.old k) n)) }
+// Moves the places in each set once those of `dropped`, none of them before `first`, leave a list of `n`.
+fn move_sets(sets: &mut [FactSet], dropped: &FactSet, first: usize, n: usize)
+    requires few { n ≤ 512 }
+    requires first { first ≤ n }
+    requires before { (k : ℕ) → k < first → member dropped.now.words k ≡ false }
+    ensures { (k : ℕ) → k < length sets.old → (marks : List Bool) → length marks ≡ n → IsSetOf (words_at sets.old k) marks → IsSetOf (words_at sets.new k) (unmarked (members dropped.now.words n) marks) }
 {
+    let places = places_left(dropped, n);
     for k in 0..sets.len() {
-        sets[k] = sets[k].moved(dropped, n);
+        if sets[k].first(first, n) >= n {
+            continue;
+        }
+        sets[k] = sets[k].moved(dropped, &places, n);
     }
 }

@@ -1,7 +1,7 @@
 // Sets of facts of a list, which hold 512 places.
 
-ghost use Rattle.std.specs.Prelude.{◌≡◌, ℕ, ◌<◌, ◌≤◌, ◌↔◌, ◌&&◌, ◌||◌, [], nat_eq, replicate, IsTrue};
-ghost use Rattle.wf_facts.specs.Sets.{member, members, IsSetOf, unmarked};
+ghost use Rattle.std.specs.Prelude.{◌≡◌, ℕ, ◌<◌, ◌≤◌, ◌&&◌, ◌||◌, [], nat_eq, true, false};
+ghost use Rattle.wf_facts.specs.Sets.{member, members, ArePlaces, IsSetOf, unmarked};
 
 /// A set of places of a list: bit `i mod 64` of word `i / 64` is that of place `i`.
 #[derive(Clone, Copy)]
@@ -43,30 +43,61 @@ impl FactSet {
         }
     }
 
-    // Whether no place is in the set.
-    fn is_empty(&self) -> bool
-        ensures { IsTrue result ↔ (self.now.words ≡ replicate 8 0) }
+    /// The first place of the set from `from` on; where none is below `n`, a number that isn't below it.
+    pub(crate) fn first(&self, from: usize, n: usize) -> usize
+        requires { n ≤ 512 }
+        ensures start { from ≤ result }
+        ensures before { (k : ℕ) → from ≤ k → k < result → member self.now.words k ≡ false }
+        ensures here { result < n → member self.now.words result ≡ true }
     {
-        self.words == [0; 8]
+        let mut i = from;
+        while i < n {
+            let word = self.words[i / 64] >> (i % 64);
+            if word != 0 {
+                return i + word.trailing_zeros() as usize;
+            }
+            i += 64 - i % 64;
+        }
+        i
     }
 
-    /// The places among the first `n` that this set has once those of `dropped` are gone and the others move up.
-    pub fn moved(&self, dropped: &FactSet, n: usize) -> FactSet
-        requires { n ≤ 512 }
+    /// The places among the first `n` that this set has once those of `dropped` are gone and each of the others has moved
+    /// to its place in `places`.
+    pub(crate) fn moved(&self, dropped: &FactSet, places: &[u16; 512], n: usize) -> FactSet
+        requires few { n ≤ 512 }
+        requires places { ArePlaces dropped.now.words places.now n }
         ensures { IsSetOf result.words (unmarked (members dropped.now.words n) (members self.now.words n)) }
     {
-        if self.is_empty() {
-            return FactSet::new();
-        }
         let mut moved = FactSet::new();
-        let mut stays = 0;
-        for i in 0..n {
+        let mut from = 0;
+        while from < n {
+            let i = self.first(from, n);
+            if i >= n {
+                return moved;
+            }
+            from = i + 1;
             if dropped.has(i) {
                 continue;
             }
-            moved.put(stays, self.has(i));
-            stays += 1;
+            moved.insert(places[i] as usize);
         }
         moved
     }
+}
+
+/// The place to which each of the first `n` moves once those of `dropped` are gone.
+pub(crate) fn places_left(dropped: &FactSet, n: usize) -> [u16; 512]
+    requires { n ≤ 512 }
+    ensures { ArePlaces dropped.now.words result n }
+{
+    let mut places = [0; 512];
+    let mut stays = 0;
+    for i in 0..n {
+        places[i] = stays;
+        if dropped.has(i) {
+            continue;
+        }
+        stays += 1;
+    }
+    places
 }

@@ -1,7 +1,8 @@
-use Rattle.std.proofs.Common.{take, map, not}
+use Rattle.std.proofs.Common.{◌≤◌, length, take, map, not}
 use Rattle.wf_facts_exprs.specs.Claims.{claim_in, claims_in, is_among}
 use Rattle.wf_facts.specs.Sets.{IsSetOf}
 use Rattle.wf_facts.proofs.adding.lacking.Given as goal
 
 abbrev pub invariant-loop-i : goal.invariant-loop-i
-invariant-loop-i l = IsSetOf l.lacking.words (map (λ f. not (is_among (claims_in l.t l.others) (claim_in l.t f))) (take l.i l.list))
+invariant-loop-i l =
+    (l.next ≤ length l.others) × IsSetOf l.lacking.words (map (λ f. not (is_among (claims_in l.t l.others) (claim_in l.t f))) (take l.i l.list))

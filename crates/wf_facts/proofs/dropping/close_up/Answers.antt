@@ -1,6 +1,9 @@
 use Rattle.std.proofs.Common.{◌<◌, length, sym, ◌∙◌, arith}
-use Rattle.wf_facts.proofs.DropLemmas.{Closes-dropped, Closes-kept}
+use Rattle.wf_facts.proofs.DropLemmas.{Closes-dropped, Closes-kept, Closes-first}
 use Rattle.wf_facts.proofs.dropping.close_up.Goals as goal
+
+pub loop-i-init : goal.loop-i-init
+loop-i-init c = Closes-first c.args.dropped.now.words c.args.list.now c.args.first c.requires.before
 
 pub loop-i-preserved-then-has : goal.loop-i-preserved-then-has
 loop-i-preserved-then-has c =

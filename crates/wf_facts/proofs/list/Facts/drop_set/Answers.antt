@@ -1,8 +1,9 @@
-use Rattle.std.proofs.Common.{◌≡◌, length, ap, ◌∙◌, arith}
+use Rattle.std.proofs.Common.{◌≡◌, length, sym, ap, ◌∙◌, arith}
 use Rattle.std.specs.Vec.{with_items}
 use Rattle.std.proofs.lemmas.Grind.{common_steps}
 use Rattle.std.proofs.lemmas.List.{take_at}
 use Rattle.wf_facts.specs.Sets.{members, unmarked}
+use Rattle.wf_facts.proofs.SetLemmas.{all_stay}
 use Rattle.wf_facts.proofs.DropLemmas.{IsOver-left}
 use Rattle.wf_facts.proofs.list.Facts.drop_set.Goals as goal
 
@@ -15,3 +16,9 @@ returns-clause-over c nodes over =
     let long : length c.move_sets.new.sets ≡ c.self.inside.sets.len = omega (arith, c.move_sets.auto.sets, c.as_mut_slice-2.ensures.len) in
     IsOver-left nodes c.args.self.now c.args.dropped.now.words c.truncate.new.self.items c.as_mut_slice-2.result.now c.move_sets.new.sets (with_items c.self.inside.sets c.move_sets.new.sets).items c.len-n.result
     count (c.as_mut_slice-2.ensures.value ∙ q) (take_at c.move_sets.new.sets _ _ long) (omega (arith, ap length p, c.self.invariant.few)) (omega (arith, ap length q, c.self.invariant.whole)) left c.move_sets.ensures over
+
+pub returns-then-first-n-clause-list : goal.returns-then-first-n-clause-list
+returns-then-first-n-clause-list c =
+    let p : c.self.inside.list.items ≡ c.args.self.now.list = ap (λ f. f.list) c.self.view_is in
+    let count : c.len-n.result ≡ length c.args.self.now.list = grind (arith, common_steps, p) in
+    sym (all_stay c.args.dropped.now.words (length c.args.self.now.list) c.args.self.now.list (λ k h. c.first-first.ensures.before k (omega arith) (omega (arith, h, count, c.if-first-n.true))))

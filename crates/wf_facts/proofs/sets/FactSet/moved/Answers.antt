@@ -1,25 +1,30 @@
-use Rattle.std.proofs.Common.{refl, sym, ◌∙◌, arith}
-use Rattle.wf_facts.proofs.SetLemmas.{stays_behind, Moves-dropped, Moves-kept, empty_moved}
+use Rattle.std.proofs.Common.{◌<◌, sym, ◌∙◌, arith}
+use Rattle.wf_facts.proofs.SetLemmas.{HasMoved-gone, HasMoved-kept, HasMoved-on, staying_few}
 use Rattle.wf_facts.proofs.sets.FactSet.moved.Goals as goal
 
-pub loop-i-preserved-then-has : goal.loop-i-preserved-then-has
-loop-i-preserved-then-has c =
-    Moves-dropped c.args.dropped.now.words c.args.self.now.words c.loop-i.moved.words c.loop-i.stays c.loop-i.i c.loop-i.invariant (sym c.has.ensures ∙ c.if-has.true)
+pub returns-then-i-n : goal.returns-then-i-n
+returns-then-i-n c =
+    HasMoved-on c.args.dropped.now.words c.args.self.now.words c.loop-from.moved.words c.loop-from.from c.args.n c.loop-from.invariant.0 c.loop-from.invariant.1
+    (λ k a b. c.first-i.ensures.before k a (omega (arith, b, c.if-i-n.true)))
 
-pub put-requires : goal.put-requires
-put-requires c =
-    let behind = stays_behind c.args.dropped.now.words c.args.self.now.words c.loop-i.moved.words c.loop-i.stays c.loop-i.i c.loop-i.invariant in
-    omega (arith, behind)
+pub insert-requires : goal.insert-requires
+insert-requires c =
+    let below : c.first-i.result < c.args.n = omega (arith, c.if-i-n.false) in
+    omega (arith, c.requires.places c.first-i.result below, staying_few c.args.dropped.now.words c.first-i.result, below, c.requires.few)
 
-pub overflow_add-stays : goal.overflow_add-stays
-overflow_add-stays c =
-    let behind = stays_behind c.args.dropped.now.words c.args.self.now.words c.loop-i.moved.words c.loop-i.stays c.loop-i.i c.loop-i.invariant in
-    omega (arith, behind)
+pub loop-from-preserved-then-has : goal.loop-from-preserved-then-has
+loop-from-preserved-then-has c =
+    let below : c.first-i.result < c.args.n = omega (arith, c.if-i-n.false) in
+    let here = HasMoved-on c.args.dropped.now.words c.args.self.now.words c.loop-from.moved.words c.loop-from.from c.first-i.result c.first-i.ensures.start c.loop-from.invariant.1 c.first-i.ensures.before in (
+      omega (arith, below),
+      HasMoved-gone c.args.dropped.now.words c.args.self.now.words c.loop-from.moved.words c.first-i.result here (sym c.has.ensures ∙ c.if-has.true),
+    )
 
-pub loop-i-preserved : goal.loop-i-preserved
-loop-i-preserved c =
-    Moves-kept c.args.dropped.now.words c.args.self.now.words c.loop-i.moved.words c.loop-i.stays c.loop-i.i c.loop-i.invariant (sym c.has.ensures ∙ c.if-has.false)
-    c.put.new.self.words (λ k h. c.put.ensures k h ∙ rw c.has-in-loop-i.ensures refl)
-
-pub returns-then-is_empty : goal.returns-then-is_empty
-returns-then-is_empty c = empty_moved c.args.dropped.now.words c.args.self.now.words c.new.result.words c.args.n (c.is_empty.ensures.0 c.if-is_empty.true) c.new.ensures
+pub loop-from-preserved : goal.loop-from-preserved
+loop-from-preserved c =
+    let below : c.first-i.result < c.args.n = omega (arith, c.if-i-n.false) in
+    let here = HasMoved-on c.args.dropped.now.words c.args.self.now.words c.loop-from.moved.words c.loop-from.from c.first-i.result c.first-i.ensures.start c.loop-from.invariant.1 c.first-i.ensures.before in (
+      omega (arith, below),
+      HasMoved-kept c.args.dropped.now.words c.args.self.now.words c.loop-from.moved.words c.first-i.result here (sym c.has.ensures ∙ c.if-has.false) (c.first-i.ensures.here below)
+          _ (c.requires.places c.first-i.result below) c.insert.new.self.words c.insert.ensures,
+    )

@@ -1,6 +1,6 @@
 use Rattle.std.proofs.Common.{◌≡◌, drop}
 use Rattle.wf_facts_exprs.specs.Claims.{claim_in, claims_in, is_among}
-use Rattle.wf_facts.proofs.adding.stands_in.Given as goal
+use Rattle.wf_facts.proofs.adding.place_in.Given as goal
 
 -- What none of the facts so far is, the facts that are left decide.
 abbrev pub invariant-loop-i : goal.invariant-loop-i
