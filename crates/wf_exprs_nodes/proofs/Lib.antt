@@ -3,6 +3,7 @@ pub mod ConditionLaws
 pub mod GivenLaws
 pub mod ItemLaws
 pub mod KindLaws
+pub mod MarkLaws
 pub mod Numbered
 pub mod OperandLaws
 pub mod ReadLaws

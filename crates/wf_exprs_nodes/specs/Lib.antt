@@ -1,3 +1,4 @@
 pub mod Growth
+pub mod Marks
 pub mod Readers
 pub mod Trees

@@ -1,5 +1,5 @@
 -- The trees of nodes, and what becomes of them in C.
-use Rattle.std.specs.Prelude.{◌≡◌, ◌&&◌, ℕ, Bool, true, false, if◌then◌else◌, List, [], ◌∷◌, ◌++◌, nat_lt, nat_eq, Option, None, Some, ⊤}
+use Rattle.std.specs.Prelude.{◌&&◌, ℕ, Bool, true, false, if◌then◌else◌, List, [], ◌∷◌, nat_lt, nat_eq, Option, None, Some, ⊤}
 use Rattle.wf_base.specs.declared.marks.Mark.TheVariants.{Pure}
 use Rattle.wf_base.specs.declared.base_methods.BaseSig.{BaseSig}
 use Rattle.wf_base.specs.declared.base_methods.Gives.{Gives}
@@ -102,12 +102,6 @@ HasOperands nodes (e ∷ es) no_operand = ⊥
 abbrev pub end_fits : TypedNodes → (e : ExprId) → Option ExprId → Bool
 end_fits nodes e None = true
 end_fits nodes e (Some i) = nat_lt i.0 e.0 && is_number_at nodes i
-
--- One more operand, which the unit has.
-pub record Pushed (old new : List CExprId) (nodes : Nodes) (tree : ExprTree) : Type 0 where
-  pub it : CExprId
-  pub grown : new ≡ old ++ it ∷ []
-  pub is : HasExpr nodes it.0 tree
 
 -- Parts of what a reader is asked for: the place of the next byte but k, a byte in the type of a width, and the third and
 -- the fourth byte of a number.

@@ -1,6 +1,6 @@
 // Conditions. The recursion goes as deep as conditions stand inside one another; the operands of a chain stand side by side.
 
-ghost use Rattle.std.specs.Prelude.{◌≡◌, ◌<◌, ◌∷◌, [], true, false, nat_lt, length, map, drop, IsTrue, IfOk, if◌then◌else◌};
+ghost use Rattle.std.specs.Prelude.{◌≡◌, ◌<◌, ◌∷◌, [], true, false, nat_lt, length, map, IsTrue, IfOk, if◌then◌else◌};
 ghost use Rattle.std.specs.List.{list_all};
 ghost use Rattle.wf_base.specs.BaseTable.{row_of};
 ghost use Rattle.wf_ast.specs.TypedTree.{closed, has_category, negation};
@@ -15,7 +15,7 @@ ghost use Rattle.wf_exprs.specs.Grown.{Grows, HasExpr};
 ghost use Rattle.wf_exprs.specs.Making.{is_condition_at, is_number_at, is_status_at};
 ghost use Rattle.wf_exprs.specs.Scopes.{path_of};
 ghost use Rattle.wf_exprs.specs.Words.{num, two as two_trees};
-ghost use Rattle.wf_exprs_nodes.specs.Trees.{HasOperands, Pushed, answers_truth, conditions_behind, is_equal, is_joining, is_ordering, node_cond, node_number, node_status, order_in};
+ghost use Rattle.wf_exprs_nodes.specs.Trees.{answers_truth, is_equal, is_joining, is_ordering, node_cond, node_number, node_status, order_in};
 
 use crate::asking::io_arg;
 use crate::chains::{joins, operation};
@@ -127,45 +127,12 @@ fn junction(
 {
     let first = condition(scope, u, parts[0])?;
     let second = condition(scope, u, parts[1])?;
-    let others = operands(scope, u, e, parts)?;
-    operation(u, op, first, second, others)
-}
-
-// The operands behind the second.
-#[cycle(conditions)]
-fn operands(
-    scope: &Scope,
-    u: &mut Unit,
-    e: ExprId,
-    parts: &[ExprId],
-) -> Result<CList<CExprId>, NoMemory>
-    requires below { IsTrue (list_all (λ p. nat_lt p.0 e.0) parts.now) }
-    requires conditions { IsTrue (list_all (is_condition_at scope.now.nodes) parts.now) }
-    ensures grows { Grows u.old u.new }
-    ensures made { IfOk result (λ list. HasOperands u.new list (conditions_behind scope.now.names (map (node_cond scope.now.nodes) (drop 2 parts.now)))) }
-{
     let mut others = CList::new(scope.alloc());
     for i in 2..parts.len() {
-        operands_push(scope, u, e, parts[i], &mut others)?;
+        let operand = condition(scope, u, parts[i])?;
+        others.push(operand)?;
     }
-    Ok(others)
-}
-
-#[cycle(conditions)]
-fn operands_push(
-    scope: &Scope,
-    u: &mut Unit,
-    e: ExprId,
-    part: ExprId,
-    others: &mut CList<CExprId>,
-) -> Result<(), NoMemory>
-    requires below { part.0 < e.0 }
-    requires part { IsTrue (is_condition_at scope.now.nodes part) }
-    ensures grows { Grows u.old u.new }
-    ensures pushed { IfOk result (λ _. Pushed others.old others.new u.new (lowered_cond scope.now.names (node_cond scope.now.nodes part))) }
-{
-    let operand = condition(scope, u, part)?;
-    others.push(operand)
+    operation(u, op, first, second, others)
 }
 
 // A comparison of two numbers, or of two statuses.

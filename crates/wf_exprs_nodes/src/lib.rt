@@ -5,6 +5,7 @@ pub mod asking;
 pub mod chains;
 pub mod conditions;
 pub mod helpers;
+pub mod marks;
 pub mod numbers;
 pub mod parts;
 pub mod reads;

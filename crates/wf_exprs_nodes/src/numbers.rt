@@ -1,9 +1,9 @@
 // Numbers and slices. The recursion goes as deep as nodes stand inside one another; the operands of a chain stand side by side.
 
-ghost use Rattle.std.specs.Prelude.{◌≡◌, ◌<◌, true, false, nat_lt, length, map, drop, IsTrue, IfOk};
+ghost use Rattle.std.specs.Prelude.{◌≡◌, ◌<◌, true, false, nat_lt, length, map, IsTrue, IfOk};
 ghost use Rattle.std.specs.List.{list_all};
 ghost use Rattle.wf_base.specs.BaseTable.{bits_of, row_of};
-ghost use Rattle.wf_ast.specs.TypedTree.{local, field, arg, cut as cut_tree, element as element_tree, convert};
+ghost use Rattle.wf_ast.specs.TypedTree.{field, cut as cut_tree, element as element_tree, convert};
 ghost use Rattle.wf_ast.specs.TypedTrees.{answer_of, chain_of, end_in, first_sign, named, num_type, place_of_node, signs_of_node, sort_of, tree_of, type_of_node};
 ghost use Rattle.wf_ast.specs.TypedInvariant.{has_kind, is_expr};
 ghost use Rattle.wf_exprs.specs.Exprs.{calculated as calculated_of, given as given_code, is_array, literal_type as type_of_literal, lowered, lowered_end, lowered_expr, lowered_slice, path_code, path_pair as pair_of_path, rated};
@@ -13,7 +13,7 @@ ghost use Rattle.wf_exprs.specs.Names.{Names};
 ghost use Rattle.wf_exprs.specs.Scopes.{path_of};
 ghost use Rattle.wf_exprs.specs.Words.{literal as literal_of, num};
 ghost use Rattle.wf_num.specs.declared.c_arithmetic.CTy.TheVariants.{Int};
-ghost use Rattle.wf_exprs_nodes.specs.Trees.{HasOperands, Pushed, answers_number, end_fits, is_arithmetic, node_number, node_slice, numbers_behind, repeats as repeats_sort};
+ghost use Rattle.wf_exprs_nodes.specs.Trees.{answers_number, end_fits, is_arithmetic, node_number, node_slice, repeats as repeats_sort};
 
 use crate::asking::{bytes_left, io_arg, peek, position};
 use crate::chains::{link, number_operation, repeats};
@@ -166,45 +166,12 @@ fn operation_chain(
 {
     let first = number(scope, u, parts[0])?;
     let second = number(scope, u, parts[1])?;
-    let others = operands(scope, u, e, parts)?;
-    number_operation(u, op, width, first, second, others)
-}
-
-// The operands behind the second.
-#[cycle(lowering)]
-fn operands(
-    scope: &Scope,
-    u: &mut Unit,
-    e: ExprId,
-    parts: &[ExprId],
-) -> Result<CList<CExprId>, NoMemory>
-    requires below { IsTrue (list_all (λ p. nat_lt p.0 e.0) parts.now) }
-    requires numbers { IsTrue (list_all (is_number_at scope.now.nodes) parts.now) }
-    ensures grows { Grows u.old u.new }
-    ensures made { IfOk result (λ list. HasOperands u.new list (numbers_behind scope.now.names (map (node_number scope.now.nodes) (drop 2 parts.now)))) }
-{
     let mut others = CList::new(scope.alloc());
     for i in 2..parts.len() {
-        operands_push(scope, u, e, parts[i], &mut others)?;
+        let operand = number(scope, u, parts[i])?;
+        others.push(operand.code)?;
     }
-    Ok(others)
-}
-
-#[cycle(lowering)]
-fn operands_push(
-    scope: &Scope,
-    u: &mut Unit,
-    e: ExprId,
-    part: ExprId,
-    others: &mut CList<CExprId>,
-) -> Result<(), NoMemory>
-    requires below { part.0 < e.0 }
-    requires part { IsTrue (is_number_at scope.now.nodes part) }
-    ensures grows { Grows u.old u.new }
-    ensures pushed { IfOk result (λ _. Pushed others.old others.new u.new (lowered_expr scope.now.names (node_number scope.now.nodes part))) }
-{
-    let operand = number(scope, u, part)?;
-    others.push(operand.code)
+    number_operation(u, op, width, first, second, others)
 }
 
 #[cycle(lowering)]
@@ -354,31 +321,11 @@ pub fn path_pair(scope: &Scope, u: &mut Unit, path: Path) -> Result<Pair, NoMemo
     ensures grows { Grows u.old u.new }
     ensures made { IfOk result (λ it. HasPair u.new it (pair_of_path scope.now.names (path_of path))) }
 {
-    match path {
-        Path::Local(n) => local_pair(scope, u, n),
-        Path::Arg(n) => arg_pair(scope, u, n),
-        Path::Field(n) => field_pair(scope, u, n),
-    }
-}
-
-fn local_pair(scope: &Scope, u: &mut Unit, n: u32) -> Result<Pair, NoMemory>
-    ensures grows { Grows u.old u.new }
-    ensures made { IfOk result (λ it. HasPair u.new it (pair_of_path scope.now.names (local n))) }
-{
-    let pointer = scope.local_pointer(u, n)?;
-    let code = scope.local_length(u, n)?;
-    Ok(Pair {
-        pointer,
-        length: Rated { code, ty: CTy::U64 },
-    })
-}
-
-fn arg_pair(scope: &Scope, u: &mut Unit, n: u32) -> Result<Pair, NoMemory>
-    ensures grows { Grows u.old u.new }
-    ensures made { IfOk result (λ it. HasPair u.new it (pair_of_path scope.now.names (arg n))) }
-{
-    let pointer = scope.arg_pointer(u, n)?;
-    let code = scope.arg_length(u, n)?;
+    let (pointer, code) = match path {
+        Path::Local(n) => (scope.local_pointer(u, n)?, scope.local_length(u, n)?),
+        Path::Arg(n) => (scope.arg_pointer(u, n)?, scope.arg_length(u, n)?),
+        Path::Field(n) => return field_pair(scope, u, n),
+    };
     Ok(Pair {
         pointer,
         length: Rated { code, ty: CTy::U64 },

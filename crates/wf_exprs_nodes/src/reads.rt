@@ -148,7 +148,7 @@ pub fn code_reads(u: &Unit, name: CNameId, s: CStmtId) -> bool
 
 // What is looked at after a statement: what follows it in its block or, after an `if` that is the last of its block, what
 // its `else` holds. None at the block's end.
-fn next_of(u: &Unit, s: CStmtId) -> Option<CStmtId>
+pub(crate) fn next_of(u: &Unit, s: CStmtId) -> Option<CStmtId>
     requires { s.0 < length u.now.stmts }
     ensures some { IfSome result (λ next. (next.0 < s.0) × (code_of u.now next.0 ≡ next_of_code (code_of u.now s.0))) }
     ensures none { IfNone result (code_of u.now s.0 ≡ finish) }
@@ -179,7 +179,7 @@ fn later(u: &Unit, other: CStmtId, rest: CStmtId) -> CStmtId
     if is_end(u, rest) { other } else { rest }
 }
 
-fn is_end(u: &Unit, s: CStmtId) -> bool
+pub(crate) fn is_end(u: &Unit, s: CStmtId) -> bool
     requires { s.0 < length u.now.stmts }
     ensures { result ≡ is_finish (code_of u.now s.0) }
 {

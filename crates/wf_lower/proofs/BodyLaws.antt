@@ -1,5 +1,5 @@
 -- The statements of a body with the numbers of their points, and the names that its code reads.
-use Rattle.std.proofs.Common.{◌≡◌, ◌<◌, ◌≤◌, ℕ, zero, suc, Bool, true, false, if◌then◌else◌, Some, List, [], ◌∷◌, ◌++◌, drop, get_or, length, map, refl, sym, ◌∙◌, ap, subst, arith}
+use Rattle.std.proofs.Common.{◌≡◌, ◌+◌, ◌<◌, ◌≤◌, ℕ, zero, suc, Bool, true, false, if◌then◌else◌, Some, List, [], ◌∷◌, ◌++◌, drop, get_or, length, map, refl, sym, ◌∙◌, ap, subst, arith}
 use Rattle.std.specs.Prelude.{slice_get, unwrap_or, ⊤}
 use Rattle.wf_ast.specs.declared.resolved.Block as resolved
 use Rattle.wf_ast.specs.TypedInvariant.{IsTyped}
@@ -20,7 +20,7 @@ use Rattle.wf_lower_stmts.specs.Forms.{Form, when, when_some}
 use Rattle.wf_lower_stmts.specs.Lower.{lower, other_kind, again_here, behind_here}
 use Rattle.wf_lower_stmts.specs.Statements.{lower_point, lower_plain}
 use Rattle.wf_lower.specs.Bodies.{touched}
-use Rattle.wf_lower.specs.Methods.{IsBodyOf, local_names, param_names}
+use Rattle.wf_lower.specs.Methods.{IsBodyOf, local_names, names_in, param_names}
 
 -- Two numberings that agree at these points.
 abbrev Alike : (p q : Site → ℕ) → List Site → Type 0
@@ -123,15 +123,6 @@ touch_same {a} {b} {c} name e body rest g h empty_body made named there =
 
 -- Names are touched one after the other.
 module _ (code rest : Code) where
-  pub touched_two : (xs ys : List (List ℕ)) → touched (xs ++ ys) code rest ≡ touched xs code (touched ys code rest)
-  touched_two [] ys = refl
-  touched_two (x ∷ xs) ys = by_test (code_reads x code) (touched_two xs ys)
-    where
-      by_test : (t : Bool) → touched (xs ++ ys) code rest ≡ touched xs code (touched ys code rest)
-          → (if t then touched (xs ++ ys) code rest else when (variable x) finish (touched (xs ++ ys) code rest)) ≡ (if t then touched xs code (touched ys code rest) else when (variable x) finish (touched xs code (touched ys code rest)))
-      by_test true e = e
-      by_test false e = ap (when (variable x) finish) e
-
   pub touched_front : (k : ℕ) (xs : List (List ℕ)) (x : List ℕ) → slice_get xs k ≡ Some x → touched (drop k xs) code rest ≡ touched (x ∷ []) code (touched (drop (suc k) xs) code rest)
   touched_front k [] x h = absurd (cc h)
   touched_front zero (y ∷ xs) x h = let same : y ≡ x = cc h in ap (λ z. if code_reads z code then touched xs code rest else when (variable z) finish (touched xs code rest)) same
@@ -170,16 +161,26 @@ local_name_at names look [] i d l = absurd (omega (arith, l))
 local_name_at names look (x ∷ ls) zero d l = refl
 local_name_at names look (x ∷ ls) (suc i) d l = local_name_at names look ls i d (omega (arith, l))
 
-pub param_name_at : (names : List (List ℕ)) (ps : List CParam) (i : ℕ) (d : CParam) → i < length ps
-    → slice_get (param_names (map (param_tree names) ps)) i ≡ Some (bytes_at names (get_or ps i d).name.0)
-param_name_at names [] i d l = absurd (omega (arith, l))
-param_name_at names (x ∷ ps) zero d l = refl
-param_name_at names (x ∷ ps) (suc i) d l = param_name_at names ps i d (omega (arith, l))
+-- Those of parameters and then of locals, one by one.
+pub param_at : (nodes : Nodes) (ps : List CParam) (ls : List CLocal) (i : ℕ) (d : CParam) → i < length ps → slice_get (names_in nodes ps ls) i ≡ Some (bytes_at nodes.names (get_or ps i d).name.0)
+param_at nodes [] ls i d l = absurd (omega (arith, l))
+param_at nodes (x ∷ ps) ls zero d l = refl
+param_at nodes (x ∷ ps) ls (suc i) d l = param_at nodes ps ls i d (omega (arith, l))
 
--- Locals and then parameters are touched in front of the code.
-pub touched_all : {ps ps' : List ParamTree} {ls ls' : List LocalTree} {code code' code'' front : Code} → ps' ≡ ps → ls' ≡ ls → code' ≡ code → code'' ≡ code → front ≡ touched (local_names ls') code' code'
-    → touched (param_names ps') code'' front ≡ touched (param_names ps ++ local_names ls) code code
-touched_all {ps = ps} {ls = ls} {ls' = ls'} {code = code} {code' = code'} {code'' = code''} {front = front} p l k m f =
-    ap (λ x. touched (param_names x) code'' front) p ∙ ap (λ x. touched (param_names ps) x front) m
-    ∙ ap (touched (param_names ps) code) (f ∙ ap (λ x. touched (local_names x) code' code') l ∙ ap (λ x. touched (local_names ls) x x) k)
-    ∙ sym (touched_two code code (param_names ps) (local_names ls))
+pub local_at : (nodes : Nodes) (ps : List CParam) (ls : List CLocal) (i j : ℕ) (d : CLocal) → i ≡ length ps + j → j < length ls → slice_get (names_in nodes ps ls) i ≡ Some (bytes_at nodes.names (get_or ls j d).name.0)
+local_at nodes [] ls i j d e l =
+    let same : i ≡ j = omega (arith, e) in
+    ap (slice_get (names_in nodes [] ls)) same ∙ local_name_at nodes.names (expr_of nodes) ls j d l
+local_at nodes (x ∷ ps) ls zero j d e l = absurd (omega (arith, e))
+local_at nodes (x ∷ ps) ls (suc i) j d e l = local_at nodes ps ls i j d (omega (arith, e)) l
+
+pub names_count : (nodes : Nodes) (ps : List CParam) (ls : List CLocal) → length (names_in nodes ps ls) ≡ length ps + length ls
+names_count nodes [] [] = refl
+names_count nodes [] (l ∷ ls) = let k = names_count nodes [] ls in omega (arith, k)
+names_count nodes (p ∷ ps) ls = let k = names_count nodes ps ls in omega (arith, k)
+
+-- What is touched, by the trees.
+pub touched_all : {ps ps' : List ParamTree} {ls ls' : List LocalTree} {code code' : Code} → ps' ≡ ps → ls' ≡ ls → code' ≡ code
+    → touched (param_names ps' ++ local_names ls') code' code' ≡ touched (param_names ps ++ local_names ls) code code
+touched_all {ps = ps} {ls = ls} {ls' = ls'} {code' = code'} p l k =
+    ap (λ x. touched (param_names x ++ local_names ls') code' code') p ∙ ap (λ x. touched (param_names ps ++ local_names x) code' code') l ∙ ap (λ x. touched (param_names ps ++ local_names ls) x x) k

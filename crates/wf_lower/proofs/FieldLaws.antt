@@ -86,11 +86,8 @@ kept_field {b} nodes method x local kind name is same nameless h =
     ∙ sym (ap (λ t. if t then field (kept_type x.ty) (saved_field method (text_of nodes x.name)) ∷ [] else []) is)
 
 -- What a started statement has.
-pub held_made : {b : Nodes} (there : Bool) (method : List ℕ) (name : CNameId) → there ≡ true → HasNamed b name.0 (held_field method) → field (uint U64) (bytes_at b.names name.0) ∷ [] ≡ held_fields there method
-held_made {b} there method name is h = ap (λ n. field (uint U64) n ∷ []) h.is ∙ sym (ap (λ t. held_fields t method) is)
-
-pub count_made : {b : Nodes} (there : Bool) (method : List ℕ) (name : CNameId) → there ≡ true → HasNamed b name.0 (count_field method) → field (uint U8) (bytes_at b.names name.0) ∷ [] ≡ count_fields there method
-count_made {b} there method name is h = ap (λ n. field (uint U8) n ∷ []) h.is ∙ sym (ap (λ t. count_fields t method) is)
+pub number_made : {b : Nodes} (there : Bool) (ty : CUint) (spelt : List ℕ) (name : CNameId) → there ≡ true → HasNamed b name.0 spelt → field (uint ty) (bytes_at b.names name.0) ∷ [] ≡ (if there then field (uint ty) spelt ∷ [] else [])
+number_made {b} there ty spelt name is h = ap (λ n. field (uint ty) n ∷ []) h.is ∙ sym (ap (λ t. if t then field (uint ty) spelt ∷ [] else []) is)
 
 pub started_made : (a b c : Nodes) (fs gs hs : List CField) (held counts h k : Bool) (method : List ℕ) (r : Result (Unit {0}) NoMemory) → held ≡ h → counts ≡ k → AddsFields a b fs gs (held_fields held method)
     → OnOk r (AddsFields b c gs hs (count_fields counts method)) → OnOk r (AddsFields a c fs hs (held_fields h method ++ count_fields k method))

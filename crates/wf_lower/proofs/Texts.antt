@@ -15,11 +15,20 @@ use Rattle.c_text.proofs.Trees.{append_nil, bytes_at-front}
 use Rattle.wf_exprs.specs.Grown.{Grows, HasNamed}
 use Rattle.wf_exprs.specs.Names.{status_name}
 use Rattle.wf_exprs_nodes.specs.Growth.{GrowsBy}
+use Rattle.wf_exprs_nodes.specs.Marks.{Marks, has_name}
 use Rattle.wf_exprs_nodes.proofs.ItemLaws.{by_after, unit_kept}
-use Rattle.wf_lower.specs.Made.{FitsFunction, FitFunctions, HasFunctionTrees, item_trees}
+use Rattle.wf_lower.specs.Made.{AreRead, FitsFunction, FitFunctions, HasFunctionTrees, item_trees}
 use Rattle.wf_lower.specs.Unit.{helper_name, is_read_in, is_used, used_helpers, used_texts}
-use Rattle.wf_lower.proofs.Kept.{Keeps, keeps, keeps_by, functions_kept}
+use Rattle.wf_lower.proofs.Kept.{Keeps, keeps_by, functions_kept}
 use Rattle.wf_lower.proofs.Walks.{dropped, none_left, to_suc}
+
+or_assoc : (a b c : Bool) → ((a || b) || c) ≡ (a || (b || c))
+or_assoc true b c = refl
+or_assoc false b c = refl
+
+or_false : (a : Bool) → (a || false) ≡ a
+or_false true = refl
+or_false false = refl
 
 assoc : {A : Type 0} (xs ys zs : List A) → (xs ++ ys) ++ zs ≡ xs ++ (ys ++ zs)
 assoc [] ys zs = refl
@@ -112,36 +121,50 @@ module _ (nodes : Nodes) (xs : List CItem) (i : ℕ) (x : CItem) (is : x ≡ get
       ap (λ (l : List CItem). is_used (item_trees nodes l) name) (dropped xs i x h)
       ∙ ap (λ (y : CItem). is_read_in name (made_item nodes y) || is_used (item_trees nodes (drop (i + 1) xs)) name) (sym is)
 
-  pub used_here : (name : List ℕ) → is_read_in name (made_item nodes x) ≡ true → is_used (item_trees nodes (drop i xs)) name ≡ true
-  used_here name k = used_next name ∙ ap (λ b. b || is_used (item_trees nodes (drop (i + 1) xs)) name) k
+  -- What the names that are read and those that are left come to stays `total`.
+  pub names_on : (before after : List (List ℕ)) (total : List ℕ → Bool) → Marks (λ name. is_read_in name (made_item nodes x)) before after
+      → ((name : List ℕ) → (has_name before name || is_used (item_trees nodes (drop i xs)) name) ≡ total name) → (name : List ℕ) → (has_name after name || is_used (item_trees nodes (drop (i + 1) xs)) name) ≡ total name
+  names_on before after total marks left = λ name.
+      ap (λ b. b || is_used (item_trees nodes (drop (i + 1) xs)) name) (marks name)
+      ∙ or_assoc (has_name before name) (is_read_in name (made_item nodes x)) (is_used (item_trees nodes (drop (i + 1) xs)) name)
+      ∙ ap (λ b. has_name before name || b) (sym (used_next name))
+      ∙ left name
 
-  pub used_rest : (name : List ℕ) → is_read_in name (made_item nodes x) ≡ false → is_used (item_trees nodes (drop i xs)) name ≡ is_used (item_trees nodes (drop (i + 1) xs)) name
-  used_rest name k = used_next name ∙ ap (λ b. b || is_used (item_trees nodes (drop (i + 1) xs)) name) k
+pub names_first : (nodes : Nodes) (fs : List CItem) (names : List (List ℕ)) → names ≡ [] → (name : List ℕ) → (has_name names name || is_used (item_trees nodes fs) name) ≡ is_used (item_trees nodes fs) name
+names_first nodes fs names e = λ name. ap (λ (ns : List (List ℕ)). has_name ns name || is_used (item_trees nodes fs) name) e
 
-pub used_none : (nodes : Nodes) (name : List ℕ) (xs : List CItem) (i : ℕ) → length xs ≤ i → is_used (item_trees nodes (drop i xs)) name ≡ false
-used_none nodes name xs i h = ap (λ (l : List CItem). is_used (item_trees nodes l) name) (none_left xs i h)
+pub names_end : (nodes : Nodes) (names : List (List ℕ)) (total : List ℕ → Bool) (xs : List CItem) (i : ℕ) → length xs ≤ i
+    → ((name : List ℕ) → (has_name names name || is_used (item_trees nodes (drop i xs)) name) ≡ total name) → (name : List ℕ) → has_name names name ≡ total name
+names_end nodes names total xs i h left = λ name.
+    sym (or_false (has_name names name)) ∙ ap (λ (l : List CItem). has_name names name || is_used (item_trees nodes l) name) (sym (none_left xs i h)) ∙ left name
 
--- The same name is read, or isn't, once the unit has grown.
-module _ {a b : Nodes} (fs : List CItem) (name : ℕ) (spelt : List ℕ) (k : Keeps a b) (fit : FitFunctions a fs) (named : HasNamed b name spelt) where
-  pub used_same : is_used (item_trees a fs) spelt ≡ is_used (item_trees b fs) (bytes_at b.names name)
-  used_same = ap (λ (ts : List ItemTree). is_used ts spelt) (sym (same_grown fs k fit)) ∙ ap (is_used (item_trees b fs)) (sym named.is)
+-- A name is used where it is one of those that are read.
+module _ (b : Nodes) (read : List (List ℕ)) (name : ℕ) (spelt : List ℕ) (named : HasNamed b name spelt) (functions : List ItemTree) (are : AreRead functions read) where
+  used_as : (told : Bool) → has_name read (bytes_at b.names name) ≡ told → is_used functions spelt ≡ told
+  used_as told h = sym (are spelt) ∙ ap (has_name read) (sym named.is) ∙ h
+
+-- Items were added, which with those that are left are all.
+pub record Added (old new : Nodes) (others all : List ItemTree) : Type 0 where
+  pub added : List ItemTree
+  pub grows : GrowsBy added old new
+  pub left : added ++ others ≡ all
 
 -- A status stands in the text where it is used.
-module _ (a b c : Nodes) (fs : List CItem) (n name : ℕ) (o : Option (List ℕ)) (bytes : List ℕ) (sound : IsSound a) (g : Grows a b) (fit : FitFunctions a fs) (named : HasNamed b name (status_name n)) where
-  pub text_used : (r : Result (Unit {0}) NoMemory) → o ≡ Some bytes → is_used (item_trees b fs) (bytes_at b.names name) ≡ true
+module _ (a b c : Nodes) (read : List (List ℕ)) (n name : ℕ) (o : Option (List ℕ)) (bytes : List ℕ) (sound : IsSound a) (g : Grows a b) (named : HasNamed b name (status_name n)) where
+  pub text_used : (r : Result (Unit {0}) NoMemory) → o ≡ Some bytes → has_name read (bytes_at b.names name) ≡ true
       → OnOk r (GrowsBy (text_item (bytes_at b.names name) bytes ∷ []) b c)
-      → OnOk r ((text : List ℕ) → o ≡ Some text → GrowsBy (used_texts (item_trees a fs) n (text ∷ [])) a c)
-  text_used (Ok u) known used h = λ text is.
-      let there : is_used (item_trees a fs) (status_name n) ≡ true = used_same fs name (status_name n) (keeps g) fit named ∙ used in
+      → OnOk r ((functions : List ItemTree) → AreRead functions read → (text : List ℕ) → o ≡ Some text → GrowsBy (used_texts functions n (text ∷ [])) a c)
+  text_used (Ok u) known used h = λ functions are text is.
+      let there : is_used functions (status_name n) ≡ true = used_as b read name (status_name n) named functions are true used in
       let e : bytes ≡ text = cc (known, is) in
-      let same : text_item (bytes_at b.names name) bytes ∷ [] ≡ used_texts (item_trees a fs) n (text ∷ []) =
+      let same : text_item (bytes_at b.names name) bytes ∷ [] ≡ used_texts functions n (text ∷ []) =
       ap (λ x. text_item x bytes ∷ []) named.is ∙ ap (λ x. text_item (status_name n) x ∷ []) e ∙ ap (λ q. if q then text_item (status_name n) text ∷ [] else []) (sym there) in
       by_list same (by_after a b c (text_item (bytes_at b.names name) bytes ∷ []) sound g h)
   text_used (Err refused) known used h = h
 
-  pub text_unused : is_used (item_trees b fs) (bytes_at b.names name) ≡ false → (text : List ℕ) → o ≡ Some text → GrowsBy (used_texts (item_trees a fs) n (text ∷ [])) a b
-  text_unused unused text is =
-      let there : is_used (item_trees a fs) (status_name n) ≡ false = used_same fs name (status_name n) (keeps g) fit named ∙ unused in
+  pub text_unused : has_name read (bytes_at b.names name) ≡ false → (functions : List ItemTree) → AreRead functions read → (text : List ℕ) → o ≡ Some text → GrowsBy (used_texts functions n (text ∷ [])) a b
+  text_unused unused = λ functions are text is.
+      let there : is_used functions (status_name n) ≡ false = used_as b read name (status_name n) named functions are false unused in
       by_list (ap (λ q. if q then text_item (status_name n) text ∷ [] else []) (sym there)) (by_none a b sound g)
 
 -- A string has the last number.
@@ -158,16 +181,16 @@ text_put a b c bytes name s (Ok u) sound e is h = text_added a b c bytes name s 
 text_put a b c bytes name s (Err refused) sound e is h = h
 
 -- A helper stands in the text where it is used.
-module _ (a b c : Nodes) (fs : List CItem) (name : ℕ) (it : ItemTree) (sound : IsSound a) (g : Grows a b) (fit : FitFunctions a fs) (named : HasNamed b name (helper_name it)) where
-  pub helper_used : (r : Result (Unit {0}) NoMemory) → is_used (item_trees b fs) (bytes_at b.names name) ≡ true → OnOk r (GrowsBy (it ∷ []) b c) → OnOk r (GrowsBy (used_helpers (item_trees a fs) (it ∷ [])) a c)
-  helper_used (Ok u) used h =
-      let there : is_used (item_trees a fs) (helper_name it) ≡ true = used_same fs name (helper_name it) (keeps g) fit named ∙ used in
+module _ (a b c : Nodes) (read : List (List ℕ)) (name : ℕ) (it : ItemTree) (sound : IsSound a) (g : Grows a b) (named : HasNamed b name (helper_name it)) where
+  pub helper_used : (r : Result (Unit {0}) NoMemory) → has_name read (bytes_at b.names name) ≡ true → OnOk r (GrowsBy (it ∷ []) b c) → OnOk r ((functions : List ItemTree) → AreRead functions read → GrowsBy (used_helpers functions (it ∷ [])) a c)
+  helper_used (Ok u) used h = λ functions are.
+      let there : is_used functions (helper_name it) ≡ true = used_as b read name (helper_name it) named functions are true used in
       by_list (ap (λ q. if q then it ∷ [] else []) (sym there)) (by_after a b c (it ∷ []) sound g h)
   helper_used (Err refused) used h = h
 
-  pub helper_unused : is_used (item_trees b fs) (bytes_at b.names name) ≡ false → GrowsBy (used_helpers (item_trees a fs) (it ∷ [])) a b
-  helper_unused unused =
-      let there : is_used (item_trees a fs) (helper_name it) ≡ false = used_same fs name (helper_name it) (keeps g) fit named ∙ unused in
+  pub helper_unused : has_name read (bytes_at b.names name) ≡ false → (functions : List ItemTree) → AreRead functions read → GrowsBy (used_helpers functions (it ∷ [])) a b
+  helper_unused unused = λ functions are.
+      let there : is_used functions (helper_name it) ≡ false = used_as b read name (helper_name it) named functions are false unused in
       by_list (ap (λ q. if q then it ∷ [] else []) (sym there)) (by_none a b sound g)
 
 helpers_both : (functions xs ys : List ItemTree) → used_helpers functions (xs ++ ys) ≡ used_helpers functions xs ++ used_helpers functions ys
@@ -178,13 +201,13 @@ helpers_both functions (x ∷ xs) ys = ap (λ l. if is_used functions (helper_na
     one_more true = refl
     one_more false = refl
 
-module _ (a b c : Nodes) (fs : List CItem) (xs ys : List ItemTree) (fit : FitFunctions a fs) where
-  pub helpers_on : GrowsBy (used_helpers (item_trees a fs) xs) a b → GrowsBy (used_helpers (item_trees b fs) ys) b c → GrowsBy (used_helpers (item_trees a fs) (xs ++ ys)) a c
-  helpers_on g h =
-      let same : used_helpers (item_trees b fs) ys ≡ used_helpers (item_trees a fs) ys = ap (λ (ts : List ItemTree). used_helpers ts ys) (same_grown fs (keeps_by g) fit) in
-      by_list (sym (helpers_both (item_trees a fs) xs ys)) (by_on (used_helpers (item_trees a fs) xs) (used_helpers (item_trees a fs) ys) g (by_list same h))
+module _ (a b c : Nodes) (read : List (List ℕ)) (xs ys : List ItemTree) where
+  pub helpers_on : ((functions : List ItemTree) → AreRead functions read → GrowsBy (used_helpers functions xs) a b) → ((functions : List ItemTree) → AreRead functions read → GrowsBy (used_helpers functions ys) b c)
+      → (functions : List ItemTree) → AreRead functions read → GrowsBy (used_helpers functions (xs ++ ys)) a c
+  helpers_on g h = λ functions are. by_list (sym (helpers_both functions xs ys)) (by_on (used_helpers functions xs) (used_helpers functions ys) (g functions are) (h functions are))
 
-  pub helpers_then : (r : Result (Unit {0}) NoMemory) → GrowsBy (used_helpers (item_trees a fs) xs) a b → OnOk r (GrowsBy (used_helpers (item_trees b fs) ys) b c) → OnOk r (GrowsBy (used_helpers (item_trees a fs) (xs ++ ys)) a c)
+  pub helpers_then : (r : Result (Unit {0}) NoMemory) → ((functions : List ItemTree) → AreRead functions read → GrowsBy (used_helpers functions xs) a b) → OnOk r ((functions : List ItemTree) → AreRead functions read → GrowsBy (used_helpers functions ys) b c)
+      → OnOk r ((functions : List ItemTree) → AreRead functions read → GrowsBy (used_helpers functions (xs ++ ys)) a c)
   helpers_then (Ok u) g h = helpers_on g h
   helpers_then (Err refused) g h = h
 

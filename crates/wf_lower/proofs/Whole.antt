@@ -13,13 +13,13 @@ use Rattle.wf_exprs.specs.Grown.{Grows}
 use Rattle.wf_exprs.specs.Helpers.{all_saturating}
 use Rattle.wf_exprs_nodes.specs.Growth.{GrowsBy}
 use Rattle.wf_exprs_nodes.proofs.ItemLaws.{by_after}
-use Rattle.wf_lower.specs.Made.{FitFunctions, HasFunctionTrees, IsReady, IsSpelt, item_trees}
+use Rattle.wf_lower.specs.Made.{AreRead, HasFunctionTrees, IsReady, IsSpelt, item_trees}
 use Rattle.wf_lower.specs.Parts.{functions_in, items_before, items_in}
 use Rattle.wf_lower.specs.Unit.{io_buffer_item, lowered_unit, struct_items, struct_order, used_helpers, used_texts}
 use Rattle.wf_lower.proofs.Functions.{statuses_same}
 use Rattle.wf_lower.proofs.Kept.{keeps_by}
 use Rattle.wf_lower.proofs.Small.{points_small}
-use Rattle.wf_lower.proofs.Texts.{by_as, by_list, by_on, fit_grown, same_grown}
+use Rattle.wf_lower.proofs.Texts.{by_as, by_list, by_on, same_grown}
 
 ready_as : (a : AcceptedPackage) → IsAccepted a → IsSpelt a.nodes → IsReady a.nodes a.points.numbers
 ready_as a kept spelt = record { typed = kept.typed; spelt = spelt; small = points_small a.nodes kept.typed kept.few a.points.numbers kept.numbers; numbered = kept.numbers }
@@ -49,21 +49,17 @@ pub items_lowered : (p : PackageTree) (order : List ℕ) (a b : Nodes) (r : Resu
 items_lowered p order a b r e h = by_as a b (items_in p order) (lowered_unit p) r (ap (items_in p) e ∙ items_are p) h
 
 -- The items before the functions, one kind after the other.
-pub before_all : (nodes : TypedNodes) (order : List ℕ) (a b c d e : Nodes) (fs : List CItem) (r : Result (Unit {0}) NoMemory) → FitFunctions a fs
-    → GrowsBy (io_buffer_item ∷ []) a b → GrowsBy (struct_items (package_of nodes) order) b c → GrowsBy (used_texts (item_trees c fs) 0 nodes.statuses) c d
-    → OnOk r (GrowsBy (used_helpers (item_trees d fs) all_saturating) d e) → OnOk r (GrowsBy (items_before (package_of nodes) order (item_trees a fs)) a e)
-before_all nodes order a b c d e fs (Ok u) fit buffer structs texts helpers =
+pub before_all : (nodes : TypedNodes) (order : List ℕ) (a b c d e : Nodes) (read : List (List ℕ)) (r : Result (Unit {0}) NoMemory)
+    → GrowsBy (io_buffer_item ∷ []) a b → GrowsBy (struct_items (package_of nodes) order) b c → ((functions : List ItemTree) → AreRead functions read → GrowsBy (used_texts functions 0 nodes.statuses) c d)
+    → OnOk r ((functions : List ItemTree) → AreRead functions read → GrowsBy (used_helpers functions all_saturating) d e) → OnOk r ((functions : List ItemTree) → AreRead functions read → GrowsBy (items_before (package_of nodes) order functions) a e)
+before_all nodes order a b c d e read (Ok u) buffer structs texts helpers = λ functions are.
     let ss = struct_items (package_of nodes) order in
     let front : GrowsBy (io_buffer_item ∷ ss) a c = by_on (io_buffer_item ∷ []) ss buffer structs in
-    let fit_c : FitFunctions c fs = fit_grown fs (keeps_by front) fit in
-    let same_c : item_trees c fs ≡ item_trees a fs = same_grown fs (keeps_by front) fit in
-    let same_d : item_trees d fs ≡ item_trees a fs = same_grown fs (keeps_by texts) fit_c ∙ same_c in
-    let ts = used_texts (item_trees a fs) 0 (package_of nodes).statuses in
-    let hs = used_helpers (item_trees a fs) all_saturating in
-    let texts_a : GrowsBy ts c d = by_list (ap (λ l. used_texts l 0 nodes.statuses) same_c ∙ ap (used_texts (item_trees a fs) 0) (sym (statuses_same nodes))) texts in
-    let helpers_a : GrowsBy hs d e = by_list (ap (λ l. used_helpers l all_saturating) same_d) helpers in
-    by_on (io_buffer_item ∷ ss) (ts ++ hs) front (by_on ts hs texts_a helpers_a)
-before_all nodes order a b c d e fs (Err refused) fit buffer structs texts helpers = helpers
+    let ts = used_texts functions 0 (package_of nodes).statuses in
+    let hs = used_helpers functions all_saturating in
+    let own : GrowsBy ts c d = by_list (ap (used_texts functions 0) (sym (statuses_same nodes))) (texts functions are) in
+    by_on (io_buffer_item ∷ ss) (ts ++ hs) front (by_on ts hs own (helpers functions are))
+before_all nodes order a b c d e read (Err refused) buffer structs texts helpers = helpers
 
 -- All items: those before the functions, and the functions.
 pub ordered_all : (p : PackageTree) (order : List ℕ) (a b c d : Nodes) (fs : List CItem) (r : Result (Unit {0}) NoMemory) → IsSound a → Grows a b → HasFunctionTrees b fs (functions_in p order)

@@ -24,9 +24,11 @@ use Rattle.c_meaning.specs.UnitForm.{args_params}
 use Rattle.wf_exprs.specs.Exprs.{status_constant}
 use Rattle.wf_exprs.specs.Names.{struct_type}
 use Rattle.wf_exprs.specs.Words.{num, of_self, self}
+use Rattle.wf_exprs_nodes.specs.Marks.{has_name}
 use Rattle.wf_lower_stmts.specs.BodyNodes.{AreSmall, HasWords}
 use Rattle.wf_lower_stmts.specs.Forms.{Form, when}
 use Rattle.wf_lower.specs.Bodies.{public_args, bytes_locals, further_locals, only_read, resume_of}
+use Rattle.wf_lower.specs.Unit.{is_used}
 
 -- The unit has the names of this type, and the type is this one.
 pub record HasTypeTree (nodes : Nodes) (kind : CType) (tree : TypeTree) : Type 0 where
@@ -110,6 +112,10 @@ AddsFields old new before after added = (so_far : List FieldTree) → HasFieldTr
 
 abbrev pub AddsFunctions : (old new : Nodes) → (before after : List CItem) → List ItemTree → Type 0
 AddsFunctions old new before after added = (so_far : List ItemTree) → HasFunctionTrees old before so_far → HasFunctionTrees new after (so_far ++ added)
+
+-- The names that one of these functions reads.
+abbrev pub AreRead : List ItemTree → (names : List (List ℕ)) → Type 0
+AreRead functions names = (name : List ℕ) → has_name names name ≡ is_used functions name
 
 -- A type without names is the same tree in every unit.
 pub record IsResult (result : Option CType) (tree : Option TypeTree) : Type 0 where

@@ -13,7 +13,9 @@ use Rattle.c_text.specs.declared.ids.CExprId.{CExprId}
 use Rattle.c_text.specs.declared.kinds.COp.TheVariants.{Either}
 use Rattle.c_text.specs.declared.nodes.CArg.{CArg}
 use Rattle.c_text.specs.CFits.{HasExprs}
-use Rattle.c_text.specs.CNodes.{Nodes, expr_of}
+use Rattle.c_text.specs.declared.nodes.CLocal.{CLocal}
+use Rattle.c_text.specs.declared.nodes.CParam.{CParam}
+use Rattle.c_text.specs.CNodes.{Nodes, expr_of, local_tree, param_tree}
 use Rattle.c_text.specs.CTree.{ExprTree, operation, Code, finish, call, ParamTree, LocalTree}
 use Rattle.wf_exprs.specs.Exprs.{same_op}
 use Rattle.wf_exprs.specs.Names.{body_name}
@@ -98,3 +100,7 @@ param_names params = map (λ (x : ParamTree). x.name) params
 
 abbrev pub local_names : List LocalTree → List (List ℕ)
 local_names locals = map (λ (x : LocalTree). x.name) locals
+
+-- Those of these parameters of a unit, and then those of these locals.
+abbrev pub names_in : Nodes → List CParam → List CLocal → List (List ℕ)
+names_in nodes params locals = param_names (map (param_tree nodes.names) params) ++ local_names (map (local_tree nodes.names (expr_of nodes)) locals)

@@ -1,10 +1,10 @@
 // The body of a method as a function. That of a coroutine takes the number of the point where it goes on out of its struct,
 // and what it kept there.
 
-ghost use Rattle.std.specs.Prelude.{◌≡◌, ◌<◌, ◌++◌, ◌∷◌, [], length, map, Some, IfOk};
+ghost use Rattle.std.specs.Prelude.{◌≡◌, ◌<◌, ◌+◌, ◌++◌, ◌∷◌, [], length, map, slice_get, Some, IfOk};
 ghost use Rattle.c_text.specs.CFits.{HasLocals, HasParams};
 ghost use Rattle.c_text.specs.CGrammar.{is_finish};
-ghost use Rattle.c_text.specs.CNodes.{bytes_at, code_of, expr_of, local_tree, param_tree};
+ghost use Rattle.c_text.specs.CNodes.{Nodes, bytes_at, code_of, param_tree};
 ghost use Rattle.c_text.specs.CTree.{assign as assign_code, case_label, empty, finish as finish_code, select};
 ghost use Rattle.c_text.specs.declared.kinds.CNumber.TheVariants.{Int};
 ghost use Rattle.wf_exprs.specs.Grown.{Grows, HasCode, HasNamed};
@@ -14,7 +14,7 @@ ghost use Rattle.wf_lower_stmts.specs.Forms.{resume_local, when_some};
 ghost use Rattle.wf_lower_stmts.specs.Lower.{ending as ending_code};
 ghost use Rattle.wf_lower.specs.Bodies.{body_code as code_of_body, body_function as body_item, coroutine_code as code_of_coroutine, fixed_locals as locals_of_all, params_of as params_for, result_of as result_for, resumed, statements_of, touched as touched_code};
 ghost use Rattle.wf_lower.specs.Made.{HasItemTree, HasLocalTrees, HasParamTrees, IsResult};
-ghost use Rattle.wf_lower.specs.Methods.{IsBodyOf, local_names, param_names, read_locals};
+ghost use Rattle.wf_lower.specs.Methods.{IsBodyOf, local_names, names_in, param_names, read_locals};
 
 use crate::declaring::{params_of, result_of};
 use crate::locals::{add_further, fixed_locals};
@@ -156,46 +156,37 @@ fn touch(u: &mut Unit, code: CStmtId, name: CNameId, rest: CStmtId) -> Result<CS
     when(u, test, body, rest)
 }
 
-/// The same for the names of these locals.
-fn touch_locals(
-    u: &mut Unit,
-    code: CStmtId,
-    locals: &[CLocal],
-    rest: CStmtId,
-) -> Result<CStmtId, NoMemory>
-    requires code { code.0 < length u.old.stmts }
-    requires locals { HasLocals u.old locals.now }
-    requires rest { rest.0 < length u.old.stmts }
-    ensures grows { Grows u.old u.new }
-    ensures made { IfOk result (λ it. HasCode u.new it.0 (touched_code (local_names (map (local_tree u.old.names (expr_of u.old)) locals.now)) (code_of u.old code.0) (code_of u.old rest.0))) }
+/// The name of the parameter with this number or, after all parameters, of a local.
+fn name_at(params: &[CParam], locals: &[CLocal], i: usize) -> CNameId
+    requires { i < length params.now + length locals.now }
+    ensures there { (nodes : Nodes) → HasParams nodes params.now → HasLocals nodes locals.now → result.0 < length nodes.names }
+    ensures is { (nodes : Nodes) → slice_get (names_in nodes params.now locals.now) i ≡ Some (bytes_at nodes.names result.0) }
 {
-    let mut left = locals.len();
-    let mut front = rest;
-    while left > 0 {
-        left -= 1;
-        front = touch(u, code, locals[left].name, front)?;
+    if i < params.len() {
+        params[i].name
+    } else {
+        locals[i - params.len()].name
     }
-    Ok(front)
 }
 
-/// The same for the names of these parameters.
-fn touch_params(
+/// The code after what touches the names of these parameters and locals that nothing in it reads.
+fn touch_all(
     u: &mut Unit,
     code: CStmtId,
     params: &[CParam],
-    rest: CStmtId,
+    locals: &[CLocal],
 ) -> Result<CStmtId, NoMemory>
     requires code { code.0 < length u.old.stmts }
     requires params { HasParams u.old params.now }
-    requires rest { rest.0 < length u.old.stmts }
+    requires locals { HasLocals u.old locals.now }
     ensures grows { Grows u.old u.new }
-    ensures made { IfOk result (λ it. HasCode u.new it.0 (touched_code (param_names (map (param_tree u.old.names) params.now)) (code_of u.old code.0) (code_of u.old rest.0))) }
+    ensures made { IfOk result (λ it. HasCode u.new it.0 (touched_code (names_in u.old params.now locals.now) (code_of u.old code.0) (code_of u.old code.0))) }
 {
-    let mut left = params.len();
-    let mut front = rest;
+    let mut left = params.len() + locals.len();
+    let mut front = code;
     while left > 0 {
         left -= 1;
-        front = touch(u, code, params[left].name, front)?;
+        front = touch(u, code, name_at(params, locals, left), front)?;
     }
     Ok(front)
 }
@@ -214,8 +205,7 @@ fn touched(
     ensures code { IfOk result (λ it. HasCode u.new it.1.0 (touched_code (param_names (map (param_tree u.old.names) params.now) ++ local_names (locals_of_all (form_in b.now))) (code_of u.old code.0) (code_of u.old code.0))) }
 {
     let mut locals = fixed_locals(b, u)?;
-    let front = touch_locals(u, code, locals.as_slice(), code)?;
-    let whole = touch_params(u, code, params, front)?;
+    let whole = touch_all(u, code, params, locals.as_slice())?;
     add_further(b, u, code, &mut locals)?;
     Ok((locals, whole))
 }

@@ -86,36 +86,6 @@ fn end_local(b: &Body, u: &mut Unit, n: usize, ty: Ty) -> Result<CLocal, NoMemor
     size_local(b, u, b"e_", name, end)
 }
 
-fn add_place(
-    b: &Body,
-    u: &mut Unit,
-    n: usize,
-    ty: Ty,
-    locals: &mut CList<CLocal>,
-) -> Result<(), NoMemory>
-    requires { n < length b.now.method.args }
-    ensures grows { Grows u.old u.new }
-    ensures made { OnOk result (AddsLocals u.old u.new locals.old locals.new (declared size (io_place (form_in b.now).names n) (place_code (io_code (form_in b.now).names n) ty) ∷ [])) }
-{
-    let local = place_local(b, u, n, ty)?;
-    locals.push(local)
-}
-
-fn add_end(
-    b: &Body,
-    u: &mut Unit,
-    n: usize,
-    ty: Ty,
-    locals: &mut CList<CLocal>,
-) -> Result<(), NoMemory>
-    requires { n < length b.now.method.args }
-    ensures grows { Grows u.old u.new }
-    ensures made { OnOk result (AddsLocals u.old u.new locals.old locals.new (declared size (io_end (form_in b.now).names n) (end_code (io_code (form_in b.now).names n) ty) ∷ [])) }
-{
-    let local = end_local(b, u, n, ty)?;
-    locals.push(local)
-}
-
 /// The place and the end of an argument that is a reader or a writer.
 fn add_io(
     b: &Body,
@@ -129,8 +99,10 @@ fn add_io(
     ensures made { OnOk result (AddsLocals u.old u.new locals.old locals.new (place_locals (form_in b.now).names n ty)) }
 {
     if is_io(ty) {
-        add_place(b, u, n, ty, locals)?;
-        add_end(b, u, n, ty, locals)
+        let place = place_local(b, u, n, ty)?;
+        locals.push(place)?;
+        let end = end_local(b, u, n, ty)?;
+        locals.push(end)
     } else {
         Ok(())
     }

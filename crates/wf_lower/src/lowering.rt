@@ -6,16 +6,17 @@ ghost use Rattle.wf_base.specs.BaseTable.{bits_of};
 ghost use Rattle.wf_ast.specs.TypedPackage.{MethodTree, package_of};
 ghost use Rattle.c_text.specs.CNodes.{bytes_at, made_item, unit_tree};
 ghost use Rattle.c_text.specs.CSpelling.{is_string};
-ghost use Rattle.c_text.specs.CTree.{text_item};
+ghost use Rattle.c_text.specs.CTree.{ItemTree, text_item};
 ghost use Rattle.wf_exprs.specs.Grown.{Grows};
 ghost use Rattle.wf_exprs.specs.Helpers.{all_saturating, saturating};
 ghost use Rattle.wf_exprs_nodes.specs.Growth.{GrowsBy};
+ghost use Rattle.wf_exprs_nodes.specs.Marks.{Marks, has_name};
 ghost use Rattle.wf_lower_stmts.specs.Forms.{form_of};
 ghost use Rattle.wf_lower.specs.Bodies.{body_function as body_function_of, functions_of};
-ghost use Rattle.wf_lower.specs.Made.{AddsFunctions, FitFunctions, FitsFunction, HasFunctionTrees, IsReady, IsSpelt, item_trees};
+ghost use Rattle.wf_lower.specs.Made.{AddsFunctions, AreRead, FitFunctions, FitsFunction, HasFunctionTrees, IsReady, IsSpelt, item_trees};
 ghost use Rattle.wf_lower.specs.Ordering.{are_structs};
 ghost use Rattle.wf_lower.specs.Parts.{entry_functions, functions_in, items_before, items_in, saturating_widths};
-ghost use Rattle.wf_lower.specs.Unit.{initialize_function as initialize_function_of, initialize_functions, io_buffer_item, is_read_in as is_read_in_tree, is_used as is_used_in_trees, lowered_unit, method_functions, struct_items, used_helpers, used_texts};
+ghost use Rattle.wf_lower.specs.Unit.{initialize_function as initialize_function_of, initialize_functions, io_buffer_item, is_read_in, lowered_unit, method_functions, struct_items, used_helpers, used_texts};
 
 use crate::bodies::body_function;
 use crate::entries::entry_function;
@@ -30,35 +31,40 @@ use wf_bounds::Accepted;
 use wf_exprs::names::put_numbered;
 use wf_exprs::rated::saturating_name;
 use wf_exprs_nodes::helpers::{put_item, put_saturating};
-use wf_exprs_nodes::reads::code_reads;
+use wf_exprs_nodes::marks::{ReadNames, mark_code};
 use wf_lower_stmts::Body;
 use wf_points::table::Points;
 use wf_text::{MethodId, NoMemory, StatusId};
 
-/// Whether a function reads a name.
-fn is_read_in(u: &Unit, name: CNameId, item: &CItem) -> bool
-    requires name { name.0 < length u.now.names }
-    requires item { FitsFunction u.now item.now }
-    ensures { result ≡ is_read_in_tree (bytes_at u.now.names name.0) (made_item u.now item.now) }
+/// Adds the names that a function reads.
+fn mark_function(u: &Unit, read: &mut ReadNames, item: &CItem) -> Result<(), NoMemory>
+    requires { FitsFunction u.now item.now }
+    ensures { OnOk result (Marks (λ name. is_read_in name (made_item u.now item.now)) read.old read.new) }
 {
     match item {
-        CItem::Function { body, .. } => code_reads(u, name, *body),
-        CItem::Struct { .. } | CItem::Text { .. } => false,
+        CItem::Function { body, .. } => mark_code(u, read, *body),
+        CItem::Struct { .. } | CItem::Text { .. } => Ok(()),
     }
 }
 
-/// Whether one of these functions reads a name.
-fn is_used(u: &Unit, functions: &[CItem], name: CNameId) -> bool
-    requires name { name.0 < length u.now.names }
-    requires functions { FitFunctions u.now functions.now }
-    ensures { result ≡ is_used_in_trees (item_trees u.now functions.now) (bytes_at u.now.names name.0) }
+/// The names that these functions read.
+fn names_read(alloc: Global, u: &Unit, functions: &[CItem]) -> Result<ReadNames, NoMemory>
+    requires { FitFunctions u.now functions.now }
+    ensures { IfOk result (λ read. AreRead (item_trees u.now functions.now) read) }
 {
+    let mut read = ReadNames::new(alloc);
     for item in functions {
-        if is_read_in(u, name, item) {
-            return true;
-        }
+        mark_function(u, &mut read, item)?;
     }
-    false
+    Ok(read)
+}
+
+/// Whether a name is one of those that are read.
+fn is_read(u: &Unit, read: &ReadNames, name: CNameId) -> bool
+    requires { name.0 < length u.now.names }
+    ensures { result ≡ has_name read.now (bytes_at u.now.names name.0) }
+{
+    read.has(u.name(name))
 }
 
 /// What is lowered.
@@ -226,28 +232,26 @@ fn put_text(u: &mut Unit, name: CNameId, bytes: &[u8]) -> Result<(), NoMemory>
 }
 
 /// A status, where a function reads it.
-fn add_text(p: &Source, u: &mut Unit, n: u32, functions: &[CItem]) -> Result<(), NoMemory>
+fn add_text(p: &Source, u: &mut Unit, n: u32, read: &ReadNames) -> Result<(), NoMemory>
     requires ready { IsReady p.now.t.now p.now.points.now.numbers }
     requires known { n < length p.now.t.now.statuses }
-    requires functions { FitFunctions u.old functions.now }
-    ensures { OnOk result ((text : List ℕ) → slice_get p.now.t.now.statuses n ≡ Some text → GrowsBy (used_texts (item_trees u.old functions.now) n (text ∷ [])) u.old u.new) }
+    ensures { OnOk result ((functions : List ItemTree) → AreRead functions read.now → (text : List ℕ) → slice_get p.now.t.now.statuses n ≡ Some text → GrowsBy (used_texts functions n (text ∷ [])) u.old u.new) }
 {
     u.is_sound();
     let name = put_numbered(p.alloc, u, b"status_", n as u64)?;
-    if is_used(u, functions, name) {
+    if is_read(u, read, name) {
         put_text(u, name, p.t.status_text(StatusId(n)))
     } else {
         Ok(())
     }
 }
 
-fn add_texts(p: &Source, u: &mut Unit, functions: &[CItem]) -> Result<(), NoMemory>
-    requires ready { IsReady p.now.t.now p.now.points.now.numbers }
-    requires functions { FitFunctions u.old functions.now }
-    ensures { OnOk result (GrowsBy (used_texts (item_trees u.old functions.now) 0 p.now.t.now.statuses) u.old u.new) }
+fn add_texts(p: &Source, u: &mut Unit, read: &ReadNames) -> Result<(), NoMemory>
+    requires { IsReady p.now.t.now p.now.points.now.numbers }
+    ensures { OnOk result ((functions : List ItemTree) → AreRead functions read.now → GrowsBy (used_texts functions 0 p.now.t.now.statuses) u.old u.new) }
 {
     for n in 0..p.t.statuses() {
-        add_text(p, u, n, functions)?;
+        add_text(p, u, n, read)?;
     }
     Ok(())
 }
@@ -258,14 +262,13 @@ fn add_helper(
     u: &mut Unit,
     is_sum: bool,
     width: Width,
-    functions: &[CItem],
+    read: &ReadNames,
 ) -> Result<(), NoMemory>
-    requires { FitFunctions u.old functions.now }
-    ensures { OnOk result (GrowsBy (used_helpers (item_trees u.old functions.now) (saturating is_sum (bits_of width) ∷ [])) u.old u.new) }
+    ensures { OnOk result ((functions : List ItemTree) → AreRead functions read.now → GrowsBy (used_helpers functions (saturating is_sum (bits_of width) ∷ [])) u.old u.new) }
 {
     u.is_sound();
     let name = saturating_name(p.alloc, u, is_sum, width)?;
-    if is_used(u, functions, name) {
+    if is_read(u, read, name) {
         put_saturating(p.alloc, u, is_sum, width)
     } else {
         Ok(())
@@ -273,22 +276,20 @@ fn add_helper(
 }
 
 /// The functions of one saturating operator.
-fn add_widths(p: &Source, u: &mut Unit, is_sum: bool, functions: &[CItem]) -> Result<(), NoMemory>
-    requires { FitFunctions u.old functions.now }
-    ensures { OnOk result (GrowsBy (used_helpers (item_trees u.old functions.now) (saturating_widths is_sum)) u.old u.new) }
+fn add_widths(p: &Source, u: &mut Unit, is_sum: bool, read: &ReadNames) -> Result<(), NoMemory>
+    ensures { OnOk result ((functions : List ItemTree) → AreRead functions read.now → GrowsBy (used_helpers functions (saturating_widths is_sum)) u.old u.new) }
 {
-    add_helper(p, u, is_sum, Width::W8, functions)?;
-    add_helper(p, u, is_sum, Width::W16, functions)?;
-    add_helper(p, u, is_sum, Width::W32, functions)?;
-    add_helper(p, u, is_sum, Width::W64, functions)
+    add_helper(p, u, is_sum, Width::W8, read)?;
+    add_helper(p, u, is_sum, Width::W16, read)?;
+    add_helper(p, u, is_sum, Width::W32, read)?;
+    add_helper(p, u, is_sum, Width::W64, read)
 }
 
-fn add_helpers(p: &Source, u: &mut Unit, functions: &[CItem]) -> Result<(), NoMemory>
-    requires { FitFunctions u.old functions.now }
-    ensures { OnOk result (GrowsBy (used_helpers (item_trees u.old functions.now) all_saturating) u.old u.new) }
+fn add_helpers(p: &Source, u: &mut Unit, read: &ReadNames) -> Result<(), NoMemory>
+    ensures { OnOk result ((functions : List ItemTree) → AreRead functions read.now → GrowsBy (used_helpers functions all_saturating) u.old u.new) }
 {
-    add_widths(p, u, true, functions)?;
-    add_widths(p, u, false, functions)
+    add_widths(p, u, true, read)?;
+    add_widths(p, u, false, read)
 }
 
 fn add_functions(u: &mut Unit, functions: Vec<CItem>) -> Result<(), NoMemory>
@@ -301,17 +302,16 @@ fn add_functions(u: &mut Unit, functions: Vec<CItem>) -> Result<(), NoMemory>
     Ok(())
 }
 
-/// The items before the functions.
-fn add_before(p: &Source, u: &mut Unit, order: &[u32], functions: &[CItem]) -> Result<(), NoMemory>
+/// The items before the functions, where these read these names.
+fn add_before(p: &Source, u: &mut Unit, order: &[u32], read: &ReadNames) -> Result<(), NoMemory>
     requires ready { IsReady p.now.t.now p.now.points.now.numbers }
     requires known { are_structs (package_of p.now.t.now) order.now ≡ true }
-    requires functions { FitFunctions u.old functions.now }
-    ensures { OnOk result (GrowsBy (items_before (package_of p.now.t.now) order.now (item_trees u.old functions.now)) u.old u.new) }
+    ensures { OnOk result ((functions : List ItemTree) → AreRead functions read.now → GrowsBy (items_before (package_of p.now.t.now) order.now functions) u.old u.new) }
 {
     add_buffer(p, u)?;
     add_structs(p, u, order)?;
-    add_texts(p, u, functions)?;
-    add_helpers(p, u, functions)
+    add_texts(p, u, read)?;
+    add_helpers(p, u, read)
 }
 
 /// The items, where the structs stand in this order.
@@ -322,7 +322,8 @@ fn add_ordered(p: &Source, u: &mut Unit, order: &[u32]) -> Result<(), NoMemory>
 {
     u.is_sound();
     let functions = all_functions(p, u, order)?;
-    add_before(p, u, order, functions.as_slice())?;
+    let read = names_read(p.alloc, u, functions.as_slice())?;
+    add_before(p, u, order, &read)?;
     add_functions(u, functions)
 }
 

@@ -1,7 +1,7 @@
 // The structs of a package: whether an object is ready, which coroutine is active, the source's fields, and what each
 // coroutine keeps.
 
-ghost use Rattle.std.specs.Prelude.{◌≡◌, ◌<◌, ◌&&◌, ◌∷◌, [], true, codes, length, map, nat_eq, slice_get, Some, None, IsTrue, IfOk, OnOk};
+ghost use Rattle.std.specs.Prelude.{◌≡◌, ◌<◌, ◌&&◌, ◌++◌, ◌∷◌, [], true, if◌then◌else◌, codes, length, map, nat_eq, slice_get, Some, None, IsTrue, IfOk, OnOk};
 ghost use Rattle.std.specs.List.{list_all};
 ghost use Rattle.wf_ast.specs.TypedInvariant.{IsTyped, block_below};
 ghost use Rattle.wf_ast.specs.TypedPackage.{MethodTree, method_of, package_of, variable_of};
@@ -20,7 +20,7 @@ ghost use Rattle.wf_exprs.specs.Names.{point_field as point_name, struct_type as
 ghost use Rattle.wf_exprs.specs.Scopes.{is_named};
 ghost use Rattle.wf_lower_stmts.specs.BodyNodes.{HasWords, is_spelt_method};
 ghost use Rattle.wf_lower.specs.Made.{AddsFields, HasFieldTree, HasFieldTrees, HasItemTree, IsPlain};
-ghost use Rattle.wf_lower.specs.Structs.{buffer_fields as buffer_fields_of, count_fields, held_fields, kept_of, method_fields, started_of, typed_field as typed_field_of};
+ghost use Rattle.wf_lower.specs.Structs.{buffer_fields as buffer_fields_of, kept_of, method_fields, started_of, typed_field as typed_field_of};
 ghost use Rattle.wf_lower.specs.Unit.{field as field_of, io_buffer_item, kept_fields, kept_type as kept_type_of, methods_fields, source_field as source_field_of, source_fields, struct_fields as struct_fields_of};
 
 use c_text::{CField, CFieldType, CItem, CList, CNameId, CType, CUint, Unit};
@@ -30,7 +30,7 @@ use wf_base::Mark;
 use wf_exprs::names::{put_name, put_spelt};
 use wf_exprs::nodes::{literal, uint_of};
 use wf_lower_stmts::keeping::is_kept;
-use wf_lower_stmts::spelling::{count_field, held_field, point_field, saved_field, struct_type};
+use wf_lower_stmts::spelling::{point_field, saved_field, struct_type};
 use wf_lower_stmts::walks::{keeps_count, keeps_held};
 use wf_text::{MethodId, NoMemory};
 
@@ -273,41 +273,23 @@ fn add_all_kept(
     Ok(())
 }
 
-/// Adds the field that keeps what a started statement has, where a statement has something.
-fn add_held(
+/// Adds the field that keeps a number for the started statement, named by these bytes and the method, where it is there.
+fn add_number(
     alloc: Global,
     u: &mut Unit,
     there: bool,
+    ty: CUint,
+    begin: &[u8],
     method: &[u8],
     fields: &mut CList<CField>,
 ) -> Result<(), NoMemory>
-    requires { list_all is_word_byte method.now ≡ true }
+    requires { IsName (begin.now ++ method.now) }
     ensures grows { Grows u.old u.new }
-    ensures made { OnOk result (AddsFields u.old u.new fields.old fields.new (held_fields there method.now)) }
+    ensures made { OnOk result (AddsFields u.old u.new fields.old fields.new (if there then field_of (uint ty) (begin.now ++ method.now) ∷ [] else [])) }
 {
     if there {
-        let name = held_field(alloc, u, method)?;
-        add_named(u, CType::Uint(CUint::U64), name, fields)
-    } else {
-        Ok(())
-    }
-}
-
-/// Adds the field that keeps how many bytes that is, where a statement counts them.
-fn add_count(
-    alloc: Global,
-    u: &mut Unit,
-    there: bool,
-    method: &[u8],
-    fields: &mut CList<CField>,
-) -> Result<(), NoMemory>
-    requires { list_all is_word_byte method.now ≡ true }
-    ensures grows { Grows u.old u.new }
-    ensures made { OnOk result (AddsFields u.old u.new fields.old fields.new (count_fields there method.now)) }
-{
-    if there {
-        let name = count_field(alloc, u, method)?;
-        add_named(u, CType::Uint(CUint::U8), name, fields)
+        let name = put_spelt(alloc, u, begin, method)?;
+        add_named(u, CType::Uint(ty), name, fields)
     } else {
         Ok(())
     }
@@ -328,8 +310,10 @@ fn add_started(
     ensures grows { Grows u.old u.new }
     ensures made { OnOk result (AddsFields u.old u.new fields.old fields.new (started_of method.now (block_of t.now body.now))) }
 {
-    add_held(alloc, u, keeps_held(t, body), method, fields)?;
-    add_count(alloc, u, keeps_count(t, body), method, fields)
+    let held = keeps_held(t, body);
+    let counted = keeps_count(t, body);
+    add_number(alloc, u, held, CUint::U64, b"h_", method, fields)?;
+    add_number(alloc, u, counted, CUint::U8, b"n_", method, fields)
 }
 
 /// Adds the field that keeps where a coroutine goes on.

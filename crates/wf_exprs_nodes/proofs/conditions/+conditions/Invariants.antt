@@ -1,6 +1,7 @@
-use Rattle.std.proofs.Common.{◌≡◌, ◌+◌, ◌*◌, ◌≤◌, drop, map}
+use Rattle.std.proofs.Common.{◌≡◌, ◌+◌, ◌*◌, ◌≤◌, drop, get_or, map}
 use Rattle.c_text.specs.CTree.{Operands}
-use Rattle.wf_exprs.specs.Grown.{Grows}
+use Rattle.wf_exprs.specs.Exprs.{lowered_cond}
+use Rattle.wf_exprs.specs.Grown.{Grows, HasExpr}
 use Rattle.wf_exprs_nodes.specs.Trees.{HasOperands, conditions_behind, node_cond}
 use Rattle.wf_exprs_nodes.proofs.ChainLaws.{appended}
 use Rattle.wf_exprs_nodes.proofs.conditions.+conditions.Given as goal
@@ -17,17 +18,13 @@ decreases-chain l = 8 * l.e.0 + 6
 abbrev pub decreases-junction : goal.decreases-junction
 decreases-junction l = 8 * l.e.0 + 5
 
-abbrev pub decreases-operands : goal.decreases-operands
-decreases-operands l = 8 * l.e.0 + 4
-
-abbrev pub decreases-operands_push : goal.decreases-operands_push
-decreases-operands_push l = 8 * l.e.0 + 3
-
--- The unit has the operands so far, and with those that are left they are all.
-abbrev pub invariant-operands-loop-i : goal.invariant-operands-loop-i
-invariant-operands-loop-i l = record {
+-- The unit has the first two operands and those behind them so far, and with those that are left they are all.
+abbrev pub invariant-junction-loop-i : goal.invariant-junction-loop-i
+invariant-junction-loop-i l = record {
   from : 2 ≤ l.i;
   grows : Grows l.fn.u l.u;
+  one : HasExpr l.u l.first.0 (lowered_cond l.scope.names (node_cond l.scope.nodes (get_or l.parts 0 (record { 0 = 0 }))));
+  two : HasExpr l.u l.second.0 (lowered_cond l.scope.names (node_cond l.scope.nodes (get_or l.parts 1 (record { 0 = 0 }))));
   so_far : Operands;
   has : HasOperands l.u l.others so_far;
   left : appended so_far (conditions_behind l.scope.names (map (node_cond l.scope.nodes) (drop l.i l.parts))) ≡ conditions_behind l.scope.names (map (node_cond l.scope.nodes) (drop 2 l.parts));

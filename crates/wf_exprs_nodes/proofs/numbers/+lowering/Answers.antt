@@ -12,7 +12,7 @@ use Rattle.c_text.specs.CGrammar.{is_literal}
 use Rattle.c_text.specs.CTree.{Operands, no_operand}
 use Rattle.c_text.specs.declared.ids.CExprId.{CExprId}
 use Rattle.wf_exprs.specs.Exprs.{with_operand, lowered, lowered_expr, lowered_slice}
-use Rattle.wf_exprs.proofs.Growing.{grows_on, kept_expr, unchanged}
+use Rattle.wf_exprs.proofs.Growing.{grows_on, kept_expr}
 use Rattle.wf_exprs_nodes.specs.Trees.{HasOperands, node_number, node_slice}
 use Rattle.wf_exprs_nodes.proofs.ChainLaws.{behind_end, behind_next, link_is, links_begin, links_next, operation_is}
 use Rattle.wf_exprs_nodes.proofs.KindLaws.{of_numbers, number_below, no_slice_chain, answers_a_number, list_given}
@@ -123,55 +123,56 @@ number-answer-requires t c =
     let numeric : is_numeric (type_of_node nodes e.0) ≡ true = (both_true (is_expr nodes e) (is_numeric (type_of_node nodes e.0)) c.requires).1 in
     (search rules, (tree, (g.0, (answers_a_number sig ty m.0 g.1 numeric, (search rules, search rules)))))
 
-pub operands-loop-i-init : goal.operands-loop-i-init
-operands-loop-i-init t c = record { from = omega arith; grows = unchanged _ _ refl; so_far = no_operand; has = rw (c.new-others.ensures) tt; left = refl }
+pub operation_chain-loop-i-init : goal.operation_chain-loop-i-init
+operation_chain-loop-i-init t c =
+    record {
+      from = omega arith;
+      grows = grows_on c.number.ensures.grows c.number-2.ensures.grows;
+      one = rated_kept _ _ _ _ c.number-2.ensures.grows c.in_ok-first.ensures.made;
+      two = c.in_ok-second.ensures.made;
+      so_far = no_operand;
+      has = rw (c.new-others.ensures) tt;
+      left = refl;
+    }
 
-pub operands-returns-in_err-operands_push-clause-grows : goal.operands-returns-in_err-operands_push-clause-grows
-operands-returns-in_err-operands_push-clause-grows t c = grows_on c.loop-i.invariant.grows c.operands_push.ensures.grows
+pub operation_chain-returns-in_err-operand-clause-grows : goal.operation_chain-returns-in_err-operand-clause-grows
+operation_chain-returns-in_err-operand-clause-grows t c = grows_on c.loop-i.invariant.grows c.number-in-loop-i.ensures.grows
 
-pub operands-loop-i-preserved : goal.operands-loop-i-preserved
-operands-loop-i-preserved t c =
+pub operation_chain-returns-in_err-push-clause-grows : goal.operation_chain-returns-in_err-push-clause-grows
+operation_chain-returns-in_err-push-clause-grows t c = grows_on c.loop-i.invariant.grows c.number-in-loop-i.ensures.grows
+
+pub operation_chain-loop-i-preserved : goal.operation_chain-loop-i-preserved
+operation_chain-loop-i-preserved t c =
     let nodes = c.args.scope.now.nodes in
     let names = c.args.scope.now.names in
     let inv = c.loop-i.invariant in
+    let more = c.number-in-loop-i.ensures.grows in
     let it = lowered_expr names (node_number nodes (get_or c.args.parts.now c.loop-i.i (record { 0 = 0 }))) in
-    let p = c.in_ok-operands_push.ensures.pushed in
     record {
       from = omega (arith, inv.from);
-      grows = grows_on inv.grows c.operands_push.ensures.grows;
+      grows = grows_on inv.grows more;
+      one = rated_kept _ _ _ _ more inv.one;
+      two = rated_kept _ _ _ _ more inv.two;
       so_far = with_operand inv.so_far it;
-      has = subst (λ (es : List CExprId). HasOperands c.operands_push.new.u es (with_operand inv.so_far it)) (sym p.grown)
-          (has_pushed _ _ _ p.it it (has_kept _ _ _ _ c.operands_push.ensures.grows inv.has) p.is);
+      has = subst (λ (es : List CExprId). HasOperands c.number-in-loop-i.new.u es (with_operand inv.so_far it)) (sym c.in_ok-push.ensures.ok)
+          (has_pushed _ _ _ _ it (has_kept _ _ _ _ more inv.has) c.in_ok-operand.ensures.made.code);
       left = behind_next names nodes c.args.parts.now c.loop-i.i (record { 0 = 0 }) inv.so_far _ c.loop-i-test.true inv.left;
     }
 
-pub operands-returns-clause-made : goal.operands-returns-clause-made
-operands-returns-clause-made t c =
-    let nodes = c.args.scope.now.nodes in
-    let names = c.args.scope.now.names in
-    let inv = c.loop-i.invariant in
-    subst (λ (ts : Operands). HasOperands c.loop-i.u c.loop-i.others ts) (behind_end names nodes c.args.parts.now c.loop-i.i inv.so_far _ c.loop-i-test.false inv.left) inv.has
-
-pub operation_chain-returns-in_err-others-clause-grows : goal.operation_chain-returns-in_err-others-clause-grows
-operation_chain-returns-in_err-others-clause-grows t c = grows_on (grows_on c.number.ensures.grows c.number-2.ensures.grows) c.operands.ensures.grows
-
-pub operation_chain-number_operation-requires-clause-first : goal.operation_chain-number_operation-requires-clause-first
-operation_chain-number_operation-requires-clause-first t c = c.operands.ensures.grows.more_exprs _ (c.number-2.ensures.grows.more_exprs _ c.in_ok-first.ensures.made.code.there)
-
 pub operation_chain-number_operation-requires-clause-others : goal.operation_chain-number_operation-requires-clause-others
-operation_chain-number_operation-requires-clause-others t c = has_there _ _ _ c.in_ok-others.ensures.made
+operation_chain-number_operation-requires-clause-others t c = has_there _ _ _ c.loop-i.invariant.has
 
 pub operation_chain-returns-clause-grows : goal.operation_chain-returns-clause-grows
-operation_chain-returns-clause-grows t c = grows_on (grows_on (grows_on c.number.ensures.grows c.number-2.ensures.grows) c.operands.ensures.grows) c.number_operation.ensures.grows
+operation_chain-returns-clause-grows t c = grows_on c.loop-i.invariant.grows c.number_operation.ensures.grows
 
 pub operation_chain-returns-clause-made : goal.operation_chain-returns-clause-made
 operation_chain-returns-clause-made t c =
     let nodes = c.args.scope.now.nodes in
     let names = c.args.scope.now.names in
     let e = c.args.e in
-    let first = rated_kept _ _ _ _ c.operands.ensures.grows (rated_kept _ _ _ _ c.number-2.ensures.grows c.in_ok-first.ensures.made) in
-    let second = rated_kept _ _ _ _ c.operands.ensures.grows c.in_ok-second.ensures.made in
+    let inv = c.loop-i.invariant in
+    let others = subst (λ (ts : Operands). HasOperands c.loop-i.u c.loop-i.others ts) (behind_end names nodes c.args.parts.now c.loop-i.i inv.so_far _ c.loop-i-test.false inv.left) inv.has in
     retell_rated _ _ _ c.number_operation.result
     (operation_is names nodes (place_of_node nodes e.0) (signs_of_node nodes e.0) (type_of_node nodes e.0) (sort_of c.args.op) c.args.parts.now (record { 0 = 0 }) _ _ _ _ (bits_of c.args.width)
-    c.requires.arithmetic c.requires.repeats c.requires.some c.requires.width first second c.in_ok-others.ensures.made
+    c.requires.arithmetic c.requires.repeats c.requires.some c.requires.width inv.one inv.two others
     ∙ ap (λ (x : ValueTree). lowered names (num_in x)) (sym c.requires.tree)) c.number_operation.ensures.made

@@ -1,4 +1,4 @@
-use Rattle.std.proofs.Common.{◌≡◌, ◌+◌, ◌*◌, ◌≤◌, drop, map}
+use Rattle.std.proofs.Common.{◌≡◌, ◌+◌, ◌*◌, ◌≤◌, drop, get_or, map}
 use Rattle.wf_ast.specs.TypedTrees.{num_type, sort_of, type_of_node}
 use Rattle.c_text.specs.CTree.{Operands}
 use Rattle.wf_exprs.specs.Exprs.{Rated, lowered}
@@ -23,12 +23,6 @@ decreases-operation_chain l = 8 * l.e.0 + 5
 abbrev pub decreases-linked_chain : goal.decreases-linked_chain
 decreases-linked_chain l = 8 * l.e.0 + 5
 
-abbrev pub decreases-operands : goal.decreases-operands
-decreases-operands l = 8 * l.e.0 + 4
-
-abbrev pub decreases-operands_push : goal.decreases-operands_push
-decreases-operands_push l = 8 * l.e.0 + 3
-
 abbrev pub decreases-conversion : goal.decreases-conversion
 decreases-conversion l = 8 * l.e.0 + 6
 
@@ -47,11 +41,13 @@ decreases-cut l = 8 * l.e.0 + 6
 abbrev pub decreases-end : goal.decreases-end
 decreases-end l = 8 * l.e.0 + 5
 
--- The unit has the operands so far, and with those that are left they are all.
-abbrev pub invariant-operands-loop-i : goal.invariant-operands-loop-i
-invariant-operands-loop-i l = record {
+-- The unit has the first two operands and those behind them so far, and with those that are left they are all.
+abbrev pub invariant-operation_chain-loop-i : goal.invariant-operation_chain-loop-i
+invariant-operation_chain-loop-i l = record {
   from : 2 ≤ l.i;
   grows : Grows l.fn.u l.u;
+  one : HasRated l.u l.first (lowered l.scope.names (node_number l.scope.nodes (get_or l.parts 0 (record { 0 = 0 }))));
+  two : HasRated l.u l.second (lowered l.scope.names (node_number l.scope.nodes (get_or l.parts 1 (record { 0 = 0 }))));
   so_far : Operands;
   has : HasOperands l.u l.others so_far;
   left : appended so_far (numbers_behind l.scope.names (map (node_number l.scope.nodes) (drop l.i l.parts))) ≡ numbers_behind l.scope.names (map (node_number l.scope.nodes) (drop 2 l.parts));

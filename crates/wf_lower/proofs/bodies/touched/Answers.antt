@@ -11,19 +11,19 @@ use Rattle.wf_lower.proofs.BodyLaws.{touched_all}
 use Rattle.wf_lower.proofs.KeptLaws.{kept_locals, params_stay}
 use Rattle.wf_lower.proofs.bodies.touched.Goals as goal
 
-pub touch_params-requires-clause-params : goal.touch_params-requires-clause-params
-touch_params-requires-clause-params c = params_stay _ (grows_on c.fixed_locals.ensures.grows c.touch_locals.ensures.grows) c.requires.params
+pub touch_all-requires-clause-params : goal.touch_all-requires-clause-params
+touch_all-requires-clause-params c = params_stay _ c.fixed_locals.ensures.grows c.requires.params
 
 pub returns-in_err-add_further-clause-grows : goal.returns-in_err-add_further-clause-grows
-returns-in_err-add_further-clause-grows c = grows_on (grows_on (grows_on c.fixed_locals.ensures.grows c.touch_locals.ensures.grows) c.touch_params.ensures.grows) c.add_further.ensures.grows
+returns-in_err-add_further-clause-grows c = grows_on (grows_on c.fixed_locals.ensures.grows c.touch_all.ensures.grows) c.add_further.ensures.grows
 
 pub returns-clause-grows : goal.returns-clause-grows
-returns-clause-grows c = grows_on (grows_on (grows_on c.fixed_locals.ensures.grows c.touch_locals.ensures.grows) c.touch_params.ensures.grows) c.add_further.ensures.grows
+returns-clause-grows c = grows_on (grows_on c.fixed_locals.ensures.grows c.touch_all.ensures.grows) c.add_further.ensures.grows
 
 pub returns-clause-locals : goal.returns-clause-locals
 returns-clause-locals c =
     let f = form_in c.args.b.now in
-    let touched = grows_on c.touch_locals.ensures.grows c.touch_params.ensures.grows in
+    let touched = c.touch_all.ensures.grows in
     let has = kept_locals _ _ touched c.in_ok-locals.ensures.made in
     let made = c.in_ok-add_further.ensures.made (fixed_locals f) has in
     let same = (grows_on c.fixed_locals.ensures.grows touched).stmts c.args.code.0 c.requires.code in
@@ -33,10 +33,9 @@ returns-clause-locals c =
 pub returns-clause-code : goal.returns-clause-code
 returns-clause-code c =
     let first = c.fixed_locals.new.u in
-    let both = grows_on c.fixed_locals.ensures.grows c.touch_locals.ensures.grows in
     let made = code_kept _ _ c.add_further.ensures.grows c.in_ok-whole.ensures.made in
     let locals = ap (map (local_tree first.names (expr_of first))) c.as_slice.ensures ∙ c.in_ok-locals.ensures.made.are in
     record {
       there = made.there;
-      is = made.is ∙ touched_all (params_kept _ _ both c.args.params.now c.requires.params) locals (c.fixed_locals.ensures.grows.stmts c.args.code.0 c.requires.code) (both.stmts c.args.code.0 c.requires.code) c.in_ok-front.ensures.made.is;
+      is = made.is ∙ touched_all (params_kept _ _ c.fixed_locals.ensures.grows c.args.params.now c.requires.params) locals (c.fixed_locals.ensures.grows.stmts c.args.code.0 c.requires.code);
     }
