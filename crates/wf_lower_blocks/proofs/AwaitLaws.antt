@@ -1,19 +1,15 @@
--- Reads of one byte, and of more; and operations of the same parts.
-use Rattle.std.proofs.Common.{◌≡◌, ◌∙◌, ℕ, true, false, ap, refl}
+-- Reads of one byte, and of more.
+use Rattle.std.proofs.Common.{◌≡◌, ℕ, true, false, refl}
 use Rattle.wf_base.specs.declared.base_methods.ReadForm.{ReadForm}
 use Rattle.wf_base.specs.declared.base_methods.ReadForm.TheVariants as reads
 use Rattle.wf_base.specs.BaseTable.{bytes_of, read_width}
 use Rattle.wf_ast.specs.TypedTree.{Target, take_number}
-use Rattle.c_text.specs.declared.kinds.COp.{COp}
-use Rattle.c_text.specs.CTree.{ExprTree, Code, assign}
+use Rattle.c_text.specs.CTree.{Code, assign}
 use Rattle.wf_exprs.specs.Names.{Names}
-use Rattle.wf_exprs.specs.Words.{num, two}
+use Rattle.wf_exprs.specs.Words.{num}
 use Rattle.wf_lower_stmts.specs.Forms.{Form, held_local, count_local}
 use Rattle.wf_lower_stmts.specs.Statements.{take_bytes, begun_call, awoken_call}
 use Rattle.wf_lower_blocks.specs.Calls.{is_one_byte, read_all}
-
-pub same_two : (op : COp) (a b x y : ExprTree) → a ≡ x → b ≡ y → two op a b ≡ two op x y
-same_two op a b x y p q = ap (λ (e : ExprTree). two op e b) p ∙ ap (λ (e : ExprTree). two op x e) q
 
 pub begun_one : (names : Names) (form : ReadForm) (rest : Code) → is_one_byte form ≡ true → rest ≡ begun_call names (take_number form) rest
 begun_one names reads.ReadU8 rest h = refl

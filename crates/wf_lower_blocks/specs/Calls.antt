@@ -147,6 +147,11 @@ is_waiting sigs.Skip = true
 is_waiting sigs.Write = true
 is_waiting sig = false
 
+abbrev pub is_putting : BaseSig → Bool
+is_putting sigs.WriteFast = true
+is_putting sigs.WriterCopy = true
+is_putting sig = false
+
 abbrev pub is_copying : BaseSig → Bool
 is_copying (sigs.SliceCopy width) = true
 is_copying sig = false

@@ -7,7 +7,7 @@ ghost use Rattle.wf_base.specs.declared.base_methods.ReadForm.TheVariants.{ReadU
 ghost use Rattle.wf_ast.specs.TypedTree.{to_nothing, take_number, skip, write};
 ghost use Rattle.wf_ast.specs.TypedTrees.{no_number};
 ghost use Rattle.wf_meaning.specs.Entry.{short_read};
-ghost use Rattle.c_text.specs.declared.kinds.COp.TheVariants.{Add, Sub, Mul, Shl, Lt, Gt, Both};
+ghost use Rattle.c_text.specs.declared.kinds.COp.TheVariants.{Add, Sub, Mul, Shl, Lt, Both};
 ghost use Rattle.c_text.specs.CNodes.{code_of, expr_of};
 ghost use Rattle.c_text.specs.CTree.{finish as finish_code, assign as assign_code, cast as cast_code};
 ghost use Rattle.wf_exprs.specs.Exprs.{end_code, given as given_code, place_code, status_constant as constant_code, there as there_code};
@@ -73,12 +73,7 @@ pub(crate) fn step_on(
 }
 
 /// The place goes on by one byte.
-pub(crate) fn step_by_one(
-    b: &Body,
-    u: &mut Unit,
-    a: u32,
-    rest: CStmtId,
-) -> Result<CStmtId, NoMemory>
+fn step_by_one(b: &Body, u: &mut Unit, a: u32, rest: CStmtId) -> Result<CStmtId, NoMemory>
     requires rest { rest.0 < length u.old.stmts }
     ensures grows { Grows u.old u.new }
     ensures made { IfOk result (λ code. HasCode u.new code.0 (step_on_code (form_in b.now).names a (num 1) (code_of u.old rest.0))) }
@@ -88,7 +83,7 @@ pub(crate) fn step_by_one(
 }
 
 /// The byte at the place.
-pub(crate) fn next_byte(b: &Body, u: &mut Unit, a: u32) -> Result<CExprId, NoMemory>
+fn next_byte(b: &Body, u: &mut Unit, a: u32) -> Result<CExprId, NoMemory>
     ensures grows { Grows u.old u.new }
     ensures made { IfOk result (λ e. HasExpr u.new e.0 (next_byte_code (form_in b.now).names a)) }
 {
@@ -97,14 +92,32 @@ pub(crate) fn next_byte(b: &Body, u: &mut Unit, a: u32) -> Result<CExprId, NoMem
     element(u, bytes, place)
 }
 
-/// Whether no byte is there, or no room.
-fn is_used_up(b: &Body, u: &mut Unit, a: u32) -> Result<CExprId, NoMemory>
+/// The byte goes to the place, which goes on by one.
+pub(crate) fn store_byte(
+    b: &Body,
+    u: &mut Unit,
+    a: u32,
+    byte: CExprId,
+    rest: CStmtId,
+) -> Result<CStmtId, NoMemory>
+    requires byte { byte.0 < length u.old.exprs }
+    requires rest { rest.0 < length u.old.stmts }
     ensures grows { Grows u.old u.new }
-    ensures made { IfOk result (λ e. HasExpr u.new e.0 (is_used_up_code (form_in b.now).names a)) }
+    ensures made { IfOk result (λ code. HasCode u.new code.0 (assign_code (next_byte_code (form_in b.now).names a) (expr_of u.old byte.0) (step_on_code (form_in b.now).names a (num 1) (code_of u.old rest.0)))) }
+{
+    let rest = step_by_one(b, u, a, rest)?;
+    let there = next_byte(b, u, a)?;
+    assign(u, there, byte, rest)
+}
+
+/// The place and the end: `Ge` where no byte is there, or no room, and `Lt` where there is.
+fn place_to_end(b: &Body, u: &mut Unit, op: COp, a: u32) -> Result<CExprId, NoMemory>
+    ensures grows { Grows u.old u.new }
+    ensures made { IfOk result (λ e. HasExpr u.new e.0 (two_codes op (place_code (form_in b.now).names a) (end_code (form_in b.now).names a))) }
 {
     let place = b.scope().place(u, a)?;
     let end = b.scope().end(u, a)?;
-    two(b.alloc(), u, COp::Ge, place, end)
+    two(b.alloc(), u, op, place, end)
 }
 
 /// Where no byte or no room is there, the coroutine suspends.
@@ -121,7 +134,7 @@ fn wait(
     ensures made { IfOk result (λ code. HasCode u.new code.0 (when_code (is_used_up_code (form_in b.now).names a) (suspend_code (form_in b.now) k (constant_code status) finish_code) (code_of u.old rest.0))) }
 {
     let body = suspend_with(b, u, k, status)?;
-    let test = is_used_up(b, u, a)?;
+    let test = place_to_end(b, u, COp::Ge, a)?;
     when(u, test, body, rest)
 }
 
@@ -131,6 +144,17 @@ fn held(u: &mut Unit) -> Result<CExprId, NoMemory>
     ensures made { IfOk result (λ e. HasExpr u.new e.0 (held_local)) }
 {
     variable(u, b"held")
+}
+
+/// `held = value;`
+fn set_held(u: &mut Unit, value: CExprId, rest: CStmtId) -> Result<CStmtId, NoMemory>
+    requires value { value.0 < length u.old.exprs }
+    requires rest { rest.0 < length u.old.stmts }
+    ensures grows { Grows u.old u.new }
+    ensures made { IfOk result (λ code. HasCode u.new code.0 (assign_code held_local (expr_of u.old value.0) (code_of u.old rest.0))) }
+{
+    let held = held(u)?;
+    assign(u, held, value, rest)
 }
 
 #[tactic(auto, unfolding(c_text::specs::CSpelling::is_reserved))]
@@ -243,23 +267,13 @@ fn lacks(b: &Body, u: &mut Unit, form: ReadForm) -> Result<CExprId, NoMemory>
     two(b.alloc(), u, COp::Lt, count, all)
 }
 
-/// `(p_src < e_src)`
-fn is_there(b: &Body, u: &mut Unit, a: u32) -> Result<CExprId, NoMemory>
-    ensures grows { Grows u.old u.new }
-    ensures made { IfOk result (λ e. HasExpr u.new e.0 (two_codes Lt (place_code (form_in b.now).names a) (end_code (form_in b.now).names a))) }
-{
-    let place = b.scope().place(u, a)?;
-    let end = b.scope().end(u, a)?;
-    two(b.alloc(), u, COp::Lt, place, end)
-}
-
 /// Whether a byte lacks and is there.
 fn may_take(b: &Body, u: &mut Unit, a: u32, form: ReadForm) -> Result<CExprId, NoMemory>
     ensures grows { Grows u.old u.new }
     ensures made { IfOk result (λ e. HasExpr u.new e.0 (two_codes Both (two_codes Lt count_local (num (bytes_in (read_width form)))) (two_codes Lt (place_code (form_in b.now).names a) (end_code (form_in b.now).names a)))) }
 {
     let lacks = lacks(b, u, form)?;
-    let there = is_there(b, u, a)?;
+    let there = place_to_end(b, u, COp::Lt, a)?;
     two(b.alloc(), u, COp::Both, lacks, there)
 }
 
@@ -298,8 +312,7 @@ fn hold_next(
 {
     let byte = next_byte(b, u, a)?;
     let more = with_byte(b, u, is_big_endian(form), byte)?;
-    let held = held(u)?;
-    assign(u, held, more, rest)
+    set_held(u, more, rest)
 }
 
 /// A byte is taken.
@@ -478,16 +491,24 @@ fn step_to_end(b: &Body, u: &mut Unit, a: u32, rest: CStmtId) -> Result<CStmtId,
     assign(u, place, end, rest)
 }
 
+/// What is left of a skip, and what is there.
+fn held_and_there(b: &Body, u: &mut Unit, op: COp, a: u32) -> Result<CExprId, NoMemory>
+    ensures grows { Grows u.old u.new }
+    ensures made { IfOk result (λ e. HasExpr u.new e.0 (two_codes op held_local (there_code (form_in b.now).names a))) }
+{
+    let held = held(u)?;
+    let there = there(b.scope(), u, a)?;
+    two(b.alloc(), u, op, held, there)
+}
+
 /// `held = (held - there);`
 fn take_skipped(b: &Body, u: &mut Unit, a: u32, rest: CStmtId) -> Result<CStmtId, NoMemory>
     requires rest { rest.0 < length u.old.stmts }
     ensures grows { Grows u.old u.new }
     ensures made { IfOk result (λ code. HasCode u.new code.0 (assign_code held_local (two_codes Sub held_local (there_code (form_in b.now).names a)) (code_of u.old rest.0))) }
 {
-    let held = held(u)?;
-    let there = there(b.scope(), u, a)?;
-    let left = two(b.alloc(), u, COp::Sub, held, there)?;
-    assign(u, held, left, rest)
+    let left = held_and_there(b, u, COp::Sub, a)?;
+    set_held(u, left, rest)
 }
 
 /// The place goes on by all that is left of a skip.
@@ -500,16 +521,6 @@ fn step_by_held(b: &Body, u: &mut Unit, a: u32, rest: CStmtId) -> Result<CStmtId
     step_on(b, u, a, bytes, rest)
 }
 
-/// Whether more is left of a skip than is there.
-fn holds_more(b: &Body, u: &mut Unit, a: u32) -> Result<CExprId, NoMemory>
-    ensures grows { Grows u.old u.new }
-    ensures made { IfOk result (λ e. HasExpr u.new e.0 (two_codes Gt held_local (there_code (form_in b.now).names a))) }
-{
-    let held = held(u)?;
-    let there = there(b.scope(), u, a)?;
-    two(b.alloc(), u, COp::Gt, held, there)
-}
-
 /// A skip goes on by all that is left of it, or by all that is there.
 fn skip_on(b: &Body, u: &mut Unit, k: u32, a: u32, rest: CStmtId) -> Result<CStmtId, NoMemory>
     requires rest { rest.0 < length u.old.stmts }
@@ -518,7 +529,7 @@ fn skip_on(b: &Body, u: &mut Unit, k: u32, a: u32, rest: CStmtId) -> Result<CStm
 {
     let rest = step_by_held(b, u, a, rest)?;
     let body = skip_some(b, u, k, a)?;
-    let test = holds_more(b, u, a)?;
+    let test = held_and_there(b, u, COp::Gt, a)?;
     when(u, test, body, rest)
 }
 
@@ -535,24 +546,6 @@ fn written_byte(b: &Body, u: &mut Unit, byte: ExprId) -> Result<CExprId, NoMemor
     }
 }
 
-/// `b_dst[p_dst] = byte;`
-fn write_next(
-    b: &Body,
-    u: &mut Unit,
-    a: u32,
-    byte: ExprId,
-    rest: CStmtId,
-) -> Result<CStmtId, NoMemory>
-    requires byte { IsTrue (is_expr b.now.nodes byte) }
-    requires rest { rest.0 < length u.old.stmts }
-    ensures grows { Grows u.old u.new }
-    ensures made { IfOk result (λ code. HasCode u.new code.0 (assign_code (next_byte_code (form_in b.now).names a) (written_byte_code (form_in b.now).names (node_number b.now.nodes byte)) (code_of u.old rest.0))) }
-{
-    let byte = written_byte(b, u, byte)?;
-    let there = next_byte(b, u, a)?;
-    assign(u, there, byte, rest)
-}
-
 /// A byte is written where there is room.
 fn write_on(
     b: &Body,
@@ -567,8 +560,8 @@ fn write_on(
     ensures grows { Grows u.old u.new }
     ensures made { IfOk result (λ code. HasCode u.new code.0 (awoken_code (form_in b.now) k to_nothing a (write (node_number b.now.nodes byte)) (code_of u.old rest.0))) }
 {
-    let rest = step_by_one(b, u, a, rest)?;
-    let rest = write_next(b, u, a, byte, rest)?;
+    let byte = written_byte(b, u, byte)?;
+    let rest = store_byte(b, u, a, byte, rest)?;
     wait(b, u, k, a, SHORT_WRITE, rest)
 }
 
@@ -591,8 +584,7 @@ fn begin_read(u: &mut Unit, rest: CStmtId) -> Result<CStmtId, NoMemory>
 {
     let rest = begin_count(u, rest)?;
     let zero = number(u, 0)?;
-    let held = held(u)?;
-    assign(u, held, zero, rest)
+    set_held(u, zero, rest)
 }
 
 /// A read of one byte begins with nothing.
@@ -615,8 +607,7 @@ fn begin_with(b: &Body, u: &mut Unit, value: ExprId, rest: CStmtId) -> Result<CS
     ensures made { IfOk result (λ code. HasCode u.new code.0 (assign_code held_local (given_code (form_in b.now).names (node_number b.now.nodes value)) (code_of u.old rest.0))) }
 {
     let value = given_on(b, u, value)?;
-    let held = held(u)?;
-    assign(u, held, value, rest)
+    set_held(u, value, rest)
 }
 
 /// A byte that a resumed call hasn't again is kept.

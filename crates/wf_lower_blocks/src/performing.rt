@@ -8,18 +8,18 @@ ghost use Rattle.wf_ast.specs.TypedTrees.{no_number, type_of_node};
 ghost use Rattle.c_text.specs.declared.kinds.COp.TheVariants.{Add, Mul, Gt};
 ghost use Rattle.c_text.specs.CNodes.{code_of, expr_of};
 ghost use Rattle.c_text.specs.CTree.{finish as finish_code, assign as assign_code, call as call_code};
-ghost use Rattle.wf_exprs.specs.Exprs.{bytes_code, given as given_code, place_code, there as there_code};
+ghost use Rattle.wf_exprs.specs.Exprs.{bytes_code, place_code, there as there_code};
 ghost use Rattle.wf_exprs.specs.Grown.{Grows, HasCode, HasExpr};
 ghost use Rattle.wf_exprs.specs.Making.{bits_at, is_slice_at};
 ghost use Rattle.wf_exprs.specs.Words.{args, num, two as two_codes};
 ghost use Rattle.wf_exprs_nodes.specs.Trees.{node_number, node_slice};
 ghost use Rattle.wf_lower_stmts.specs.BodyNodes.{form_in, is_target, target_in};
 ghost use Rattle.wf_lower_stmts.specs.Forms.{size_local, when as when_code};
-ghost use Rattle.wf_lower_stmts.specs.Statements.{bytes_for as bytes_for_code, least_size as least_size_code, lower_written as written_code, move as move_code, next_byte as next_byte_code, put_into as put_into_code, slice_bits, step_on as step_on_code};
+ghost use Rattle.wf_lower_stmts.specs.Statements.{bytes_for as bytes_for_code, least_size as least_size_code, lower_written as written_code, move as move_code, put_into as put_into_code, slice_bits, step_on as step_on_code};
 ghost use Rattle.wf_lower_blocks.specs.Calls.{is_written, written_in};
 
 use crate::any::{given_on, number_on, slice_on};
-use crate::awaiting::{next_byte, step_by_one, step_on};
+use crate::awaiting::{step_on, store_byte};
 use c_text::{CArg, CCall, CExprId, CList, COp, CStmtId, Unit};
 use wf_ast::{Expr, ExprId, Ty, Typed};
 use wf_base::Width;
@@ -28,8 +28,8 @@ use wf_exprs::nodes::{number, two, variable};
 use wf_exprs_nodes::asking::there;
 use wf_exprs_nodes::lower_slice;
 use wf_lower_stmts::Body;
-use wf_lower_stmts::code::{assign, call, finish, when};
-use wf_lower_stmts::targets::{Target, put_into};
+use wf_lower_stmts::code::{call, finish, when};
+use wf_lower_stmts::targets::{Target, put_into, set_size};
 use wf_text::NoMemory;
 
 /// A base method that writes and doesn't suspend, with its arguments.
@@ -136,17 +136,6 @@ fn scaled(b: &Body, u: &mut Unit, size: CExprId, by: u64) -> Result<CExprId, NoM
 {
     let by = number(u, by)?;
     two(b.alloc(), u, COp::Mul, size, by)
-}
-
-/// `size = count;`
-fn set_size(u: &mut Unit, count: CExprId, rest: CStmtId) -> Result<CStmtId, NoMemory>
-    requires count { count.0 < length u.old.exprs }
-    requires rest { rest.0 < length u.old.stmts }
-    ensures grows { Grows u.old u.new }
-    ensures made { IfOk result (λ code. HasCode u.new code.0 (assign_code size_local (expr_of u.old count.0) (code_of u.old rest.0))) }
-{
-    let size = size(u)?;
-    assign(u, size, count, rest)
 }
 
 /// `(size > other)`
@@ -369,24 +358,6 @@ fn copy_to_slice(
     least_size(b, u, to.length.code, source.length.code, rest)
 }
 
-/// `b_dst[p_dst] = byte;`
-fn put_byte(
-    b: &Body,
-    u: &mut Unit,
-    a: u32,
-    byte: ExprId,
-    rest: CStmtId,
-) -> Result<CStmtId, NoMemory>
-    requires byte { IsTrue (is_expr b.now.nodes byte) }
-    requires rest { rest.0 < length u.old.stmts }
-    ensures grows { Grows u.old u.new }
-    ensures made { IfOk result (λ code. HasCode u.new code.0 (assign_code (next_byte_code (form_in b.now).names a) (given_code (form_in b.now).names (node_number b.now.nodes byte)) (code_of u.old rest.0))) }
-{
-    let byte = given_on(b, u, byte)?;
-    let there = next_byte(b, u, a)?;
-    assign(u, there, byte, rest)
-}
-
 fn write_fast(
     b: &Body,
     u: &mut Unit,
@@ -399,8 +370,8 @@ fn write_fast(
     ensures grows { Grows u.old u.new }
     ensures made { IfOk result (λ code. HasCode u.new code.0 (written_code (form_in b.now).names to_nothing (write_fast_tree a (node_number b.now.nodes byte)) (code_of u.old rest.0))) }
 {
-    let rest = step_by_one(b, u, a, rest)?;
-    put_byte(b, u, a, byte, rest)
+    let byte = given_on(b, u, byte)?;
+    store_byte(b, u, a, byte, rest)
 }
 
 fn skip_fast(

@@ -17,7 +17,7 @@ ghost use Rattle.wf_exprs.specs.Names.{again_label as again_name, behind_label a
 ghost use Rattle.wf_lower_stmts.specs.BodyNodes.{AreAlike, form_in, is_target, point_at, target_in};
 ghost use Rattle.wf_lower_stmts.specs.Forms.{resume_here as resumed_here};
 ghost use Rattle.wf_lower_stmts.specs.Statements.{handed_call as handed_code, lower_point as lower_point_code, lower_simple as lower_simple_code};
-ghost use Rattle.wf_lower_blocks.specs.Calls.{ComesTo, are_given, awaited_in, called_in, callee_in, comes_fits, given_in, is_awaited, is_called, is_copying, is_waiting, simple_at};
+ghost use Rattle.wf_lower_blocks.specs.Calls.{ComesTo, are_given, awaited_in, called_in, callee_in, comes_fits, given_in, is_awaited, is_called, is_copying, is_putting, is_waiting, simple_at};
 
 use crate::awaiting::{Awaited, Awaiting, awoken_call, begun_call};
 use crate::calling::{Called, Invoked, handed_call, plain_call};
@@ -109,37 +109,29 @@ fn skip_call<'a>(b: &Body, target: Target, on: ExprId, args: &'a [ExprId]) -> Co
     }
 }
 
-// `write_u8_fast`.
-fn write_call<'a>(b: &Body, target: Target, on: ExprId, args: &'a [ExprId]) -> Comes<'a>
+// `write_u8_fast`, and `copy_from_slice` of a writer.
+fn writer_call<'a>(
+    b: &Body,
+    target: Target,
+    on: ExprId,
+    sig: BaseSig,
+    args: &'a [ExprId],
+) -> Comes<'a>
     requires target { is_target b.now.nodes target ≡ true }
     requires on { IsTrue (is_expr b.now.nodes on) }
-    requires kind { IsTrue (has_kind kinds.Writer (type_of_node b.now.nodes on.0)) }
+    requires kind { IsTrue (has_kind (row_of sig).on (type_of_node b.now.nodes on.0)) }
     requires args { IsTrue (are_given b.now.nodes args.now) }
-    ensures comes { (at : Place) (t : TargetTree) → AreAlike t (target_in b.now.nodes target) → ComesTo b.now.nodes result (base_call_tree at t (tree_of b.now.nodes on) sigs.WriteFast (given_in b.now.nodes args.now)) }
+    requires puts { is_putting sig ≡ true }
+    ensures comes { (at : Place) (t : TargetTree) → AreAlike t (target_in b.now.nodes target) → ComesTo b.now.nodes result (base_call_tree at t (tree_of b.now.nodes on) sig (given_in b.now.nodes args.now)) }
     ensures fits { comes_fits b.now.nodes result ≡ true }
 {
     let a = io_arg(b.typed(), on);
-    match args {
-        [byte] => Comes::Perform {
+    match (sig, args) {
+        (BaseSig::WriteFast, [byte]) => Comes::Perform {
             target,
             call: Written::WriteFast { a, byte: *byte },
         },
-        _ => Comes::Nothing,
-    }
-}
-
-// `copy_from_slice` of a writer.
-fn copy_call<'a>(b: &Body, target: Target, on: ExprId, args: &'a [ExprId]) -> Comes<'a>
-    requires target { is_target b.now.nodes target ≡ true }
-    requires on { IsTrue (is_expr b.now.nodes on) }
-    requires kind { IsTrue (has_kind kinds.Writer (type_of_node b.now.nodes on.0)) }
-    requires args { IsTrue (are_given b.now.nodes args.now) }
-    ensures comes { (at : Place) (t : TargetTree) → AreAlike t (target_in b.now.nodes target) → ComesTo b.now.nodes result (base_call_tree at t (tree_of b.now.nodes on) sigs.WriterCopy (given_in b.now.nodes args.now)) }
-    ensures fits { comes_fits b.now.nodes result ≡ true }
-{
-    let a = io_arg(b.typed(), on);
-    match args {
-        [source] => Comes::Perform {
+        (BaseSig::WriterCopy, [source]) => Comes::Perform {
             target,
             call: Written::CopyToWriter { a, source: *source },
         },
@@ -191,8 +183,7 @@ fn base_call<'a>(
 {
     match sig {
         BaseSig::SkipFast => skip_call(b, target, on, args),
-        BaseSig::WriteFast => write_call(b, target, on, args),
-        BaseSig::WriterCopy => copy_call(b, target, on, args),
+        BaseSig::WriteFast | BaseSig::WriterCopy => writer_call(b, target, on, sig, args),
         BaseSig::SliceCopy(_) => slice_call(b, target, on, sig, args),
         BaseSig::Read(_) | BaseSig::Skip | BaseSig::Write => {
             awaited_call(b, target, on, sig, args)

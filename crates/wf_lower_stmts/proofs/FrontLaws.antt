@@ -5,18 +5,18 @@ use Rattle.c_text.specs.CNodes.{Nodes, code_of}
 use Rattle.c_text.specs.CTree.{Code}
 use Rattle.wf_exprs.specs.Names.{Names}
 use Rattle.wf_exprs.specs.Grown.{HasCode}
-use Rattle.wf_lower_stmts.specs.Forms.{put, get, save_locals, restore_locals}
+use Rattle.wf_lower_stmts.specs.declared.places.Way.{Way}
+use Rattle.wf_lower_stmts.specs.declared.places.Way.TheVariants as ways
+use Rattle.wf_lower_stmts.specs.BodyNodes.{places_code}
+use Rattle.wf_lower_stmts.specs.Forms.{save_locals, restore_locals}
 
 module _ (names : Names) (picks : ℕ → Bool) (rest : Code) where
-  pub put_front : (m k : ℕ) (xs : List Variable) → k < length xs → put names picks m (drop k xs) rest ≡ put names picks m (take 1 (drop k xs)) (put names picks (suc m) (drop (suc k) xs) rest)
-  put_front m k [] h = absurd (omega (arith, h))
-  put_front m zero (x ∷ xs) h = refl
-  put_front m (suc k) (x ∷ xs) h = put_front m k xs (omega (arith, h))
-
-  pub get_front : (m k : ℕ) (xs : List Variable) → k < length xs → get names picks m (drop k xs) rest ≡ get names picks m (take 1 (drop k xs)) (get names picks (suc m) (drop (suc k) xs) rest)
-  get_front m k [] h = absurd (omega (arith, h))
-  get_front m zero (x ∷ xs) h = refl
-  get_front m (suc k) (x ∷ xs) h = get_front m k xs (omega (arith, h))
+  pub places_front : (way : Way) (m k : ℕ) (xs : List Variable) → k < length xs
+      → places_code way names picks m (drop k xs) rest ≡ places_code way names picks m (take 1 (drop k xs)) (places_code way names picks (suc m) (drop (suc k) xs) rest)
+  places_front way m k [] h = absurd (omega (arith, h))
+  places_front ways.Put m zero (x ∷ xs) h = refl
+  places_front ways.Get m zero (x ∷ xs) h = refl
+  places_front way m (suc k) (x ∷ xs) h = places_front way m k xs (omega (arith, h))
 
 module _ (method : List ℕ) (rest : Code) where
   pub save_front : (k : ℕ) (xs : List Variable) → k < length xs → save_locals method (drop k xs) rest ≡ save_locals method (take 1 (drop k xs)) (save_locals method (drop (suc k) xs) rest)
@@ -31,31 +31,20 @@ module _ (method : List ℕ) (rest : Code) where
 
 -- Nothing is left to be done behind the end of a list.
 module _ (names : Names) (picks : ℕ → Bool) (rest : Code) where
-  pub put_none : (m k : ℕ) (xs : List Variable) → length xs ≤ k → put names picks m (drop k xs) rest ≡ rest
-  put_none m zero [] h = refl
-  put_none m (suc k) [] h = refl
-  put_none m zero (x ∷ xs) h = absurd (omega (arith, h))
-  put_none m (suc k) (x ∷ xs) h = put_none m k xs (omega (arith, h))
+  pub places_none : (way : Way) (m k : ℕ) (xs : List Variable) → length xs ≤ k → places_code way names picks m (drop k xs) rest ≡ rest
+  places_none ways.Put m zero [] h = refl
+  places_none ways.Put m (suc k) [] h = refl
+  places_none ways.Get m zero [] h = refl
+  places_none ways.Get m (suc k) [] h = refl
+  places_none way m zero (x ∷ xs) h = absurd (omega (arith, h))
+  places_none way m (suc k) (x ∷ xs) h = places_none way m k xs (omega (arith, h))
 
-  pub get_none : (m k : ℕ) (xs : List Variable) → length xs ≤ k → get names picks m (drop k xs) rest ≡ rest
-  get_none m zero [] h = refl
-  get_none m (suc k) [] h = refl
-  get_none m zero (x ∷ xs) h = absurd (omega (arith, h))
-  get_none m (suc k) (x ∷ xs) h = get_none m k xs (omega (arith, h))
-
-  pub put_step : {a b : Nodes} {code it : ℕ} (xs : List Variable) (left i : ℕ) → suc i ≡ left → left ≤ length xs → HasCode a code (put names picks left (drop left xs) rest)
-      → HasCode b it (put names picks i (take 1 (drop i xs)) (code_of a code)) → HasCode b it (put names picks i (drop i xs) rest)
-  put_step {a = a} {code = code} xs left i e h so one =
-      let P : ℕ → Type 0 = λ n. HasCode a code (put names picks n (drop n xs) rest) in
+  pub places_step : {a b : Nodes} {code it : ℕ} (way : Way) (xs : List Variable) (left i : ℕ) → suc i ≡ left → left ≤ length xs → HasCode a code (places_code way names picks left (drop left xs) rest)
+      → HasCode b it (places_code way names picks i (take 1 (drop i xs)) (code_of a code)) → HasCode b it (places_code way names picks i (drop i xs) rest)
+  places_step {a = a} {code = code} way xs left i e h so one =
+      let P : ℕ → Type 0 = λ n. HasCode a code (places_code way names picks n (drop n xs) rest) in
       let next = subst P (sym e) so in
-      record { there = one.there; is = one.is ∙ ap (put names picks i (take 1 (drop i xs))) next.is ∙ sym (put_front names picks rest i i xs (omega (arith, e, h))) }
-
-  pub get_step : {a b : Nodes} {code it : ℕ} (xs : List Variable) (left i : ℕ) → suc i ≡ left → left ≤ length xs → HasCode a code (get names picks left (drop left xs) rest)
-      → HasCode b it (get names picks i (take 1 (drop i xs)) (code_of a code)) → HasCode b it (get names picks i (drop i xs) rest)
-  get_step {a = a} {code = code} xs left i e h so one =
-      let P : ℕ → Type 0 = λ n. HasCode a code (get names picks n (drop n xs) rest) in
-      let next = subst P (sym e) so in
-      record { there = one.there; is = one.is ∙ ap (get names picks i (take 1 (drop i xs))) next.is ∙ sym (get_front names picks rest i i xs (omega (arith, e, h))) }
+      record { there = one.there; is = one.is ∙ ap (places_code way names picks i (take 1 (drop i xs))) next.is ∙ sym (places_front names picks rest way i i xs (omega (arith, e, h))) }
 
 module _ (method : List ℕ) (rest : Code) where
   pub save_none : (k : ℕ) (xs : List Variable) → length xs ≤ k → save_locals method (drop k xs) rest ≡ rest

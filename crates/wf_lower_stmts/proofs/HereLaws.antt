@@ -10,12 +10,13 @@ use Rattle.wf_ast.specs.TypedTrees.{text_of}
 use Rattle.wf_text.specs.declared.faults.NoMemory.{NoMemory}
 use Rattle.c_text.specs.declared.ids.CStmtId.{CStmtId}
 use Rattle.c_text.specs.CNodes.{Nodes, code_of}
-use Rattle.c_text.specs.CTree.{Code, assign}
+use Rattle.c_text.specs.CTree.{Code}
 use Rattle.wf_exprs.specs.Grown.{HasCode}
 use Rattle.wf_exprs.specs.Names.{Names}
-use Rattle.wf_exprs.specs.Exprs.{io_code, place_code, end_code}
-use Rattle.wf_lower_stmts.specs.BodyNodes.{save_one, restore_one}
-use Rattle.wf_lower_stmts.specs.Forms.{put, get, save_locals, restore_locals, is_io, is_kept, place_in, end_of}
+use Rattle.wf_lower_stmts.specs.declared.places.Way.{Way}
+use Rattle.wf_lower_stmts.specs.declared.places.Way.TheVariants as ways
+use Rattle.wf_lower_stmts.specs.BodyNodes.{save_one, restore_one, one_place, places_code}
+use Rattle.wf_lower_stmts.specs.Forms.{save_locals, restore_locals, is_io, is_kept}
 
 -- The same code in other words.
 pub retell_code : (nodes : Nodes) (x y : Code) (r : Result CStmtId NoMemory) → x ≡ y → IfOk r (λ it. HasCode nodes it.0 x) → IfOk r (λ it. HasCode nodes it.0 y)
@@ -24,12 +25,6 @@ retell_code nodes x y r e h = let P : Code → Type 0 = λ z. IfOk r (λ it. Has
 pub code_here : (nodes : Nodes) (code : Code) (s : ℕ) → s < length nodes.stmts → code ≡ code_of nodes s → HasCode nodes s code
 code_here nodes code s h e = record { there = h; is = sym e }
 
-abbrev put_code : Names → (n : ℕ) → Ty → (rest : Code) → Code
-put_code names n ty rest = assign (place_in (io_code names n) ty) (place_code names n) rest
-
-abbrev get_code : Names → (n : ℕ) → Ty → (rest : Code) → Code
-get_code names n ty rest = assign (place_code names n) (place_in (io_code names n) ty) (assign (end_code names n) (end_of (io_code names n) ty) rest)
-
 -- A code for the item, or none.
 choose_both : {X : Type 0} (a b c : Bool) (x y : X) → (a && b) ≡ c → (if a then (if b then x else y) else y) ≡ (if c then x else y)
 choose_both true b c x y h = rw h refl
@@ -37,25 +32,16 @@ choose_both false b true x y h = absurd (cc h)
 choose_both false b false x y h = refl
 
 module _ (nodes : TypedNodes) (names : Names) (picks : ℕ → Bool) (rest : Code) (n : ℕ) where
-  put_here : (k : ℕ) (xs : List Var) (ty : Ty) → option_map (λ x. x.ty) (slice_get xs k) ≡ Some ty
-      → put names picks n (take 1 (drop k (map (variable_of nodes) xs))) rest ≡ (if is_io ty then (if picks n then put_code names n ty rest else rest) else rest)
-  put_here k [] ty h = absurd (cc h)
-  put_here zero (x ∷ xs) ty h = ap (λ t. if is_io t then (if picks n then put_code names n t rest else rest) else rest) (same_Some x.ty ty h)
-  put_here (suc k) (x ∷ xs) ty h = put_here k xs ty h
+  place_here : (way : Way) (k : ℕ) (xs : List Var) (ty : Ty) → option_map (λ x. x.ty) (slice_get xs k) ≡ Some ty
+      → places_code way names picks n (take 1 (drop k (map (variable_of nodes) xs))) rest ≡ (if is_io ty then (if picks n then one_place way names n ty rest else rest) else rest)
+  place_here way k [] ty h = absurd (cc h)
+  place_here ways.Put zero (x ∷ xs) ty h = ap (λ t. if is_io t then (if picks n then one_place ways.Put names n t rest else rest) else rest) (same_Some x.ty ty h)
+  place_here ways.Get zero (x ∷ xs) ty h = ap (λ t. if is_io t then (if picks n then one_place ways.Get names n t rest else rest) else rest) (same_Some x.ty ty h)
+  place_here way (suc k) (x ∷ xs) ty h = place_here way k xs ty h
 
-  get_here : (k : ℕ) (xs : List Var) (ty : Ty) → option_map (λ x. x.ty) (slice_get xs k) ≡ Some ty
-      → get names picks n (take 1 (drop k (map (variable_of nodes) xs))) rest ≡ (if is_io ty then (if picks n then get_code names n ty rest else rest) else rest)
-  get_here k [] ty h = absurd (cc h)
-  get_here zero (x ∷ xs) ty h = ap (λ t. if is_io t then (if picks n then get_code names n t rest else rest) else rest) (same_Some x.ty ty h)
-  get_here (suc k) (x ∷ xs) ty h = get_here k xs ty h
-
-  pub put_done : (k : ℕ) (xs : List Var) (ty : Ty) (c : Bool) → option_map (λ x. x.ty) (slice_get xs k) ≡ Some ty → (is_io ty && picks n) ≡ c
-      → put names picks n (take 1 (drop k (map (variable_of nodes) xs))) rest ≡ (if c then put_code names n ty rest else rest)
-  put_done k xs ty c h same = put_here k xs ty h ∙ choose_both (is_io ty) (picks n) c (put_code names n ty rest) rest same
-
-  pub get_done : (k : ℕ) (xs : List Var) (ty : Ty) (c : Bool) → option_map (λ x. x.ty) (slice_get xs k) ≡ Some ty → (is_io ty && picks n) ≡ c
-      → get names picks n (take 1 (drop k (map (variable_of nodes) xs))) rest ≡ (if c then get_code names n ty rest else rest)
-  get_done k xs ty c h same = get_here k xs ty h ∙ choose_both (is_io ty) (picks n) c (get_code names n ty rest) rest same
+  pub place_done : (way : Way) (k : ℕ) (xs : List Var) (ty : Ty) (c : Bool) → option_map (λ x. x.ty) (slice_get xs k) ≡ Some ty → (is_io ty && picks n) ≡ c
+      → places_code way names picks n (take 1 (drop k (map (variable_of nodes) xs))) rest ≡ (if c then one_place way names n ty rest else rest)
+  place_done way k xs ty c h same = place_here way k xs ty h ∙ choose_both (is_io ty) (picks n) c (one_place way names n ty rest) rest same
 
 module _ (nodes : TypedNodes) (method : List ℕ) (rest : Code) where
   pub saved_here : (k : ℕ) (xs : List Var) (ty : Ty) (name : List ℕ) → option_map (λ x. x.ty) (slice_get xs k) ≡ Some ty → option_map (λ x. text_of nodes x.name) (slice_get xs k) ≡ Some name → is_kept ty ≡ true

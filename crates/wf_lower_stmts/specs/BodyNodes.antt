@@ -18,24 +18,26 @@ use Rattle.wf_base.specs.declared.base_methods.ReadForm.TheVariants.{ReadU8}
 use Rattle.wf_ast.specs.declared.typed_nodes.TypedNodes.{TypedNodes}
 use Rattle.wf_ast.specs.declared.types.Ty.{Ty}
 use Rattle.wf_ast.specs.TypedInvariant.{IsTyped, is_expr, has_few_variables}
-use Rattle.wf_ast.specs.TypedPackage.{package_of, method_of}
+use Rattle.wf_ast.specs.TypedPackage.{Variable, package_of, method_of}
 use Rattle.wf_ast.specs.TypedTree.{Path, ValueTree, Simple, break_from, continue_in, Site, Block, end, plain, choose, loop, Target, to_number, to_element, to_flag, to_status, to_slice, to_nothing}
 use Rattle.wf_ast.specs.TypedTrees.{no_place, block_of, text_of, tree_of, onto, stmt_makers}
 use Rattle.wf_ast.specs.WellTyped.{breaks, io_handed, is_that}
 use Rattle.wf_points.specs.PointNumbers.{number_at}
 use Rattle.c_text.specs.CSpelling.{is_word_byte}
 use Rattle.c_text.specs.CTree.{ExprTree, Code, variable, assign}
-use Rattle.wf_exprs.specs.Exprs.{Pair}
+use Rattle.wf_exprs.specs.Exprs.{Pair, io_code, place_code, end_code}
 use Rattle.wf_exprs.specs.Making.{is_number_at, is_slice_at}
 use Rattle.wf_exprs.specs.Names.{Names, local_pointer, local_length, saved_field, names_of, struct_called, struct_type}
 use Rattle.wf_exprs.specs.Words.{of_self}
 use Rattle.wf_exprs_nodes.specs.Trees.{node_number, node_slice}
 use Rattle.wf_exprs.specs.Scopes.{ScopeTree, are_named, path_of}
-use Rattle.wf_lower_stmts.specs.Forms.{Form, form_of, stays, holds_something, counts_bytes, awaits, keeps, size_local}
+use Rattle.wf_lower_stmts.specs.Forms.{Form, form_of, stays, holds_something, counts_bytes, awaits, keeps, size_local, place_in, end_of, put, get}
 use Rattle.wf_lower_stmts.specs.Lower.{continues}
 use Rattle.wf_lower_stmts.specs.Statements.{is_passed, target_code, is_wanted, set_slice}
 use Rattle.wf_lower_stmts.specs.declared.places.Picked.{Picked}
 use Rattle.wf_lower_stmts.specs.declared.places.Picked.TheVariants as picked
+use Rattle.wf_lower_stmts.specs.declared.places.Way.{Way}
+use Rattle.wf_lower_stmts.specs.declared.places.Way.TheVariants as ways
 use Rattle.wf_lower_stmts.specs.declared.targets.Target.{Target as TargetNode}
 use Rattle.wf_lower_stmts.specs.declared.targets.Target.TheVariants as targets
 use Rattle.wf_lower_stmts.specs.declared.walks.Sought.{Sought}
@@ -126,6 +128,15 @@ picks nodes (picked.Passed es) n = is_passed (map (tree_of nodes) es.now) n
 abbrev pub are_there : TypedNodes → Picked → Bool
 are_there nodes picked.All = true
 are_there nodes (picked.Passed es) = list_all (is_expr nodes) es.now
+
+-- Places go back to the buffers, or come from there with the ends: what one takes, and what those of arguments take.
+abbrev pub one_place : Way → Names → (n : ℕ) → Ty → (rest : Code) → Code
+one_place ways.Put names n ty rest = assign (place_in (io_code names n) ty) (place_code names n) rest
+one_place ways.Get names n ty rest = assign (place_code names n) (place_in (io_code names n) ty) (assign (end_code names n) (end_of (io_code names n) ty) rest)
+
+abbrev pub places_code : Way → Names → (picks : ℕ → Bool) → (n : ℕ) → List Variable → (rest : Code) → Code
+places_code ways.Put names picks n xs rest = put names picks n xs rest
+places_code ways.Get names picks n xs rest = get names picks n xs rest
 
 -- The arms of an `if`, and its `else`.
 abbrev pub stands_in_arms : (StmtId → Bool) → List Arm → Bool

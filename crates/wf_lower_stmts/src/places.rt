@@ -9,7 +9,7 @@ ghost use Rattle.c_text.specs.CNodes.{code_of};
 ghost use Rattle.c_text.specs.CTree.{assign as assign_code};
 ghost use Rattle.wf_exprs.specs.Exprs.{end_code, io_code, place_code};
 ghost use Rattle.wf_exprs.specs.Grown.{Grows, HasCode, HasExpr};
-ghost use Rattle.wf_lower_stmts.specs.BodyNodes.{form_in, are_there, is_that_io, picks};
+ghost use Rattle.wf_lower_stmts.specs.BodyNodes.{form_in, are_there, is_that_io, one_place, picks, places_code};
 ghost use Rattle.wf_ast.specs.declared.types.Ty.TheVariants as types;
 ghost use Rattle.wf_lower_stmts.specs.Forms.{end_of as end_in, get as get_code, is_io as is_io_type, place_in as place_in_code, put as put_code};
 ghost use Rattle.wf_lower_stmts.specs.Statements.{is_passed as is_among};
@@ -30,6 +30,15 @@ pub enum Picked<'a> {
     All,
     /// For those that a call is passed.
     Passed(&'a [ExprId]),
+}
+
+// Which way places go.
+#[derive(Clone, Copy)]
+enum Way {
+    // Back to the buffers.
+    Put,
+    // From the buffers, with the ends.
+    Get,
 }
 
 /// Whether a type is a reader's or a writer's.
@@ -204,9 +213,29 @@ fn is_done(b: &Body, picked: Picked, n: u32, ty: Ty) -> bool
     is_io(ty) && is_picked(b.typed(), picked, n)
 }
 
-// The same for the argument with this number.
-fn put_at(
+// What one place takes, that way.
+fn move_one(
     b: &Body,
+    way: Way,
+    u: &mut Unit,
+    n: u32,
+    ty: Ty,
+    rest: CStmtId,
+) -> Result<CStmtId, NoMemory>
+    requires { rest.0 < length u.old.stmts }
+    ensures grows { Grows u.old u.new }
+    ensures made { IfOk result (λ it. HasCode u.new it.0 (one_place way (form_in b.now).names n ty (code_of u.old rest.0))) }
+{
+    match way {
+        Way::Put => put_one(b, u, n, ty, rest),
+        Way::Get => get_one(b, u, n, ty, rest),
+    }
+}
+
+// The same for the argument with this number, where something is done for it.
+fn move_at(
+    b: &Body,
+    way: Way,
     picked: Picked,
     u: &mut Unit,
     n: usize,
@@ -216,14 +245,36 @@ fn put_at(
     requires known { n < length b.now.method.args }
     requires rest { rest.0 < length u.old.stmts }
     ensures grows { Grows u.old u.new }
-    ensures made { IfOk result (λ it. HasCode u.new it.0 (put_code (form_in b.now).names (picks b.now.nodes picked.entry) n (take 1 (drop n (form_in b.now).method.args)) (code_of u.old rest.0))) }
+    ensures made { IfOk result (λ it. HasCode u.new it.0 (places_code way (form_in b.now).names (picks b.now.nodes picked.entry) n (take 1 (drop n (form_in b.now).method.args)) (code_of u.old rest.0))) }
 {
     let ty = argument_type(b, n);
     if is_done(b, picked, n as u32, ty) {
-        put_one(b, u, n as u32, ty, rest)
+        move_one(b, way, u, n as u32, ty, rest)
     } else {
         Ok(rest)
     }
+}
+
+// The places of all arguments for which something is done.
+fn move_places(
+    b: &Body,
+    way: Way,
+    picked: Picked,
+    u: &mut Unit,
+    rest: CStmtId,
+) -> Result<CStmtId, NoMemory>
+    requires there { IsTrue (are_there b.now.nodes picked) }
+    requires rest { rest.0 < length u.old.stmts }
+    ensures grows { Grows u.old u.new }
+    ensures made { IfOk result (λ it. HasCode u.new it.0 (places_code way (form_in b.now).names (picks b.now.nodes picked.entry) 0 (form_in b.now).method.args (code_of u.old rest.0))) }
+{
+    let mut left = b.arguments().len();
+    let mut code = rest;
+    while left > 0 {
+        left -= 1;
+        code = move_at(b, way, picked, u, left, code)?;
+    }
+    Ok(code)
 }
 
 /// The places go back to the buffers.
@@ -238,35 +289,7 @@ pub fn put_places(
     ensures grows { Grows u.old u.new }
     ensures made { IfOk result (λ it. HasCode u.new it.0 (put_code (form_in b.now).names (picks b.now.nodes picked.entry) 0 (form_in b.now).method.args (code_of u.old rest.0))) }
 {
-    let mut left = b.arguments().len();
-    let mut code = rest;
-    while left > 0 {
-        left -= 1;
-        code = put_at(b, picked, u, left, code)?;
-    }
-    Ok(code)
-}
-
-// The same for the argument with this number.
-fn get_at(
-    b: &Body,
-    picked: Picked,
-    u: &mut Unit,
-    n: usize,
-    rest: CStmtId,
-) -> Result<CStmtId, NoMemory>
-    requires there { IsTrue (are_there b.now.nodes picked) }
-    requires known { n < length b.now.method.args }
-    requires rest { rest.0 < length u.old.stmts }
-    ensures grows { Grows u.old u.new }
-    ensures made { IfOk result (λ it. HasCode u.new it.0 (get_code (form_in b.now).names (picks b.now.nodes picked.entry) n (take 1 (drop n (form_in b.now).method.args)) (code_of u.old rest.0))) }
-{
-    let ty = argument_type(b, n);
-    if is_done(b, picked, n as u32, ty) {
-        get_one(b, u, n as u32, ty, rest)
-    } else {
-        Ok(rest)
-    }
+    move_places(b, Way::Put, picked, u, rest)
 }
 
 /// The places and ends are read again.
@@ -281,11 +304,5 @@ pub fn get_places(
     ensures grows { Grows u.old u.new }
     ensures made { IfOk result (λ it. HasCode u.new it.0 (get_code (form_in b.now).names (picks b.now.nodes picked.entry) 0 (form_in b.now).method.args (code_of u.old rest.0))) }
 {
-    let mut left = b.arguments().len();
-    let mut code = rest;
-    while left > 0 {
-        left -= 1;
-        code = get_at(b, picked, u, left, code)?;
-    }
-    Ok(code)
+    move_places(b, Way::Get, picked, u, rest)
 }

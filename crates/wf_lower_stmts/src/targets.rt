@@ -7,12 +7,12 @@ ghost use Rattle.wf_ast.specs.declared.typed_nodes.TypedNodes.{TypedNodes};
 ghost use Rattle.wf_ast.specs.TypedTrees.{named, optional_target, target_of as target_tree, tree_of};
 ghost use Rattle.c_text.specs.CNodes.{code_of, expr_of};
 ghost use Rattle.c_text.specs.CTree as c;
-ghost use Rattle.wf_exprs.specs.Exprs.{given as given_code, lowered_cond, lowered_expr, lowered_slice, lowered_status};
+ghost use Rattle.wf_exprs.specs.Exprs.{lowered_expr, lowered_slice};
 ghost use Rattle.wf_exprs.specs.Grown.{Grows, HasCode, HasExpr};
-ghost use Rattle.wf_exprs.specs.Making.{HasPairAt, is_condition_at, is_number_at, is_slice_at, is_status_at, pair_in};
+ghost use Rattle.wf_exprs.specs.Making.{HasPairAt, is_number_at, is_slice_at, pair_in};
 ghost use Rattle.wf_exprs.specs.Names.{local_length, local_pointer};
 ghost use Rattle.wf_exprs.specs.Scopes.{path_of};
-ghost use Rattle.wf_exprs_nodes.specs.Trees.{node_cond, node_number, node_slice, node_status};
+ghost use Rattle.wf_exprs_nodes.specs.Trees.{node_number, node_slice};
 ghost use Rattle.wf_lower_stmts.specs.declared.targets.Target.TheVariants as targets;
 ghost use Rattle.wf_lower_stmts.specs.BodyNodes.{AreAlike, form_in, is_target, set_local, target_in};
 ghost use Rattle.wf_lower_stmts.specs.Forms.{size_local};
@@ -153,9 +153,9 @@ pub fn put_into(
     }
 }
 
-/// `size = length;`
+/// `size = count;`
 #[tactic(auto, unfolding(c_text::specs::CSpelling::is_reserved))]
-fn put_aside(u: &mut Unit, count: CExprId, rest: CStmtId) -> Result<CStmtId, NoMemory>
+pub fn set_size(u: &mut Unit, count: CExprId, rest: CStmtId) -> Result<CStmtId, NoMemory>
     requires count { count.0 < length u.old.exprs }
     requires rest { rest.0 < length u.old.stmts }
     ensures grows { Grows u.old u.new }
@@ -209,7 +209,7 @@ fn set_local_slice(
 {
     let rest = set_length(b, u, n, rest)?;
     let rest = set_pointer(b, u, n, it.pointer, rest)?;
-    put_aside(u, it.length.code, rest)
+    set_size(u, it.length.code, rest)
 }
 
 fn set_slice_at(
@@ -254,60 +254,6 @@ fn set_slice(
     }
 }
 
-/// A number goes to a target.
-fn set_number(
-    b: &Body,
-    u: &mut Unit,
-    target: Target,
-    value: ExprId,
-    rest: CStmtId,
-) -> Result<CStmtId, NoMemory>
-    requires target { is_target b.now.nodes target ≡ true }
-    requires value { IsTrue (is_number_at b.now.nodes value) }
-    requires rest { rest.0 < length u.old.stmts }
-    ensures grows { Grows u.old u.new }
-    ensures made { IfOk result (λ it. HasCode u.new it.0 (put_into_code (form_in b.now).names (target_in b.now.nodes target) (given_code (form_in b.now).names (node_number b.now.nodes value)) (code_of u.old rest.0))) }
-{
-    let given = given(b.scope(), u, value)?;
-    put_into(b, u, target, given, rest)
-}
-
-/// A condition goes to a target.
-fn set_flag(
-    b: &Body,
-    u: &mut Unit,
-    target: Target,
-    value: ExprId,
-    rest: CStmtId,
-) -> Result<CStmtId, NoMemory>
-    requires target { is_target b.now.nodes target ≡ true }
-    requires value { IsTrue (is_condition_at b.now.nodes value) }
-    requires rest { rest.0 < length u.old.stmts }
-    ensures grows { Grows u.old u.new }
-    ensures made { IfOk result (λ it. HasCode u.new it.0 (put_into_code (form_in b.now).names (target_in b.now.nodes target) (lowered_cond (form_in b.now).names (node_cond b.now.nodes value)) (code_of u.old rest.0))) }
-{
-    let given = condition(b.scope(), u, value)?;
-    put_into(b, u, target, given, rest)
-}
-
-/// A status goes to a target.
-fn set_status(
-    b: &Body,
-    u: &mut Unit,
-    target: Target,
-    value: ExprId,
-    rest: CStmtId,
-) -> Result<CStmtId, NoMemory>
-    requires target { is_target b.now.nodes target ≡ true }
-    requires value { IsTrue (is_status_at b.now.nodes value) }
-    requires rest { rest.0 < length u.old.stmts }
-    ensures grows { Grows u.old u.new }
-    ensures made { IfOk result (λ it. HasCode u.new it.0 (put_into_code (form_in b.now).names (target_in b.now.nodes target) (lowered_status (form_in b.now).names (node_status b.now.nodes value)) (code_of u.old rest.0))) }
-{
-    let given = status(b.scope(), u, value)?;
-    put_into(b, u, target, given, rest)
-}
-
 /// A value of any kind goes to a target.
 fn set_any(
     b: &Body,
@@ -323,9 +269,18 @@ fn set_any(
     ensures made { IfOk result (λ it. HasCode u.new it.0 (set_value_code (form_in b.now).names (target_in b.now.nodes target) (tree_of b.now.nodes value) (code_of u.old rest.0))) }
 {
     match type_at(b.typed(), value) {
-        Ty::Num { .. } => set_number(b, u, target, value, rest),
-        Ty::Flag => set_flag(b, u, target, value, rest),
-        Ty::Status => set_status(b, u, target, value, rest),
+        Ty::Num { .. } => {
+            let given = given(b.scope(), u, value)?;
+            put_into(b, u, target, given, rest)
+        }
+        Ty::Flag => {
+            let given = condition(b.scope(), u, value)?;
+            put_into(b, u, target, given, rest)
+        }
+        Ty::Status => {
+            let given = status(b.scope(), u, value)?;
+            put_into(b, u, target, given, rest)
+        }
         Ty::Slice(_) => set_slice(b, u, target, value, rest),
         Ty::Array { .. } => set_slice(b, u, target, value, rest),
         Ty::Reader => Ok(rest),

@@ -1,5 +1,5 @@
 use Rattle.wf_exprs.proofs.Growing.{grows_on}
-use Rattle.wf_lower_blocks.proofs.awaiting.holds_more.Goals as goal
+use Rattle.wf_lower_blocks.proofs.awaiting.held_and_there.Goals as goal
 
 pub returns-clause-grows : goal.returns-clause-grows
 returns-clause-grows c = grows_on (grows_on c.held.ensures.grows c.there.ensures.grows) c.two.ensures.grows

@@ -1,5 +1,0 @@
-use Rattle.wf_exprs.proofs.Growing.{grows_on}
-use Rattle.wf_lower_blocks.proofs.awaiting.is_used_up.Goals as goal
-
-pub returns-clause-grows : goal.returns-clause-grows
-returns-clause-grows c = grows_on (grows_on c.place.ensures.grows c.end.ensures.grows) c.two.ensures.grows
