@@ -2,11 +2,14 @@
 """Random scripts on random packages that are accepted: what commands of the program print, against a second opinion.
 
 usage: random_reports.py PROGRAM [COUNT [SEED [COMMAND..]]]    300 packages with the seed 1, and `mean`, are the default
+       random_reports.py --alike PROGRAM COUNT SEED COMMAND COMMAND..
 Each package runs five scripts, of which two are changed at a few random bytes or cut, so that most of these are refused. The
-second opinion is second_opinion/scripts.py. Ends with how often each rule or ending decided. A script of which the two say
-different things is printed with its package, and fails.
+second opinion is second_opinion/scripts.py. With --alike there is none, so that many packages can be run: `check` of the program says which
+are accepted, each runs two scripts, one of them changed, and the commands have to print the same.
+Ends with how often each rule or ending decided. A script of which two say different things is printed with its package, and fails.
 """
 import collections
+import itertools
 import os
 import pathlib
 import random
@@ -14,11 +17,14 @@ import subprocess
 import sys
 import tempfile
 
-from second_opinion.random_bounds import random_bounds
+from second_opinion import judged
+from second_opinion.random_bounds import nudged, random_bounds
 from second_opinion.scripts import judged_once, report
 from second_opinion.source_machine import WIDTHS
 from second_opinion.trees import Method, SliceType, Struct
 
+# How many packages are tried beside each random one.
+ALIKE = 8
 EDGES = [0, 1, 2, 3, 4, 5, 7, 8, 9, 100, 254, 255, 256, 65535, 2 ** 32 - 2, 2 ** 32 - 1, 2 ** 64 - 1]
 
 
@@ -105,30 +111,49 @@ def accepted(source):
             return text, declarations
 
 
+def accepted_by(program, folder, source):
+    """Random packages that the program accepts, with their declarations: also some which differ from others by a number or a comparison alone."""
+    while True:
+        first, kept = random_bounds(source), []
+        judged((first,), lambda declarations: kept.extend(declarations))
+        for text in [first, *(nudged(first, source) for _ in range(ALIKE if kept else 0))]:
+            pathlib.Path(folder, "f0").write_text(text)
+            if not subprocess.run([program, "check", "k", "f0"], cwd=folder, capture_output=True).returncode:
+                yield text, kept
+
+
+def cause(said):
+    """What decided: the rule that refused a script, or the status with which a run ended."""
+    first = said[0].split(" ")
+    return first[1] if first[0] == "script" else f"status {said[1]}"
+
+
 def main():
-    program = os.path.abspath(sys.argv[1])
-    count, seed = sys.argv[2:4] + ["300", "1"][len(sys.argv[2:4]):]
-    commands = sys.argv[4:] or ["mean"]
+    alike = sys.argv[1:2] == ["--alike"]
+    program, *given = sys.argv[1 + alike:]
+    program = os.path.abspath(program)
+    count, seed = given[:2] + ["300", "1"][len(given[:2]):]
+    commands = given[2:] or ["mean"]
     source, decided, differ = random.Random(int(seed)), collections.Counter(), 0
     with tempfile.TemporaryDirectory() as folder:
-        for _ in range(int(count)):
-            text, declarations = accepted(source)
+        packages = accepted_by(program, folder, source) if alike else iter(lambda: accepted(source), None)
+        for text, declarations in itertools.islice(packages, int(count)):
             pathlib.Path(folder, "f0").write_text(text)
             is_right = True
-            for number in range(5):
+            for number in (2, 3) if alike else range(5):
                 script = Writer(declarations, source).write(40)
                 script = changed(script, source) if number > 2 else script
-                wanted = report("k", [text], script)
-                first = wanted[0].split(" ")
-                decided[first[1] if first[0] == "script" else f"status {wanted[1]}"] += 1
-                for command in commands:
+                wanted = ran(program, folder, commands[0], script) if alike else report("k", [text], script)
+                decided[cause(wanted)] += 1
+                for command in commands[alike:]:
                     said = ran(program, folder, command, script)
                     if said != wanted:
                         is_right = False
-                        print(f"{command}: {said}\nthe second opinion: {wanted}\nthe script: {script}\nthe package:\n{text}")
+                        other = commands[0] if alike else "the second opinion"
+                        print(f"{command}: {said}\n{other}: {wanted}\nthe script: {script}\nthe package:\n{text}")
             differ += not is_right
     print(" ".join(f"{rule}:{times}" for rule, times in sorted(decided.items())))
-    print(f"random_reports.py, {', '.join(commands)}: {int(count) - differ} passed, {differ} failed")
+    print(f"random_reports.py{' --alike' if alike else ''}, {', '.join(commands)}: {int(count) - differ} passed, {differ} failed")
     return 1 if differ or not int(count) else 0
 
 

@@ -3,8 +3,10 @@
 
 usage: try_edits.py [--fits | --untried] [--jobs N] [--clone FOLDER] [CRATE..]    all crates that have edits are the default
 An edit is a line 'file: PATH' and pairs of lines 'old: TEXT' and 'new: TEXT'; each old TEXT stands once in that file.
-The last commit is tried, in a clone that is removed again, N crates at a time (1 is the default). What was tried is
-kept in tests/out/, by the sums of the edit, of its crate and of the crates below that one, and isn't tried again.
+The last commit is tried, in a clone that is removed again, N crates at a time (1 is the default). Edits of the bodies of different
+functions are tried together in one check of the crate: what a function promises stays, so that no edit changes the verdict on another's
+function, and each edited function must come out unproved. What that check doesn't refuse is tried alone, by `rt must-fail`.
+What was tried is kept in tests/out/, by the sums of the edit, of its crate and of the crates below that one, and isn't tried again.
 With --clone the clone is FOLDER, which is made where it isn't there and stays, with the libraries that it has proved.
 A crate of which all edits are refused gets a line in tests/edits/tried.txt, with a sum of its edits, of itself and of all that it
 stands on; with --untried the crates are listed whose line is missing or has another sum, so that they have to be tried again.
@@ -28,6 +30,11 @@ KEPT = ROOT / "tests" / "out" / "edits"
 RECORD = ROOT / "tests" / "edits" / "tried.txt"
 RECORD_HEAD = "# A crate, the kit with which all its wrong versions were refused, how many there are, and a sum. Written by tests/try_edits.py.\n"
 TOLD = re.compile(r"must-fail (\w+)/(\S+\.edit): (refused|BAD EDIT|NOT REFUSED|NOT TRIED)(.*)")
+# What `rt check` prints of a function.
+VERDICT = re.compile(r"^fn (\S+): (proved|not proved|no proof)(.*)$", re.M)
+CALLS = re.compile(r"(; )?it calls .* not proved")
+FUNCTION = re.compile(r"(?P<indent> *)(?:pub(?:\(crate\))? )?(?:const )?fn (?P<name>\w+)")
+IMPL = re.compile(r"impl(?:<.*?>)? (?:[\w:<>', ]+ for )?(?P<type>\w+)")
 # What comes to the same whenever the same is tried.
 SETTLED = ("refused", "BAD EDIT", "NOT REFUSED")
 
@@ -61,6 +68,73 @@ def misfit(edit, folder):
                 return f"'{old}' stands in {path} {times} times"
             texts[path], old = texts[path].replace(old, line[len("new:"):].removeprefix(" ")), None
     return "" if texts != first else "it changes nothing"
+
+
+def pairs_of(edit):
+    """The changes of an edit: (file, old text, new text) each."""
+    path, old, pairs = None, None, []
+    for line in edit.read_text().split("\n"):
+        if line.startswith("file: "):
+            path = line[len("file: "):].strip()
+        elif line.startswith("old: "):
+            old = line[len("old: "):]
+        elif line.startswith("new:"):
+            pairs.append((path, old, line[len("new:"):].removeprefix(" ")))
+    return pairs
+
+
+def function_at(text, at):
+    """The function in whose body a place of a file's text stands: the type whose it is, or None, and its name; None at any other place."""
+    lines, here = text.split("\n"), text.count("\n", 0, at)
+    for first in range(here, -1, -1):
+        opens = FUNCTION.match(lines[first])
+        if not opens:
+            continue
+        indent = opens["indent"]
+        body = next((n for n in range(first, len(lines)) if lines[n] == indent + "{" or lines[n].endswith(" {")), len(lines))
+        end = next((n for n in range(first, len(lines)) if lines[n] == indent + "}"), 0)
+        if not body < here < end:
+            return None
+        owner = next((IMPL.match(lines[n]) for n in range(first, -1, -1) if indent and lines[n].startswith("impl")), None)
+        return (owner["type"] if owner else None, opens["name"])
+    return None
+
+
+def bodies_of(edit, folder):
+    """The functions of whose bodies alone an edit changes something, as (module, type, name), or None where it changes anything else."""
+    texts, found = {}, set()
+    for path, old, new in pairs_of(edit):
+        if not path.startswith("src/"):
+            return None
+        text = texts.get(path, (folder / path).read_text())
+        function = function_at(text, text.index(old))
+        if not function:
+            return None
+        module = "::".join(pathlib.PurePath(path[len("src/"):]).with_suffix("").parts)
+        found.add(("" if module == "lib" else module, *function))
+        texts[path] = text.replace(old, new)
+    return found
+
+
+def apart(edits, folder):
+    """Edits of the bodies of different functions, as many as there are, each with its functions."""
+    taken = []
+    for edit in edits:
+        bodies = bodies_of(edit, folder)
+        if bodies and not any(bodies & others for _, others in taken):
+            taken.append((edit, bodies))
+    return taken
+
+
+def verdict_on(body, crate, verdicts):
+    """What a check says of a function, ('no proof', why) for instance, or None where it says nothing, or names more than one such function."""
+    module, owner, name = body
+    if owner:
+        # (told with the module of the type, and a trait's with the name of the trait after that of the type)
+        named = [it for it in verdicts if it.endswith(f"::{name}") and it.split("::")[-2].startswith(owner)]
+    else:
+        named = ["::".join(part for part in (crate, module, name) if part)]
+    return verdicts.get(named[0]) if len(named) == 1 else None
 
 
 def look_whether_they_fit(crates):
@@ -130,11 +204,63 @@ class Trial:
         edits = "\0".join(f"{edit.name}\0{edit.read_text()}" for edit in edits_of(self.clone, crate))
         return hashlib.sha256(f"{stands_on}\0{edits}".encode()).hexdigest()[:16]
 
+    @staticmethod
+    def keep(place, came):
+        KEPT.mkdir(parents=True, exist_ok=True)
+        place.write_text("\n".join(came))
+
+    def together(self, crate, taken):
+        """What one check with all these edits, of the bodies of different functions, says of each, as (what it came to, why)."""
+        folder = self.clone / "crates" / crate
+        texts = {}
+        for edit, _ in taken:
+            for path, old, new in pairs_of(edit):
+                was, text = texts.get(path) or [(folder / path).read_text()] * 2
+                texts[path] = was, text.replace(old, new)
+        try:
+            for path, (_, text) in texts.items():
+                (folder / path).write_text(text)
+            ran = subprocess.run(["rt", "check", "--jobs", "1"], cwd=folder, stdin=subprocess.DEVNULL, stdout=subprocess.PIPE, stderr=subprocess.STDOUT,
+                                 text=True, errors="replace")
+        finally:
+            for path, (was, _) in texts.items():
+                (folder / path).write_text(was)
+        verdicts = {match[1]: (match[2], match[3].lstrip(": ")) for match in VERDICT.finditer(ran.stdout)}
+        if not verdicts and 1 < len(taken):
+            # (one that isn't compiled keeps the others from the prover)
+            half = len(taken) // 2
+            return {**self.together(crate, taken[:half]), **self.together(crate, taken[half:])}
+        came = {}
+        for edit, bodies in taken:
+            said = [verdict_on(body, crate, verdicts) for body in bodies]
+            if None in said or all(word == "proved" for word, _ in said):
+                came[edit.name] = ("not refused", "")
+            else:
+                came[edit.name] = next((("refused", why) for word, why in said if word != "proved" and not CALLS.match(why)), ("not reached", ""))
+        return came
+
+    def refused_together(self, crate, edits):
+        """Which of the edits are refused where those of different functions are tried together, and why."""
+        left, refused = edits, {}
+        while taken := apart(left, self.clone / "crates" / crate):
+            came = self.together(crate, taken)
+            refused.update({name: it for name, it in came.items() if it[0] == "refused"})
+            # (one whose function calls an edited one has its turn when that is settled)
+            settled = [edit for edit, _ in taken if came[edit.name][0] != "not reached"]
+            if not settled:
+                break
+            left = [edit for edit in left if edit not in settled]
+        return refused
+
     def tried(self, crate):
         """What each edit of a crate came to, with what the prover said, in the edits' order."""
         edits = edits_of(self.clone, crate)
         places = {edit.name: self.place(crate, edit) for edit in edits}
         told = {name: tuple(place.read_text().split("\n", 1)) for name, place in places.items() if place.is_file()}
+        new = [edit for edit in edits if edit.name not in told]
+        for name, came in self.refused_together(crate, new).items():
+            self.keep(places[name], came)
+            told[name] = came
         new = [edit for edit in edits if edit.name not in told]
         if new:
             folder = self.clone / "crates" / crate / "must-fail"
@@ -149,8 +275,7 @@ class Trial:
                 came = found.get(edit.name, ("NOT TRIED", ran.stdout[-300:]))
                 told[edit.name] = came
                 if came[0] in SETTLED:
-                    KEPT.mkdir(parents=True, exist_ok=True)
-                    places[edit.name].write_text("\n".join(came))
+                    self.keep(places[edit.name], came)
         return [(f"{crate}/{edit.name}", *told[edit.name]) for edit in edits]
 
 
