@@ -69,10 +69,8 @@ fn put(unit: &Unit, left: &mut Vec<Line>, stmt: CStmtId, switched: bool) -> Resu
     ensures size { OnOk result (size_of unit.now left.new.items ≡ size_of unit.now left.old.items + line_size unit.now (record { stmt = stmt; switched = switched })) }
 {
     let _ = unit.stmts();
-    match left.push(Line { stmt, switched }) {
-        Ok(()) => Ok(()),
-        Err(_) => Err(NoMemory),
-    }
+    left.push(Line { stmt, switched })?;
+    Ok(())
 }
 
 /// Adds the blocks in a statement to those that are left.
@@ -99,10 +97,10 @@ fn put_inner(
                 Ok(())
             }
         }
-        Inner::Branch(body, other) => match put(unit, left, other, switched) {
-            Ok(()) => put(unit, left, body, switched),
-            Err(fault) => Err(fault),
-        },
+        Inner::Branch(body, other) => {
+            put(unit, left, other, switched)?;
+            put(unit, left, body, switched)
+        }
     }
 }
 
@@ -124,14 +122,9 @@ fn list(
 {
     match apart(unit, at.stmt) {
         Some((inner, rest)) => {
-            match listed.push(at) {
-                Ok(()) => {}
-                Err(_) => return Err(NoMemory),
-            }
-            match put(unit, left, rest, at.switched) {
-                Ok(()) => put_inner(unit, left, inner, at.switched, enters),
-                Err(fault) => Err(fault),
-            }
+            listed.push(at)?;
+            put(unit, left, rest, at.switched)?;
+            put_inner(unit, left, inner, at.switched, enters)
         }
         None => Ok(()),
     }
@@ -151,15 +144,9 @@ pub(crate) fn lines(
 {
     let mut listed = Vec::new(alloc);
     let mut left = Vec::new(alloc);
-    match put(unit, &mut left, body, false) {
-        Ok(()) => {}
-        Err(fault) => return Err(fault),
-    }
+    put(unit, &mut left, body, false)?;
     while let Some(at) = left.pop() {
-        match list(unit, at, enters, &mut left, &mut listed) {
-            Ok(()) => {}
-            Err(fault) => return Err(fault),
-        }
+        list(unit, at, enters, &mut left, &mut listed)?;
     }
     Ok(listed)
 }

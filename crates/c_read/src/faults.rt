@@ -5,7 +5,7 @@ use thiserror::Error;
 /// Why bytes give no unit. A place counts bytes from 0.
 #[derive(Debug, Drop, Error)]
 pub enum ReadFault {
-    /// A bracket opens here where 512 are open; what stands in front of it begins a text of the subset.
+    /// A bracket opens here where 512 are open; what stands before it begins a text of the subset.
     #[error("a bracket at byte {at} opens where 512 are open")]
     TooDeep {
         /// Where the bracket stands.

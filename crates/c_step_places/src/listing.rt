@@ -84,10 +84,8 @@ fn put(unit: &Unit, left: &mut Vec<Place>, stmt: CStmtId, number: usize) -> Resu
     ensures places { OnOk result ((e : Bool) → left_of unit.now e left.new.items ≡ places_of e number (code_of unit.now stmt.0) ++ left_of unit.now e left.old.items) }
     ensures size { OnOk result (size_of unit.now left.new.items ≡ size_of unit.now left.old.items + place_size unit.now (record { stmt = stmt; number = number })) }
 {
-    match left.push(Place { stmt, number }) {
-        Ok(()) => Ok(()),
-        Err(_) => Err(NoMemory),
-    }
+    left.push(Place { stmt, number })?;
+    Ok(())
 }
 
 /// Adds the blocks in a statement to those that are left.
@@ -105,10 +103,7 @@ fn put_inner(
     ensures places { OnOk result (left_of it.now.unit.now enters left.new.items ≡ inner_places it.now.unit.now enters i inner (left_of it.now.unit.now enters left.old.items)) }
     ensures size { OnOk result (size_of it.now.unit.now left.new.items ≤ size_of it.now.unit.now left.old.items + inner_size it.now.unit.now inner) }
 {
-    let inside = match next_number(i) {
-        Ok(n) => n,
-        Err(fault) => return Err(fault),
-    };
+    let inside = next_number(i)?;
     match inner {
         Inner::None => Ok(()),
         Inner::Block(body) => put(it.unit, left, body, inside),
@@ -119,13 +114,11 @@ fn put_inner(
                 Ok(())
             }
         }
-        Inner::Branch(body, other) => match it.second(i, body) {
-            Ok(second) => match put(it.unit, left, other, second) {
-                Ok(()) => put(it.unit, left, body, inside),
-                Err(fault) => Err(fault),
-            },
-            Err(fault) => Err(fault),
-        },
+        Inner::Branch(body, other) => {
+            let second = it.second(i, body)?;
+            put(it.unit, left, other, second)?;
+            put(it.unit, left, body, inside)
+        }
     }
 }
 
@@ -149,18 +142,10 @@ fn list(
     let Some((inner, rest)) = apart(it.unit, at.stmt) else {
         return Ok(());
     };
-    match listed.push(at) {
-        Ok(()) => {}
-        Err(_) => return Err(NoMemory),
-    }
-    let after = match number_after(it, inner, at.number) {
-        Ok(n) => n,
-        Err(fault) => return Err(fault),
-    };
-    match put(it.unit, left, rest, after) {
-        Ok(()) => put_inner(it, left, inner, at.number, enters),
-        Err(fault) => Err(fault),
-    }
+    listed.push(at)?;
+    let after = number_after(it, inner, at.number)?;
+    put(it.unit, left, rest, after)?;
+    put_inner(it, left, inner, at.number, enters)
 }
 
 /// The statements from `body` on, which has a number, and those in their blocks, in the order of the text; `enters` tells
@@ -179,15 +164,9 @@ pub fn list_places(
 {
     let mut listed = Vec::new(alloc);
     let mut left = Vec::new(alloc);
-    match put(it.unit, &mut left, body, number) {
-        Ok(()) => {}
-        Err(fault) => return Err(fault),
-    }
+    put(it.unit, &mut left, body, number)?;
     while let Some(at) = left.pop() {
-        match list(it, at, enters, &mut left, &mut listed) {
-            Ok(()) => {}
-            Err(fault) => return Err(fault),
-        }
+        list(it, at, enters, &mut left, &mut listed)?;
     }
     Ok(listed)
 }

@@ -67,7 +67,7 @@ same_names {X} f keys h i j within_i within_j =
       ]
     ]
 
--- the keys of a set behind an insertion
+-- the keys of a set after an insertion
 map-append : {A B : Type 0} (f : A → B) (xs ys : List A) → map f (xs ++ ys) ≡ map f xs ++ map f ys
 map-append f [] ys = refl
 map-append f (x ∷ xs) ys = ap (λ zs. f x ∷ zs) (map-append f xs ys)

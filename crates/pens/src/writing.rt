@@ -32,7 +32,7 @@ pub trait Pen {
     ghost joined: { (a b c : Self) (x y : List ℕ) → writes a b x → writes b c y → writes a c (x ++ y) };
 }
 
-/// Hands a text to a sink in pieces of at most 4,096 bytes. Behind the first fault nothing more is put.
+/// Hands a text to a sink in pieces of at most 4,096 bytes. After the first fault nothing more is put.
 #[derive(Drop)]
 pub struct SinkPen<'a, O: Sink> {
     out: &'a mut O,
@@ -89,7 +89,7 @@ impl<'a, O: Sink> SinkPen<'a, O> {
         }
     }
 
-    /// Puts the waiting bytes where no further one fits behind them.
+    /// Puts the waiting bytes where no further one fits after them.
     fn make_room(&mut self)
         requires filled { self.old.filled ≤ 4096 }
         requires sent { self.old.sent < 2 ^ 64 }

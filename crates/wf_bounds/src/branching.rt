@@ -42,10 +42,8 @@ pub(crate) fn check_arms(
     };
     let mut room = true;
     for arm in arms {
-        match check_arm(walk, at, arm.cond, &mut known) {
-            Ok(fits) => room = room && fits,
-            Err(fault) => return Err(fault),
-        }
+        let fits = check_arm(walk, at, arm.cond, &mut known)?;
+        room = room && fits;
     }
     let _few = known.len();
     if room {

@@ -31,14 +31,9 @@ pub(crate) fn enter_body(walk: &Walk, w: StmtId, facts: &Facts) -> Result<Facts,
         Ok(()) => {}
         Err(refusal) => return Err(PhaseFault::Refused(refusal)),
     }
-    let mut known = match head_facts(walk.alloc, walk.t, w) {
-        Ok(known) => known,
-        Err(fault) => return Err(fault),
-    };
-    match test(walk, w, &mut known) {
-        Ok(()) => Ok(known),
-        Err(fault) => Err(fault),
-    }
+    let mut known = head_facts(walk.alloc, walk.t, w)?;
+    test(walk, w, &mut known)?;
+    Ok(known)
 }
 
 // What the test of a loop's condition requires of the facts at its head, which become those before its body.
@@ -53,10 +48,7 @@ fn test(walk: &Walk, w: StmtId, known: &mut Facts) -> Result<(), PhaseFault>
         Ok(()) => {}
         Err(refusal) => return Err(PhaseFault::Refused(refusal)),
     }
-    match at_exit(walk.alloc, known, walk.t, w) {
-        Ok(()) => {}
-        Err(fault) => return Err(fault),
-    }
+    at_exit(walk.alloc, known, walk.t, w)?;
     match add(known, walk.t, cond, true, place_of(walk.t, w)) {
         Ok(()) => Ok(()),
         Err(refusal) => Err(PhaseFault::Refused(refusal)),
@@ -104,11 +96,6 @@ fn go_behind(walk: &Walk, w: StmtId, facts: &mut Facts) -> Result<Way, PhaseFaul
     if is_word_true(walk.t, head.cond) && !head.has_break {
         return Ok(Way::Stops);
     }
-    match after_facts(walk.alloc, walk.t, w) {
-        Ok(known) => {
-            *facts = known;
-            Ok(Way::GoesOn)
-        }
-        Err(fault) => Err(fault),
-    }
+    *facts = after_facts(walk.alloc, walk.t, w)?;
+    Ok(Way::GoesOn)
 }

@@ -164,7 +164,7 @@ asked_past at moment asked t rest fs whole found h e past =
     let e' : whole ≡ with_promises moment (with_condition fs t true) rest = e ∙ ap (λ b. with_promises moment (if b then with_condition fs t true else fs) rest) h in
     ap (limit at) e' ∙ limit_grows at (with_condition fs t true) (with_promises moment (with_condition fs t true) rest) found (with_promises_grows moment (with_condition fs t true) rest) past
 
--- What the promises of the list behind a loop are refused by, the whole list is.
+-- What the promises of the list after a loop are refused by, the whole list is.
 pub after_past : (nodes : TypedNodes) (at : Place) (head : Head) (list : List Fact) (ps : List (Clause × CondTree)) (found : Refusal) → list ≡ [] → head.clauses ≡ ps
     → limit at (with_promises Leave (claims_in nodes list) ps) ≡ Some found → limit at (after_list head) ≡ Some found
 after_past nodes at head list ps found none same h = by head.is_left (ap (λ l. limit at (with_promises Leave (claims_in nodes l) head.clauses)) (sym none) ∙ ap (λ cs. limit at (with_promises Leave (claims_in nodes list) cs)) same ∙ h)

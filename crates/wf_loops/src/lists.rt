@@ -1,4 +1,4 @@
-// The facts that stand at a loop's head, and behind it.
+// The facts that stand at a loop's head, and after it.
 
 ghost use Rattle.std.specs.Prelude.{◌≡◌, ◌≤◌, length, true, OnOk};
 ghost use Rattle.wf_facts_exprs.specs.Claims.{claims_in, is_condition_at};
@@ -31,7 +31,7 @@ pub fn head_facts(alloc: Global, t: &Typed, w: StmtId) -> Result<Facts, PhaseFau
     Ok(facts)
 }
 
-/// What is known behind a loop: the facts of each `inv` and each `post`, in written order, and, where no `break` leaves the
+/// What is known after a loop: the facts of each `inv` and each `post`, in written order, and, where no `break` leaves the
 /// loop, those of its condition that doesn't hold. L8 at the `while` comes exactly where they are more than 512.
 pub fn after_facts(alloc: Global, t: &Typed, w: StmtId) -> Result<Facts, PhaseFault>
     requires { is_loop t.now w ≡ true }

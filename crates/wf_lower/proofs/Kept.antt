@@ -234,7 +234,7 @@ module _ (nodes : Nodes) where
   pub functions_pushed : {ps : List CItem} {ts : List ItemTree} {p : CItem} {t : ItemTree} → HasFunctionTrees nodes ps ts → HasFunctionTree nodes p t → HasFunctionTrees nodes (ps ++ p ∷ []) (ts ++ t ∷ [])
   functions_pushed {ps} {ts} {p} {t} h k = record { there = functions_last ps p h.there k.there; are = map_last (made_item nodes) ps p ts t h.are k.is }
 
--- Whatever list the unit had, it has with these behind it.
+-- Whatever list the unit had, it has with these after it.
 nil : {A : Type 0} (xs : List A) → xs ≡ xs ++ []
 nil [] = refl
 nil (x ∷ xs) = ap (λ ys. x ∷ ys) (nil xs)

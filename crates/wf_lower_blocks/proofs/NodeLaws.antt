@@ -1,4 +1,4 @@
--- What a statement makes of the block behind it, by its node.
+-- What a statement makes of the block after it, by its node.
 use Rattle.std.proofs.Common.{◌≡◌, ℕ, ◌<◌, Bool, true, false, List, Option, None, Some, refl, sym, ap, ◌∙◌, subst}
 use Rattle.std.specs.Prelude.{slice_get, option_map, unwrap_or, length}
 use Rattle.wf_text.specs.declared.place.Place.{Place}

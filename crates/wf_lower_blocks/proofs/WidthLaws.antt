@@ -32,7 +32,7 @@ module _ (t : TypedNodes) (e : ExprId) (at : Place) (signs : List Place) (ty : T
   pub cut_bits : (base : ExprId) (from to : Option ExprId) → x ≡ exprs.Cut base from to → slice_bits (slice_in (tree_of t e)) ≡ slice_bits (slice_in (tree_of t base))
   cut_bits base from to is = ap (λ v. slice_bits (slice_in v)) (node_made (exprs.Cut base from to) is)
 
--- What it is cut from stands in front of it, and is a slice too.
+-- What it is cut from stands before it, and is a slice too.
 base_first : (e : ℕ) (base : ExprId) (from to : Option ExprId) → parts_below e (exprs.Cut base from to) ≡ true → nat_lt base.0 e ≡ true
 base_first e base None None h = (both_true (nat_lt base.0 e) true h).0
 base_first e base None (Some g) h = (both_true (nat_lt base.0 e) (list_all (λ part. nat_lt part.0 e) (g ∷ [])) h).0

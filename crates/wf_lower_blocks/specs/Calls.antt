@@ -63,7 +63,7 @@ abbrev pub is_one_byte : ReadForm → Bool
 is_one_byte ReadU8 = true
 is_one_byte form = false
 
--- What stands behind the bytes that a read takes.
+-- What stands after the bytes that a read takes.
 abbrev pub read_all : Form → (k : ℕ) → Target → ReadForm → (rest : Code) → Code
 read_all f k target form rest =
     when (two Lt count_local (num (bytes_of (read_width form)))) (suspend f k (status_constant short_read) finish) (put_into f.names target held_local rest)

@@ -17,7 +17,7 @@ pub struct FileInputs<'a, R> {
 }
 
 impl<'a, R: Files> FileInputs<'a, R> {
-    /// Inputs with no fault behind them, over the files that `files` reaches.
+    /// Inputs with no fault so far, over the files that `files` reaches.
     pub fn new(files: &'a R) -> FileInputs<'a, R>
         ensures { result.faults ≡ 0 }
     {

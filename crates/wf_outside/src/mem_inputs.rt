@@ -47,7 +47,7 @@ impl Model for MemInputs {
 }
 
 impl MemInputs {
-    /// Inputs with no call and no fault behind them. Of two entries of one name the first counts.
+    /// Inputs with no call and no fault so far. Of two entries of one name the first counts.
     pub fn new(alloc: Global, held: Vec<(String, Vec<u8>)>, failing: Vec<u64>) -> MemInputs
         ensures { result ≡ record {
           held = map (λ entry. (string_bytes entry.0, entry.1.items)) held.items;

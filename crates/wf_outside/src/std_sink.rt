@@ -18,7 +18,7 @@ pub struct StdSink<'a, P> {
 }
 
 impl<'a, P: Print + Drop> StdSink<'a, P> {
-    /// A sink with no fault behind it, over the standard output that `output` reaches.
+    /// A sink with no fault so far, over the standard output that `output` reaches.
     pub fn new(output: &'a P) -> StdSink<'a, P>
         ensures { result.faults ≡ 0 }
     {

@@ -38,7 +38,7 @@ file_end first most index tokens old now new (Err (file.Refused rule at)) on is 
     sym on ∙ rw none answers
 file_end first most index tokens old now new (Err file.Memory) on is answers = tt
 
--- In front of a file.
+-- Before a file.
 pub start_sound : (old new : Maker) → IsSound old → new.package ≡ old.package → new.values ≡ [] → IsSound new
 start_sound old new s e f =
     let P : Parsed → Type 0 = IsOrdered in
@@ -51,7 +51,7 @@ start_size old new made e f =
     let one : length new.wants ≡ 1 = ap (λ (s : State). length s.wants) f in
     omega (arith, same, one)
 
--- Behind texts that have joined.
+-- After texts that have joined.
 pub texts_sound : (old new : Maker) → IsSound old → ChangesTexts old.package new.package → new.values ≡ old.values → IsSound new
 texts_sound old new s e f =
     let P : Parsed → Type 0 = λ p. IsOrdered p × AreOf p old.values in

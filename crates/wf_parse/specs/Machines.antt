@@ -26,7 +26,7 @@ pub record State : Type 0 where
 abbrev pub state_of : Machine → State
 state_of m = record { room = m.room; wants = m.wants; made = made m.maker }
 
--- In front of a file's first token.
+-- Before a file's first token.
 abbrev pub file_start : Made → State
 file_start made_before = record { room = 0; wants = Read syms.File ∷ []; made = made_before }
 

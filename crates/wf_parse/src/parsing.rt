@@ -37,7 +37,7 @@ fn token_at(tokens: &[Token], index: usize) -> Token
 }
 
 impl Machine {
-    /// A machine in front of the first file of a package with this name.
+    /// A machine before the first file of a package with this name.
     fn new(alloc: Global, name: &[u8]) -> Result<Machine, AllocError>
         ensures named { IfOk result (λ m. m.maker.package ≡ record { name = name.now; texts = []; exprs = []; stmts = []; decls = [] }) }
         ensures none { IfOk result (λ m. m.maker.values ≡ []) }
@@ -53,7 +53,7 @@ impl Machine {
         })
     }
 
-    /// In front of a file's first token.
+    /// Before a file's first token.
     fn begin_file(&mut self) -> Result<(), NoMemory>
         ensures state { OnOk result (state_of self.new ≡ file_start (record { vals = []; decls = decls_of self.old.maker.package })) }
         ensures same { OnOk result (self.new.maker.package ≡ self.old.maker.package) }
@@ -65,7 +65,7 @@ impl Machine {
         self.wants.push(Want::Read(Sym::File))
     }
 
-    /// Reads one token, behind which there are `left - 1` to the file's end. `most` may stand in the package, itself
+    /// Reads one token, after which there are `left - 1` to the file's end. `most` may stand in the package, itself
     /// counted: where it is 0 and the token can stand here, L3.
     fn read_token(&mut self, token: Token, left: usize, most: usize) -> Result<(), FileFault>
         requires sound { IsSound self.old.maker }
@@ -137,7 +137,7 @@ impl Machine {
         }
     }
 
-    /// Reads the bytes of the file with this number. `most` tokens may stand in it and the files behind it; what is
+    /// Reads the bytes of the file with this number. `most` tokens may stand in it and the files after it; what is
     /// left of them is the answer. S1 to S6, L3, L4 and L5 where the file breaks them.
     fn read_bytes(&mut self, number: u16, bytes: &[u8], most: usize) -> Result<usize, PhaseFault>
         requires sound { IsSound self.old.maker }

@@ -7,14 +7,14 @@ use Rattle.wf_parse_grammar.specs.declared.symbols.Want.TheVariants.{Read, Make}
 use Rattle.wf_parse_grammar.specs.declared.wants.Lead.{Lead}
 use Rattle.wf_parse_grammar.specs.declared.wants.Lead.TheVariants as leads
 
--- Actions in front of a list.
+-- Actions before a list.
 abbrev pub led_by : Lead → List Want → List Want
 led_by leads.Empty xs = xs
 led_by (leads.One a) xs = Make a ∷ xs
 led_by (leads.Two a b) xs = Make a ∷ Make b ∷ xs
 led_by (leads.Three a b c) xs = Make a ∷ Make b ∷ Make c ∷ xs
 
--- A symbol in front of a list, if there is one.
+-- A symbol before a list, if there is one.
 abbrev pub asked_by : Option Sym → List Want → List Want
 asked_by None xs = xs
 asked_by (Some s) xs = Read s ∷ xs

@@ -356,7 +356,7 @@ fn this_path_stmt(token: Token) -> Build
     }
 }
 
-// The call behind `=?`.
+// The call after `=?`.
 pub(crate) fn call(token: Token) -> Build
     ensures { result ≡ call_build token.kind token.at }
 {

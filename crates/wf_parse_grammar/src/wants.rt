@@ -11,7 +11,7 @@ use stacks::Stack;
 use std::marker::Model;
 use wf_text::NoMemory;
 
-/// The actions in front of a list of the table, the first one first.
+/// The actions before a list of the table, the first one first.
 #[derive(Clone, Copy)]
 pub enum Lead {
     Empty,

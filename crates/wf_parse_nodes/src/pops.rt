@@ -310,7 +310,7 @@ pub(crate) fn pop_arms(values: &mut Stack<Value>) -> Sequence<Arm>
     }
 }
 
-/// Takes the block behind a last `else` from the top.
+/// Takes the block after a last `else` from the top.
 #[inline(never)]
 pub(crate) fn pop_otherwise(values: &mut Stack<Value>) -> Option<Block>
     requires { fits (shapes.Otherwise ∷ []) values.old ≡ true }

@@ -76,7 +76,7 @@ fn number_method(
     }
 }
 
-// The refusal at the point behind the last one that a method may have.
+// The refusal at the point after the last one that a method may have.
 fn too_many(points: &[FoundPoint]) -> Option<Refusal>
     ensures { result ≡ limit_of points.now }
 {

@@ -82,15 +82,11 @@ pub(crate) fn take_files<I: Inputs>(
     let mut left: u64 = 1_048_576;
     let mut number: usize = 0;
     while number < names.len() {
-        match take_file(alloc, file_name(names, number), number, left, inputs) {
-            Ok(bytes) => {
-                left -= bytes.as_slice().len() as u64;
-                match files.push(bytes) {
-                    Ok(()) => {}
-                    Err(_) => return Err(TakingFault::Memory),
-                }
-            }
-            Err(fault) => return Err(fault),
+        let bytes = take_file(alloc, file_name(names, number), number, left, inputs)?;
+        left -= bytes.as_slice().len() as u64;
+        match files.push(bytes) {
+            Ok(()) => {}
+            Err(_) => return Err(TakingFault::Memory),
         }
         number += 1;
     }

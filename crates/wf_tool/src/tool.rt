@@ -28,7 +28,7 @@ use wf_script_drive::DriveEnd;
 use wf_text::NoMemory;
 use wf_tool_runs::{RunFault, run_lowered, run_source, run_text};
 
-/// Runs the command that `words` name, which come behind the program's name, over `inputs`, and writes its answer to `out`; `loader`
+/// Runs the command that `words` name, which come after the program's name, over `inputs`, and writes its answer to `out`; `loader`
 /// makes the engines of C texts.
 ///
 /// `check PACKAGE FILE...`: `ok N methods` and Done for a package that keeps every rule and so is never stuck.

@@ -1,4 +1,4 @@
--- What is found at a type behind its parts, and what type it is.
+-- What is found at a type after its parts, and what type it is.
 use Rattle.std.proofs.Common.{◌≡◌, ◌∙◌, refl, sym, ap, ℕ, zero, suc, ◌-◌, ◌<◌, ◌≤◌, ◌^◌, Bool, true, false, not, ◌||◌, List, [], ◌∷◌, ◌++◌, length, drop, slice_index_or, Option, Some, None, option_map, arith, drop-cons}
 use Rattle.wf_text.specs.declared.place.Place.{Place}
 use Rattle.wf_text.specs.declared.rules.Refusal.{Refusal}
@@ -48,7 +48,7 @@ pub declared_found : (s : Setting) (found : Option Refusal) (role : Role) (t : N
 declared_found s found role t w h =
     placed_judged s found role t w h ∙ ap (λ f. judged s f (placed_type role t ∷ [])) h.found ∙ judged-last s found (placed_type role t) (type_parts t)
 
--- The same behind an operand.
+-- The same after an operand.
 pub converted_found : (s : Setting) (found before : Option Refusal) (e : NamedExprTree) (t : NamedTypeTree) (w : WrittenType) → before ≡ judged s found (expr_parts e) → TellsType s before t w
     → placed_found roles.Conversion w.of w.kind w.plain w.at w.found ≡ judged s found (placed_type roles.Conversion t ∷ (expr_parts e ++ type_parts t))
 converted_found s found before e t w h k =

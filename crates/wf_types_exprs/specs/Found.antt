@@ -88,7 +88,7 @@ calling_found s inside callee at mark found =
     sooner (sooner (sooner (sooner found (told E1 (at_if (is_impure mark && is_pure s.mark) at))) (told E2 (at_if (is_coroutine mark && not (is_coroutine s.mark)) at)))
     (told E3 (wrong_inside inside callee at mark))) (told E3 (at_if (fails (same_mark mark) (declared_mark s callee)) at))
 
--- A prefix of a type, in front of elements of this type and form.
+-- A prefix of a type, before elements of this type and form.
 abbrev pub slice_type_found : (element : Option Form) → (plain : Option Width) → Place → Option Refusal → Option Refusal
 slice_type_found element plain at found = sooner found (told T1 (at_if (is_some element && not (is_some plain)) at))
 
@@ -119,7 +119,7 @@ bounds_found width low high at found =
     sooner (sooner (sooner found (told T1 (at_if (is_unfit_low low || high.unfit) at))) (told T5 (crossing low high)))
     (told T5 (at_if (goes_above width (low_number_of low) high.number) high.at))
 
--- Bounds behind any type of the language, and the type that this is.
+-- Bounds after any type of the language, and the type that this is.
 abbrev pub refined_found : Option BaseType → (low : Option Bound) → (high : Bound) → Place → Option Refusal → Option Refusal
 refined_found (Some (bases.Number width)) low high at found = bounds_found width low high at found
 refined_found of low high at found = sooner found (told T1 (Some at))

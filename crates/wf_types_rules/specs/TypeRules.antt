@@ -20,7 +20,7 @@ pub record IsWrong (p : NamedPackageTree) (judge : Setting → Part → Option P
   pub wrong : judge around part ≡ Some at
 
 pub data Breaks (p : NamedPackageTree) : Refusal → Type 0 where
-  -- T1: an operand of a type that isn't taken, or of another width than one in front of it; a whole array, a struct or io
+  -- T1: an operand of a type that isn't taken, or of another width than one before it; a whole array, a struct or io
   -- that stands as a value
   operand : (at : Place) → IsWrong p wrong_operand at → Breaks p (refused T1 at)
   -- T1: the target or the value of an operator with `=` is no number, or they differ in width
@@ -39,7 +39,7 @@ pub data Breaks (p : NamedPackageTree) : Refusal → Type 0 where
   no_target : (at : Place) → IsWrong p wrong_target at → Breaks p (refused T2 at)
   -- T2: a value of another type than the target's, at the target
   other_type : (at : Place) → IsWrong p wrong_assigned at → Breaks p (refused T2 at)
-  -- T2: a call behind `=` that gives no value, at the target
+  -- T2: a call after `=` that gives no value, at the target
   no_value : (at : Place) → IsWrong p no_value_assigned at → Breaks p (refused T2 at)
   -- T3: a condition of `if`, `while`, a clause or `assert` that isn't a bool
   no_condition : (at : Place) → IsWrong p wrong_condition at → Breaks p (refused T3 at)
@@ -64,7 +64,7 @@ pub data Breaks (p : NamedPackageTree) : Refusal → Type 0 where
   -- T5: a type of elements, of a field, a local or a result that doesn't hold 0, at its first token
   element_not_zero : (at : Place) → IsWrong p element_above_zero at → Breaks p (refused T5 at)
   not_zero : (at : Place) → IsWrong p begins_above_zero at → Breaks p (refused T5 at)
-  -- T5: a status text that doesn't begin with the byte of its kind, has nothing behind it, or has two `?` in a row
+  -- T5: a status text that doesn't begin with the byte of its kind, has nothing after it, or has two `?` in a row
   status_text : (at : Place) → IsWrong p wrong_status at → Breaks p (refused T5 at)
   -- E1: a call with `!` in a pure method
   impure : (at : Place) → IsWrong p impure_call at → Breaks p (refused E1 at)

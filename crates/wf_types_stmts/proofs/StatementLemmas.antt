@@ -1,4 +1,4 @@
--- What is found at a statement behind its parts.
+-- What is found at a statement after its parts.
 use Rattle.std.proofs.Common.{◌≡◌, ◌∙◌, refl, sym, ap, ℕ, ◌+◌, ◌<◌, Bool, true, false, List, [], ◌∷◌, ◌++◌, length, drop, slice_index_or, Option, Some, None}
 use Rattle.wf_text.specs.declared.place.Place.{Place}
 use Rattle.wf_text.specs.declared.rules.Refusal.{Refusal}
@@ -44,11 +44,11 @@ element_found s found begun after p i at same e =
 pub element_value : (s : Setting) (p : NamedPath) (i : NamedExprTree) (at : Place) (m : Option Meaning) → m ≡ meaning s (index p i at) → record { of = m; at = at } ≡ target_value s (to_element p i at)
 element_value s p i at m e = let V : Option Meaning → Value = λ x. record { of = x; at = at } in ap V e
 
--- A whole behind its parts.
+-- A whole after its parts.
 behind : (s : Setting) (found before after : Option Refusal) (x : Part) (xs : List Part) → after ≡ judged s before (x ∷ []) → before ≡ judged s found xs → after ≡ judged s found (x ∷ xs)
 behind s found before after x xs last e = last ∙ ap (λ f. judged s f (x ∷ [])) e ∙ judged-last s found x xs
 
--- And one list of parts behind another.
+-- And one list of parts after another.
 pub then_parts : (s : Setting) (found before after : Option Refusal) (xs ys : List Part) → before ≡ judged s found xs → after ≡ judged s before ys → after ≡ judged s found (xs ++ ys)
 then_parts s found before after xs ys first last = last ∙ ap (λ f. judged s f ys) first ∙ sym (judged-append s found xs ys)
 
