@@ -11,11 +11,11 @@ ghost use Rattle.wf_bounds_stmts.specs.Targets.{assign_refusal, assigned, known_
 ghost use Rattle.wf_bounds_stmts.specs.Nodes.{known_variable, number_variable as number_variable_in};
 ghost use Rattle.wf_bounds_stmts.specs.Outcomes.{Answers, Makes, MayBeDropped};
 
-use crate::limits::{check_lies, is_number, look_at};
+use crate::limits::{check_range, checked, is_number, look_at};
 use crate::targets::{check_target, drop_written, number_variable, taken, written};
 use wf_ast::{ExprId, Thing, Typed, mentions};
 use wf_facts::{Facts, Full};
-use wf_facts_exprs::{Cmp, Fact, Side, check_value};
+use wf_facts_exprs::{Cmp, Fact, Side};
 use wf_text::{Place, Refusal, Rule};
 
 /// Checks what an assignment requires.
@@ -30,9 +30,9 @@ pub(crate) fn check_assigned(
     requires value { IsTrue (is_expr t.now value) }
     ensures { result ≡ unless_refused (assign_refusal (claims_in t.now facts.now) (target_of (tree_of t.now target)) (tree_of t.now value)) tt }
 {
-    match check_value(t, facts, value) {
-        Ok(()) => match check_target(t, facts, target) {
-            Ok(()) => check_lies(t, facts, Rule::B1, taken(t, target), value),
+    match checked(t, facts, value) {
+        Ok(range) => match check_target(t, facts, target) {
+            Ok(()) => check_range(t, Rule::B1, taken(t, target), value, range),
             Err(refusal) => Err(refusal),
         },
         Err(refusal) => Err(refusal),

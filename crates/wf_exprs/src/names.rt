@@ -24,7 +24,7 @@ pub fn put_spelt(alloc: Global, u: &mut Unit, begin: &[u8], end: &[u8]) -> Resul
     ensures grows { Grows u.old u.new }
     ensures made { IfOk result (λ n. HasNamed u.new n.0 (begin.now ++ end.now)) }
 {
-    let mut text = Vec::new(alloc);
+    let mut text = Vec::with_capacity(alloc, begin.len().saturating_add(end.len()))?;
     text.extend_from_slice(begin)?;
     text.extend_from_slice(end)?;
     put_name(u, text.as_slice())
