@@ -1,9 +1,10 @@
 #!/usr/bin/env python3
 """rule_map.py [--check]: writes docs/RULE-MAP.md, which tells for each rule of refusal where it stands.
 
-The rules are the sections of docs/RULES.md. A rule's definitions are the constructors and definitions in specs/ that name
-it, its functions those in src/ that answer it, its tests the examples of its section and the tables of tests/ that name
-it. --check writes nothing and fails where the page isn't what would be written, or a rule lacks one of these.
+The rules are the sections of docs/RULES.md. A rule's definitions are the rows of tables, the constructors and the
+definitions in specs/ that name it, its functions those in src/ that answer it, its tests the examples of its section and the
+tables of tests/ that name it. --check writes nothing and fails where the page isn't what would be written, or a rule lacks
+one of these.
 """
 import pathlib
 import re
@@ -23,6 +24,8 @@ table that is the rule's definition comes first; what else names the rule in spe
 # A name that a definition, a constructor or a function begins with.
 DEFINED = re.compile(r"^(?:unfoldable |abbrev )?(?:pub )?(?:record |data )?([A-Za-z_][\w-]*)(?: .*)?(?: :| =)")
 CONSTRUCTOR = re.compile(r"^  ([a-z][\w-]*) :")
+# A row of a table: a rule with the definition that tells where it is broken.
+ROW = re.compile(r"^\s+(?:∷ )?\(([A-Z]\d+), ([a-z][\w-]*)\)$")
 FUNCTION = re.compile(r"^\s*(?:pub(?:\([a-z]+\))? )?(?:const )?(?:fn|const) (\w+)")
 
 
@@ -44,7 +47,7 @@ def code_only(line, mark):
 
 
 def named_in_specs(rules):
-    """For each rule: crate, file and names of the definitions and constructors that name it, tables of rules first."""
+    """For each rule: crate, file and names of the rows, constructors and definitions that name it, tables of rules first."""
     found = {rule: {} for rule in rules}
     for file in sorted(TOP.glob("crates/*/specs/**/*.antt")):
         where = (file.relative_to(TOP).parts[1], file.stem)
@@ -60,8 +63,10 @@ def named_in_specs(rules):
                 continue
             if line.strip().startswith("--"):
                 continue
-            constructor, definition = CONSTRUCTOR.match(line), DEFINED.match(line)
-            if constructor:
+            constructor, definition, row = CONSTRUCTOR.match(line), DEFINED.match(line), ROW.match(line)
+            if row:
+                name = row.group(2)
+            elif constructor:
                 name = constructor.group(1)
             elif definition and not line.startswith(" "):
                 name = definition.group(1)
@@ -71,7 +76,7 @@ def named_in_specs(rules):
                     names = found[rule].setdefault(where, [])
                     if name and name not in names:
                         names.append(name)
-            if constructor or definition:
+            if constructor or definition or row:
                 told = []
     return found
 
