@@ -66,7 +66,7 @@ at-take (k ∷ ks) (suc i) (suc j) a l h = or-right (nat_eq a k) (holds (take i 
     or-right true y h = refl
     or-right false y h = h
 
--- A number of a list with no two equal doesn't stand in front of itself.
+-- A number of a list with no two equal doesn't stand before itself.
 pub once-apart : (ks : List ℕ) (i a : ℕ) → IsDistinct nat_eq ks → slice_get ks i ≡ Some a → holds (take i ks) a ≡ true → ⊥
 once-apart ks i a h at k =
     let r = take-at ks i a k in
@@ -116,7 +116,7 @@ module _ (rows : List (List ℕ)) (order : List ℕ) (h : IsOrder rows order) wh
       begins _ _ (last a b s) = goes-below rows a b s
       begins _ _ (more a b c s p) = goes-below rows a b s
 
--- In the order in which a walk left the numbers each stands behind those that it goes to and that have no way back.
+-- In the order in which a walk left the numbers each stands after those that it goes to and that have no way back.
 pub leaving-off-circles : (rows : List (List ℕ)) (order : List ℕ) → IsLeaving (length rows) (goes rows) order → IsOrderOffCircles rows order
 leaving-off-circles rows order leaving = record {
   whole = leaving.whole;

@@ -39,7 +39,7 @@ or_right : (x y : Bool) → y ≡ true → (x || y) ≡ true
 or_right true y h = refl
 or_right false y h = h
 
--- A list with one more number behind it.
+-- A list with one more number after it.
 holds-both : (ks js : List ℕ) (b : ℕ) → holds (ks ++ js) b ≡ (holds ks b || holds js b)
 holds-both ks js b = list_any-append (nat_eq b) ks js
 
@@ -114,7 +114,7 @@ place [] a (suc i) x h = absurd (cc h)
 place (k ∷ ks) a zero x h = inl h
 place (k ∷ ks) a (suc i) x h = elim (place ks a i x h) [ inl p ↦ inl p | inr q ↦ inr (ap suc q.0, q.1) ]
 
--- The list in front of its last number.
+-- The list before its last number.
 split-at : (ks : List ℕ) (n a : ℕ) → length ks ≡ suc n → slice_get ks n ≡ Some a → ks ≡ take n ks ++ a ∷ []
 split-at [] n a e h = absurd (cc h)
 split-at (k ∷ []) zero a e h = let same : k ≡ a = cc h in ap (λ x. x ∷ []) same

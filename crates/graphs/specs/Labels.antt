@@ -39,7 +39,7 @@ pub record AreJoined (n : ℕ) (step : ℕ → ℕ → Bool) (order labels queue
   pub above : (j b : ℕ) → i ≤ j → slice_get order j ≡ Some b → holds queue b ≡ true
   pub falls : (a b : ℕ) → step a b ≡ true → label labels b ≤ label labels a
 
--- In the round of place `i` all that go to the first `p` numbers of the queue have labels that are no lower. Those behind
+-- In the round of place `i` all that go to the first `p` numbers of the queue have labels that are no lower. Those after
 -- have the round's label, and all that have it were left from `from` on, when the round's root was begun.
 pub record IsRound (n : ℕ) (step : ℕ → ℕ → Bool) (order labels queue : List ℕ) (p i : ℕ) : Type 0 where
   pub given : AreGiven n step order labels queue i

@@ -23,7 +23,7 @@ pub record IsOpen (rows : List (List ℕ)) (order path : List ℕ) (from p a : �
   pub before : (j b c : ℕ) → j < from → slice_get order j ≡ Some b → goes rows b c ≡ true → holds (take from order ++ take p path) c ≡ true
 
 -- Numbers stand in the order when they were left, and on the path when they are open: from each of the path a way leads
--- to each that stands behind it. All that a number goes to was begun before it was left. No number is twice in the order
+-- to each that stands after it. All that a number goes to was begun before it was left. No number is twice in the order
 -- and the path together.
 pub record IsWalk (rows : List (List ℕ)) (order path : List ℕ) : Type 0 where
   pub told : (i a b : ℕ) → slice_get order i ≡ Some a → goes rows a b ≡ true → holds (order ++ path) b ≡ true

@@ -49,7 +49,7 @@ fn flags_of(alloc: Global, rows: &[Row], labels: &Vec<usize>) -> Result<Vec<bool
 pub struct Cycles {
     /// For each number whether it has such a way.
     pub flags: Vec<bool>,
-    /// Every number once, behind those that it goes to, apart from those that have a way back to it.
+    /// Every number once, after those that it goes to, apart from those that have a way back to it.
     pub order: Vec<u32>,
 }
 

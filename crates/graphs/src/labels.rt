@@ -50,10 +50,7 @@ fn give_row(
     let row = row(turned, b);
     for a in row {
         if labels[*a] == 0 {
-            match give(labels, queue, *a, i + 1) {
-                Ok(()) => {}
-                Err(fault) => return Err(fault),
-            }
+            give(labels, queue, *a, i + 1)?;
         }
     }
     Ok(())

@@ -1,4 +1,4 @@
-// Graphs over numbers, each walked once: an order in which each number stands behind those that it goes to, and the
+// Graphs over numbers, each walked once: an order in which each number stands after those that it goes to, and the
 // numbers that have a way back to themselves.
 #![tactic(auto)]
 

@@ -78,6 +78,22 @@ byte_waits written room longest faults buffer filled sent failed byte small fine
     } in
     subst (λ (f : Bool). WroteFrom f old new (byte ∷ [])) (sym fine) flows
 
+-- a piece waits in the buffer
+pub piece_waits : (written : Option (List ℕ)) (room longest : Option ℕ) (faults : ℕ) (buffer after : List ℕ) (filled sent : ℕ) (failed : Bool) (piece : List ℕ) → sent < 2 ^ 64 → failed ≡ false → take (filled + length piece) after ≡ take filled buffer ++ piece → Wrote (pen_state written room longest faults buffer filled sent failed) (pen_state written room longest faults after (filled + length piece) sent failed) piece
+piece_waits written room longest faults buffer after filled sent failed piece small fine more =
+    let old = pen_state written room longest faults buffer filled sent failed in
+    let new = pen_state written room longest faults after (filled + length piece) sent failed in
+    let flows : Flows old new piece = record {
+      taken = [];
+      left = take filled buffer ++ piece;
+      flow = refl;
+      written = written_nothing written;
+      sent = omega (arith, small);
+      longest = longest_same longest;
+      ending = subst (λ (g : Bool). EndsIn g old new [] (take filled buffer ++ piece) (length (take filled buffer) + length piece)) (sym fine) (sym more, refl, λ r is enough. is ∙ ap Some (omega arith));
+    } in
+    subst (λ (f : Bool). WroteFrom f old new piece) (sym fine) flows
+
 -- What a pen has written that began empty and has put all.
 pub record PrintedAll (old new : PenState) (result : Result (Unit {0}) SinkFault) (text : List ℕ) : Type 0 where
   pub bytes : Prints old.written new.written result text

@@ -26,7 +26,7 @@ done Writes text parts start now i so_far over =
     let all : text parts ≡ so_far.front = so_far.rest ∙ (ap (λ zs. so_far.front ++ zs) over ∙ append_nil so_far.front) in
     subst (λ (zs : List ℕ). Writes start now zs) (sym all) so_far.wrote
 
--- the part at a place, and the parts behind it
+-- the part at a place, and the parts after it
 pub unroll : {A : Type 0} (xs : List A) (i : ℕ) (d : A) → i < length xs → drop i xs ≡ get_or xs i d ∷ drop (i + 1) xs
 unroll xs i d within = drop-cons xs i d within ∙ ap (λ n. get_or xs i d ∷ drop n xs) (sym (add-one i))
 

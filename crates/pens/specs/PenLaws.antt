@@ -1,4 +1,4 @@
--- Writing nothing, and writing one thing behind another.
+-- Writing nothing, and writing one thing after another.
 use Rattle.std.proofs.Common.{◌≡◌, ℕ, ◌+◌, ◌-◌, ◌^◌, ◌<◌, ◌≤◌, ◌++◌, List, [], ◌∷◌, length, Bool, true, false, Option, None, Some, refl, sym, ◌∙◌, ap, subst, arith, length-append, append_assoc, inl, inr}
 use Rattle.std.specs.Io.KnownBytes.{Appends}
 use Rattle.std.proofs.lemmas.Bool.{cases_order}
@@ -42,7 +42,7 @@ nothing_from a false small e = record {
 pub writes_nothing : (a : PenState) → a.sent < 2 ^ 64 → Wrote a a []
 writes_nothing a small = nothing_from a a.failed small refl
 
--- behind a failed put
+-- after a failed put
 ending_dropped : (a b : PenState) (x y taken left : List ℕ) → EndsIn true a b taken left (length a.waiting + length x) → EndsIn true a b taken (left ++ y) (length a.waiting + length (x ++ y))
 ending_dropped a b x y taken left ends = (ends.0, λ room is. omega (arith, ends.1 room is, length-append x y))
 

@@ -48,7 +48,7 @@ pub record Flows (old new : PenState) (bytes : List ℕ) : Type 0 where
   pub longest : KeepsLongest old.longest new.longest
   pub ending : EndsIn new.failed old new taken left (length old.waiting + length bytes)
 
--- The bytes were written through the pen; behind a failed put they are dropped.
+-- The bytes were written through the pen; after a failed put they are dropped.
 abbrev pub WroteFrom : Bool → PenState → PenState → List ℕ → Type 0
 WroteFrom false old new bytes = Flows old new bytes
 WroteFrom true old new bytes = new ≡ old

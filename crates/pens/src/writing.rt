@@ -1,7 +1,7 @@
 // Where a written text goes. It is written over any pen, in pieces of any length; the pen over a sink hands them on
 // in pieces of at most 4,096 bytes.
 
-ghost use Rattle.std.specs.Prelude.{◌≡◌, ℕ, ◌-◌, ◌^◌, ◌<◌, ◌≤◌, ◌++◌, ◌∷◌, [], Bool, true, false, List};
+ghost use Rattle.std.specs.Prelude.{◌≡◌, ℕ, ◌+◌, ◌-◌, ◌^◌, ◌<◌, ◌≤◌, ◌++◌, ◌∷◌, [], Bool, true, false, List, length};
 ghost use Rattle.pens.specs.Pens.{Wrote, pen_state, failed_at};
 
 use wf_outside::{Sink, SinkFault};
@@ -32,7 +32,7 @@ pub trait Pen {
     ghost joined: { (a b c : Self) (x y : List ℕ) → writes a b x → writes b c y → writes a c (x ++ y) };
 }
 
-/// Hands a text to a sink in pieces of at most 4,096 bytes. Behind the first fault nothing more is put.
+/// Hands a text to a sink in pieces of at most 4,096 bytes. After the first fault nothing more is put.
 #[derive(Drop)]
 pub struct SinkPen<'a, O: Sink> {
     out: &'a mut O,
@@ -89,7 +89,7 @@ impl<'a, O: Sink> SinkPen<'a, O> {
         }
     }
 
-    /// Puts the waiting bytes where no further one fits behind them.
+    /// Puts the waiting bytes where no further one fits after them.
     fn make_room(&mut self)
         requires filled { self.old.filled ≤ 4096 }
         requires sent { self.old.sent < 2 ^ 64 }
@@ -122,6 +122,23 @@ impl<'a, O: Sink> SinkPen<'a, O> {
             self.buffer[self.filled] = byte;
             self.filled += 1;
         }
+    }
+
+    /// Writes a piece for which there is room after the waiting bytes.
+    fn append(&mut self, piece: &[u8])
+        requires room { self.old.filled + length piece.now ≤ 4096 }
+        requires sent { self.old.sent < 2 ^ 64 }
+        requires countable { self.old.failed ≡ false → O.faults self.old.out.now < 2 ^ 64 - 1 }
+        requires fine { self.old.failed ≡ false }
+        ensures same { self.new.out.ghost_name ≡ self.old.out.ghost_name }
+        ensures filled { self.new.filled ≤ 4096 }
+        ensures sent { self.new.sent < 2 ^ 64 }
+        ensures countable { self.new.failed ≡ false → O.faults self.new.out.now < 2 ^ 64 - 1 }
+        ensures writes { Wrote (pen_state (O.written self.old.out.now) (O.room self.old.out.now) (O.longest self.old.out.now) (O.faults self.old.out.now) self.old.buffer self.old.filled self.old.sent self.old.failed) (pen_state (O.written self.new.out.now) (O.room self.new.out.now) (O.longest self.new.out.now) (O.faults self.new.out.now) self.new.buffer self.new.filled self.new.sent self.new.failed) piece.now }
+    {
+        let end = self.filled + piece.len();
+        self.buffer[self.filled..end].copy_from_slice(piece);
+        self.filled = end;
     }
 
     /// Puts the waiting bytes, and answers whether a put has failed, with the number of bytes that the sink has taken.
@@ -165,6 +182,10 @@ impl<'a, O: Sink> Pen for SinkPen<'a, O> {
     }
 
     fn write(&mut self, piece: &[u8]) {
+        if piece.len() <= 4096 - self.filled && !self.failed {
+            self.append(piece);
+            return;
+        }
         for byte in piece {
             self.write_byte(*byte);
         }

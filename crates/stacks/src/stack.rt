@@ -1,6 +1,6 @@
 // A stack, which contracts see as the list of its items, the topmost first.
 
-ghost use Rattle.std.specs.Prelude.{◌≡◌, ◌++◌, ◌<◌, ◌≤◌, List, [], ◌∷◌, Some, length, slice_get, IfSome, IfNone, OnOk, OnErr};
+ghost use Rattle.std.specs.Prelude.{◌≡◌, ◌++◌, ◌<◌, ◌≤◌, List, [], ◌∷◌, Some, length, slice_get, reverse, vec_len, vec_capacity, ◌+◌, IfSome, IfNone, OnOk, OnErr};
 
 use std::alloc::Global;
 use std::marker::Model;
@@ -36,10 +36,8 @@ impl<T: Drop> Stack<T> {
         ensures ok { OnOk result (self.new ≡ item ∷ self.old) }
         ensures err { OnErr result (self.new ≡ self.old) }
     {
-        match self.items.push(item) {
-            Ok(()) => Ok(()),
-            Err(_) => Err(NoMemory),
-        }
+        self.items.push(item)?;
+        Ok(())
     }
 
     /// Takes the topmost item. None where there is none.
@@ -90,11 +88,20 @@ impl<T: Copy + Drop> Stack<T> {
     pub fn push_all(&mut self, items: &[T]) -> Result<(), NoMemory>
         ensures { OnOk result (self.new ≡ items.now ++ self.old) }
     {
-        let mut left = items.len();
-        while 0 < left {
-            left -= 1;
-            self.push(items[left])?;
-        }
+        self.items.reserve(items.len())?;
+        push_back(&mut self.items, items);
         Ok(())
+    }
+}
+
+// Adds the items at the end, the last of them first.
+fn push_back<T: Copy + Drop>(list: &mut Vec<T>, items: &[T])
+    requires room { vec_len list.old + length items.now ≤ vec_capacity list.old }
+    ensures { list.new.items ≡ list.old.items ++ reverse items.now }
+{
+    let mut left = items.len();
+    while 0 < left {
+        left -= 1;
+        list.push_reserved(items[left]);
     }
 }

@@ -2,7 +2,7 @@
 -- many turns are left, so that it may hold a whole run of a machine inside.
 use Rattle.std.specs.Prelude.{ℕ, zero, suc, nat_lt, if◌then◌else◌}
 
--- What a step comes to: a next state; a next state behind a turn, with the turns left; an answer, with the
+-- What a step comes to: a next state; a next state after a turn, with the turns left; an answer, with the
 -- turns left; that a turn is needed and none is left; or nothing that is stated.
 pub data Next (S A : Type 0) : Type 0 where
   Go : S → Next S A
@@ -25,7 +25,7 @@ on_next (End left a) go again = Got left a
 on_next Out go again = More
 on_next Fail go again = Lost
 
--- A next state with so many turns left: it stands behind a turn where they are fewer than there were.
+-- A next state with so many turns left: it stands after a turn where they are fewer than there were.
 unfoldable pub onward : {S A : Type 0} → (there_were left : ℕ) → S → Next S A
 onward there_were left s = if nat_lt left there_were then Turn left s else Go s
 
@@ -35,7 +35,7 @@ holding (Got left b) on = on left b
 holding More on = Out
 holding Lost on = Fail
 
--- At most `fuel` steps up to the next turn, behind which `again` goes on.
+-- At most `fuel` steps up to the next turn, after which `again` goes on.
 abbrev pub steps : {S A : Type 0} → (ℕ → S → Next S A) → (ℕ → S → Outcome A) → (fuel : ℕ) → ℕ → S → Outcome A
 steps step again zero n s = Lost
 steps step again (suc fuel) n s = on_next (step n s) (steps step again fuel n) again

@@ -9,7 +9,7 @@ use Rattle.wf_ast.specs.StatementOrder.{stands_before, ascend}
 use Rattle.wf_ast.specs.StatementPlaces.{rise}
 use Rattle.wf_ast.proofs.BoolLemmas.{both, and-true}
 
--- One place stands in front of another.
+-- One place stands before another.
 abbrev pub Before : Place → Place → Type 0
 Before p q = stands_before p q ≡ true
 

@@ -28,7 +28,7 @@ part_below (x ∷ xs) n zero p h e =
 part_below (x ∷ xs) n (suc i) p h e = part_below xs n i p (both_true (nat_lt x.0 n) _ h).1 e
 
 module _ (look : ExprId → ValueTree) where
-  -- The parts from one on: that part, and those behind it.
+  -- The parts from one on: that part, and those after it.
   same_next : (es fs : List ExprId) (i : ℕ) (p q : ExprId) → slice_get es i ≡ Some p → slice_get fs i ≡ Some q
       → all_same look (drop i es) (drop i fs) ≡ (same (look p) (look q) && all_same look (drop (i + 1) es) (drop (i + 1) fs))
   same_next [] fs i p q h k = absurd (cc (h))

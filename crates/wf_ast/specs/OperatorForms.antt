@@ -1,4 +1,4 @@
--- Which operators may stand in a row, and which in front of an `=`.
+-- Which operators may stand in a row, and which before an `=`.
 use Rattle.std.specs.Prelude.{Bool, true, false, Option, None, Some}
 use Rattle.wf_ast.specs.declared.operators.Op.{Op}
 use Rattle.wf_ast.specs.declared.operators.Op.TheVariants as ops
@@ -15,7 +15,7 @@ repeats ops.And = true
 repeats ops.Or = true
 repeats op = false
 
--- The operator in front of an `=`, where there is one, gives a number.
+-- The operator before an `=`, where there is one, gives a number.
 abbrev pub gives_number : Sort → Bool
 gives_number (arithmetic op) = true
 gives_number sort = false

@@ -1,4 +1,4 @@
--- That the nodes of a package name only nodes in front of them, and texts that the package has.
+-- That the nodes of a package name only nodes before them, and texts that the package has.
 use Rattle.std.specs.Prelude.{◌⊎◌, ◌++◌, ◌≡◌, ◌+◌, ◌<◌, ℕ, ⊤, Option, None, Some, List, [], ◌∷◌, length}
 use Rattle.std.specs.List.{AllByRecursion, slice_get}
 use Rattle.wf_ast.specs.declared.numbers.ExprId.{ExprId}
@@ -31,7 +31,7 @@ pub record Parsed : Type 0 where
   pub stmts : List StmtNode
   pub decls : List DeclNode
 
--- The texts behind a search for one of them: the same, or one more at their end.
+-- The texts after a search for one of them: the same, or one more at their end.
 abbrev pub JoinsText : (old new : List (List ℕ)) → (text : List ℕ) → Type 0
 JoinsText old new text = (new ≡ old) ⊎ (new ≡ old ++ text ∷ [])
 
@@ -113,7 +113,7 @@ DeclParts e k (decls.Struct name mark fields) = FieldsBelow e fields
 DeclParts e k (decls.Method owner name mark args result body) = FieldsBelow e args × ResultBelow e result × BlockBelow k body
 DeclParts e k _ = ⊤
 
--- Each node's parts stand in front of it: `k` is the number of the first node of the list.
+-- Each node's parts stand before it: `k` is the number of the first node of the list.
 abbrev pub ExprsOrdered : ℕ → List ExprNode → Type 0
 ExprsOrdered k [] = ⊤
 ExprsOrdered k (n ∷ ns) = ExprParts k n.expr × ExprsOrdered (k + 1) ns

@@ -32,7 +32,7 @@ mutual
     absent : PartTree
     present : (part : ExprTree) → PartTree
 
-  -- the operands of a chain behind its first, in order, each with the place of the sign in front of it
+  -- the operands of a chain after its first, in order, each with the place of the sign before it
   pub data LinkTrees : Type 0 where
     no_link : LinkTrees
     link : (sign : Place) → (operand : ExprTree) → (others : LinkTrees) → LinkTrees
@@ -76,7 +76,7 @@ pub data ViaTree : Type 0 where
 mutual
   pub data StmtTree : Type 0 where
     var : (name : Name) → (of : TypeTree) → (at : Place) → StmtTree
-    -- `op` is the operator in front of the `=`, and `sign` the place of the two
+    -- `op` is the operator before the `=`, and `sign` the place of the two
     assign : (target : TargetTree) → (op : Option Op) → (sign : Place) → (value : ExprTree) → (at : Place) → StmtTree
     -- `=?`
     keep : (target : TargetTree) → (call : CallTree) → (at : Place) → StmtTree

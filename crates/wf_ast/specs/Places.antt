@@ -10,7 +10,7 @@ expr_places nodes = map (λ node. node.at) nodes.exprs
 abbrev pub stmt_places : TypedNodes → List Place
 stmt_places nodes = map (λ node. node.at) nodes.stmts
 
--- The item with the number `n` has this place, and none in front of it has.
+-- The item with the number `n` has this place, and none before it has.
 pub record IsFirstAt (places : List Place) (at : Place) (n : ℕ) : Type 0 where
   pub stands : slice_get places n ≡ Some at
   pub first : (k : ℕ) → k < n → slice_get places k ≡ Some at → ⊥

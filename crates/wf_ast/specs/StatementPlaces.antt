@@ -1,4 +1,4 @@
--- Where the statements of a parsed body stand: their places in written order, each in front of those inside it. An
+-- Where the statements of a parsed body stand: their places in written order, each before those inside it. An
 -- `else if` is no statement of its own.
 use Rattle.std.specs.Prelude.{Bool, true, ◌&&◌, List, [], ◌∷◌, ◌++◌}
 use Rattle.std.specs.List.{list_all}
@@ -7,7 +7,7 @@ use Rattle.wf_ast.specs.ParsedTree as parsed
 use Rattle.wf_ast.specs.ParsedTree.{StmtTree, BlockTree, ArmTrees, DeclTree}
 use Rattle.wf_ast.specs.StatementOrder.{stands_before}
 
--- Each place stands in front of those that follow it.
+-- Each place stands before those that follow it.
 abbrev pub rise : List Place → Bool
 rise [] = true
 rise (p ∷ ps) = list_all (stands_before p) ps && rise ps

@@ -3,7 +3,7 @@ use Rattle.std.specs.Prelude.{◌≡◌, ◌+◌, ◌*◌, ◌%◌, ℕ, List, [
 use Rattle.std.specs.declared.option.Option.{Option}
 use Rattle.std.specs.declared.option.Option.TheVariants.{Some}
 
--- A number made of bytes behind those that made `number`.
+-- A number made of bytes after those that made `number`.
 abbrev pub digest_from : ℕ → List ℕ → ℕ
 digest_from number [] = number
 digest_from number (byte ∷ rest) = digest_from ((number * 31 + byte) % 4294967291) rest

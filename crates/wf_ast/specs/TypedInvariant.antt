@@ -209,8 +209,8 @@ HaveLocals nodes [] [] = ⊤
 HaveLocals nodes (e ∷ es) (m ∷ ms) = HasLocals nodes e.0 m × HaveLocals nodes es ms
 HaveLocals nodes es ms = ⊥
 
--- The numbers of the statements of a block, each behind those of the statements inside it. What an `else if` stands in
--- front of is no statement of its own.
+-- The numbers of the statements of a block, each after those of the statements inside it. What an `else if` stands before
+-- is no statement of its own.
 abbrev pub numbers_in : Block → List ℕ
 numbers_in end = []
 numbers_in (plain site s rest) = site.number ∷ numbers_in rest
@@ -222,10 +222,10 @@ abbrev pub numbers_from : (n count : ℕ) → List ℕ
 numbers_from n zero = []
 numbers_from n (suc count) = n ∷ numbers_from (suc n) count
 
--- Every number names something; parts stand in front of their wholes, and have the kinds that these want; the package
+-- Every number names something; parts stand before their wholes, and have the kinds that these want; the package
 -- keeps the rules of types and effects; the statements of each method stand in order of place; no method has too many
 -- variables; each local is an expression at its name; and each statement stands in one method, and once: they are
--- numbered in order, method by method, each behind those inside it.
+-- numbered in order, method by method, each after those inside it.
 pub record IsTyped (nodes : TypedNodes) : Type 0 where
   pub exprs_ordered : each_numbered (λ e node. parts_below e node.expr) 0 nodes.exprs ≡ true
   pub stmts_ordered : each_numbered (λ s node. stmt_below nodes s node.stmt) 0 nodes.stmts ≡ true

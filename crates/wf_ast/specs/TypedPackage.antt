@@ -37,7 +37,7 @@ pub record MethodTree : Type 0 where
   pub body : Block
 
 -- Structs, methods and statuses have their places in these lists as their numbers. `statuses` has the texts that a
--- caller sees. `order` has the numbers of all methods, each behind those that it calls.
+-- caller sees. `order` has the numbers of all methods, each after those that it calls.
 pub record PackageTree : Type 0 where
   pub package_name : List ℕ
   pub statuses : List (List ℕ)

@@ -57,7 +57,7 @@ pub data Question : Type 0 where
   writer_length : Question
   writer_position : Question
 
--- Numbers and slices. An operator has two operands: a chain of more is one operator in front of the other, each but
+-- Numbers and slices. An operator has two operands: a chain of more is one operator before the other, each but
 -- the first `joined` to what stands left of it.
 mutual
   pub data NumTree : Type 0 where
@@ -141,7 +141,7 @@ pub record Axiom : Type 0 where
 -- A statement without blocks of its own. `call_at` is the place of a call's method name. `target` is `to_nothing`
 -- where a call has none. `keep` tells `=?`. `break_from` and `continue_in` tell the loop's number.
 pub data Simple : Type 0 where
-  -- `op` is the operator in front of the `=`; the value is then the operator's
+  -- `op` is the operator before the `=`; the value is then the operator's
   assign : Target → (op : Option Arith) → ValueTree → Simple
   await : (call_at : Place) → Target → (io_arg : ℕ) → Awaited → Simple
   perform : (call_at : Place) → Target → Written → Simple
@@ -157,7 +157,7 @@ pub record Site : Type 0 where
   pub number : ℕ
   pub at : Place
 
--- What stands in front of a loop's body: its condition, and what its clauses promise, in order. `is_left` tells that a
+-- What stands before a loop's body: its condition, and what its clauses promise, in order. `is_left` tells that a
 -- `break` leaves the loop, and `close` is the place of its body's closing brace.
 pub record Head : Type 0 where
   pub cond : CondTree
@@ -165,7 +165,7 @@ pub record Head : Type 0 where
   pub is_left : Bool
   pub close : Place
 
--- A statement with those that follow it in its block. An `if` has one condition: what an `else if` stands in front of is
+-- A statement with those that follow it in its block. An `if` has one condition: what an `else if` stands before is
 -- the `if` that follows the `else`, and is `chained` to it.
 pub data Block : Type 0 where
   end : Block

@@ -1,5 +1,5 @@
 -- The typed trees that the nodes of a package stand for. The tree of an expression is made of the trees of the
--- expressions in front of it, so the trees of all are a fold over the nodes from the left. Statements are folded
+-- expressions before it, so the trees of all are a fold over the nodes from the left. Statements are folded
 -- likewise, over the expressions' trees; what a statement makes is a block, of the block that follows it.
 use Rattle.std.specs.Prelude.{ℕ, Bool, true, false, Option, None, Some, List, [], ◌∷◌, ◌++◌, length, map, slice_get, unwrap_or, option_map}
 use Rattle.wf_text.specs.declared.place.Place.{Place}
@@ -154,7 +154,7 @@ abbrev pub end_in : (ExprId → ValueTree) → Option ExprId → EndTree
 end_in look None = absent
 end_in look (Some e) = present (num_in (look e))
 
--- The tree that a node which is no constant number makes of the trees in front of it.
+-- The tree that a node which is no constant number makes of the trees before it.
 abbrev pub made : (ExprId → ValueTree) → Place → (signs : List Place) → Ty → Expr → ValueTree
 made look at signs ty (exprs.Number value) = numeric (number at value)
 made look at signs ty (exprs.Const c) = lost
@@ -270,7 +270,7 @@ abbrev pub block_made : (StmtId → Block → Block) → List StmtId → Block
 block_made look [] = end
 block_made look (s ∷ ss) = look s (block_made look ss)
 
--- The arms of an `if` behind the first, and what stands behind the last `else`.
+-- The arms of an `if` after the first, and what stands after the last `else`.
 abbrev pub otherwise_made : (ExprId → ValueTree) → (StmtId → Block → Block) → Site → List Arm → Option resolved.Block → Block
 otherwise_made look inner site [] None = end
 otherwise_made look inner site [] (Some block) = block_made inner block.items
@@ -282,8 +282,8 @@ if_made look inner site [] other rest = plain site no_statement rest
 if_made look inner site (arm ∷ arms) other rest =
     choose site false (cond_in (look arm.cond)) (block_made inner arm.body.items) (otherwise_made look inner site arms other) rest
 
--- What a statement makes of the block behind it: `look` gives the trees of expressions, `inner` what the statements in
--- front of it make.
+-- What a statement makes of the block after it: `look` gives the trees of expressions, `inner` what the statements before
+-- it make.
 abbrev pub stmt_made : TypedNodes → (ExprId → ValueTree) → (StmtId → Block → Block) → ℕ → StmtNode → Block → Block
 stmt_made nodes look inner n node rest = making node.stmt
   where

@@ -49,7 +49,7 @@ abbrev mutual
   formed_bounds unrefined = true
   formed_bounds (refined low high) = formed_part low && formed_expr high
 
--- A call that is a whole statement, or stands behind `=?`, has a mark.
+-- A call that is a whole statement, or stands after `=?`, has a mark.
 abbrev pub is_marked : WrittenMark → Bool
 is_marked marks.Unmarked = false
 is_marked mark = true
@@ -73,7 +73,7 @@ abbrev pub has_arm : ArmTrees → Bool
 has_arm (arm condition body others) = true
 has_arm arms = false
 
--- Statements. The operator in front of an `=` gives a number, and an `if` has a condition.
+-- Statements. The operator before an `=` gives a number, and an `if` has a condition.
 abbrev mutual
   pub formed_stmt : StmtTree → Bool
   formed_stmt (var name of at) = formed_type of

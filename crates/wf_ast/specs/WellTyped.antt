@@ -310,7 +310,7 @@ is_that a (Some b) = nat_eq a b
 abbrev pub hands_on : (a : ℕ) → List ValueTree → Bool
 hands_on a ts = list_any (λ t. is_that a (io_handed t)) ts
 
--- It isn't handed on again by the arguments behind.
+-- It isn't handed on again by the arguments after it.
 abbrev pub never_again : Option ℕ → List ValueTree → Bool
 never_again None ts = true
 never_again (Some a) ts = not (hands_on a ts)
@@ -448,7 +448,7 @@ abbrev pub calls_known : (ℕ → Bool) → Option MethodTree → Bool
 calls_known known None = false
 calls_known known (Some method) = calls_only known method.body
 
--- Each method of the list calls only those that stand in front of it.
+-- Each method of the list calls only those that stand before it.
 abbrev pub calls_in_front : PackageTree → (front rest : List ℕ) → Bool
 calls_in_front p front [] = true
 calls_in_front p front (m ∷ ms) = calls_known (is_among front) (slice_get p.methods m) && (not (is_among front m) && calls_in_front p (m ∷ front) ms)

@@ -5,6 +5,7 @@
 #![tactic(auto)]
 
 pub mod declarations;
+mod io_args;
 pub mod laws;
 mod mentioning;
 pub mod numbers;
@@ -24,6 +25,7 @@ pub mod types;
 pub mod variables;
 
 pub use declarations::{Method, Struct, Var};
+pub use io_args::io_arg;
 pub use mentioning::mentions;
 pub use numbers::{ExprId, StmtId, TextId};
 pub use operators::Op;

@@ -1,4 +1,4 @@
-// The parsed tree of a package: its name, its texts and its nodes. A node's parts stand in front of it, so a
+// The parsed tree of a package: its name, its texts and its nodes. A node's parts stand before it, so a
 // walk from a node down to its parts ends.
 
 ghost use Rattle.std.specs.Prelude.{◌≡◌, ◌+◌, ◌<◌, ◌^◌, ◌++◌, [], ◌∷◌, ℕ, List, Some, length, map, slice_get, IfOk, OnOk, OnErr, OnSome};
@@ -78,10 +78,8 @@ impl PackageNodes {
         ensures err { OnErr result (self.new ≡ self.old) }
     {
         let number = self.exprs.len() as u32;
-        match self.exprs.push(node) {
-            Ok(()) => Ok(ExprId(number)),
-            Err(_) => Err(AllocError),
-        }
+        self.exprs.push(node)?;
+        Ok(ExprId(number))
     }
 
     /// Adds a statement, whose parts are of this package. On `Err` the package is as it was.
@@ -93,10 +91,8 @@ impl PackageNodes {
         ensures err { OnErr result (self.new ≡ self.old) }
     {
         let number = self.stmts.len() as u32;
-        match self.stmts.push(node) {
-            Ok(()) => Ok(StmtId(number)),
-            Err(_) => Err(AllocError),
-        }
+        self.stmts.push(node)?;
+        Ok(StmtId(number))
     }
 
     /// Adds a declaration, whose parts are of this package. On `Err` the package is as it was.
@@ -105,10 +101,8 @@ impl PackageNodes {
         ensures ok { OnOk result (self.new ≡ record self.old { decls = self.old.decls ++ node ∷ [] }) }
         ensures err { OnErr result (self.new ≡ self.old) }
     {
-        match self.decls.push(node) {
-            Ok(()) => Ok(()),
-            Err(_) => Err(AllocError),
-        }
+        self.decls.push(node)?;
+        Ok(())
     }
 
     /// The package's name.

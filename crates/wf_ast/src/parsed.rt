@@ -15,7 +15,7 @@ pub struct Name {
     pub at: Place,
 }
 
-/// What stands in front of a path's name.
+/// What stands before a path's name.
 #[derive(Clone, Copy, PartialEq, Eq)]
 pub enum Root {
     /// Nothing: a local or a constant.
@@ -26,7 +26,7 @@ pub enum Root {
     Args,
 }
 
-/// A name with what stands in front of it. `at` is the path's first token.
+/// A name with what stands before it. `at` is the path's first token.
 #[derive(Clone, Copy, PartialEq, Eq)]
 pub struct Path {
     pub root: Root,
@@ -68,7 +68,7 @@ pub struct Call {
     pub args: Sequence<Given>,
 }
 
-/// An operator sign of a chain with the operand behind it.
+/// An operator sign of a chain with the operand after it.
 #[derive(Clone, Copy, PartialEq, Eq)]
 pub struct Link {
     pub sign: Place,
@@ -98,7 +98,7 @@ pub struct Bounds {
     pub high: ExprId,
 }
 
-/// A type: its prefixes from the left, its core, and the bounds behind a core that begins with `base`.
+/// A type: its prefixes from the left, its core, and the bounds after a core that begins with `base`.
 #[derive(Drop)]
 pub struct TypeExpr {
     pub prefixes: Sequence<Prefix>,
@@ -127,8 +127,8 @@ pub enum Expr {
         to: Option<ExprId>,
     },
     Call(Call),
-    /// One operator between two or more operands, in order: the first, and each other one with the sign in front
-    /// of it.
+    /// One operator between two or more operands, in order: the first, and each other one with the sign before
+    /// it.
     Chain {
         op: Op,
         first: ExprId,
@@ -275,7 +275,7 @@ pub enum Decl {
     },
 }
 
-/// A declaration with what stands in front of it: whether it is `pub`, and the place of its word `status`,
+/// A declaration with what stands before it: whether it is `pub`, and the place of its word `status`,
 /// `const`, `struct` or `func`.
 #[derive(Drop)]
 pub struct DeclNode {

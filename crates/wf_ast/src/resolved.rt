@@ -81,7 +81,7 @@ pub struct Arm {
     pub body: Block,
 }
 
-/// What stands in front of a loop's body. `has_break` tells whether a `break` leaves this loop.
+/// What stands before a loop's body. `has_break` tells whether a `break` leaves this loop.
 #[derive(Drop)]
 pub struct LoopHead {
     pub cond: ExprId,
@@ -100,7 +100,7 @@ pub struct AxiomRef {
 /// A statement.
 #[derive(Drop)]
 pub enum Stmt {
-    /// With an operator, `value` is the node of the operator between the target and what stands behind the sign.
+    /// With an operator, `value` is the node of the operator between the target and what stands after the sign.
     Assign {
         target: ExprId,
         op: Option<Op>,

@@ -47,7 +47,7 @@ impl Model for Texts {
     ghost invariant = { λ t. Numbers (λ text. get_by (λ key. slice_cmp nat_cmp (keyed text) (key.0 ∷ key.1.items)) t.numbers) (map (λ text. text.items) t.texts.items) };
 }
 
-/// The number of bytes behind those that made `number`, one byte further.
+/// The number of bytes after those that made `number`, one byte further.
 fn with_byte(number: u64, byte: u8) -> u64
     requires { number < 2 ^ 32 }
     ensures made { result ≡ (number * 31 + byte) % 4294967291 }

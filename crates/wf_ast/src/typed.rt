@@ -221,7 +221,7 @@ impl Typed {
         None
     }
 
-    /// The methods in an order in which each stands behind those that it calls.
+    /// The methods in an order in which each stands after those that it calls.
     pub fn order(&self) -> &[u32]
         ensures { result.now ≡ self.now.order }
     {

@@ -27,7 +27,7 @@ pub struct TypedNodes {
     pub bodies: Sequence<Block>,
     /// Of each method: the expression that is its first local. Those that are its other locals follow it, in order.
     pub first_locals: Sequence<ExprId>,
-    /// The numbers of all methods, each behind those that it calls.
+    /// The numbers of all methods, each after those that it calls.
     pub order: Sequence<u32>,
 }
 

@@ -47,7 +47,7 @@ closes = refl
 closes_again : close (close three) ≡ close three
 closes_again = refl
 
--- The unread bytes move to the front, and the cells behind them stay as they were.
+-- The unread bytes move to the front, and the cells after them stay as they were.
 compacts : compact four ≡ buffer (67 ∷ 68 ∷ 67 ∷ 68 ∷ []) 0 2 2
 compacts = refl
 
@@ -82,7 +82,7 @@ compacts_past_the_end = refl
 compacts_at_the_end : compact (buffer (7 ∷ 8 ∷ []) 1 2 (2 ^ 64 - 1)) ≡ buffer (8 ∷ 8 ∷ []) 0 1 (2 ^ 64 - 1)
 compacts_at_the_end = refl
 
--- One cell is set: the first, one behind `wi`, and none where the buffer has no such cell.
+-- One cell is set: the first, one after `wi`, and none where the buffer has no such cell.
 sets_first : with_cell 0 9 three ≡ buffer (9 ∷ 66 ∷ 67 ∷ 0 ∷ []) 0 3 0
 sets_first = refl
 
@@ -102,7 +102,7 @@ places = refl
 opens_again : placed 0 3 0 false (close three) ≡ three
 opens_again = refl
 
--- What is seen of a buffer: the bytes in front of `wi`, the read ones too, and none of the free cells.
+-- What is seen of a buffer: the bytes before `wi`, the read ones too, and none of the free cells.
 sees_written : seen_buffer (skipped 2 three) ≡ record { written = 65 ∷ 66 ∷ 67 ∷ []; ri = 2; wi = 3; pos = 0; closed = false }
 sees_written = refl
 

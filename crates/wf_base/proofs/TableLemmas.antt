@@ -19,7 +19,7 @@ found_passes {X} p P (x ∷ xs) h = by (p x) h.0 (found_passes p P xs h.1)
     by true pass rest = pass refl
     by false pass rest = rest
 
--- What passes is found, or something in front of it.
+-- What passes is found, or something before it.
 passing_found : {X : Type 0} (p : X → Bool) (xs : List X) (k : ℕ) (x : X) → slice_get xs k ≡ Some x → p x ≡ true → is_some (find p xs) ≡ true
 passing_found p [] k x at pass = cc at
 passing_found {X} p (y ∷ ys) zero x at pass = by (p y) (ap p (some_is y x at) ∙ pass)

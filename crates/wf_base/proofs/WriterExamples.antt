@@ -65,14 +65,14 @@ position_stays_at_the_end = refl
 position_at_the_end : writer_position (far 3 (2 ^ 64 - 1)) ≡ 2 ^ 64 - 1
 position_at_the_end = refl
 
--- write_u8?(a) and write_u8_fast!(a): the byte stands behind the others, and the other cells stay.
+-- write_u8?(a) and write_u8_fast!(a): the byte stands after the others, and the other cells stay.
 writes : (has_room (empty_buffer 4) ≡ true) × (appended (65 ∷ []) (empty_buffer 4) ≡ written (65 ∷ 0 ∷ 0 ∷ 0 ∷ []) 1)
 writes = (refl, refl)
 
 writes_last : (has_room three ≡ true) × (appended (68 ∷ []) three ≡ full)
 writes_last = (refl, refl)
 
--- A byte that was there is written over, and those behind it stay.
+-- A byte that was there is written over, and those after it stay.
 writes_over : appended (1 ∷ []) (written (65 ∷ 66 ∷ 67 ∷ 68 ∷ []) 1) ≡ written (65 ∷ 1 ∷ 67 ∷ 68 ∷ []) 2
 writes_over = refl
 
@@ -88,7 +88,7 @@ closed_has_no_room = refl
 no_room_without_cells : has_room (empty_buffer 0) ≡ false
 no_room_without_cells = refl
 
--- Behind a suspension it goes on where there is room again.
+-- After a suspension it goes on where there is room again.
 goes_on : (has_room (compact (skipped 1 full)) ≡ true)
     × (appended (69 ∷ []) (compact (skipped 1 full)) ≡ record { cells = 66 ∷ 67 ∷ 68 ∷ 69 ∷ []; ri = 0; wi = 4; pos = 1; closed = false })
 goes_on = (refl, refl)

@@ -2,8 +2,8 @@
 use Rattle.std.specs.Prelude.{ℕ, ◌+◌, ◌-◌, ◌*◌, ◌^◌, ◌<◌, ◌≤◌, min, nat_lt, nat_le, ◌&&◌, Bool, true, false, List, [], ◌∷◌, ◌++◌, length, take, drop, reverse, replicate, slice_get, slice_range, slice_set, Option, All, if◌then◌else◌}
 use Rattle.wf_text.specs.Seen.{SeenBuffer}
 
--- `cells` are all bytes of the buffer, as many as it can hold. Those in front of `ri` were read, those from `ri` to
--- `wi` were written and not yet read, and those from `wi` on are free. `pos` tells how many bytes stood in front of
+-- `cells` are all bytes of the buffer, as many as it can hold. Those before `ri` were read, those from `ri` to
+-- `wi` were written and not yet read, and those from `wi` on are free. `pos` tells how many bytes stood before
 -- the first cell in the stream that goes through the buffer. Nothing is written once it is `closed`.
 pub record Buffer : Type 0 where
   pub cells : List ℕ
@@ -53,11 +53,11 @@ unread_at k buffer = slice_get (unread buffer) k
 abbrev pub taken : (count : ℕ) → Buffer → List ℕ
 taken count buffer = take count (unread buffer)
 
--- And the buffer behind that, with `ri` behind all bytes taken.
+-- And the buffer after that, with `ri` after all bytes taken.
 abbrev pub skipped : (count : ℕ) → Buffer → Buffer
 skipped count buffer = record buffer { ri = buffer.ri + min count (reader_length buffer) }
 
--- How many bytes a skip still has to take behind those: 0 where it is done.
+-- How many bytes a skip still has to take after those: 0 where it is done.
 abbrev pub left_to_skip : (count : ℕ) → Buffer → ℕ
 left_to_skip count buffer = count - reader_length buffer
 
@@ -95,7 +95,7 @@ has_room buffer = nat_lt 0 (writer_length buffer)
 abbrev pub writer_position : Buffer → ℕ
 writer_position buffer = capped (buffer.pos + buffer.wi)
 
--- Bytes stand from `wi` on, which moves behind them; for bytes that fit.
+-- Bytes stand from `wi` on, which moves after them; for bytes that fit.
 abbrev pub appended : List ℕ → Buffer → Buffer
 appended bytes buffer = record buffer { cells = overwritten buffer.wi bytes buffer.cells; wi = buffer.wi + length bytes }
 

@@ -49,7 +49,7 @@ read_value ReadU32Le bytes = little_endian bytes
 read_value ReadU64Be bytes = big_endian bytes
 read_value ReadU64Le bytes = little_endian bytes
 
--- How many bytes of the number lack, behind those that were kept.
+-- How many bytes of the number lack, after those that were kept.
 abbrev pub lacking : ReadForm → (kept : List ℕ) → ℕ
 lacking form kept = bytes_of (read_width form) - length kept
 

@@ -53,7 +53,7 @@ act steps state host (replace buffers arrays) = answers nothing (state, record {
 abbrev pub seen_of : Answer → Host → Seen
 seen_of answer host = answered answer (map seen_buffer host.buffers) host.arrays
 
--- What is seen behind a response, and of what follows an answer.
+-- What is seen after a response, and of what follows an answer.
 abbrev pub followed : {State : Type 0} → Response (State × Host) → (State → Host → List Seen) → List Seen
 followed (answers answer after) rest = seen_of answer after.1 ∷ rest after.0 after.1
 followed needs_more rest = turns ∷ []

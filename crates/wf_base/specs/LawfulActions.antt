@@ -77,7 +77,7 @@ MayAct surface receivers buffers arrays (close buffer) = buffer < buffers
 MayAct surface receivers buffers arrays (compact buffer) = buffer < buffers
 MayAct surface receivers buffers arrays (replace others strings) = All IsLawful others × All IsByteArray strings
 
--- How many buffers, and byte arrays, stand behind an action.
+-- How many buffers, and byte arrays, stand after an action.
 abbrev pub buffers_behind : HostAction Buffer → ℕ → ℕ
 buffers_behind (replace others strings) count = length others
 buffers_behind action count = count

@@ -8,7 +8,7 @@ use Rattle.wf_base.specs.HostRun.{Host, Steps, run}
 use Rattle.wf_base.specs.LawfulActions.{AreLawful}
 
 -- The engine is at `now` and the host holds `host`: it goes on, it tells what it told first, the rest may be performed,
--- and what is seen of the rest behind what was seen is what is seen of all.
+-- and what is seen of the rest after what was seen is what is seen of all.
 pub record Proceeds {State : Type 0} (stopped : State → Bool) (surface : State → Surface) (receivers : State → List Receiver) (steps : Steps State) (first : State) (before : Host) (all : List (HostAction Buffer)) (now : State) (host : Host) (seen : List Seen) (rest : List (HostAction Buffer)) : Type 0 where
   pub goes_on : stopped now ≡ false
   pub same_surface : surface now ≡ surface first

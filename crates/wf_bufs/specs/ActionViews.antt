@@ -15,7 +15,7 @@ use Rattle.wf_bufs.specs.HostSeen.{host_of}
 
 abbrev pub action_of : Action → HostAction Buffer
 action_of (Init receiver within) = init receiver within
-action_of (Call receiver method args within) = call receiver method.0 (map arg_of args.items) within
+action_of (Call it) = call it.receiver it.method.0 (map arg_of it.args.items) it.turns
 action_of (Put buffer bytes) = put buffer bytes.items
 action_of (Close buffer) = close buffer
 action_of (Compact buffer) = compact buffer

@@ -24,7 +24,7 @@ Replies gives (Done outcome) after = gives ≡ done outcome after
 Replies gives Turns after = gives ≡ turns
 Replies gives Undefined after = gives ≡ undefined
 
--- An engine has stopped behind a reply without an outcome.
+-- An engine has stopped after a reply without an outcome.
 abbrev pub stops : Reply → Bool
 stops (Done _) = false
 stops Turns = true

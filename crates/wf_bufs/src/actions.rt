@@ -8,44 +8,27 @@ ghost use Rattle.wf_bufs.specs.HostSeen.{host_of};
 ghost use Rattle.wf_bufs.specs.ActionViews.{action_of, Responds, Leaves, seen_as};
 
 use crate::bufs::Bufs;
-use crate::calls::{Arg, Call};
+use crate::calls::{BoundedCall, Call};
 use crate::engine::Engine;
 use crate::outcomes::{Outcome, Reply};
 use std::alloc::Global;
-use wf_text::{MethodId, NoMemory};
+use wf_text::NoMemory;
 
 /// What a host does. Receivers, buffers and byte arrays are named by number, from 0.
 #[derive(Drop)]
 pub enum Action {
     /// The receiver becomes ready, within so many turns.
-    Init {
-        receiver: u16,
-        turns: u64,
-    },
-    /// One public call, within so many turns.
-    Call {
-        receiver: u16,
-        method: MethodId,
-        args: Vec<Arg>,
-        turns: u64,
-    },
+    Init { receiver: u16, turns: u64 },
+    /// One public call.
+    Call(BoundedCall),
     /// Bytes are appended to a buffer, as many as fit.
-    Put {
-        buffer: u16,
-        bytes: Vec<u8>,
-    },
+    Put { buffer: u16, bytes: Vec<u8> },
     /// Nothing more will be written to a buffer.
-    Close {
-        buffer: u16,
-    },
+    Close { buffer: u16 },
     /// A buffer's unread bytes move to the front.
-    Compact {
-        buffer: u16,
-    },
+    Compact { buffer: u16 },
     /// Copies of these stand in place of the host's buffers and byte arrays.
-    Replace {
-        host: Bufs,
-    },
+    Replace { host: Bufs },
 }
 
 /// What a host sees of one action: the reply, and its buffers and byte arrays as they then stand.
@@ -56,7 +39,7 @@ pub struct Saw {
 }
 
 /// Performs the actions in order, up to the first that needs more turns or isn't defined, and answers what is
-/// seen of each. Where memory is refused, the actions in front of the one that needed it were performed.
+/// seen of each. Where memory is refused, the actions before the one that needed it were performed.
 pub fn perform<E: Engine>(
     alloc: Global,
     engine: &mut E,
@@ -83,10 +66,8 @@ fn note(alloc: Global, seen: &mut Vec<Saw>, reply: Reply, host: &Bufs) -> Result
     ensures { OnOk result (seen.new.items ≡ seen.old.items ++ (record { reply = reply; host = host.now }) ∷ []) }
 {
     let host = host.copy(alloc)?;
-    match seen.push(Saw { reply, host }) {
-        Ok(()) => Ok(()),
-        Err(_) => Err(NoMemory),
-    }
+    seen.push(Saw { reply, host })?;
+    Ok(())
 }
 
 // Performs one action. Where memory is refused nothing has changed.
@@ -107,18 +88,13 @@ fn act<E: Engine>(
 {
     match action {
         Action::Init { receiver, turns } => Ok(engine.init(*receiver, *turns)),
-        Action::Call {
-            receiver,
-            method,
-            args,
-            turns,
-        } => {
+        Action::Call(it) => {
             let what = Call {
-                receiver: *receiver,
-                method: *method,
-                args: args.as_slice(),
+                receiver: it.receiver,
+                method: it.method,
+                args: it.args.as_slice(),
             };
-            Ok(engine.call(&what, host, *turns))
+            Ok(engine.call(&what, host, it.turns))
         }
         Action::Put { buffer, bytes } => {
             host.bufs.at_mut(*buffer as usize).put(bytes.as_slice());

@@ -7,7 +7,7 @@ use std::alloc::Global;
 use std::marker::Model;
 use wf_text::NoMemory;
 
-/// An io buffer of a fixed number of bytes, its cells. The bytes in front of `ri` were read, those from `ri` to
+/// An io buffer of a fixed number of bytes, its cells. The bytes before `ri` were read, those from `ri` to
 /// `wi` are unread, and the cells from `wi` on are free. `pos` is the place of the first cell in the stream.
 #[derive(Drop)]
 pub struct Buf {
@@ -34,32 +34,28 @@ impl Buf {
     pub fn new(alloc: Global, cap: u32) -> Result<Buf, NoMemory>
         ensures { IfOk result (λ buf. buf ≡ empty_buffer cap) }
     {
-        match vec![in alloc; 0; cap as usize] {
-            Ok(cells) => Ok(Buf {
-                cells,
-                ri: 0,
-                wi: 0,
-                pos: 0,
-                closed: false,
-            }),
-            Err(_) => Err(NoMemory),
-        }
+        let cells = vec![in alloc; 0; cap as usize]?;
+        Ok(Buf {
+            cells,
+            ri: 0,
+            wi: 0,
+            pos: 0,
+            closed: false,
+        })
     }
 
     /// A buffer in the same state.
     pub fn copy(&self, alloc: Global) -> Result<Buf, NoMemory>
         ensures { IfOk result (λ buf. buf ≡ self.now) }
     {
-        match Vec::from_slice(alloc, self.cells.as_slice()) {
-            Ok(cells) => Ok(Buf {
-                cells,
-                ri: self.ri,
-                wi: self.wi,
-                pos: self.pos,
-                closed: self.closed,
-            }),
-            Err(_) => Err(NoMemory),
-        }
+        let cells = Vec::from_slice(alloc, self.cells.as_slice())?;
+        Ok(Buf {
+            cells,
+            ri: self.ri,
+            wi: self.wi,
+            pos: self.pos,
+            closed: self.closed,
+        })
     }
 
     /// The number of the cell that is read next.

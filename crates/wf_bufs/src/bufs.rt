@@ -69,15 +69,13 @@ impl BufList {
         }
     }
 
-    /// Adds a buffer behind the others. Where memory is refused the list stays, and the buffer is dropped.
+    /// Adds a buffer after the others. Where memory is refused the list stays, and the buffer is dropped.
     pub fn push(&mut self, buf: Buf) -> Result<(), NoMemory>
         ensures added { OnOk result (self.new ≡ self.old ++ buf ∷ []) }
         ensures stays { OnErr result (self.new ≡ self.old) }
     {
-        match self.items.push(buf) {
-            Ok(()) => Ok(()),
-            Err(_) => Err(NoMemory),
-        }
+        self.items.push(buf)?;
+        Ok(())
     }
 
     /// How many buffers there are.
@@ -121,10 +119,8 @@ impl ByteArray {
     pub fn new(alloc: Global, bytes: &[u8]) -> Result<ByteArray, NoMemory>
         ensures { IfOk result (λ array. array ≡ bytes.now) }
     {
-        match Vec::from_slice(alloc, bytes) {
-            Ok(cells) => Ok(ByteArray { cells }),
-            Err(_) => Err(NoMemory),
-        }
+        let cells = Vec::from_slice(alloc, bytes)?;
+        Ok(ByteArray { cells })
     }
 
     /// The bytes.
@@ -165,15 +161,13 @@ impl ByteArrays {
         }
     }
 
-    /// Adds a byte array behind the others. Where memory is refused the list stays, and the array is dropped.
+    /// Adds a byte array after the others. Where memory is refused the list stays, and the array is dropped.
     pub fn push(&mut self, array: ByteArray) -> Result<(), NoMemory>
         ensures added { OnOk result (self.new ≡ self.old ++ array ∷ []) }
         ensures stays { OnErr result (self.new ≡ self.old) }
     {
-        match self.items.push(array) {
-            Ok(()) => Ok(()),
-            Err(_) => Err(NoMemory),
-        }
+        self.items.push(array)?;
+        Ok(())
     }
 
     /// How many byte arrays there are.

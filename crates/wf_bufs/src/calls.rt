@@ -19,6 +19,16 @@ pub enum Arg {
     Bytes(Option<u16>),
 }
 
+/// A public call within so many turns, with arguments of its own. The receiver is named by number, from 0.
+#[derive(Drop)]
+pub struct BoundedCall {
+    pub receiver: u16,
+    pub method: MethodId,
+    /// The arguments, in the order in which the method declares them.
+    pub args: Vec<Arg>,
+    pub turns: u64,
+}
+
 /// A public call.
 #[derive(Clone, Copy)]
 pub struct Call<'a> {

@@ -14,7 +14,7 @@ use crate::calls::Call;
 use crate::outcomes::Reply;
 
 /// A machine that runs a package. Its meaning is a state. What an init or a call replies, and the state and the
-/// buffers that it leaves behind an outcome, are functions of the state and of what it is given.
+/// buffers that it leaves after an outcome, are functions of the state and of what it is given.
 pub trait Engine {
     // What the machine's answers depend on.
     ghost State: { Type 0 };
@@ -34,7 +34,7 @@ pub trait Engine {
     // How a call on the host's buffers and byte arrays ends, within so many turns.
     ghost call_gives: { State → HostCall → Host → ℕ → Gives (State × Host) };
 
-    /// Makes a receiver ready, whatever it was before, within `turns` turns. The outcome is a status. Behind
+    /// Makes a receiver ready, whatever it was before, within `turns` turns. The outcome is a status. After
     /// Turns (it needs more) and Undefined (a step isn't defined) the engine has stopped.
     fn init(&mut self, receiver: u16, turns: u64) -> Reply
         requires goes_on { stopped (state self.old) ≡ false }
@@ -46,7 +46,7 @@ pub trait Engine {
         ensures kind { DoneFits (surface (state self.old)) status result };
 
     /// One public call on the host's buffers and byte arrays, within `turns` turns. The outcome is of the kind
-    /// that the method answers. Behind Turns and Undefined the engine has stopped, and nothing is said of the
+    /// that the method answers. After Turns and Undefined the engine has stopped, and nothing is said of the
     /// buffers.
     fn call(&mut self, what: &Call<'_>, bufs: &mut Bufs, turns: u64) -> Reply
         requires goes_on { stopped (state self.old) ≡ false }

@@ -14,7 +14,7 @@ pub mod zero_engine;
 pub use actions::{Action, Saw, perform};
 pub use buffers::Buf;
 pub use bufs::{BufList, Bufs, ByteArray, ByteArrays};
-pub use calls::{Arg, Call, ReceiverDecl};
+pub use calls::{Arg, BoundedCall, Call, ReceiverDecl};
 pub use engine::Engine;
 pub use outcomes::{Outcome, Reply};
 pub use surfaces::{AnswerKind, ArgDecl, ArgKind, MethodDecl, PublicSurface, StructDecl};

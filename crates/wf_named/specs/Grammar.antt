@@ -36,7 +36,7 @@ abbrev mutual
   args_by_grammar no_arg = true
   args_by_grammar (more_args e others) = by_grammar e && args_by_grammar others
 
--- Statements. A call that is a whole statement, or stands behind `=?`, has a mark, the operator in front of an `=` gives a
+-- Statements. A call that is a whole statement, or stands after `=?`, has a mark, the operator before an `=` gives a
 -- number, and an `if` has a condition.
 abbrev pub call_by_grammar : NamedCallTree → Bool
 call_by_grammar (call callee at mark args) = not (is_pure mark) && args_by_grammar args

@@ -1,4 +1,4 @@
--- A resolved package as contracts see it, and that its nodes name only nodes in front of them and texts that it has.
+-- A resolved package as contracts see it, and that its nodes name only nodes before them and texts that it has.
 use Rattle.std.specs.Prelude.{◌+◌, ◌<◌, ℕ, ⊤, Option, None, Some, List, [], ◌∷◌, length, map}
 use Rattle.std.specs.List.{AllByRecursion}
 use Rattle.wf_ast.specs.declared.numbers.ExprId.{ExprId}
@@ -23,7 +23,7 @@ use Rattle.wf_named.specs.NamedTree.{NamedExprTree, NamedStmtTree, NamedPackageT
 use Rattle.wf_named.specs.NamedTrees.{expr_trees, stmt_trees, const_made, struct_made, method_made, word_at}
 
 -- The parts of a resolved package: its name, its texts in the order in which they are first seen, its nodes and its
--- declarations. `order` has the numbers of all methods, each behind those that it calls.
+-- declarations. `order` has the numbers of all methods, each after those that it calls.
 pub record NamedParts : Type 0 where
   pub package_name : List ℕ
   pub texts : List (List ℕ)
@@ -110,7 +110,7 @@ abbrev pub NamedMethodBelow : ℕ → ℕ → ℕ → NamedMethod → Type 0
 NamedMethodBelow t e k m =
     (m.name.text.0 < t) × AllByRecursion (NamedVarBelow t e) m.args × AllByRecursion (NamedVarBelow t e) m.locals × NamedResultBelow e m.gives × BlockBelow k m.body
 
--- Each node's parts stand in front of it: `k` is the number of the first node of the list.
+-- Each node's parts stand before it: `k` is the number of the first node of the list.
 abbrev pub NamedExprsOrdered : ℕ → List NamedExprNode → Type 0
 NamedExprsOrdered k [] = ⊤
 NamedExprsOrdered k (n ∷ ns) = NamedExprParts k n.expr × NamedExprsOrdered (k + 1) ns

@@ -1,4 +1,4 @@
--- Where the statements of a resolved body stand: their places in written order, each in front of those inside it. An
+-- Where the statements of a resolved body stand: their places in written order, each before those inside it. An
 -- `else if` is no statement of its own.
 use Rattle.std.specs.Prelude.{Bool, List, [], ◌∷◌, ◌++◌}
 use Rattle.std.specs.List.{list_all}

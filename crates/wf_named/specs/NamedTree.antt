@@ -30,7 +30,7 @@ mutual
     absent : NamedPartTree
     present : (part : NamedExprTree) → NamedPartTree
 
-  -- the operands of a chain behind its first, in order, each with the place of the sign in front of it
+  -- the operands of a chain after its first, in order, each with the place of the sign before it
   pub data NamedLinkTrees : Type 0 where
     no_link : NamedLinkTrees
     link : (sign : Place) → (operand : NamedExprTree) → (others : NamedLinkTrees) → NamedLinkTrees
@@ -82,7 +82,7 @@ pub data NamedViaTree : Type 0 where
 -- Statements, each with the place of its first token.
 mutual
   pub data NamedStmtTree : Type 0 where
-    -- `op` is the operator in front of the `=`, and `sign` the place of the two
+    -- `op` is the operator before the `=`, and `sign` the place of the two
     assign : (target : NamedTargetTree) → (op : Option Op) → (sign : Place) → (value : NamedExprTree) → (at : Place) → NamedStmtTree
     -- `=?`
     keep : (target : NamedTargetTree) → (call : NamedCallTree) → (at : Place) → NamedStmtTree
@@ -134,7 +134,7 @@ pub record NamedMethodTree : Type 0 where
   pub body : NamedBlockTree
 
 -- Constants, structs and methods have their places in these lists as their numbers; a status of the package has its
--- place behind the ten of the language. `order` has the numbers of all methods, each behind those that it calls.
+-- place after the ten of the language. `order` has the numbers of all methods, each after those that it calls.
 pub record NamedPackageTree : Type 0 where
   pub package_name : List ℕ
   pub consts : List ConstTree

@@ -1,5 +1,5 @@
 -- The trees that the nodes of a resolved package stand for. The tree of an expression is made of the trees of the
--- expressions in front of it, so the trees of all are a fold over the nodes from the left. Statements are folded
+-- expressions before it, so the trees of all are a fold over the nodes from the left. Statements are folded
 -- likewise, over the expressions' trees.
 use Rattle.std.specs.Prelude.{ℕ, Option, None, Some, List, [], ◌∷◌, ◌++◌, map, option_map, slice_get}
 use Rattle.wf_text.specs.declared.place.Place.{Place}
@@ -73,7 +73,7 @@ abbrev pub core_at : List NamedExprTree → NamedCore → Option Bounds → Name
 core_at ts (cores.Base of at) b = tree.base_type of at (bounds_at ts b)
 core_at ts (cores.Struct of at) b = tree.struct_type of.0 at
 
--- a prefix in front of a type
+-- a prefix before a type
 abbrev pub prefixed : List NamedExprTree → Prefix → NamedTypeTree → NamedTypeTree
 prefixed ts (prefixes.Slice at) t = tree.slice_of at t
 prefixed ts (prefixes.Array length at) t = tree.array_of (expr_at ts length) at t
@@ -85,7 +85,7 @@ all_prefixed ts (p ∷ ps) t = prefixed ts p (all_prefixed ts ps t)
 abbrev pub type_at : List NamedExprTree → NamedType → NamedTypeTree
 type_at ts t = all_prefixed ts t.prefixes (core_at ts t.core t.bounds)
 
--- The tree that a node makes of the trees in front of it.
+-- The tree that a node makes of the trees before it.
 abbrev pub expr_made : List NamedExprTree → NamedExpr → Place → NamedExprTree
 expr_made ts (exprs.Number value) at = tree.number value at
 expr_made ts (exprs.Status number) at = tree.status number.0 at

@@ -113,7 +113,7 @@ abbrev pub hands_on : Scope → (a : ℕ) → NamedArgTrees → Bool
 hands_on s a no_arg = false
 hands_on s a (more_args e others) = is_that a (io_handed s e) || hands_on s a others
 
--- It isn't handed on again by the arguments behind.
+-- It isn't handed on again by the arguments after it.
 abbrev pub never_again : Scope → Option ℕ → NamedArgTrees → Bool
 never_again s None others = true
 never_again s (Some a) others = not (hands_on s a others)
@@ -195,7 +195,7 @@ abbrev mutual
   named_arms s loops (otherwise body) = named_block s loops body
   named_arms s loops (arm condition body others) = named_expr s condition && (named_block s loops body && named_arms s loops others)
 
--- A constant knows only those in front of it; `n` is the number of the first one in the list.
+-- A constant knows only those before it; `n` is the number of the first one in the list.
 abbrev pub scope_of_const : NamedPackageTree → ℕ → Scope
 scope_of_const p n = record { within = p; consts = n; of = None; args = []; locals = [] }
 
@@ -299,7 +299,7 @@ abbrev pub method_calls_only : (ℕ → Bool) → Option NamedMethodTree → Boo
 method_calls_only known None = false
 method_calls_only known (Some m) = block_calls_only known m.body
 
--- Each method of the list calls only those that stand in front of it.
+-- Each method of the list calls only those that stand before it.
 abbrev pub calls_in_front : NamedPackageTree → (front rest : List ℕ) → Bool
 calls_in_front p front [] = true
 calls_in_front p front (m ∷ ms) = method_calls_only (is_among front) (slice_get p.methods m) && (not (is_among front m) && calls_in_front p (m ∷ front) ms)

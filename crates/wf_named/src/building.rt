@@ -1,4 +1,4 @@
-// The nodes and declarations of a resolved package, as they are built and read. A node's parts stand in front of it, so
+// The nodes and declarations of a resolved package, as they are built and read. A node's parts stand before it, so
 // a walk from a node down to its parts ends.
 
 ghost use Rattle.std.specs.Prelude.{◌≡◌, ◌+◌, ◌<◌, ◌^◌, ◌++◌, [], ◌∷◌, ℕ, List, Some, length, map, slice_get, IfOk, OnOk, OnErr};
@@ -89,10 +89,8 @@ impl NamedNodes {
         if self.texts.len() >= NUMBERS {
             return Err(AllocError);
         }
-        match self.texts.number_of(text) {
-            Ok(number) => return Ok(number),
-            Err(_) => return Err(AllocError),
-        }
+        let number = self.texts.number_of(text)?;
+        Ok(number)
     }
 
     /// Adds an expression, whose parts are of this package. Its tree joins those of the others, and no other tree
@@ -111,10 +109,8 @@ impl NamedNodes {
         if number >= NUMBERS {
             return Err(AllocError);
         }
-        match self.exprs.push(node) {
-            Ok(()) => return Ok(ExprId(number as u32)),
-            Err(_) => return Err(AllocError),
-        }
+        self.exprs.push(node)?;
+        Ok(ExprId(number as u32))
     }
 
     /// Adds a statement, whose parts are of this package. Its tree joins those of the others, and no other tree
@@ -132,10 +128,8 @@ impl NamedNodes {
         if number >= NUMBERS {
             return Err(AllocError);
         }
-        match self.stmts.push(node) {
-            Ok(()) => return Ok(StmtId(number as u32)),
-            Err(_) => return Err(AllocError),
-        }
+        self.stmts.push(node)?;
+        Ok(StmtId(number as u32))
     }
 
     /// Adds a constant. On `Err` the package is as it was.
@@ -145,10 +139,8 @@ impl NamedNodes {
         ensures package { OnOk result (named_package self.new ≡ record (named_package self.old) { consts = (named_package self.old).consts ++ const_made self.old.texts (exprs_of self.old) constant ∷ [] }) }
         ensures err { OnErr result (self.new ≡ self.old) }
     {
-        match self.consts.push(constant) {
-            Ok(()) => return Ok(()),
-            Err(_) => return Err(AllocError),
-        }
+        self.consts.push(constant)?;
+        Ok(())
     }
 
     /// Adds a status of the package by its text. On `Err` the package is as it was.
@@ -158,10 +150,8 @@ impl NamedNodes {
         ensures package { OnOk result (named_package self.new ≡ record (named_package self.old) { statuses = (named_package self.old).statuses ++ word_at self.old.texts text ∷ [] }) }
         ensures err { OnErr result (self.new ≡ self.old) }
     {
-        match self.statuses.push(text) {
-            Ok(()) => return Ok(()),
-            Err(_) => return Err(AllocError),
-        }
+        self.statuses.push(text)?;
+        Ok(())
     }
 
     /// Adds a struct. On `Err` the package is as it was.
@@ -171,10 +161,8 @@ impl NamedNodes {
         ensures package { OnOk result (named_package self.new ≡ record (named_package self.old) { structs = (named_package self.old).structs ++ struct_made self.old.texts (exprs_of self.old) structure ∷ [] }) }
         ensures err { OnErr result (self.new ≡ self.old) }
     {
-        match self.structs.push(structure) {
-            Ok(()) => return Ok(()),
-            Err(_) => return Err(AllocError),
-        }
+        self.structs.push(structure)?;
+        Ok(())
     }
 
     /// Adds a method with its body. On `Err` the package is as it was.
@@ -184,10 +172,8 @@ impl NamedNodes {
         ensures package { OnOk result (named_package self.new ≡ record (named_package self.old) { methods = (named_package self.old).methods ++ method_made self.old.texts (exprs_of self.old) (stmts_of self.old) method ∷ [] }) }
         ensures err { OnErr result (self.new ≡ self.old) }
     {
-        match self.methods.push(method) {
-            Ok(()) => return Ok(()),
-            Err(_) => return Err(AllocError),
-        }
+        self.methods.push(method)?;
+        Ok(())
     }
 
     /// Takes an order of the methods, by number, in place of the one that was there.

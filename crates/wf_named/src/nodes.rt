@@ -24,7 +24,7 @@ pub struct NamedPath {
     pub at: Place,
 }
 
-/// A type of the language that has a name behind `base.`.
+/// A type of the language that has a name after `base.`.
 #[derive(Clone, Copy, PartialEq, Eq)]
 pub enum BaseType {
     Number(Width),
@@ -46,7 +46,7 @@ pub enum NamedCore {
     Struct { of: StructId, at: Place },
 }
 
-/// A type: its prefixes from the left, its core, and the bounds behind a core that begins with `base`.
+/// A type: its prefixes from the left, its core, and the bounds after a core that begins with `base`.
 #[derive(Drop)]
 pub struct NamedType {
     pub prefixes: Sequence<Prefix>,
@@ -94,7 +94,7 @@ pub enum NamedExpr {
         to: Option<ExprId>,
     },
     Call(NamedCall),
-    /// One operator between two or more operands, in order: the first, and each other one with the sign in front of
+    /// One operator between two or more operands, in order: the first, and each other one with the sign before
     /// it.
     Chain {
         op: Op,

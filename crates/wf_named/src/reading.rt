@@ -96,7 +96,7 @@ impl NamedNodes {
         self.methods.as_slice()
     }
 
-    /// The numbers of all methods, each behind those that it calls.
+    /// The numbers of all methods, each after those that it calls.
     pub fn order(&self) -> &[u32]
         ensures { result.now ≡ self.now.order }
     {

@@ -3,7 +3,7 @@
 //!
 //! Operands and answers are the bits that carry a value. In the types of 32 bits these are the low 32: the others are
 //! ignored in an operand, and 0 in an answer. So an int operand may come with its sign repeated above bit 31 or without.
-//! Each call takes the type in which C computes, that is behind the promotions and the usual conversions, and answers
+//! Each call takes the type in which C computes, that is after the promotions and the usual conversions, and answers
 //! None exactly where the behavior is undefined. No call takes memory.
 
 ghost use Rattle.std.specs.Prelude.{◌≡◌, ◌+◌, ◌-◌, ◌*◌, ◌^◌, ◌<◌, ◌≤◌, ◌+ℤ◌, ◌-ℤ◌, ◌*ℤ◌, ◌≤ℤ◌, ◌<ℤ◌, pos, negsuc, int_div, int_rem, IfSome, IsNone, ◌↔◌, ◌⊎◌};

@@ -17,7 +17,7 @@ pub struct FileInputs<'a, R> {
 }
 
 impl<'a, R: Files> FileInputs<'a, R> {
-    /// Inputs with no fault behind them, over the files that `files` reaches.
+    /// Inputs with no fault so far, over the files that `files` reaches.
     pub fn new(files: &'a R) -> FileInputs<'a, R>
         ensures { result.faults ≡ 0 }
     {
@@ -37,15 +37,11 @@ impl<'a, R: Files> Inputs for FileInputs<'a, R> {
             self.faults += 1;
             return Err(TakeFault::Failed);
         };
-        match read_most(&mut file, into, most) {
-            Ok(()) => Ok(()),
-            Err(TakeFault::Failed) => {
-                self.faults += 1;
-                Err(TakeFault::Failed)
-            }
-            Err(TakeFault::TooLong) => Err(TakeFault::TooLong),
-            Err(TakeFault::Memory) => Err(TakeFault::Memory),
+        let taken = read_most(&mut file, into, most);
+        if let Err(TakeFault::Failed) = taken {
+            self.faults += 1;
         }
+        taken
     }
 }
 
@@ -65,10 +61,7 @@ pub(crate) fn read_most<R: Read>(
     while into.len() as u64 <= most {
         match file.read(&mut buffer) {
             Ok(0) => return Ok(()),
-            Ok(count) => match into.extend_from_slice(&buffer[..count]) {
-                Ok(()) => {}
-                Err(_) => return Err(TakeFault::Memory),
-            },
+            Ok(count) => into.extend_from_slice(&buffer[..count])?,
             Err(_) => return Err(TakeFault::Failed),
         }
     }

@@ -2,6 +2,9 @@
 
 ghost use Rattle.std.specs.Prelude.{◌≡◌, ℕ, ◌-◌, ◌^◌, ◌<◌, ◌≤◌, List, [], Option, IfSome};
 ghost use Rattle.wf_outside.specs.Inputs.{CountsTake, NamesFailed, Takes, TakesLength};
+ghost use Rattle.wf_outside.specs.declared.inputs.TakeFault.TheVariants as faults;
+
+use std::alloc::AllocError;
 
 /// Why an input wasn't taken whole.
 #[derive(Clone, Copy, PartialEq, Eq)]
@@ -12,6 +15,14 @@ pub enum TakeFault {
     TooLong,
     /// Memory was refused.
     Memory,
+}
+
+impl From<AllocError> for TakeFault {
+    ghost from_gives = { λ _ fault. fault ≡ faults.Memory };
+
+    fn from(_refused: AllocError) -> TakeFault {
+        TakeFault::Memory
+    }
 }
 
 /// Where the bytes of files come from.

@@ -47,7 +47,7 @@ impl Model for MemInputs {
 }
 
 impl MemInputs {
-    /// Inputs with no call and no fault behind them. Of two entries of one name the first counts.
+    /// Inputs with no call and no fault so far. Of two entries of one name the first counts.
     pub fn new(alloc: Global, held: Vec<(String, Vec<u8>)>, failing: Vec<u64>) -> MemInputs
         ensures { result ≡ record {
           held = map (λ entry. (string_bytes entry.0, entry.1.items)) held.items;
@@ -101,17 +101,15 @@ impl Inputs for MemInputs {
         let call = self.calls;
         self.calls = call.saturating_add(1);
         let Some(bytes) = self.given_at(call, name) else {
-            let Ok(copy) = String::from_str(self.alloc, name) else {
-                return Err(TakeFault::Memory);
-            };
+            let copy = String::from_str(self.alloc, name)?;
             self.last_failed = Some(copy);
             self.faults += 1;
             return Err(TakeFault::Failed);
         };
-        match into.extend_from_slice(front_of(bytes, most)) {
-            Ok(()) if bytes.len() as u64 <= most => Ok(()),
-            Ok(()) => Err(TakeFault::TooLong),
-            Err(_) => Err(TakeFault::Memory),
+        into.extend_from_slice(front_of(bytes, most))?;
+        if bytes.len() as u64 > most {
+            return Err(TakeFault::TooLong);
         }
+        Ok(())
     }
 }

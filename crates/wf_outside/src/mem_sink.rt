@@ -49,17 +49,15 @@ impl MemSink {
           faults = 0;
         }) }
     {
-        match Vec::with_capacity(alloc, room) {
-            Ok(bytes) => Ok(MemSink {
-                bytes,
-                left: room,
-                longest: 0,
-                failing,
-                calls: 0,
-                faults: 0,
-            }),
-            Err(_) => Err(NoMemory),
-        }
+        let bytes = Vec::with_capacity(alloc, room)?;
+        Ok(MemSink {
+            bytes,
+            left: room,
+            longest: 0,
+            failing,
+            calls: 0,
+            faults: 0,
+        })
     }
 
     /// All that was written.

@@ -54,10 +54,10 @@ impl Inputs for PureInputs {
         ensures name { NamesFailed None None result name.now }
     {
         let bytes = self.given(name);
-        match into.extend_from_slice(front_of(bytes, most)) {
-            Ok(()) if bytes.len() as u64 <= most => Ok(()),
-            Ok(()) => Err(TakeFault::TooLong),
-            Err(_) => Err(TakeFault::Memory),
+        into.extend_from_slice(front_of(bytes, most))?;
+        if bytes.len() as u64 > most {
+            return Err(TakeFault::TooLong);
         }
+        Ok(())
     }
 }

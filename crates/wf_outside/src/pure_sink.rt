@@ -41,14 +41,12 @@ impl PureSink {
     pub fn with_room(alloc: Global, room: usize) -> Result<PureSink, NoMemory>
         ensures { IfOk result (λ sink. sink ≡ record { written = []; room = room; faults = 0 }) }
     {
-        match Vec::with_capacity(alloc, room) {
-            Ok(bytes) => Ok(PureSink {
-                bytes,
-                left: room,
-                faults: 0,
-            }),
-            Err(_) => Err(NoMemory),
-        }
+        let bytes = Vec::with_capacity(alloc, room)?;
+        Ok(PureSink {
+            bytes,
+            left: room,
+            faults: 0,
+        })
     }
 
     /// All that was written.

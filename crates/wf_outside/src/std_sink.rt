@@ -18,7 +18,7 @@ pub struct StdSink<'a, P> {
 }
 
 impl<'a, P: Print + Drop> StdSink<'a, P> {
-    /// A sink with no fault behind it, over the standard output that `output` reaches.
+    /// A sink with no fault so far, over the standard output that `output` reaches.
     pub fn new(output: &'a P) -> StdSink<'a, P>
         ensures { result.faults ≡ 0 }
     {
@@ -37,13 +37,11 @@ impl<'a, P: Print + Drop> Sink for StdSink<'a, P> {
 
     fn put(&mut self, piece: &[u8]) -> Result<(), SinkFault> {
         let mut output = io::writer(self.output);
-        match write_whole(&mut output, piece) {
-            Ok(()) => Ok(()),
-            Err(fault) => {
-                self.faults += 1;
-                Err(fault)
-            }
+        let written = write_whole(&mut output, piece);
+        if let Err(_) = written {
+            self.faults += 1;
         }
+        written
     }
 }
 

@@ -14,7 +14,7 @@ abbrev pub GivenBy : Result (Unit {0}) XRule → List (Option Arg) → Result (L
 GivenBy (Ok _) given read = read ≡ Ok given
 GivenBy (Err rule) given read = read ≡ Err rule
 
--- These arguments in front of those that a reading gives.
+-- These arguments before those that a reading gives.
 abbrev pub with_front : List Arg → Result (List Arg) XRule → Result (List Arg) XRule
 with_front front (Ok args) = Ok (front ++ args)
 with_front front (Err rule) = Err rule

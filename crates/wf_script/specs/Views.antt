@@ -18,7 +18,7 @@ use Rattle.wf_script.specs.declared.faults.ScriptFault.TheVariants.{Refused, Mem
 abbrev pub command_of : Command → Does
 command_of (Declared it) = declares it
 command_of (Init receiver within) = acts (init receiver within)
-command_of (Call receiver method args within) = acts (call receiver method.0 (map arg_of args.items) within)
+command_of (Call it) = acts (call it.receiver it.method.0 (map arg_of it.args.items) it.turns)
 command_of (Put buffer bytes) = acts (put buffer bytes.items)
 command_of (Close buffer) = acts (close buffer)
 command_of (Compact buffer) = acts (compact buffer)

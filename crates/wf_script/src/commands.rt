@@ -1,9 +1,8 @@
 // The commands of a script.
 
 use std::marker::Model;
-use wf_bufs::Arg;
+use wf_bufs::BoundedCall;
 use wf_script_rules::Thing;
-use wf_text::MethodId;
 
 /// What a line that isn't skipped does. Receivers and buffers are named by number, from 0.
 #[derive(Drop)]
@@ -11,30 +10,15 @@ pub enum Command {
     /// A receiver, a buffer or a byte array is declared.
     Declares(Thing),
     /// A receiver becomes ready, within so many turns.
-    Init {
-        receiver: u16,
-        turns: u64,
-    },
-    /// One public call, within so many turns.
-    Call {
-        receiver: u16,
-        method: MethodId,
-        args: Vec<Arg>,
-        turns: u64,
-    },
+    Init { receiver: u16, turns: u64 },
+    /// One public call.
+    Call(BoundedCall),
     /// Bytes are appended to a buffer, as many as fit.
-    Put {
-        buffer: u16,
-        bytes: Vec<u8>,
-    },
+    Put { buffer: u16, bytes: Vec<u8> },
     /// Nothing more will be written to a buffer.
-    Close {
-        buffer: u16,
-    },
+    Close { buffer: u16 },
     /// A buffer's unread bytes move to the front.
-    Compact {
-        buffer: u16,
-    },
+    Compact { buffer: u16 },
     /// A buffer or a byte array is shown.
     Shows(Thing),
     /// Later calls and inits get so many turns.

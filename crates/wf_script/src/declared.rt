@@ -8,7 +8,7 @@ use crate::names::Names;
 use crate::values::{args_of, known_method, known_struct, parts_at};
 use std::alloc::Global;
 use std::marker::Model;
-use wf_bufs::{ByteArray, ByteArrays, MethodDecl, PublicSurface, ReceiverDecl};
+use wf_bufs::{BoundedCall, ByteArray, ByteArrays, MethodDecl, PublicSurface, ReceiverDecl};
 use wf_script_rules::words::{bytes_spelt, demand, number_up_to, verb_of};
 use wf_script_rules::{LineFault, Thing, Verb, Words, XRule};
 use wf_text::NoMemory;
@@ -406,12 +406,12 @@ impl Declared {
         let target = self.target_of(surface, name)?;
         let method = target.method;
         let args = args_of(alloc, &self.names, method.args.as_slice(), words)?;
-        Ok(Command::Call {
+        Ok(Command::Call(BoundedCall {
             receiver: target.receiver,
             method: method.number,
             args,
             turns: self.turns,
-        })
+        }))
     }
 
     // Lines that declare or set something.

@@ -5,6 +5,7 @@ ghost use Rattle.wf_script.specs.declared.faults.ScriptFault.TheVariants.{Memory
 
 use std::alloc::{AllocError, AllocFailed};
 use wf_script_rules::XRule;
+use wf_text::NoMemory;
 
 /// Why bytes give no script.
 #[derive(Clone, Copy, PartialEq, Eq)]
@@ -27,6 +28,14 @@ impl<T: Drop> From<AllocFailed<T>> for ScriptFault {
     ghost from_gives = { λ _ fault. fault ≡ Memory };
 
     fn from(_refused: AllocFailed<T>) -> ScriptFault {
+        ScriptFault::Memory
+    }
+}
+
+impl From<NoMemory> for ScriptFault {
+    ghost from_gives = { λ _ fault. fault ≡ Memory };
+
+    fn from(_refused: NoMemory) -> ScriptFault {
         ScriptFault::Memory
     }
 }

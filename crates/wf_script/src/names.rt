@@ -162,7 +162,7 @@ impl Names {
         array_in(self.known(word)?)
     }
 
-    /// Adds a name behind the others.
+    /// Adds a name after the others.
     pub fn push(&mut self, alloc: Global, word: &[u8], thing: Thing) -> Result<(), NoMemory>
         ensures { OnOk result (self.new ≡ self.old ++ (record { name = word.now; thing = thing }) ∷ []) }
     {

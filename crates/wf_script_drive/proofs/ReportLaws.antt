@@ -40,7 +40,7 @@ undefined steps surface declared state host line action e others = ap (λ r. aft
 answer_parts : {State : Type 0} (state after : State) (host left : Host) (answer : Answer) → ◌≡◌ {A = Response (State × Host)} (answers nothing (state, host)) (answers answer (after, left)) → (state ≡ after) × (host ≡ left)
 answer_parts {State} state after host left answer e = let both : ◌≡◌ {A = State × Host} (state, host) (after, left) = cc (e) in (ap (λ (p : State × Host). p.0) both, ap (λ (p : State × Host). p.1) both)
 
--- a line of a command that is no action, behind which all is as it was
+-- a line of a command that is no action, after which all is as it was
 plain : {State : Type 0} (steps : Steps State) (surface : Surface) (declared : Declared) (state after : State) (host left : Host) (text : List ℕ) (one : Numbered) (answer : Answer) → ((others : List Numbered) → report_at steps surface declared state host (one ∷ others) ≡ in_front (text ++ 10 ∷ []) (report_at steps surface declared state host others)) → ◌≡◌ {A = Response (State × Host)} (answers nothing (state, host)) (answers answer (after, left)) → (others : List Numbered) → report_at steps surface declared state host (one ∷ others) ≡ in_front ((text ++ []) ++ 10 ∷ []) (report_at steps surface declared after left others)
 plain steps surface declared state after host left text one answer is e others =
     let parts = answer_parts state after host left answer e in

@@ -18,11 +18,11 @@ use Rattle.wf_script_drive.specs.Sights.{sight_of}
 abbrev pub report_at : {State : Type 0} → Steps State → Surface → Declared → State → Host → List Numbered → Report
 report_at steps surface declared state host commands = report_from surface declared (sight_of host) commands (run steps state host (actions_in commands))
 
--- These bytes in front of a report.
+-- These bytes before a report.
 abbrev pub in_front : List ℕ → Report → Report
 in_front text report = record { text = text ++ report.text; end = report.end }
 
--- What stands on a command's line in front of its answer. Only actions have one.
+-- What stands on a command's line before its answer. Only actions have one.
 abbrev pub words_text : Surface → Declared → Sight → Command → List ℕ
 words_text surface declared sight (declares it) = declares_text declared it
 words_text surface declared sight (acts action) = action_text surface declared action
@@ -49,13 +49,13 @@ Responds Writes response text step.GoesOn after left = (answer : Answer) × (res
 Responds Writes response text step.Turns after left = (response ≡ needs_more) × Writes (codes "turns")
 Responds Writes response text step.Undefined after left = (response ≡ isnt_defined) × Writes (codes "undefined")
 
--- A command's line was written: the report goes on behind it, or ends with it.
+-- A command's line was written: the report goes on after it, or ends with it.
 abbrev pub WritesLine : {State : Type 0} → (List ℕ → Type 0) → Steps State → Surface → Declared → State → Host → Numbered → Step → State → Host → Type 0
 WritesLine Writes steps surface declared state host one step.GoesOn after left = (text : List ℕ) × Writes text × ((others : List Numbered) → report_at steps surface declared state host (one ∷ others) ≡ in_front text (report_at steps surface declared after left others))
 WritesLine Writes steps surface declared state host one step.Turns after left = (text : List ℕ) × Writes text × ((others : List Numbered) → report_at steps surface declared state host (one ∷ others) ≡ record { text = text; end = out_of_turns one.line })
 WritesLine Writes steps surface declared state host one step.Undefined after left = (text : List ℕ) × Writes text × ((others : List Numbered) → report_at steps surface declared state host (one ∷ others) ≡ record { text = text; end = not_defined one.line })
 
--- An engine has stopped behind a call or an init without an outcome.
+-- An engine has stopped after a call or an init without an outcome.
 abbrev pub stops_at : Step → Bool
 stops_at step.GoesOn = false
 stops_at step.Turns = true

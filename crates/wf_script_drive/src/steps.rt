@@ -37,7 +37,7 @@ pub struct Context<'s> {
     pub surface: &'s PublicSurface,
 }
 
-// What stands on a command's line in front of its answer.
+// What stands on a command's line before its answer.
 fn words<P: Pen>(context: &Context<'_>, host: &Bufs, command: &Command, pen: &mut P)
     requires ready { P.ready pen.old }
     ensures ready { P.ready pen.new }
@@ -47,14 +47,9 @@ fn words<P: Pen>(context: &Context<'_>, host: &Bufs, command: &Command, pen: &mu
     match command {
         Command::Declares(it) => declares(context.declared, *it, pen),
         Command::Init { receiver, turns: _ } => init_word(names, *receiver, pen),
-        Command::Call {
-            receiver,
-            method,
-            args: _,
-            turns: _,
-        } => {
-            let name = method_name(context.declared, context.surface, *receiver, *method);
-            call_word(names, *receiver, name, pen);
+        Command::Call(it) => {
+            let name = method_name(context.declared, context.surface, it.receiver, it.method);
+            call_word(names, it.receiver, name, pen);
         }
         Command::Put { buffer, bytes: _ } => put_word(names, *buffer, pen),
         Command::Close { buffer } => named(names, b"close ", Thing::Buffer(*buffer), pen),
@@ -185,18 +180,13 @@ fn perform<E: Engine, P: Pen>(
         Command::Init { receiver, turns } => {
             return init(context.surface, engine, *receiver, *turns, pen);
         }
-        Command::Call {
-            receiver,
-            method,
-            args,
-            turns,
-        } => {
+        Command::Call(it) => {
             let what = Call {
-                receiver: *receiver,
-                method: *method,
-                args: args.as_slice(),
+                receiver: it.receiver,
+                method: it.method,
+                args: it.args.as_slice(),
             };
-            return call(context, engine, host, &what, *turns, pen);
+            return call(context, engine, host, &what, it.turns, pen);
         }
         Command::Put { buffer, bytes } => {
             let count = put(host, *buffer, bytes.as_slice());

@@ -12,7 +12,7 @@ use Rattle.wf_script_rules.specs.Lines.{is_skipped}
 one_more : (n : ℕ) → 1 + n ≡ suc n
 one_more n = omega arith
 
--- Blanks in front of a word don't count.
+-- Blanks before a word don't count.
 pub skip_blanks : (text : List ℕ) → words_of (drop (position_or_len (λ byte. not (is_blank byte)) text) text) ≡ words_of text
 unfolding words_of
 skip_blanks [] = refl
@@ -30,7 +30,7 @@ no_words_left (x ∷ xs) = no_words_left xs
 pub no_words : (text : List ℕ) → position_or_len (λ byte. not (is_blank byte)) text ≡ length text → words_of text ≡ []
 no_words text h = sym (skip_blanks text) ∙ (ap (λ n. words_of (drop n text)) h ∙ no_words_left text)
 
--- The first byte behind blanks is none.
+-- The first byte after blanks is none.
 pub blanks_end : (text : List ℕ) → begins is_blank (drop (position_or_len (λ byte. not (is_blank byte)) text) text) ≡ false
 blanks_end [] = refl
 blanks_end (byte ∷ rest) = by_test (is_blank byte) refl (blanks_end rest)
@@ -61,7 +61,7 @@ first_word (byte ∷ rest) words n b is fails plain all count =
     let m : n ≡ suc (position_or_len is_blank rest) = count ∙ (rw plain (one_more (position_or_len is_blank rest))) in
     record { some = rw m (sym all ∙ word_on rest byte plain) }
 
--- What the words of a text that goes on behind blanks are.
+-- What the words of a text that goes on after blanks are.
 pub next_none : (old : List (List ℕ)) (rest text : List ℕ) → words_of rest ≡ old → words_of text ≡ words_of rest → text ≡ [] → old ≡ []
 unfolding words_of
 next_none old rest text view same empty = sym view ∙ (sym same ∙ ap words_of empty)
@@ -94,7 +94,7 @@ none_taken (x ∷ xs) rule h = absurd cc
 pub skips_none : (old : List (List ℕ)) → old ≡ [] → is_skipped old ≡ true
 skips_none old e = ap is_skipped e
 
--- The first byte behind blanks tells whether a line is skipped.
+-- The first byte after blanks tells whether a line is skipped.
 pub skips_some : (old : List (List ℕ)) (rest text : List ℕ) (byte : ℕ) → words_of rest ≡ old → words_of text ≡ words_of rest → begins is_blank text ≡ false → Some byte ≡ slice_get text 0 → is_skipped old ≡ nat_eq byte 35
 skips_some old rest [] byte view same plain first = absurd cc
 skips_some old rest (other ∷ more) byte view same plain first =
@@ -139,7 +139,7 @@ keeps_none (x ∷ y ∷ ys) last =
     let shorter = rw (before_last (length ys)) at last in
     rw (and_false (is_return x)) (ap (λ zs. x ∷ zs) (keeps_none (y ∷ ys) shorter))
 
--- A text with a line feed begins with the line in front of it.
+-- A text with a line feed begins with the line before it.
 pub line_on : (rest : List ℕ) (byte : ℕ) → is_feed byte ≡ false → position_or_len is_feed rest < length rest → lines_of (byte ∷ rest) ≡ without_return (byte ∷ take (position_or_len is_feed rest) rest) ∷ lines_of (drop (suc (position_or_len is_feed rest)) rest)
 unfolding lines_of without_return
 line_on [] byte plain within = absurd (omega (arith, within))

@@ -30,7 +30,7 @@ pub data Command : Type 0 where
 abbrev pub Line : Type 0
 Line = Result (Declared × Command) XRule
 
--- The thing under a new name stands behind those declared before.
+-- The thing under a new name stands after those declared before.
 abbrev pub with_name : List ℕ → Thing → Declared → Declared
 with_name word it declared = record declared { names = declared.names ++ (record { name = word; thing = it }) ∷ [] }
 

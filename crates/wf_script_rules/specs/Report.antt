@@ -51,7 +51,7 @@ at_buffer text sight k = option_map_or text (slice_get sight.buffers k) []
 abbrev pub at_array : (List ℕ → List ℕ) → Sight → ℕ → List ℕ
 at_array text sight k = option_map_or text (slice_get sight.arrays k) []
 
--- A buffer with its counts, behind a call.
+-- A buffer with its counts, after a call.
 abbrev pub io_text : List Named → Sight → HostArg → List ℕ
 io_text names sight (io (Some k)) = codes " " ++ name_of (thing.Buffer k) names ++ at_buffer counts_text sight k
 io_text names sight arg = []
@@ -99,7 +99,7 @@ shows_text names sight (thing.Array k) = named_text names (codes "show ") (thing
 abbrev pub wi_in : Sight → ℕ → ℕ
 wi_in sight k = option_map_or (λ it. it.wi) (slice_get sight.buffers k) 0
 
--- An action in front of its answer, and the answer with the buffers behind it.
+-- An action before its answer, and the answer with the buffers after it.
 abbrev pub action_text : Surface → Declared → HostAction Buffer → List ℕ
 action_text surface declared (init receiver within) = named_text declared.names (codes "init ") (thing.Receiver receiver) ++ codes " "
 action_text surface declared (call receiver method args within) = named_text declared.names (codes "call ") (thing.Receiver receiver) ++ codes "." ++ method_name surface declared receiver method ++ codes " "
@@ -126,14 +126,14 @@ pub record Report : Type 0 where
   pub text : List ℕ
   pub end : End
 
--- A line in front of a report, and a line that ends it.
+-- A line before a report, and a line that ends it.
 abbrev pub after_line : List ℕ → Report → Report
 after_line text report = record { text = (text ++ 10 ∷ []) ++ report.text; end = report.end }
 
 abbrev pub last_line : List ℕ → End → Report
 last_line text end = record { text = text ++ 10 ∷ []; end = end }
 
--- An action's line. Behind an answer the report goes on, from what is seen then; else it stops here.
+-- An action's line. After an answer the report goes on, from what is seen then; else it stops here.
 abbrev pub after_action : Surface → Declared → Sight → (line : ℕ) → HostAction Buffer → List Seen → (Sight → List Seen → Report) → Report
 after_action surface declared sight line action [] rest = record { text = []; end = finished }
 after_action surface declared sight line action (answered answer buffers arrays ∷ seen) rest = after_line (action_text surface declared action ++ outcome_text declared sight (record { buffers = buffers; arrays = arrays }) action answer) (rest (record { buffers = buffers; arrays = arrays }) seen)

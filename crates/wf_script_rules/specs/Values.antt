@@ -130,7 +130,7 @@ arg_word args word = do
   it ← ok_or (slice_get args k) X3
   Ok (record { number = k; kind = it.kind; text = parts.1 })
 
--- Its value, behind the arguments given so far, which stand in declared order.
+-- Its value, after the arguments given so far, which stand in declared order.
 unfoldable pub arg_value : List Named → List (Option Arg) → ArgWord → Result Arg XRule
 arg_value names given at = do
   before ← ok_or (slice_get given at.number) X3

@@ -43,7 +43,7 @@ is_name word = begins is_lower word && list_all is_name_byte word && not (is_val
 abbrev pub is_number : List ℕ → Bool
 is_number word = begins is_digit word && list_all is_digit word
 
--- The value of digits behind those whose value is `value`.
+-- The value of digits after those whose value is `value`.
 abbrev pub value_from : (value : ℕ) → List ℕ → ℕ
 value_from value [] = value
 value_from value (digit ∷ digits) = value_from (value * 10 + (digit - 48)) digits

@@ -109,7 +109,7 @@ pub fn number_up_to(most: u64, word: &[u8]) -> Result<u64, XRule>
     }
 }
 
-// The value of digits with one more behind them, where it has 64 bits.
+// The value of digits with one more after them, where it has 64 bits.
 fn with_digit(value: u64, digit: u8) -> Option<u64>
     ensures { SomeIff result (value * 10 + (digit - 48) < 2 ^ 64) (value * 10 + (digit - 48)) }
 {

@@ -16,8 +16,8 @@ pub record SeenBuffer : Type 0 where
   pub pos : ℕ
   pub closed : Bool
 
--- An action's answer with the buffers and byte arrays as they stand behind it; or that a call or an init needs
--- more turns than it was given, or isn't defined within them. Nothing is seen behind either of these.
+-- An action's answer with the buffers and byte arrays as they stand after it; or that a call or an init needs
+-- more turns than it was given, or isn't defined within them. Nothing is seen after either of these.
 pub data Seen : Type 0 where
   answered : Answer → (buffers : List SeenBuffer) → (arrays : List (List ℕ)) → Seen
   turns : Seen

@@ -4,7 +4,7 @@ ghost use Rattle.std.specs.Prelude.{◌≡◌, ◌≤◌, ◌*◌, ◌++◌, len
 ghost use Rattle.hex.specs.Hex.{encode_lower};
 
 /// Writes the decimal digits of `n`, without leading zeros, at the front of `into`, and answers how many
-/// they are (1 to 20). The bytes behind them stay.
+/// they are (1 to 20). The bytes after them stay.
 pub fn number_text(n: u64, into: &mut [u8; 20]) -> usize
     ensures count { result ≡ length (decimal n) }
     ensures digits { into.new ≡ decimal n ++ drop (length (decimal n)) into.old }

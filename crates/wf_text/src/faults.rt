@@ -54,3 +54,11 @@ impl From<NoMemory> for PhaseFault {
         PhaseFault::Memory
     }
 }
+
+impl From<Refusal> for PhaseFault {
+    ghost from_gives = { λ refusal fault. fault ≡ faults.Refused refusal };
+
+    fn from(refusal: Refusal) -> PhaseFault {
+        PhaseFault::Refused(refusal)
+    }
+}

@@ -5,7 +5,7 @@ use Rattle.graphs.specs.Labels.{goes_back, label}
 use Rattle.graphs.proofs.WalkLemmas.{take-more, take-whole}
 use Rattle.graphs.proofs.LabelLemmas.{place-read, label-read, label-held, next-label, place-labelled, row-ends}
 use Rattle.graphs.proofs.labels.give_row.Goals as goal
-use Rattle.graphs.proofs.labels.give_row.Goals.{then-index-eq0+in-Ok, else-index-eq0}
+use Rattle.graphs.proofs.labels.give_row.Goals.{then-index-eq0+in_ok-give, else-index-eq0}
 
 pub row-row-requires : goal.row-row-requires
 row-row-requires c =
@@ -30,13 +30,13 @@ give-requires c =
 
 pub loop-a-preserved : goal.loop-a-preserved
 loop-a-preserved c = elim c.if-index-eq0.branch [
-  | then-index-eq0+in-Ok w ↦
+  | then-index-eq0+in_ok-give w ↦
       let new = c.if-index-eq0.labels.items in
       let longer = c.if-index-eq0.queue.items in
-      let set : (q d : ℕ) → q < length labels → slice_index_or w.give.new.labels.items q d ≡ (if nat_eq q a then i + 1 else slice_index_or labels q d) = w.in-Ok.ensures.set in
+      let set : (q d : ℕ) → q < length labels → slice_index_or w.give.new.labels.items q d ≡ (if nat_eq q a then i + 1 else slice_index_or labels q d) = w.in_ok-give.ensures.set in
       place-labelled n step order labels new queue longer i a c.loop-a.invariant.0.given (one ∙ w.if-index-eq0.true) below
-      (ap (λ (v : Vec ℕ Global). length v.items) w.labels-is ∙ w.in-Ok.ensures.len)
-      (ap (λ (v : Vec ℕ Global). v.items) w.queue-is ∙ w.in-Ok.ensures.queue)
+      (ap (λ (v : Vec ℕ Global). length v.items) w.labels-is ∙ w.in_ok-give.ensures.len)
+      (ap (λ (v : Vec ℕ Global). v.items) w.queue-is ∙ w.in_ok-give.ensures.queue)
       (λ q d l. ap (λ (v : Vec ℕ Global). slice_index_or v.items q d) w.labels-is ∙ next-label labels w.give.new.labels.items a i set q d l)
       p b row c.loop-a.a-index c.requires.leaving c.loop-a.invariant.0 c.loop-a.invariant.1 goes_on c.loop-a-test.true refl c.loop-a.invariant.2
   | else-index-eq0 w ↦

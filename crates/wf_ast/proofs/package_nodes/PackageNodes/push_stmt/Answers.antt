@@ -1,5 +1,5 @@
 use Rattle.wf_ast.proofs.TreeLemmas.{IsShaped-stmt}
 use Rattle.wf_ast.proofs.package_nodes.PackageNodes.push_stmt.Goals as goal
 
-pub invariant_of-self : goal.invariant_of-self
-invariant_of-self c = IsShaped-stmt _ c.args.node _ c.push.new.self.items c.self.invariant (rw (← c.self.view_is) at c.requires.parts) c.push.ensures.items
+pub invariant_of-self-2 : goal.invariant_of-self-2
+invariant_of-self-2 c = IsShaped-stmt _ c.args.node _ c.push.new.self.items c.self.invariant (rw (← c.self.view_is) at c.requires.parts) c.push.ensures.items

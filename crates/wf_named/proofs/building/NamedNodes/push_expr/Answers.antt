@@ -4,17 +4,17 @@ use Rattle.wf_named.proofs.PackageLemmas.{exprs_pushed, expr_added, stmts_kept, 
 use Rattle.wf_named.proofs.building.NamedNodes.push_expr.Goals as goal
 use Rattle.wf_named.specs.contracts.building.NamedNodes.{the_view}
 
-pub invariant_of-self : goal.invariant_of-self
-invariant_of-self c = IsShaped-expr _ c.args.node _ c.push.new.self.items c.self.invariant (rw (← c.self.view_is) at c.requires.parts) c.push.ensures.items
+pub invariant_of-self-2 : goal.invariant_of-self-2
+invariant_of-self-2 c = IsShaped-expr _ c.args.node _ c.push.new.self.items c.self.invariant (rw (← c.self.view_is) at c.requires.parts) c.push.ensures.items
 
-pub returns-in-Ok-clause-tree : goal.returns-in-Ok-clause-tree
-returns-in-Ok-clause-tree c = rw (← c.self.view_is) (exprs_pushed (the_view c.self.inside) c.args.node c.push.new.self.items c.in-Ok.ensures.items)
+pub returns-clause-tree : goal.returns-clause-tree
+returns-clause-tree c = rw (← c.self.view_is) (exprs_pushed (the_view c.self.inside) c.args.node c.push.new.self.items c.in_ok-push.ensures.items)
 
-pub returns-in-Ok-clause-stmts : goal.returns-in-Ok-clause-stmts
-returns-in-Ok-clause-stmts c = rw (← c.self.view_is) (stmts_kept _ c.args.node c.push.new.self.items c.self.invariant c.in-Ok.ensures.items)
+pub returns-clause-stmts : goal.returns-clause-stmts
+returns-clause-stmts c = rw (← c.self.view_is) (stmts_kept _ c.args.node c.push.new.self.items c.self.invariant c.in_ok-push.ensures.items)
 
-pub returns-in-Ok-clause-package : goal.returns-in-Ok-clause-package
-returns-in-Ok-clause-package c = rw (← c.self.view_is) (package_kept _ c.args.node c.push.new.self.items c.self.invariant c.in-Ok.ensures.items)
+pub returns-clause-package : goal.returns-clause-package
+returns-clause-package c = rw (← c.self.view_is) (package_kept _ c.args.node c.push.new.self.items c.self.invariant c.in_ok-push.ensures.items)
 
-pub returns-in-Ok-clause-made : goal.returns-in-Ok-clause-made
-returns-in-Ok-clause-made c = rw (← c.self.view_is) (expr_added (the_view c.self.inside) c.args.node c.push.new.self.items (record { 0 = c.len-number.result }) c.in-Ok.ensures.items (omega (arith, c.len-number.ensures)))
+pub returns-clause-made : goal.returns-clause-made
+returns-clause-made c = rw (← c.self.view_is) (expr_added (the_view c.self.inside) c.args.node c.push.new.self.items (record { 0 = c.len-number.result }) c.in_ok-push.ensures.items (omega (arith, c.len-number.ensures)))

@@ -2,5 +2,5 @@ use Rattle.wf_named.specs.contracts.building.NamedNodes.{the_view}
 use Rattle.wf_named.proofs.DeclLemmas.{package_method}
 use Rattle.wf_named.proofs.building.NamedNodes.push_method.Goals as goal
 
-pub returns-in-Ok-clause-package : goal.returns-in-Ok-clause-package
-returns-in-Ok-clause-package c = rw (← c.self.view_is) (package_method (the_view c.self.inside) c.args.method c.push.new.self.items c.in-Ok.ensures.items)
+pub returns-clause-package : goal.returns-clause-package
+returns-clause-package c = rw (← c.self.view_is) (package_method (the_view c.self.inside) c.args.method c.push.new.self.items c.in_ok-push.ensures.items)

@@ -4,14 +4,14 @@ use Rattle.wf_named.proofs.PackageLemmas.{stmts_pushed, stmt_added, package_stay
 use Rattle.wf_named.proofs.building.NamedNodes.push_stmt.Goals as goal
 use Rattle.wf_named.specs.contracts.building.NamedNodes.{the_view}
 
-pub invariant_of-self : goal.invariant_of-self
-invariant_of-self c = IsShaped-stmt _ c.args.node _ c.push.new.self.items c.self.invariant (rw (← c.self.view_is) at c.requires.parts) c.push.ensures.items
+pub invariant_of-self-2 : goal.invariant_of-self-2
+invariant_of-self-2 c = IsShaped-stmt _ c.args.node _ c.push.new.self.items c.self.invariant (rw (← c.self.view_is) at c.requires.parts) c.push.ensures.items
 
-pub returns-in-Ok-clause-tree : goal.returns-in-Ok-clause-tree
-returns-in-Ok-clause-tree c = rw (← c.self.view_is) (stmts_pushed (the_view c.self.inside) c.args.node c.push.new.self.items c.in-Ok.ensures.items)
+pub returns-clause-tree : goal.returns-clause-tree
+returns-clause-tree c = rw (← c.self.view_is) (stmts_pushed (the_view c.self.inside) c.args.node c.push.new.self.items c.in_ok-push.ensures.items)
 
-pub returns-in-Ok-clause-package : goal.returns-in-Ok-clause-package
-returns-in-Ok-clause-package c = rw (← c.self.view_is) (package_stays _ c.args.node c.push.new.self.items c.self.invariant c.in-Ok.ensures.items)
+pub returns-clause-package : goal.returns-clause-package
+returns-clause-package c = rw (← c.self.view_is) (package_stays _ c.args.node c.push.new.self.items c.self.invariant c.in_ok-push.ensures.items)
 
-pub returns-in-Ok-clause-made : goal.returns-in-Ok-clause-made
-returns-in-Ok-clause-made c = rw (← c.self.view_is) (stmt_added (the_view c.self.inside) c.args.node c.push.new.self.items (record { 0 = c.len-number.result }) c.in-Ok.ensures.items (omega (arith, c.len-number.ensures)))
+pub returns-clause-made : goal.returns-clause-made
+returns-clause-made c = rw (← c.self.view_is) (stmt_added (the_view c.self.inside) c.args.node c.push.new.self.items (record { 0 = c.len-number.result }) c.in_ok-push.ensures.items (omega (arith, c.len-number.ensures)))
