@@ -25,7 +25,7 @@ decl-counts (AStruct (IsPri at) w n m l fs r others) rest = omega arith
 decl-counts (AFunc (IsPub at) w o d n m l fs r t x vs y) rest = omega arith
 decl-counts (AFunc (IsPri at) w o d n m l fs r t x vs y) rest = omega arith
 
--- Each declaration of a file has a semicolon behind it.
+-- Each declaration of a file has a semicolon after it.
 file-counts : (f : FileForm) → 4 * length (file_trees f) ≤ length (file_before f [])
 file-counts NoDecl = omega arith
 file-counts (ADecl d p more) =

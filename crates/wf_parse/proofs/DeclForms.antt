@@ -39,7 +39,7 @@ vars-formed (FirstStmt s more) r rest a =
     let others = more-items-formed more r rest first.1 in
     (and-true (formed_stmt (stmt_tree s)) (formed_block (more_items_tree more r)) first.0 others.0, others.1)
 
--- The fields of a list, in front of others that are formed.
+-- The fields of a list, before others that are formed.
 more-fields-formed : (more : MoreFieldsForm) (rest : List Token) → AreFormed (more_fields_before more rest)
     → ((behind : FieldTrees) → formed_fields behind ≡ true → formed_fields (more_field_trees more behind) ≡ true) × AreFormed rest
 more-fields-formed LastField rest a = ((λ behind h. h), a)

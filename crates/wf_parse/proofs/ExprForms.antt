@@ -34,7 +34,7 @@ pub mark-part-passed : (mark : MarkPart) (rest : List Token) → AreFormed (mark
 mark-part-passed NoMark rest a = a
 mark-part-passed (AMark m) rest a = mark-passed m rest a
 
--- A second operand is always there, and a third only behind an operator of chains.
+-- A second operand is always there, and a third only after an operator of chains.
 operands-formed : (op : Op) (sign : Place) (second : ExprTree) (ls : LinksForm) → repeats op ≡ true → has_its_operands op (link sign second (link_trees ls)) ≡ true
 operands-formed op sign second NoLink h = refl
 operands-formed op sign second (Link p f ls) h = h

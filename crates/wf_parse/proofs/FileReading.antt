@@ -1,5 +1,5 @@
 -- A file, token by token.
-use Rattle.std.proofs.Common.{◌≡◌, ◌≤◌, ◌+◌, ◌-◌, ℕ, suc, Option, Result, Ok, Err, List, [], ◌∷◌, drop, length, sym, ◌∙◌, ap, subst, arith, length-drop}
+use Rattle.std.proofs.Common.{◌≡◌, ◌≤◌, ◌+◌, ◌-◌, ◌<◌, ℕ, zero, suc, Bool, true, false, Option, Result, Ok, Err, List, [], ◌∷◌, drop, length, refl, sym, ◌∙◌, ap, subst, arith, length-drop}
 use Rattle.std.proofs.Math.Seq.{drop-length}
 use Rattle.wf_ast.specs.ParsedParts.{Parsed}
 use Rattle.wf_parse_grammar.specs.declared.tokens.Token.{Token}
@@ -13,10 +13,24 @@ use Rattle.wf_parse.specs.Lexing.{ChangesTexts}
 use Rattle.wf_parse.specs.Texts.{with_text}
 use Rattle.wf_parse.proofs.TextNumbers.{with_text-length}
 use Rattle.wf_parse_nodes.specs.Makers.{IsSound, nodes}
-use Rattle.wf_parse.specs.Machines.{State, file_start, state_of, size}
+use Rattle.wf_parse.specs.Machines.{State, file_start, state_of, size, AnswersToken, MakesFirst}
 use Rattle.wf_parse.specs.Reading.{reading, AnswersOne, AnswersFile}
 use Rattle.wf_parse_nodes.specs.Seen.{AreOf, IsOrdered}
 use Rattle.wf_parse_grammar.specs.Values.{Made}
+
+-- What stands on top is performed first, whatever tokens are left.
+reading_makes : (most : ℕ) (ts : List Token) → MakesFirst (λ room k made. reading most room ts k made)
+reading_makes most [] room a k made = refl
+reading_makes zero (t ∷ ts) room a k made = refl
+reading_makes (suc most) (t ∷ ts) room a k made = refl
+
+-- A token within the number of tokens.
+pub token_read : (limited : Bool) (most : ℕ) (t : Token) (old new : State) (done : Unit {0}) → limited ≡ true → 0 < most → AnswersToken limited t old new (Ok done) → (ts : List Token) → reading most old.room (t ∷ ts) old.wants old.made ≡ reading (most - 1) new.room ts new.wants new.made
+token_read false most t old new done is some answers ts = absurd (cc is)
+token_read true zero t old new done is some answers ts = absurd (omega (arith, some))
+token_read true (suc most) t old new done is some answers ts =
+    let less : most ≡ suc most - 1 = omega (arith) in
+    answers (suc (length ts)) (λ room k made. reading most room ts k made) (reading_makes most ts) ∙ ap (λ n. reading n new.room ts new.wants new.made) less
 
 -- A fault of one token is a fault of the file.
 pub file_fault : (first most left : ℕ) (tokens rest ts : List Token) (t : Token) (old now new : State) (fault : FileFault)
@@ -38,7 +52,7 @@ file_end first most index tokens old now new (Err (file.Refused rule at)) on is 
     sym on ∙ rw none answers
 file_end first most index tokens old now new (Err file.Memory) on is answers = tt
 
--- In front of a file.
+-- Before a file.
 pub start_sound : (old new : Maker) → IsSound old → new.package ≡ old.package → new.values ≡ [] → IsSound new
 start_sound old new s e f =
     let P : Parsed → Type 0 = IsOrdered in
@@ -51,7 +65,7 @@ start_size old new made e f =
     let one : length new.wants ≡ 1 = ap (λ (s : State). length s.wants) f in
     omega (arith, same, one)
 
--- Behind texts that have joined.
+-- After texts that have joined.
 pub texts_sound : (old new : Maker) → IsSound old → ChangesTexts old.package new.package → new.values ≡ old.values → IsSound new
 texts_sound old new s e f =
     let P : Parsed → Type 0 = λ p. IsOrdered p × AreOf p old.values in

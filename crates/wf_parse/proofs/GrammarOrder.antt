@@ -19,7 +19,7 @@ use Rattle.wf_parse_grammar.proofs.Catenation.{more-mark, more-expr, more-givens
 abbrev pub Among : List Place → List Token → Type 0
 Among ps ts = StandAmong (λ (p : Place). p) (λ (t : Token). t.at) ps ts
 
--- Tokens in front of those among which they stand make no difference.
+-- Tokens before those among which they stand make no difference.
 pub token-over : (ps : List Place) (t : Token) (ts : List Token) → Among ps ts → Among ps (t ∷ ts)
 token-over ps t ts h = over (λ (p : Place). p) (λ (t : Token). t.at) ps t ts h
 
@@ -108,7 +108,7 @@ call-first (MarkedCall on d n m l gs r) ps rest h =
 call-over : (c : CallForm) (ps : List Place) (rest : List Token) → Among ps rest → Among ps (call_before c rest)
 call-over c ps rest h = but-first (λ (p : Place). p) (λ (t : Token). t.at) (call_start c) ps (call_before c rest) (call-first c ps rest h)
 
--- Places in front of others, however they are grouped.
+-- Places before others, however they are grouped.
 grouped : (ps qs rs : List Place) (ts : List Token) → Among (ps ++ (qs ++ rs)) ts → Among ((ps ++ qs) ++ rs) ts
 grouped ps qs rs ts h =
     let P : List Place → Type 0 = λ all. Among all ts in
@@ -214,7 +214,7 @@ body-among vs r rest =
     let P : List Place → Type 0 = λ ps. Among ps (vars_before vs (token kinds.CloseCurly r ∷ rest)) in
     subst P (append-nil (block_places (vars_tree vs r))) (vars-among vs r [] rest tt)
 
--- What stands in front of it in a declaration.
+-- What stands before it in a declaration.
 more-fields-over : (more : MoreFieldsForm) (ps : List Place) (rest : List Token) → Among ps rest → Among ps (more_fields_before more rest)
 more-fields-over LastField ps rest h = h
 more-fields-over (FieldComma p) ps rest h = token-over ps (token kinds.Comma p) rest h

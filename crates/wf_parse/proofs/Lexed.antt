@@ -17,7 +17,7 @@ use Rattle.wf_parse.specs.Lexing.{TokenIs, TokensAre, IsWholeFile, IsFileUpTo}
 use Rattle.wf_parse.specs.Texts.{text_of, with_text, texts_behind}
 use Rattle.wf_parse.proofs.TextNumbers.{with_text-grows, texts_behind-more}
 
--- These tokens are read, and the lexer stands behind them.
+-- These tokens are read, and the lexer stands after them.
 pub record LexedSoFar (file : ℕ) (bytes : List ℕ) (lexer : State) (known texts : List (List ℕ)) (tokens : List Token) : Type 0 where
   pub items : List Item
   pub reads : ReadsAll (start file bytes) items lexer

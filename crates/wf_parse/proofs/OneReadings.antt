@@ -58,7 +58,7 @@ same_tokens texts distinct (item ∷ items) (t ∷ ts) [] a b = absurd b
 same_tokens texts distinct (item ∷ items) (t ∷ ts) (u ∷ us) a b =
     ap (λ x. x ∷ ts) (same_token texts distinct item t u a.0 b.0) ∙ ap (λ xs. u ∷ xs) (same_tokens texts distinct items ts us a.1 b.1)
 
--- The tokens of bytes behind known texts are one list, and so are the texts behind them.
+-- The tokens of bytes after known texts are one list, and so are the texts after them.
 behind_distinct : (known texts : List (List ℕ)) (items : List Item) → AreDistinct known → texts ≡ texts_behind known items → AreDistinct texts
 behind_distinct known texts items distinct e = let P : List (List ℕ) → Type 0 = AreDistinct in subst P (sym e) (texts_behind-distinct known items distinct)
 
@@ -87,7 +87,7 @@ lexed_once file bytes known texts others ts us None (Some s) distinct a b = absu
 lexed_once file bytes known texts others ts us (Some r) None distinct a b = absurd (never_both file bytes b.items a.items r b.spelt a.spelt)
 lexed_once file bytes known texts others ts us (Some r) (Some s) distinct a b = let same = up_to_once file bytes known texts others ts us r s distinct a b in (same.0, ap Some same.1)
 
--- What stands in front of the token that passes the number of tokens isn't refused.
+-- What stands before the token that passes the number of tokens isn't refused.
 split_before : (front back f b : List Token) → front ++ back ≡ f ++ b → length front < length f → (u : Token) × (rest more : List Token) × (back ≡ u ∷ rest) × (f ≡ front ++ u ∷ more)
 split_before front back [] b e h = absurd (omega (arith, h))
 split_before [] back (y ∷ f) b e h = (y, f ++ b, f, e, refl)
@@ -165,7 +165,7 @@ module _ (most : ℕ) (tokens : List Token) (last : ℕ) (p : IsPastTokens most 
       let all : begun h.front ≡ 4096 = there.3 in
       omega (arith, below, more, all)
 
--- Tokens are wrong for one reason at one place: in front of the token that passes their number, or there.
+-- Tokens are wrong for one reason at one place: before the token that passes their number, or there.
 abbrev Before : (most : ℕ) → List Token → Rule → (left : ℕ) → Type 0
 Before most tokens rule left = IsRefused tokens rule left × ((last : ℕ) → IsPastTokens most tokens last → ⊥)
 
@@ -243,7 +243,7 @@ files_distinct number most known [] texts trees distinct a = let P : List (List 
 files_distinct number most known (bytes ∷ files) texts trees distinct a =
     files_distinct (number + 1) (most - length a.1) a.0 files texts a.3 (read_distinct number most known bytes distinct a.0 a.1 a.2 a.4) a.5
 
--- The files behind one that is read in one way.
+-- The files after one that is read in one way.
 reads_there : (number most : ℕ) (files : List (List ℕ)) (between other : List (List ℕ)) (ts us : List Token) (texts : List (List ℕ)) (trees : List DeclTree) → between ≡ other → ts ≡ us → ReadsFiles number (most - length us) other files texts trees → ReadsFiles number (most - length ts) between files texts trees
 reads_there number most files between other ts us texts trees e f h =
     let P : List (List ℕ) → Type 0 = λ known. ReadsFiles number (most - length ts) known files texts trees in

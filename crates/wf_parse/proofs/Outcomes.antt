@@ -1,4 +1,4 @@
--- A token is taken or refused, whatever comes behind it; and one that stands for bytes that are no token is refused.
+-- A token is taken or refused, whatever comes after it; and one that stands for bytes that are no token is refused.
 use Rattle.std.proofs.Common.{◌≡◌, ◌≤◌, ◌⊎◌, inl, inr, ℕ, zero, suc, Bool, true, false, ◌&&◌, nat_le, nat_eq, ◌-◌, List, [], ◌∷◌, ◌++◌, length, refl, sym, ◌∙◌, arith}
 use Rattle.wf_text.specs.declared.place.Place.{Place}
 use Rattle.wf_text.specs.declared.rules.Rule.{Rule}
@@ -20,7 +20,7 @@ use Rattle.wf_parse.specs.Reading.{reading}
 abbrev pub Next : Type 0
 Next = ℕ → List Want → Made → Ending
 
--- What comes of a token, as a function of what is done behind it.
+-- What comes of a token, as a function of what is done after it.
 abbrev pub Outcome : (ℕ → Next → Ending) → Type 0
 Outcome ending = ((room : ℕ) × (wants : List Want) × (made : Made) × ((left : ℕ) (next : Next) → ending left next ≡ next room wants made)) ⊎ ((rule : Rule) × ((left : ℕ) (next : Next) → ending left next ≡ Refused rule left))
 

@@ -40,7 +40,7 @@ whole_built number most bytes known texts tokens (Some refusal) before made are 
 same_decls : (p q : Parsed) (texts : List (List ℕ)) → q ≡ record p { texts = texts } → decls_of q ≡ decls_of p
 same_decls p q texts e = ap decls_of e
 
--- One file that is read. `p` is the package in front of it, `q` with its texts, and `r` with its nodes.
+-- One file that is read. `p` is the package before it, `q` with its texts, and `r` with its nodes.
 pub read_one : (number most left : ℕ) (bytes : List ℕ) (p q r : Parsed) (tokens : List Token) (bytes_refused : Option Refusal) (made : Made)
     → ChangesTexts p q → AreTokensOf number bytes p.texts q.texts tokens bytes_refused → read_file most tokens (decls_of q) ≡ Built made → made.decls ≡ decls_of r → KeepsTexts q r → left ≡ most - length tokens
     → ReadsOne number most bytes p r left
@@ -132,7 +132,7 @@ module _ {X : Type 0} (f : X → List ℕ) where
       drop_past (y ∷ ys) zero m = absurd (omega arith)
       drop_past (y ∷ ys) (suc n) m = drop_past ys n (omega arith)
 
--- A machine in front of the first file.
+-- A machine before the first file.
 pub new_sound : (m : Maker) (name : List ℕ) → m.package ≡ record { name = name; texts = []; exprs = []; stmts = []; decls = [] } → m.values ≡ [] → IsSound m
 new_sound m name e f =
     let P : Parsed → Type 0 = IsOrdered in

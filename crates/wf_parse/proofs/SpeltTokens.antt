@@ -66,7 +66,7 @@ comparison-formed comparisons.LessOrEqual = refl
 comparison-formed comparisons.Greater = refl
 comparison-formed comparisons.GreaterOrEqual = refl
 
--- An operator by itself, and one in front of an `=`.
+-- An operator by itself, and one before an `=`.
 operator-formed : (operator : Operator) → formed_kind (operator_kind operator) ≡ true
 operator-formed operators.Add = refl
 operator-formed operators.Sub = refl

@@ -37,7 +37,7 @@ true_or_false : {A : Type 0} (b : Bool) → b ≡ true → b ≡ false → A
 true_or_false true h g = absurd (cc g)
 true_or_false false h g = absurd (cc h)
 
--- Texts in which equal ones have equal numbers, and that a text has joined, are those behind it.
+-- Texts in which equal ones have equal numbers, and that a text has joined, are those after it.
 pub joined : (old new : List (List ℕ)) (text : List ℕ) (i : ℕ) → JoinsText old new text → slice_get new i ≡ Some text → AreDistinct new → new ≡ with_text old (Some text)
 joined old new text i joins found distinct = by_case (is_among old text) refl joins
   where

@@ -1,5 +1,5 @@
--- Each token of a file stands in front of those that follow it: a piece has bytes, and each byte moves the place on. A
--- semicolon that a line end adds stands directly behind the token in front of it, and the line end goes on.
+-- Each token of a file stands before those that follow it: a piece has bytes, and each byte moves the place on. A
+-- semicolon that a line end adds stands directly after the token before it, and the line end goes on.
 use Rattle.std.proofs.Common.{◌≡◌, ◌⊎◌, inl, inr, ℕ, ◌+◌, Bool, true, false, not, ◌&&◌, ◌||◌, nat_eq, if◌then◌else◌, Option, None, Some, List, [], ◌∷◌, ◌++◌, map, refl, sym, ◌∙◌, ap, subst, arith}
 use Rattle.std.proofs.lemmas.Bool.Decides.{nat_tests}
 use Rattle.std.specs.List.{AllByRecursion}
@@ -49,7 +49,7 @@ some-on at (byte ∷ rest) some = by_case (bytes-on (behind_byte at byte) rest)
     by_case (inl e) = let P : Place → Type 0 = Before at in subst P e (byte-on at byte)
     by_case (inr b) = before-all at (behind_byte at byte) (behind_bytes at (byte ∷ rest)) (byte-on at byte) b
 
--- What stands in front of a place stands in front of what is behind bytes there.
+-- What stands before a place stands before what is after bytes there.
 still-before : (p at : Place) (bytes : List ℕ) → Before p at → Before p (behind_bytes at bytes)
 still-before p at bytes h = by_case (bytes-on at bytes)
   where
@@ -69,7 +69,7 @@ piece-some kind.Text text rest p = begun is_quote text (text_begins text p)
 piece-some (kind.Keyword word) text rest p = begun is_run text (kind_runs (kind.Keyword word) text p.spells).first
 piece-some (kind.Symbol symbol) text rest p = begun is_symbol_byte text (symbol_first symbol text p.spells)
 
--- In front of a line end at which no semicolon is due a gap goes on.
+-- Before a line end at which no semicolon is due a gap goes on.
 line-blank : (a b c d : Bool) → d ≡ true → (a || b || c || (d && not false)) ≡ true
 line-blank true b c d h = refl
 line-blank false true c d h = refl
@@ -87,7 +87,7 @@ gap-some [] (byte ∷ text) rest some line blank e =
     goes-on (is_blank false byte) _ (line-blank (nat_eq byte 32) (nat_eq byte 9) (nat_eq byte 13) (nat_eq byte 10) line) blank
 gap-some (byte ∷ gap) text rest some line blank e = absurd (cc e)
 
--- All that is read from here on stands behind a place: reading stands behind it, or stands there in front of a line end
+-- All that is read from here on stands after a place: reading stands after it, or stands there before a line end
 -- at which no semicolon is due.
 abbrev IsPast : Place → State → Type 0
 IsPast p s = Before p s.at ⊎ ((p ≡ s.at) × (s.due ≡ false) × (ends_line s.rest ≡ true))
@@ -108,7 +108,7 @@ piece-past p old item new past r = by_case past
         let gap = gap-some r.gap item.text new.rest some (subst L r.cut h.2) (subst B h.1 r.blank) in
         subst P (sym h.0) (subst Q (sym r.at) (some-on old.at r.gap gap))
 
--- Where reading stands behind a piece.
+-- Where reading stands after a piece.
 behind-piece : (old : State) (item : Item) (new : State) → ReadsPiece old item new → Before item.at new.at
 behind-piece old item new r =
     let P : Place → Type 0 = Before item.at in
@@ -134,7 +134,7 @@ reads-past p old item new past reads = by_case reads.1
         (here, inl (before-all p item.at new.at here (behind-piece old item new r)))
     by_case (inr r) = by_past r past
 
--- What is read behind a token stands behind it.
+-- What is read after a token stands after it.
 token-past : (old : State) (item : Item) (new : State) → Reads old item new → IsPast item.at new
 token-past old item new reads = by_case reads.1
   where

@@ -18,7 +18,7 @@ TokensAre texts [] [] = ⊤
 TokensAre texts (item ∷ items) (t ∷ ts) = TokenIs texts item t × TokensAre texts items ts
 TokensAre texts _ _ = ⊥
 
--- All tokens of a file. `known` are the package's texts in front of the file, and `texts` those behind it.
+-- All tokens of a file. `known` are the package's texts before the file, and `texts` those after it.
 pub record IsWholeFile (file : ℕ) (bytes : List ℕ) (known texts : List (List ℕ)) (tokens : List Token) : Type 0 where
   pub items : List Item
   pub spelt : IsTokensOf file bytes items

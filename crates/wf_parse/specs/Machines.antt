@@ -1,7 +1,8 @@
 -- The parser's machine, step by step against the machine of the grammar.
-use Rattle.std.specs.Prelude.{◌≡◌, ◌+◌, ◌*◌, ℕ, Bool, true, false, ⊤, Result, Ok, Err, List, [], ◌∷◌, length}
+use Rattle.std.specs.Prelude.{◌≡◌, ◌+◌, ◌*◌, ℕ, Bool, true, false, ⊤, Result, Ok, Err, List, [], ◌∷◌, ◌++◌, length}
 use Rattle.wf_parse_grammar.specs.declared.builds.Build.{Build}
 use Rattle.wf_parse_grammar.specs.declared.builds.Build.TheVariants.{Take, Begin, Enter, Pass, Stop}
+use Rattle.wf_parse_grammar.specs.declared.symbols.Action.{Action}
 use Rattle.wf_parse_grammar.specs.declared.symbols.Sym.{Sym}
 use Rattle.wf_parse_grammar.specs.declared.symbols.Sym.TheVariants as syms
 use Rattle.wf_parse_grammar.specs.declared.symbols.Want.{Want}
@@ -10,7 +11,7 @@ use Rattle.wf_parse_grammar.specs.declared.tokens.Token.{Token}
 use Rattle.wf_parse_grammar.specs.Building as building
 use Rattle.wf_parse_grammar.specs.Building.{Ending, Built, step, after, ends, skipped}
 use Rattle.wf_parse_grammar.specs.Machine.{owes}
-use Rattle.wf_parse_grammar.specs.Values.{Made}
+use Rattle.wf_parse_grammar.specs.Values.{Made, perform}
 use Rattle.wf_parse.specs.declared.machine.Machine.{Machine}
 use Rattle.wf_parse.specs.declared.machine.StepFault.{StepFault}
 use Rattle.wf_parse.specs.declared.machine.StepFault.TheVariants.{Refused, Memory}
@@ -26,7 +27,7 @@ pub record State : Type 0 where
 abbrev pub state_of : Machine → State
 state_of m = record { room = m.room; wants = m.wants; made = made m.maker }
 
--- In front of a file's first token.
+-- Before a file's first token.
 abbrev pub file_start : Made → State
 file_start made_before = record { room = 0; wants = Read syms.File ∷ []; made = made_before }
 
@@ -39,6 +40,14 @@ abbrev pub want_owes : Want → Bool
 want_owes (Read s) = owes s
 want_owes (Make a) = false
 
+-- What comes after a token, where an action on top is performed first: so it may be performed with the token that wants it.
+abbrev pub MakesFirst : (ℕ → List Want → Made → Ending) → Type 0
+MakesFirst next = (room : ℕ) (a : Action) (k : List Want) (made : Made) → next room (Make a ∷ k) made ≡ next room k (perform a made)
+
+-- These things are wanted on top of what was, and some of the actions before them are performed.
+abbrev pub Wanted : List Want → (old new : State) → Type 0
+Wanted xs old new = (next : ℕ → List Want → Made → Ending) → MakesFirst next → (room : ℕ) → next room (xs ++ old.wants) old.made ≡ next room new.wants new.made
+
 -- How much a token puts on the stack.
 abbrev pub wanted : Build → List Want
 wanted (Take xs) = xs
@@ -50,14 +59,14 @@ wanted (Stop r) = []
 -- A symbol on top, and what the table says to the token: it is taken (true), or left to what stands below (false), or
 -- refused.
 abbrev pub AnswersBuild : (limited : Bool) → Sym → Token → Build → (old new : State) → Result Bool StepFault → Type 0
-AnswersBuild limited s t b old new (Ok true) = (left : ℕ) (next : ℕ → List Want → Made → Ending) (passed : Ending) → after limited old.room b (Read s ∷ old.wants) old.wants old.made t.kind left next passed ≡ next new.room new.wants new.made
+AnswersBuild limited s t b old new (Ok true) = (left : ℕ) (next : ℕ → List Want → Made → Ending) (passed : Ending) → MakesFirst next → after limited old.room b (Read s ∷ old.wants) old.wants old.made t.kind left next passed ≡ next new.room new.wants new.made
 AnswersBuild limited s t b old new (Ok false) = (b ≡ Pass) × (new ≡ record { room = old.room; wants = old.wants; made = skipped s old.made })
 AnswersBuild limited s t b old new (Err (Refused rule)) = (left : ℕ) (next : ℕ → List Want → Made → Ending) (passed : Ending) → after limited old.room b (Read s ∷ old.wants) old.wants old.made t.kind left next passed ≡ building.Refused rule left
 AnswersBuild limited s t b old new (Err Memory) = ⊤
 
--- One token on the whole stack.
+-- One token on the whole stack, for what comes after it.
 abbrev pub AnswersToken : (limited : Bool) → Token → (old new : State) → Result (Unit {0}) StepFault → Type 0
-AnswersToken limited t old new (Ok _) = (left : ℕ) (next : ℕ → List Want → Made → Ending) → step limited old.room old.wants old.made t left next ≡ next new.room new.wants new.made
+AnswersToken limited t old new (Ok _) = (left : ℕ) (next : ℕ → List Want → Made → Ending) → MakesFirst next → step limited old.room old.wants old.made t left next ≡ next new.room new.wants new.made
 AnswersToken limited t old new (Err (Refused rule)) = (left : ℕ) (next : ℕ → List Want → Made → Ending) → step limited old.room old.wants old.made t left next ≡ building.Refused rule left
 AnswersToken limited t old new (Err Memory) = ⊤
 

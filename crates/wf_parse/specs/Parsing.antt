@@ -17,14 +17,14 @@ use Rattle.wf_tokens.specs.Places.{behind_bytes, first_place}
 use Rattle.wf_parse.specs.Lexing.{IsWholeFile, AreTokensOf}
 
 -- A file is read: its tokens, of which `most` may stand in the package, are those of a file of the grammar within
--- the limits, and these are the trees of its declarations. `known` are the package's texts in front of it, and `texts`
--- those behind it.
+-- the limits, and these are the trees of its declarations. `known` are the package's texts before it, and `texts`
+-- those after it.
 pub record ReadsFile (number most : ℕ) (known : List (List ℕ)) (bytes : List ℕ) (texts : List (List ℕ)) (tokens : List Token) (trees : List DeclTree) : Type 0 where
   pub tokens_are : IsWholeFile number bytes known texts tokens
   pub accepted : IsAccepted tokens trees
   pub few : length tokens ≤ most
 
--- The token that passes the number of tokens: with it a file still begins, limits aside, and the tokens in front of it
+-- The token that passes the number of tokens: with it a file still begins, limits aside, and the tokens before it
 -- are within the limits.
 pub record IsPastTokens (most : ℕ) (tokens : List Token) (left : ℕ) : Type 0 where
   pub front : List Token
@@ -55,7 +55,7 @@ abbrev pub refusal_of : (end : Place) → List Token → (bytes_refused : Option
 refusal_of end tokens (Some refusal) rule left = if nat_eq left 1 then refusal else record { rule = rule; at = place_left end tokens left }
 refusal_of end tokens None rule left = record { rule = rule; at = place_left end tokens left }
 
--- A file is refused, in front of which these texts are known.
+-- A file is refused, before which these texts are known.
 pub record RefusesFile (number most : ℕ) (known : List (List ℕ)) (bytes : List ℕ) (refusal : Refusal) : Type 0 where
   pub texts : List (List ℕ)
   pub tokens : List Token
@@ -66,8 +66,8 @@ pub record RefusesFile (number most : ℕ) (known : List (List ℕ)) (bytes : Li
   pub wrong : IsWrong most tokens rule left
   pub is : refusal ≡ refusal_of (behind_bytes (first_place number) bytes) tokens bytes_refused rule left
 
--- Files in order, from the one with this number on, with the package's texts behind them and the trees of their
--- declarations: `most` tokens are left for them, and `known` are the texts in front of them.
+-- Files in order, from the one with this number on, with the package's texts after them and the trees of their
+-- declarations: `most` tokens are left for them, and `known` are the texts before them.
 abbrev pub ReadsFiles : (number most : ℕ) → (known : List (List ℕ)) → (files : List (List ℕ)) → (texts : List (List ℕ)) → List DeclTree → Type 0
 ReadsFiles number most known [] texts trees = (texts ≡ known) × (trees ≡ [])
 ReadsFiles number most known (bytes ∷ files) texts trees =

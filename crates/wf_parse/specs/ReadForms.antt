@@ -25,7 +25,7 @@ FormsAreWellFormed = (form : DeclForm) → AreFormed (decl_before form []) → w
 abbrev pub PackagesAreWellFormed : Type 0
 PackagesAreWellFormed = (name : List ℕ) (files : List (List ℕ)) (p : Parsed) → IsParsed name files p → list_all well_formed (decls_of p) ≡ true
 
--- Each token of a file stands in front of those that follow it.
+-- Each token of a file stands before those that follow it.
 abbrev pub TokensRise : Type 0
 TokensRise = (file : ℕ) (bytes : List ℕ) (items : List Item) → IsTokensOf file bytes items → rise (map (λ item. item.at) items) ≡ true
 

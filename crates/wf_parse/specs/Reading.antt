@@ -24,7 +24,7 @@ reading most room [] k made = ends k made
 reading zero room (t ∷ ts) k made = step false room k made t (suc (length ts)) (λ _ _ _. Refused L3 (suc (length ts)))
 reading (suc most) room (t ∷ ts) k made = step true room k made t (suc (length ts)) (λ room_left wanted made_then. reading most room_left ts wanted made_then)
 
--- A whole file, behind these declarations.
+-- A whole file, after these declarations.
 abbrev pub read_file : (most : ℕ) → List Token → List DeclTree → Ending
 read_file most tokens before = reading most 0 tokens (Read File ∷ []) (record { vals = []; decls = before })
 
@@ -40,7 +40,7 @@ AnswersOne most left t old new (Ok _) = (0 < most) × ((ts : List Token) → rea
 AnswersOne most left t old new (Err (file.Refused rule at)) = (at ≡ left) × ((ts : List Token) → left ≡ suc (length ts) → reading most old.room (t ∷ ts) old.wants old.made ≡ Refused rule left)
 AnswersOne most left t old new (Err file.Memory) = ⊤
 
--- One file more is read: the package behind it has the file's texts and declarations behind its own, and `left` tokens
+-- One file more is read: the package after it has the file's texts and declarations after its own, and `left` tokens
 -- are left.
 pub record ReadsOne (number most : ℕ) (bytes : List ℕ) (old new : Parsed) (left : ℕ) : Type 0 where
   pub named : new.name ≡ old.name

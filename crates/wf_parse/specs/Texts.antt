@@ -21,7 +21,7 @@ abbrev pub with_text : List (List ℕ) → Option (List ℕ) → List (List ℕ)
 with_text known None = known
 with_text known (Some text) = if is_among known text then known else known ++ text ∷ []
 
--- The texts behind these tokens.
+-- The texts after these tokens.
 abbrev pub texts_behind : (known : List (List ℕ)) → List Item → List (List ℕ)
 texts_behind known [] = known
 texts_behind known (item ∷ items) = texts_behind (with_text known (text_of item.kind item.text)) items

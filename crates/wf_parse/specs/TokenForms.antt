@@ -6,7 +6,7 @@ use Rattle.wf_parse_grammar.specs.declared.tokens.Kind.{Kind}
 use Rattle.wf_parse_grammar.specs.declared.tokens.Kind.TheVariants as kinds
 use Rattle.wf_parse_grammar.specs.declared.tokens.Token.{Token}
 
--- A number has 64 bits, an operator of chains may stand in a row, and the operator in front of an `=` gives a number.
+-- A number has 64 bits, an operator of chains may stand in a row, and the operator before an `=` gives a number.
 abbrev pub formed_kind : Kind → Bool
 formed_kind (kinds.Number value) = nat_lt value (2 ^ 64)
 formed_kind (kinds.Chain op) = repeats op

@@ -11,7 +11,7 @@ pub fn the_grammar_gives_well_formed_declarations()
     ensures packages { PackagesAreWellFormed }
 {}
 
-/// Each token of a file stands in front of those that follow it.
+/// Each token of a file stands before those that follow it.
 pub fn tokens_stand_in_order()
     ensures { TokensRise }
 {}

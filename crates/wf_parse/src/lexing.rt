@@ -25,10 +25,8 @@ pub struct FileTokens {
 fn push(tokens: &mut Vec<Token>, kind: Kind, at: Place) -> Result<(), AllocError>
     ensures { OnOk result (tokens.new.items ≡ tokens.old.items ++ record { kind = kind; at = at } ∷ []) }
 {
-    match tokens.push(Token { kind, at }) {
-        Ok(()) => Ok(()),
-        Err(_) => Err(AllocError),
-    }
+    tokens.push(Token { kind, at })?;
+    Ok(())
 }
 
 /// Reads the bytes of the file with this number. Names and texts join the texts of the package.

@@ -1,7 +1,7 @@
 // The machine of the grammar: what is wanted stands on a stack, and each token is looked up in the table for the
 // topmost of it.
 
-ghost use Rattle.std.specs.Prelude.{◌≡◌, ◌+◌, ◌<◌, ◌≤◌, ◌^◌, ◌⊎◌, if◌then◌else◌, ℕ, List, [], ◌∷◌, ◌++◌, drop, length, true, false, nat_le, IfOk, IfErr, OnOk};
+ghost use Rattle.std.specs.Prelude.{◌≡◌, ◌+◌, ◌<◌, ◌≤◌, ◌^◌, ◌⊎◌, if◌then◌else◌, ℕ, List, [], ◌∷◌, drop, length, true, false, nat_le, IfOk, IfErr, OnOk};
 ghost use Rattle.wf_text.specs.declared.rules.Rule.TheVariants.{S5};
 ghost use Rattle.wf_parse.specs.declared.machine.StepFault.TheVariants.{Refused, Memory};
 ghost use Rattle.wf_parse_grammar.specs.declared.symbols.Want.TheVariants.{Read};
@@ -10,13 +10,13 @@ ghost use Rattle.wf_parse_grammar.specs.Building.{open_wants, build, skipped};
 ghost use Rattle.wf_parse_grammar.specs.Machine.{may_end};
 ghost use Rattle.wf_parse_grammar.specs.Values.{perform};
 ghost use Rattle.wf_parse_nodes.specs.Makers.{nodes, IsSound, KeepsTexts, made};
-ghost use Rattle.wf_parse.specs.Machines.{size, state_of, AnswersBuild, AnswersToken, AnswersEnd, want_owes};
+ghost use Rattle.wf_parse.specs.Machines.{size, state_of, AnswersBuild, AnswersToken, AnswersEnd, Wanted, want_owes};
 
 use stacks::Stack;
 use wf_parse_grammar::table::{build, may_end, opens, owes, skips};
 use wf_parse_grammar::{Action, Build, Sym, Token, Want, Wants};
 use wf_parse_nodes::Maker;
-use wf_text::Rule;
+use wf_text::{NoMemory, Rule};
 
 /// Why the machine stops.
 #[derive(Clone, Copy)]
@@ -25,6 +25,14 @@ pub enum StepFault {
     Refused(Rule),
     /// Memory was refused.
     Memory,
+}
+
+impl From<NoMemory> for StepFault {
+    ghost from_gives = { λ _ fault. fault ≡ Memory };
+
+    fn from(_refused: NoMemory) -> StepFault {
+        StepFault::Memory
+    }
 }
 
 /// How many brackets may be open.
@@ -86,16 +94,22 @@ impl Machine {
         MOST_BRACKETS <= open
     }
 
-    /// The token is taken, and these are wanted.
+    /// The token is taken: what stands before these wanted things is made, and the rest is wanted.
     fn want(&mut self, wants: &Wants) -> Result<bool, StepFault>
-        ensures ok { IfOk result (λ taken. (taken ≡ true) × (self.new ≡ record self.old { wants = wants.now ++ self.old.wants })) }
+        requires sound { IsSound self.old.maker }
+        requires few { length wants.now ≤ 12 }
+        requires size { size self.old + 32 < 2 ^ 32 }
+        ensures ok { IfOk result (λ taken. taken ≡ true) }
         ensures err { IfErr result (λ stop. stop ≡ Memory) }
-        ensures maker { self.new.maker ≡ self.old.maker }
+        ensures wanted { OnOk result (Wanted wants.now (state_of self.old) (state_of self.new)) }
+        ensures room { self.new.room ≡ self.old.room }
+        ensures sound { OnOk result (IsSound self.new.maker) }
+        ensures texts { OnOk result (KeepsTexts self.old.maker.package self.new.maker.package) }
+        ensures size { OnOk result (size self.new ≤ size self.old + 32) }
     {
-        match wants.push_on(&mut self.wants) {
-            Ok(()) => Ok(true),
-            Err(_) => Err(StepFault::Memory),
-        }
+        let lead = wants.push_on(&mut self.wants)?;
+        self.maker.perform_lead(lead)?;
+        Ok(true)
     }
 
     /// A token is taken that begins no statement and no method.
@@ -106,10 +120,14 @@ impl Machine {
         token: Token,
         wants: &Wants,
     ) -> Result<bool, StepFault>
-        requires { size self.old + 32 < 2 ^ 32 }
+        requires sound { IsSound self.old.maker }
+        requires few { length wants.now ≤ 12 }
+        requires size { size self.old + 32 < 2 ^ 32 }
         ensures answers { AnswersBuild limited symbol token (builds.Take wants.now) (state_of self.old) (state_of self.new) result }
-        ensures same { self.new.maker ≡ self.old.maker }
-        ensures taken { IfOk result (λ taken. (taken ≡ true) × (self.new.wants ≡ wants.now ++ self.old.wants)) }
+        ensures ok { IfOk result (λ taken. taken ≡ true) }
+        ensures sound { OnOk result (IsSound self.new.maker) }
+        ensures texts { OnOk result (KeepsTexts self.old.maker.package self.new.maker.package) }
+        ensures size { OnOk result (size self.new ≤ size self.old + 32) }
     {
         if limited && opens(token.kind) && self.is_deep(symbol) {
             return Err(StepFault::Refused(Rule::L4));
@@ -125,9 +143,14 @@ impl Machine {
         token: Token,
         wants: &Wants,
     ) -> Result<bool, StepFault>
+        requires sound { IsSound self.old.maker }
+        requires few { length wants.now ≤ 12 }
+        requires size { size self.old + 32 < 2 ^ 32 }
         ensures answers { AnswersBuild limited symbol token (builds.Begin wants.now) (state_of self.old) (state_of self.new) result }
-        ensures same { self.new.maker ≡ self.old.maker }
-        ensures taken { IfOk result (λ taken. (taken ≡ true) × (self.new.wants ≡ wants.now ++ self.old.wants)) }
+        ensures ok { IfOk result (λ taken. taken ≡ true) }
+        ensures sound { OnOk result (IsSound self.new.maker) }
+        ensures texts { OnOk result (KeepsTexts self.old.maker.package self.new.maker.package) }
+        ensures size { OnOk result (size self.new ≤ size self.old + 32) }
     {
         if limited && self.room == 0 {
             return Err(StepFault::Refused(Rule::L5));
@@ -144,10 +167,14 @@ impl Machine {
         token: Token,
         wants: &Wants,
     ) -> Result<bool, StepFault>
-        requires { size self.old + 32 < 2 ^ 32 }
+        requires sound { IsSound self.old.maker }
+        requires few { length wants.now ≤ 12 }
+        requires size { size self.old + 32 < 2 ^ 32 }
         ensures answers { AnswersBuild limited symbol token (builds.Enter wants.now) (state_of self.old) (state_of self.new) result }
-        ensures same { self.new.maker ≡ self.old.maker }
-        ensures taken { IfOk result (λ taken. (taken ≡ true) × (self.new.wants ≡ wants.now ++ self.old.wants)) }
+        ensures ok { IfOk result (λ taken. taken ≡ true) }
+        ensures sound { OnOk result (IsSound self.new.maker) }
+        ensures texts { OnOk result (KeepsTexts self.old.maker.package self.new.maker.package) }
+        ensures size { OnOk result (size self.new ≤ size self.old + 32) }
     {
         if limited && self.is_deep(symbol) {
             return Err(StepFault::Refused(Rule::L4));
@@ -167,10 +194,8 @@ impl Machine {
         ensures same { self.new.wants ≡ self.old.wants }
         ensures grows { OnOk result (nodes self.new.maker ≤ nodes self.old.maker + 2) }
     {
-        match self.maker.perform_all(skips(symbol)) {
-            Ok(()) => Ok(false),
-            Err(_) => Err(StepFault::Memory),
-        }
+        self.maker.perform_all(skips(symbol))?;
+        Ok(false)
     }
 
     /// What the table says to the token where `symbol` stood on the top: true where the token is taken, false where
@@ -229,10 +254,8 @@ impl Machine {
         ensures grows { OnOk result (nodes self.new.maker ≤ nodes self.old.maker + 1) }
         ensures err { IfErr result (λ stop. stop ≡ Memory) }
     {
-        match self.maker.perform(action) {
-            Ok(()) => Ok(()),
-            Err(_) => Err(StepFault::Memory),
-        }
+        self.maker.perform(action)?;
+        Ok(())
     }
 
     /// The file's end for a symbol that stood on the top: it is left out, or refused by S5.
@@ -250,10 +273,8 @@ impl Machine {
         if !may_end(symbol) {
             return Err(StepFault::Refused(Rule::S5));
         }
-        match self.maker.perform_all(skips(symbol)) {
-            Ok(()) => Ok(()),
-            Err(_) => Err(StepFault::Memory),
-        }
+        self.maker.perform_all(skips(symbol))?;
+        Ok(())
     }
 
     /// The file's end. S5 where more is wanted.

@@ -6,6 +6,7 @@ ghost use Rattle.wf_parse_nodes.specs.Makers.{nodes, IsSound, KeepsTexts};
 ghost use Rattle.wf_parse.specs.Machines.{size, state_of, file_start};
 ghost use Rattle.wf_parse.specs.Parsing.{AnswersParse, refusal_of, place_left};
 ghost use Rattle.wf_parse.specs.Reading.{AnswersOne, AnswersFile, AnswersBytes};
+ghost use Rattle.wf_parse.specs.declared.parsing.FileFault.TheVariants as faults;
 
 use crate::lexing::{FileTokens, file_tokens};
 use crate::machine::{Machine, StepFault};
@@ -28,6 +29,14 @@ pub enum FileFault {
     Memory,
 }
 
+impl From<NoMemory> for FileFault {
+    ghost from_gives = { λ _ fault. fault ≡ faults.Memory };
+
+    fn from(_refused: NoMemory) -> FileFault {
+        FileFault::Memory
+    }
+}
+
 /// The token at this place.
 fn token_at(tokens: &[Token], index: usize) -> Token
     requires { index < length tokens.now }
@@ -37,7 +46,7 @@ fn token_at(tokens: &[Token], index: usize) -> Token
 }
 
 impl Machine {
-    /// A machine in front of the first file of a package with this name.
+    /// A machine before the first file of a package with this name.
     fn new(alloc: Global, name: &[u8]) -> Result<Machine, AllocError>
         ensures named { IfOk result (λ m. m.maker.package ≡ record { name = name.now; texts = []; exprs = []; stmts = []; decls = [] }) }
         ensures none { IfOk result (λ m. m.maker.values ≡ []) }
@@ -53,7 +62,7 @@ impl Machine {
         })
     }
 
-    /// In front of a file's first token.
+    /// Before a file's first token.
     fn begin_file(&mut self) -> Result<(), NoMemory>
         ensures state { OnOk result (state_of self.new ≡ file_start (record { vals = []; decls = decls_of self.old.maker.package })) }
         ensures same { OnOk result (self.new.maker.package ≡ self.old.maker.package) }
@@ -65,7 +74,7 @@ impl Machine {
         self.wants.push(Want::Read(Sym::File))
     }
 
-    /// Reads one token, behind which there are `left - 1` to the file's end. `most` may stand in the package, itself
+    /// Reads one token, after which there are `left - 1` to the file's end. `most` may stand in the package, itself
     /// counted: where it is 0 and the token can stand here, L3.
     fn read_token(&mut self, token: Token, left: usize, most: usize) -> Result<(), FileFault>
         requires sound { IsSound self.old.maker }
@@ -131,13 +140,11 @@ impl Machine {
         ensures texts { OnOk result (KeepsTexts self.old.maker.package self.new.maker.package) }
         ensures size { OnOk result (nodes self.new.maker ≤ nodes self.old.maker + 32 * length tokens.now + 2) }
     {
-        match self.begin_file() {
-            Ok(()) => self.read_tokens(tokens, most),
-            Err(_) => Err(FileFault::Memory),
-        }
+        self.begin_file()?;
+        self.read_tokens(tokens, most)
     }
 
-    /// Reads the bytes of the file with this number. `most` tokens may stand in it and the files behind it; what is
+    /// Reads the bytes of the file with this number. `most` tokens may stand in it and the files after it; what is
     /// left of them is the answer. S1 to S6, L3, L4 and L5 where the file breaks them.
     fn read_bytes(&mut self, number: u16, bytes: &[u8], most: usize) -> Result<usize, PhaseFault>
         requires sound { IsSound self.old.maker }
@@ -149,9 +156,7 @@ impl Machine {
         ensures nodes { OnOk result (nodes self.new.maker ≤ nodes self.old.maker + 64 * length bytes.now + 64) }
         ensures texts { OnOk result (length self.new.maker.package.texts ≤ length self.old.maker.package.texts + 2 * length bytes.now) }
     {
-        let Ok(file) = file_tokens(self.maker.alloc, &mut self.maker.package, number, bytes) else {
-            return Err(PhaseFault::Memory);
-        };
+        let file = file_tokens(self.maker.alloc, &mut self.maker.package, number, bytes)?;
         let tokens = file.tokens.as_slice();
         match self.read_file(tokens, most) {
             Ok(()) => Ok(most.saturating_sub(tokens.len())),
@@ -195,9 +200,7 @@ fn read_nodes(alloc: Global, name: &str, files: &[Vec<u8>]) -> Result<PackageNod
     requires bytes { sum_by (λ file. length file.items) files.now ≤ 1048576 }
     ensures { AnswersParse name.now (map (λ file. file.items) files.now) result }
 {
-    let Ok(mut machine) = Machine::new(alloc, name.as_bytes()) else {
-        return Err(PhaseFault::Memory);
-    };
+    let mut machine = Machine::new(alloc, name.as_bytes())?;
     let mut most = MOST_TOKENS;
     let mut number: u16 = 0;
     for bytes in files {
@@ -214,8 +217,6 @@ pub fn parse(alloc: Global, name: &str, files: &[Vec<u8>]) -> Result<Package, Ph
     requires bytes { sum_by (λ file. length file.items) files.now ≤ 1048576 }
     ensures { AnswersParse name.now (map (λ file. file.items) files.now) result }
 {
-    match read_nodes(alloc, name, files) {
-        Ok(nodes) => Ok(Package::new(nodes)),
-        Err(fault) => Err(fault),
-    }
+    let nodes = read_nodes(alloc, name, files)?;
+    Ok(Package::new(nodes))
 }

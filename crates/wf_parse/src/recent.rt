@@ -12,7 +12,7 @@ const SLOTS: usize = 2048;
 /// A number at each slot, that of the last text which has this slot. At first all are 0. What is found here is always
 /// compared with the text, so nothing hangs on what stands in the slots.
 #[derive(Drop)]
-pub struct Recent {
+pub(crate) struct Recent {
     numbers: Vec<TextId>,
 }
 
@@ -37,14 +37,14 @@ fn is_text(parsed: &PackageNodes, number: TextId, text: &[u8]) -> bool
 
 impl Recent {
     /// Nothing is remembered.
-    pub fn new(alloc: Global) -> Result<Self, AllocError> {
+    pub(crate) fn new(alloc: Global) -> Result<Self, AllocError> {
         Ok(Recent {
             numbers: vec![in alloc; TextId(0); SLOTS]?,
         })
     }
 
     /// The number of `text` in the package, if it is remembered.
-    pub fn find(&self, parsed: &PackageNodes, text: &[u8]) -> Option<TextId>
+    pub(crate) fn find(&self, parsed: &PackageNodes, text: &[u8]) -> Option<TextId>
         ensures { IfSome result (λ number. slice_get parsed.now.texts number.0 ≡ Some text.now) }
     {
         let number = *self.numbers.get(slot_of(text))?;
@@ -56,7 +56,7 @@ impl Recent {
     }
 
     /// Remembers the number of `text`.
-    pub fn keep(&mut self, text: &[u8], number: TextId) {
+    pub(crate) fn keep(&mut self, text: &[u8], number: TextId) {
         if let Some(place) = self.numbers.get_mut(slot_of(text)) {
             *place = number;
         }

@@ -158,7 +158,7 @@ fn number_of(
 
 /// What a token is for the grammar. Its text joins the package's texts. `recent` makes that quicker where it was seen of
 /// late.
-pub fn kind_of(
+pub(crate) fn kind_of(
     recent: &mut Recent,
     parsed: &mut PackageNodes,
     token: Token<'_>,

@@ -1,4 +1,4 @@
--- What a symbol's move wants completes the symbol behind the token that was read.
+-- What a symbol's move wants completes the symbol after the token that was read.
 use Rattle.std.proofs.Common.{◌≡◌, sym, Bool, true, false, List, [], ◌∷◌, ◌++◌, refl, if◌then◌else◌}
 use Rattle.std.specs.Bool.{⊤}
 use Rattle.wf_text.specs.declared.place.Place.{Place}
@@ -103,7 +103,7 @@ pub cut-words : (xs k : List Sym) (ts rest : List Token) → Words (xs ++ k) ts 
 cut-words [] k ts rest d = (ts, refl, d)
 cut-words (x ∷ xs) k ts rest d = let w = cut-words xs k d.0 rest d.2 in (w.0, (d.0, d.1, w.1), w.2)
 
--- a move with more behind it
+-- a move with more after it
 pub back-followed : (s : Sym) (w : Move) (t : Token) (ys : List Sym) (q : Sym)
     → Back s w t → ((ts mid rest : List Token) → Word s (t ∷ ts) mid → Words ys mid rest → Word q (t ∷ ts) rest) → Back q (m.followed w ys) t
 back-followed s (Take xs) t ys q b f = λ ts rest d. let w = cut-words xs ys ts rest d in f ts w.0 rest (b ts w.0 w.1) w.2
@@ -199,7 +199,7 @@ back-givens_open _ p = tt
 abbrev given_then : Name → (colon : Place) → ExprForm → MoreGivensForm → GivensForm
 given_then n c e more = FirstGiven n c e more
 
--- behind a comma the same may stand as behind the "("
+-- after a comma the same may stand as after the "("
 abbrev givens_more : Place → GivensForm → MoreGivensForm
 givens_more p NoGiven = GivenComma p
 givens_more p (FirstGiven n c e more) = NextGiven p n c e more

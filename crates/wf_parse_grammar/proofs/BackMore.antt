@@ -21,7 +21,7 @@ use Rattle.wf_parse_grammar.specs.Words.{Word, Words}
 use Rattle.wf_parse_grammar.proofs.OpLemmas.{eq-true}
 use Rattle.wf_parse_grammar.proofs.Back.{OnTaken, Back, back-followed, back-expr, back-type, cut-words}
 
--- A statement behind its first token.
+-- A statement after its first token.
 abbrev Stmt : List Token → List Token → Type 0
 Stmt ts rest = (s : StmtForm) × (ts ≡ stmt_before s rest)
 
@@ -41,7 +41,7 @@ back-stmt kinds.Yield p = λ ts rest d. (Yielding p d.1.0 d.2.1.0, cc (d.1.1, d.
 back-stmt kinds.Assert p = λ ts rest d. (Asserting p d.1.0 d.2.1.0, cc (d.1.1, d.2.1.1, d.2.2))
 back-stmt _ p = tt
 
--- a statement's move with more behind it
+-- a statement's move with more after it
 pub followed-stmt : (w : Move) (t : Token) (ys : List Sym) (q : Sym)
     → BackStmt w t → ((ts mid rest : List Token) → Stmt (t ∷ ts) mid → Words ys mid rest → Word q (t ∷ ts) rest) → Back q (m.followed w ys) t
 followed-stmt (Take xs) t ys q b f = λ ts rest d. let w = cut-words xs ys ts rest d in f ts w.0 rest (b ts w.0 w.1) w.2
@@ -79,7 +79,7 @@ back-vars kinds.Yield p = followed-stmt (m.stmt_move kinds.Yield) (token kinds.Y
 back-vars kinds.Assert p = followed-stmt (m.stmt_move kinds.Assert) (token kinds.Assert p) (syms.MoreItems ∷ []) syms.Vars (back-stmt kinds.Assert p) (λ ts mid rest w d. (FirstStmt w.0 d.1.0, d.1.1, cc (w.1, d.1.2, d.2)))
 back-vars _ p = tt
 
--- behind a semicolon the same may stand as behind the "{"
+-- after a semicolon the same may stand as after the "{"
 abbrev items_more : Place → ItemsForm → MoreItemsForm
 items_more p NoItem = ItemSemicolon p
 items_more p (FirstItem s more) = NextItem p s more

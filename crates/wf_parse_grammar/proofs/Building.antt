@@ -24,7 +24,7 @@ use Rattle.wf_parse_grammar.proofs.Makes.{go, if_may, makes, is_built, makes-run
 use Rattle.wf_parse_grammar.proofs.MakesFirst.{made}
 use Rattle.wf_parse_grammar.proofs.MakesFile.{b-file}
 
--- The trees of a file, behind these declarations.
+-- The trees of a file, after these declarations.
 file-makes : (f : FileForm) (d : List DeclTree) → makes (Read syms.File ∷ []) (file_before f []) (made [] d) ≡ Some (made [] (d ++ file_trees f))
 file-makes f d = b-file f [] [] [] d
 

@@ -1,4 +1,4 @@
--- The tokens of a form stand in front of all that follows: with more behind, they are the same.
+-- The tokens of a form stand before all that follows: with more after them, they are the same.
 use Rattle.std.proofs.Common.{◌≡◌, ◌∙◌, ap, List, ◌∷◌, ◌++◌, refl}
 use Rattle.wf_ast.specs.declared.operators.Op.{Op}
 use Rattle.wf_parse_grammar.specs.declared.tokens.Kind.TheVariants as kinds

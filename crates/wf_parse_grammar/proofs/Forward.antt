@@ -20,7 +20,7 @@ use Rattle.wf_ast.specs.Operators.{same_op, op_number}
 use Rattle.wf_parse_grammar.proofs.OpLemmas.{eq-self}
 use Rattle.wf_parse_grammar.specs.Feeding.{fed, feed, feeds, go_on}
 
--- What may still go on behind a form, in front of what is wanted next.
+-- What may still go on after a form, before what is wanted next.
 abbrev pub atom_tail : AtomForm → List Sym → List Sym
 atom_tail (APath (BarePath n)) k = syms.PathAtom ∷ k
 atom_tail (APath (ThisPath p d n)) k = syms.ThisAtom ∷ k
@@ -52,7 +52,7 @@ expr_tail (Pair a op p b) k = operand_tail b (syms.End ∷ k)
 expr_tail (Chained a op p b ls) k = links_tail b ls (syms.Links op ∷ k)
 expr_tail (Converted a p t) k = type_tail t (syms.End ∷ k)
 
--- Tokens behind which an expression is over.
+-- Tokens after which an expression is over.
 abbrev pub ends_expr : Kind → Bool
 ends_expr (kinds.Chain op) = false
 ends_expr (kinds.Binary op) = false
@@ -64,7 +64,7 @@ ends_expr kinds.Exclamation = false
 ends_expr kinds.Question = false
 ends_expr _ = true
 
--- Tokens behind which an operand is over.
+-- Tokens after which an operand is over.
 abbrev pub ends_operand : Kind → Bool
 ends_operand kinds.OpenSquare = false
 ends_operand kinds.OpenRound = false
@@ -319,7 +319,7 @@ swapped test ts s j k f = let P : List Token → Type 0 = λ us. feeds us j ≡ 
 abbrev pub Reads : ExprForm → Type 0
 Reads e = (rest : List Token) (k : List Sym) → feeds (expr_before e rest) (syms.Expr ∷ k) ≡ feeds rest (expr_tail e k)
 
--- an expression and then a token behind which it is over
+-- an expression and then a token after which it is over
 pub to-token : (e : ExprForm) → Reads e → (t : Token) (rest : List Token) (k : List Sym) → ends_expr t.kind ≡ true
     → feeds (expr_before e (t ∷ rest)) (syms.Expr ∷ k) ≡ feeds (t ∷ rest) k
 to-token e r t rest k h = r (t ∷ rest) k ∙ over (expr_tail e k) k t rest (drop-expr e k t.kind h)
@@ -346,7 +346,7 @@ same_op-self op = eq-self (op_number op)
 link-read : (op : Op) (p : Place) (ts : List Token) (k : List Sym) → feeds (token (kinds.Chain op) p ∷ ts) (syms.Links op ∷ k) ≡ feeds ts (syms.Operand ∷ syms.Links op ∷ k)
 link-read op p ts k = ap (λ b. go_on (fed (if b then Take (syms.Operand ∷ syms.Links op ∷ []) else m.wrong_mix) k (feed k (kinds.Chain op))) (λ wanted. feeds ts wanted)) (same_op-self op)
 
--- The callee behind a path or `this`.
+-- The callee after a path or `this`.
 abbrev GivensRead : GivensForm → Type 0
 GivensRead gs = (r : Place) (rest : List Token) (k : List Sym) → feeds (givens_before gs (token kinds.CloseRound r ∷ rest)) (syms.Givens ∷ k) ≡ feeds rest k
 

@@ -21,7 +21,7 @@ use Rattle.wf_parse_grammar.specs.Feeding.{fed, feed, feeds, go_on}
 use Rattle.wf_parse_grammar.proofs.OpLemmas.{eq-self}
 use Rattle.wf_parse_grammar.proofs.Forward.{type_tail, expr_tail, ends_expr, ends_operand, drop-expr, drop-type, over, Starts, swapped, to-token, from, while-expr, result-expr, fw-expr, fw-givens, fw-type}
 
--- What may still go on behind a statement.
+-- What may still go on after a statement.
 abbrev else_tail : ElseForm → List Sym → List Sym
 else_tail NoElse k = syms.Else ∷ k
 else_tail (ElseIf p q e b o) k = else_tail o k
@@ -57,7 +57,7 @@ stmt_tail (Returning p r) k = result_tail r k
 stmt_tail (Yielding p q e) k = expr_tail e k
 stmt_tail (Asserting p e v) k = via_tail v e k
 
--- Tokens behind which a statement is over.
+-- Tokens after which a statement is over.
 abbrev pub ends_stmt : Kind → Bool
 ends_stmt kinds.Semicolon = true
 ends_stmt kinds.CloseCurly = true
@@ -365,7 +365,7 @@ fw-others : (o : OtherFieldsForm) (p : Place) (rest : List Token) (k : List Sym)
 fw-others NoOtherFields p rest k = refl
 fw-others (OtherFields q l fs r) p rest k = fw-fields fs r (token kinds.Semicolon p ∷ rest) (syms.ASemicolon ∷ k)
 
--- A declaration and its semicolon, behind `pub` or `pri`.
+-- A declaration and its semicolon, after `pub` or `pri`.
 fw-decl : (d : DeclForm) (p : Place) (rest : List Token) (k : List Sym) → feeds (decl_before d (token kinds.Semicolon p ∷ rest)) (syms.File ∷ k) ≡ feeds rest (syms.File ∷ k)
 fw-decl (AStatus (IsPub g) w n) p rest k = refl
 fw-decl (AConst (IsPub g) w n c t q e) p rest k =

@@ -55,7 +55,7 @@ pub given-trees : (gs : GivensForm) → given_trees (given_vals gs) ≡ means.gi
 given-trees NoGiven = refl
 given-trees (FirstGiven n c e more) = ap (tree.more_given n (expr_tree e)) (more_given-trees more)
 
--- One prefix more in front of a type.
+-- One prefix more before a type.
 prefixed-more : (ps : List PrefixVal) (p : PrefixVal) (t : TypeTree) → all_prefixed (ps ++ p ∷ []) t ≡ all_prefixed ps (prefixed p t)
 prefixed-more [] p t = refl
 prefixed-more (q ∷ ps) p t = ap (prefixed q) (prefixed-more ps p t)

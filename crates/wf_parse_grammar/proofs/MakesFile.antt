@@ -85,7 +85,7 @@ abbrev other_field_vals : OtherFieldsForm → List FieldVal
 other_field_vals NoOtherFields = []
 other_field_vals (OtherFields p l fs r) = field_vals fs
 
--- fields in front of others
+-- fields before others
 more_fields-trees : (more : MoreFieldsForm) (behind : List FieldVal) → field_trees (more_field_vals more ++ behind) ≡ more_field_trees more (field_trees behind)
 more_fields-trees LastField behind = refl
 more_fields-trees (FieldComma p) behind = refl
@@ -199,7 +199,7 @@ b-decl (AFunc (IsPri z) w o dot n sign l fs r t x these y) p rest k vs d =
     ∙ b-method t x these y (token kinds.Semicolon p ∷ rest) j (fields (field_vals fs) ∷ mark (mark_part_tree sign) ∷ us) d
     ∙ ap (λ ts. makes (Read syms.File ∷ k) rest (made vs (d ++ tree.method (is_public (IsPri z)) o n (mark_part_tree sign) ts (type_part_tree t) (vars_tree these y) w ∷ []))) (these-trees fs)
 
--- The declarations of a file behind others.
+-- The declarations of a file after others.
 pub b-file : (f : FileForm) (rest : List Token) (k : List Want) (vs : List Val) (d : List DeclTree)
     → makes (Read syms.File ∷ k) (file_before f rest) (made vs d) ≡ makes (Read syms.File ∷ k) rest (made vs (d ++ file_trees f))
 b-file NoDecl rest k vs d = ap (λ ds. makes (Read syms.File ∷ k) rest (made vs ds)) (sym (append-nil d))

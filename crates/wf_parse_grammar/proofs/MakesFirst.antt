@@ -1,4 +1,4 @@
--- Where a form of the grammar begins or is over: what a symbol that may be absent leaves to the token behind it, and
+-- Where a form of the grammar begins or is over: what a symbol that may be absent leaves to the token after it, and
 -- which symbols do the same with an expression's first token.
 use Rattle.std.proofs.Common.{◌≡◌, ap, sym, subst, Bool, true, List, [], ◌∷◌, ◌++◌, refl}
 use Rattle.wf_text.specs.declared.place.Place.{Place}
@@ -18,7 +18,7 @@ use Rattle.wf_parse_grammar.specs.Values.{Val, Made}
 use Rattle.wf_parse_grammar.proofs.Forward.{ends_expr, ends_operand, begins_atom, begins_expr, Starts}
 use Rattle.wf_parse_grammar.proofs.Makes.{go, makes}
 
--- Values in front of declarations.
+-- Values before declarations.
 abbrev pub made : List Val → List DeclTree → Made
 made vs d = record { vals = vs; decls = d }
 

@@ -50,7 +50,7 @@ more_items-tree LastItem r = refl
 more_items-tree (ItemSemicolon p) r = refl
 more_items-tree (NextItem p s more) r = ap (tree.more_stmts (stmt_tree s)) (more_items-tree more r)
 
--- the arms behind an `else`, and the last block
+-- the arms after an `else`, and the last block
 abbrev else_arms : ElseForm → List ArmVal
 else_arms NoElse = []
 else_arms (ElseIf p q e b o) = record { condition = expr_tree e; body = means.block_tree b } ∷ else_arms o
@@ -153,7 +153,7 @@ first-stmt s rest w k m f =
     let P : List Token → Type 0 = λ us. makes (Read w ∷ k) us m ≡ makes_stmt (Make does.AddStmt ∷ Read syms.MoreItems ∷ k) us m in
     subst P (sym st.is) (f st.first.kind st.first.at st.others m st.passes)
 
--- A call, and what stands behind a target.
+-- A call, and what stands after a target.
 b-call : (c : CallForm) (rest : List Token) (k : List Want) (vs : List Val) (d : List DeclTree)
     → makes (Read syms.Call ∷ k) (call_before c rest) (made vs d) ≡ makes k rest (made (call (call_tree c) ∷ vs) d)
 b-call (MarkedCall (OnThis q) dot n (Exclaims z) l gs r) rest k vs d = b-givens gs r rest (Make does.FinishCall ∷ k) [] (mark (mark_tree (Exclaims z)) ∷ name n ∷ receiver (on_tree (OnThis q)) ∷ vs) d ∙ ap (λ ts. makes k rest (made (call (tree.call (on_tree (OnThis q)) n (mark_tree (Exclaims z)) ts) ∷ vs) d)) (given-trees gs)
@@ -174,7 +174,7 @@ b-assign : (t : TargetTree) (p : Place) (s : SignForm) (e : ExprForm) (rest : Li
     ≡ makes k rest (made (stmt (tree.assign t (sign_op s) (sign_place s) (expr_tree e) p) ∷ vs) d)
 b-assign t p s e rest k vs d h = b-expr e rest (Make does.AssignStmt ∷ k) (sign (sign_op s) (sign_place s) ∷ target t ∷ place p ∷ vs) d (ends-expr rest h)
 
--- Promises, behind the condition of a loop, and the brace behind them.
+-- Promises, after the condition of a loop, and the brace after them.
 b-clauses : (cs : ClausesForm) (so_far : List ClauseVal) (l : Place) (ts : List Token) (k : List Want) (vs : List Val) (d : List DeclTree)
     → makes (Read syms.Clauses ∷ k) (clauses_before cs (token kinds.OpenCurly l ∷ ts)) (made (clauses so_far ∷ vs) d)
     ≡ makes (Read syms.Items ∷ k) ts (made (items [] ∷ clauses (so_far ++ clause_vals cs) ∷ vs) d)

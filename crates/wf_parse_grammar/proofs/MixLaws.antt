@@ -1,4 +1,4 @@
--- An operator is refused for being mixed exactly where it stands directly behind an operation without parentheses.
+-- An operator is refused for being mixed exactly where it stands directly after an operation without parentheses.
 use Rattle.std.proofs.Common.{◌≡◌, ◌∙◌, ap, sym, subst, ℕ, Bool, true, false, ◌&&◌, ◌⊎◌, inl, inr, Option, None, Some, List, [], ◌∷◌, ◌++◌, refl, nat_eq, nat_le, if◌then◌else◌, append-nil}
 use Rattle.std.specs.Bool.{⊤}
 use Rattle.wf_text.specs.declared.rules.Rule.{Rule}
@@ -29,7 +29,7 @@ use Rattle.wf_parse_grammar.proofs.Forward.{operand_tail, links_tail, bounds_tai
 use Rattle.wf_parse_grammar.proofs.Mixing.{Known, IsMix, all_mix}
 use Rattle.wf_parse_grammar.proofs.Tracking.{Turn, Goes, Halts, halts_if, turned, turn}
 
--- Refused for being mixed, the token is an operator behind an operation.
+-- Refused for being mixed, the token is an operator after an operation.
 abbrev Mixed : Kind → List Token → Type 0
 Mixed t f = (is_operator t ≡ true) × EndsInOperation f
 
@@ -179,7 +179,7 @@ first-go : (o : Option (List Sym)) (ts : List Token) (next : List Sym) → go_on
 first-go None ts next e = absurd (cc e)
 first-go (Some j) ts next e = (j, refl, e)
 
--- behind an operand, the next token is read and then the rest
+-- after an operand, the next token is read and then the rest
 behind-operand : (a : OperandForm) (t : Token) (ts : List Token) (k next : List Sym) → feeds (operand_before a (t ∷ ts)) k ≡ Some next
     → (j : List Sym) × (i : List Sym) × (feed j t.kind ≡ Some i) × (feeds ts i ≡ Some next)
 behind-operand a t ts k next e =
@@ -187,7 +187,7 @@ behind-operand a t ts k next e =
     let d = first-go (feed c.0 t.kind) ts next c.2 in
     (c.0, d.0, d.1, d.2)
 
--- The fields behind `+ (` are no operand.
+-- The fields after `+ (` are no operand.
 abbrev Unread : List Token → Type 0
 Unread ts = (k : List Sym) → feeds ts (syms.Fields ∷ k) ≡ None
 
@@ -249,7 +249,7 @@ no-fields (Plain (Called (OnPath (ThisPath p y x)) d n mark l gs r)) ts k next e
 no-fields (Plain (Called (OnPath (ArgsPath p y x)) d n mark l gs r)) ts k next e = cc e
 no-fields (Negated p a) ts k next e = cc e
 
--- Behind an operation, an operator is mixed.
+-- After an operation, an operator is mixed.
 same-next : (j next : List Sym) → Some j ≡ Some next → j ≡ next
 same-next j next e = cc e
 

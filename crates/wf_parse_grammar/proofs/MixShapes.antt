@@ -1,4 +1,4 @@
--- Moves that want nothing behind an operand or an operation, and refuse no mix.
+-- Moves that want nothing after an operand or an operation, and refuse no mix.
 use Rattle.std.proofs.Common.{◌≡◌, Bool, true, false, ◌&&◌, not, List, [], ◌∷◌, refl, nat_eq, if◌then◌else◌}
 use Rattle.wf_text.specs.declared.rules.Rule.{Rule}
 use Rattle.wf_text.specs.declared.rules.Rule.TheVariants.{S6}
@@ -12,7 +12,7 @@ use Rattle.wf_parse_grammar.specs.declared.symbols.Sym.TheVariants as syms
 use Rattle.wf_parse_grammar.specs.Machine as m
 use Rattle.wf_parse_grammar.specs.Machine.{Move, Take, Begin, Enter, Pass, Stop, move}
 
--- All symbols but those that stand behind an operand or an operation.
+-- All symbols but those that stand after an operand or an operation.
 abbrev pub is_plain : Sym → Bool
 is_plain syms.Rest = false
 is_plain (syms.Links op) = false

@@ -1,4 +1,4 @@
--- What is known of the tokens in front of a symbol: behind which of them operators are refused for being mixed.
+-- What is known of the tokens before a symbol: after which of them operators are refused for being mixed.
 use Rattle.std.proofs.Common.{◌≡◌, ◌∙◌, ap, sym, subst, Bool, true, false, ◌&&◌, not, Option, None, Some, List, [], ◌∷◌, ◌++◌, refl, if◌then◌else◌, append_assoc, append-nil}
 use Rattle.std.specs.Bool.{⊤}
 use Rattle.wf_text.specs.declared.place.Place.{Place}
@@ -23,7 +23,7 @@ use Rattle.wf_parse_grammar.proofs.Completes.{absent}
 use Rattle.wf_parse_grammar.proofs.Live.{OnPass, back, passes}
 use Rattle.wf_parse_grammar.proofs.MixShapes.{is_plain, all_plain, is_mix, is_mild, mild-file, mild-decl, mild-fields_mark, mild-fields_open, mild-fields, mild-more_fields, mild-method_tail, mild-body, mild-type, mild-array_length, mild-base_name, mild-bounds, mild-vars, mild-more_vars, mild-block, mild-items, mild-more_items, mild-path_stmt, mild-this_stmt, mild-target_stmt, mild-call, mild-call_this, mild-call_mark, mild-else, mild-else_tail, mild-label_head, mild-clauses, mild-clause_tail, mild-end_part, mild-label_part, mild-via, mild-operand, mild-atom, mild-path_atom, mild-this_atom, mild-cut_tail, mild-call_open, mild-givens_open, mild-givens, mild-more_givens, mild-name, mild-text, mild-dot, mild-colon, mild-semicolon, mild-equals, mild-question, mild-dots_equals, mild-right_round, mild-right_square, mild-other_fields, mild-end_label, mild-label}
 
--- What is known where a symbol is wanted, of the tokens in front of it.
+-- What is known where a symbol is wanted, of the tokens before it.
 pub record EndsInOperand (tokens : List Token) : Type 0 where
   pub before : List Token
   pub operand : OperandForm
@@ -69,7 +69,7 @@ word-words x xs v ws i a rest =
     let P : List Token → Type 0 = λ ts. Word x ts (ws ++ rest) in
     (ws ++ rest, subst P (sym (append_assoc v ws rest)) (i (ws ++ rest)), a rest)
 
--- What is wanted in front of more: where it is completed, what is known of the more.
+-- What is wanted before more: where it is completed, what is known of the more.
 pub known-then : (xs k : List Sym) (f : List Token) → Known xs f → ((ws : List Token) → AreWords xs ws → Known k (f ++ ws)) → Known (xs ++ k) f
 known-then [] k f h g = let P : List Token → Type 0 = λ ts. Known k ts in subst P (append-nil f) (g [] (λ rest. refl))
 known-then (x ∷ xs) k f h g =
@@ -95,7 +95,7 @@ mild-tells s (Enter xs) t h = λ f e. plain-known xs (f ++ t ∷ []) h
 mild-tells s Pass t h = tt
 mild-tells s (Stop r) t h = tt
 
--- the tokens behind others, the last of which is an operand's first
+-- the tokens after others, the last of which is an operand's first
 operand-ends : (f ws : List Token) (t : Token) → Word syms.Operand (t ∷ (ws ++ [])) [] → EndsInOperand ((f ++ t ∷ []) ++ ws)
 operand-ends f ws t d = record {
   before = f;
@@ -151,7 +151,7 @@ tells-result : (k : Kind) (p : Place) → Tells syms.Result (m.result_move k) (t
 tells-result kinds.Nothing p = λ f e. tt
 tells-result k p = or_pass-tells (m.expr_move k) (token k p) (tells-expr k p)
 
--- Behind an operator: a token and more behind what a form ends in.
+-- After an operator: a token and more after what a form ends in.
 grown : (base : List Token → List Token) (f before : List Token) (t : Token) (x : List Token) → f ≡ before ++ base [] → base (t ∷ x) ≡ base [] ++ t ∷ x → (f ++ t ∷ []) ++ x ≡ before ++ base (t ∷ x)
 grown base f before t x e g =
     append_assoc f (t ∷ []) x ∙ ap (λ us. us ++ t ∷ x) e ∙ append_assoc before (base []) (t ∷ x) ∙ ap (λ us. before ++ us) (sym g)
@@ -338,7 +338,7 @@ feeds-known (t ∷ ts) k next f d e = go-known (feed k t.kind) t ts k next f ref
 pub front-known : (front : List Token) (wanted : List Sym) → feeds front (syms.File ∷ []) ≡ Some wanted → Known wanted front
 front-known front wanted e = feeds-known front (syms.File ∷ []) wanted [] (tt, λ x i. tt) e
 
--- No symbol but those behind an operation refuses a mix.
+-- No symbol but those after an operation refuses a mix.
 abbrev pub mixes_not : Move → Bool
 mixes_not (Stop r) = not (is_mix r)
 mixes_not _ = true
@@ -391,7 +391,7 @@ not-rest : (t : Kind) → mixes_not (m.rest_move t) ≡ true
 not-rest kinds.As = refl
 not-rest _ = refl
 
--- Where a symbol refuses a mix, the token is an operator behind an operation.
+-- Where a symbol refuses a mix, the token is an operator after an operation.
 abbrev pub IsMix : Sym → Kind → Move → Type 0
 IsMix s t (Stop S6) = (is_operator t ≡ true) × ((f : List Token) → Here s f → EndsInOperation f)
 IsMix s t _ = ⊤

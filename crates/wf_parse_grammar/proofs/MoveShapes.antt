@@ -33,7 +33,7 @@ is_body syms.Clauses = true
 is_body syms.ClauseTail = true
 is_body _ = false
 
--- What may stand anywhere in front of what else is wanted.
+-- What may stand anywhere before what else is wanted.
 abbrev pub is_calm : Sym → Bool
 is_calm syms.Items = false
 is_calm syms.Vars = false
@@ -52,7 +52,7 @@ abbrev pub bodied : List Sym → Bool
 bodied [] = false
 bodied (s ∷ k) = is_body s || bodied k
 
--- The head of a method, in front of its block.
+-- The head of a method, before its block.
 abbrev pub is_head : Sym → Bool
 is_head syms.MethodTail = true
 is_head syms.Body = true

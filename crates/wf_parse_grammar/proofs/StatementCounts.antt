@@ -219,7 +219,7 @@ q-type_part : (t : TypePart) (n : ℕ) (rest : List Token) → count_from false 
 q-type_part NoType n rest = refl
 q-type_part (AType t) n rest = q-type t n rest
 
--- A method, whatever was counted before it, up to the brace at its end and behind it.
+-- A method, whatever was counted before it, up to the brace at its end and after it.
 count-func : (pu : PublicForm) (x : Place) (ts : List Token) (b : Bool) (n : ℕ) → count_from b n (public_before pu (token kinds.Func x ∷ ts)) ≡ count_from false 0 ts
 count-func (IsPub p) x ts true n = refl
 count-func (IsPub p) x ts false n = refl

@@ -1,4 +1,4 @@
--- The machine's count of statements is that of the tokens: where it begins a statement, the token stands behind a break,
+-- The machine's count of statements is that of the tokens: where it begins a statement, the token stands after a break,
 -- and what is left of its room is what the tokens leave of 4,096.
 use Rattle.std.proofs.Common.{◌≡◌, ◌∙◌, ◌+◌, ◌≤◌, ap, sym, subst, ℕ, Bool, true, false, ◌&&◌, ◌||◌, ◌⊎◌, inl, inr, not, List, [], ◌∷◌, ◌++◌, refl, nat_eq, arith}
 use Rattle.wf_parse_grammar.specs.declared.tokens.Kind.{Kind}
@@ -46,7 +46,7 @@ calm-counts s t xs k b n room h hd st i =
       most = subst (λ m. m ≤ 4096) (sym same) i.most;
     }
 
--- The statements of a block, behind a break.
+-- The statements of a block, after a break.
 is_block-one : (xs : List Sym) → is_block xs ≡ true → (x : Sym) × (is_fresh x ≡ true) × (xs ≡ x ∷ [])
 is_block-one [] h = absurd (cc h)
 is_block-one (x ∷ []) h = (x, h, refl)
@@ -136,7 +136,7 @@ semicolon-counts t xs k b n room h i =
     subst (λ j. Counts j (is_break t) (counted b n t) room) (sym e)
     (outside-counts (syms.File ∷ []) (is_break t) (counted b n t) room (refl, refl, tt) refl (λ f. refl) (λ f. refl) (subst (λ m. m ≤ 4096) (sym same) i.most))
 
--- behind the first token of a method's result
+-- after the first token of a method's result
 typed-sound : (xs : List Sym) → is_typed xs ≡ true → Sound (xs ++ syms.ASemicolon ∷ syms.File ∷ []) × (phase (xs ++ syms.ASemicolon ∷ syms.File ∷ []) ≡ 1) × (fresh_top (xs ++ syms.ASemicolon ∷ syms.File ∷ []) ≡ false)
 typed-sound (syms.Body ∷ []) h = ((refl, refl, (refl, refl, (refl, refl, tt))), refl, refl)
 typed-sound (syms.WholeType ∷ syms.Body ∷ []) h = ((refl, refl, (refl, refl, (refl, refl, (refl, refl, tt)))), refl, refl)

@@ -1,4 +1,4 @@
--- The machine's count of statements is that of the tokens: where it begins a statement, the token stands behind a break,
+-- The machine's count of statements is that of the tokens: where it begins a statement, the token stands after a break,
 -- and what is left of its room is what the tokens leave of 4,096.
 use Rattle.std.proofs.Common.{◌≡◌, ◌∙◌, ◌+◌, ◌≤◌, ap, ℕ, Bool, true, false, ◌&&◌, ◌||◌, ◌⊎◌, inl, inr, not, List, [], ◌∷◌, ◌++◌, refl, nat_eq}
 use Rattle.std.specs.Bool.{⊤}
@@ -280,7 +280,7 @@ pub count-same : (b : Bool) (n : ℕ) (t : Kind) → is_func t ≡ false → (b 
 count-same true n t h g = count-behind n t h ∙ ap (λ c. one_more_where c n) (g refl)
 count-same false n t h g = count-else n t h
 
--- Calm symbols in front of a stack.
+-- Calm symbols before a stack.
 abbrev pub two_or : Bool → ℕ → ℕ
 two_or true n = 2
 two_or false n = n

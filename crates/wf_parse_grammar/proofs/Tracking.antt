@@ -150,7 +150,7 @@ pub track-feeds : (ts : List Token) (room : ℕ) (k : List Sym) (left : ℕ) (wa
 track-feeds [] room k left wanted e = let h : k ≡ wanted = cc e in ap Some h
 track-feeds (t ∷ ts) room k left wanted e = then-feeds (turn room k t.kind) room t ts k left wanted refl (λ r j h. track-feeds ts r j left wanted h) e
 
--- A part in front of what is read is read.
+-- A part before what is read is read.
 pub record Partly (room : ℕ) (front back : List Token) (k : List Sym) (left : ℕ) (wanted : List Sym) : Type 0 where
   pub room' : ℕ
   pub between : List Sym

@@ -42,7 +42,7 @@ count-begins true n kinds.Assert e h = refl
 count-begins true n _ e h = absurd (cc h)
 count-begins false n t e h = absurd (cc e)
 
--- A list in which these tokens stand behind the front is not within the limits, or no file begins so.
+-- A list in which these tokens stand after the front is not within the limits, or no file begins so.
 broken : (r : Rule) (front back : List Token) (t : Token) → Reason r front (t ∷ back) → IsLive (front ++ t ∷ []) → (whole mid : List Token) → whole ≡ front ++ t ∷ mid → IsWithin whole → ⊥
 broken S5 front back t h l whole mid e w = h.0 l
 broken S6 front back t h l whole mid e w = h.0 l

@@ -27,7 +27,7 @@ parentheses_then rest = plain kinds.OpenRound ∷ plain kinds.CloseRound ∷ res
 abbrev pub braces_then : List Token → List Token
 braces_then rest = plain kinds.OpenCurly ∷ plain kinds.CloseCurly ∷ rest
 
--- The tokens that complete a symbol, in front of others.
+-- The tokens that complete a symbol, before others.
 abbrev pub completion_before : Sym → List Token → List Token
 completion_before syms.File rest = rest
 completion_before syms.Decl rest = plain kinds.Status ∷ text_token some_name ∷ rest

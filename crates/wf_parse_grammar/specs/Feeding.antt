@@ -1,4 +1,4 @@
--- The machine without limits and without an outcome: the stack behind some tokens, None where one of them can't be
+-- The machine without limits and without an outcome: the stack after some tokens, None where one of them can't be
 -- read.
 use Rattle.std.specs.Prelude.{Option, None, Some, List, [], ◌∷◌, ◌++◌}
 use Rattle.wf_parse_grammar.specs.declared.tokens.Kind.{Kind}

@@ -11,7 +11,7 @@ IsFile tokens = (f : FileForm) × (tokens ≡ file_before f [])
 abbrev pub IsLive : List Token → Type 0
 IsLive tokens = (more : List Token) × IsFile (tokens ++ more)
 
--- Behind `front` the first token of `back` is the first that no file has there; at the file's end, the file is none.
+-- After `front` the first token of `back` is the first that no file has there; at the file's end, the file is none.
 abbrev pub IsFirstWrong : (front back : List Token) → Type 0
 IsFirstWrong front [] = IsFile front → ⊥
 IsFirstWrong front (t ∷ back) = IsLive (front ++ t ∷ []) → ⊥

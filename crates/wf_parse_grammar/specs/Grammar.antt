@@ -1,5 +1,5 @@
 -- The grammar: one type for each of its parts, one constructor for each production. Each token of a production
--- that carries no text of its own is written here as its place. `X_before x rest` is the tokens of x in front of
+-- that carries no text of its own is written here as its place. `X_before x rest` is the tokens of x before
 -- the tokens `rest`.
 use Rattle.std.specs.Prelude.{ℕ, List, ◌∷◌}
 use Rattle.wf_text.specs.declared.place.Place.{Place}
@@ -117,7 +117,7 @@ pub data SignForm : Type 0 where
 pub data CallForm : Type 0 where
   MarkedCall : OnForm → (dot : Place) → Name → MarkForm → (left : Place) → GivensForm → (right : Place) → CallForm
 
--- [ "." NAME ] behind break and continue
+-- [ "." NAME ] after break and continue
 pub data LabelPart : Type 0 where
   NoLabel : LabelPart
   ALabel : (dot : Place) → Name → LabelPart
@@ -149,7 +149,7 @@ pub data VarForm : Type 0 where
   AVar : (word : Place) → Name → (colon : Place) → TypeForm → VarForm
 
 mutual
-  -- stmt but for "var"; the label behind "endwhile" is that of its "while"
+  -- stmt but for "var"; the label after "endwhile" is that of its "while"
   pub data StmtForm : Type 0 where
     Assignment : TargetForm → SignForm → ExprForm → StmtForm
     Keeping : TargetForm → (sign : Place) → CallForm → StmtForm
@@ -230,7 +230,7 @@ pub data FileForm : Type 0 where
   NoDecl : FileForm
   ADecl : DeclForm → (semicolon : Place) → FileForm → FileForm
 
--- The tokens of each part, in front of those that follow.
+-- The tokens of each part, before those that follow.
 abbrev pub path_before : PathForm → List Token → List Token
 path_before (BarePath n) rest = name_token n ∷ rest
 path_before (ThisPath p d n) rest = token kinds.This p ∷ token kinds.Dot d ∷ name_token n ∷ rest

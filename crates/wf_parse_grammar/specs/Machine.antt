@@ -27,7 +27,7 @@ pub data Move : Type 0 where
   -- no list goes on so
   Stop : (rule : Rule) → Move
 
--- A move, where more is wanted behind it.
+-- A move, where more is wanted after it.
 abbrev pub followed : Move → List Sym → Move
 followed (Take xs) ys = Take (xs ++ ys)
 followed (Begin xs) ys = Begin (xs ++ ys)

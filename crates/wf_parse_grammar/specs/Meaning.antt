@@ -178,7 +178,7 @@ vars_tree NoVars r = tree.close r
 vars_tree (FirstVar v more) r = tree.more_stmts (var_tree v) (more_vars_tree more r)
 vars_tree (FirstStmt s more) r = tree.more_stmts (stmt_tree s) (more_items_tree more r)
 
--- the fields of a list in front of those of another
+-- the fields of a list before those of another
 abbrev pub more_field_trees : MoreFieldsForm → FieldTrees → FieldTrees
 more_field_trees LastField behind = behind
 more_field_trees (FieldComma p) behind = behind

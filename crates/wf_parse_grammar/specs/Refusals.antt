@@ -31,7 +31,7 @@ pub record IsAccepted (tokens : List Token) (trees : List DeclTree) : Type 0 whe
   pub means : trees ≡ file_trees file
   pub within : IsWithin tokens
 
--- An operator or `as` directly behind an operator expression without parentheses.
+-- An operator or `as` directly after an operator expression without parentheses.
 abbrev pub is_operator : Kind → Bool
 is_operator (kinds.Chain op) = true
 is_operator (kinds.Binary op) = true
@@ -62,7 +62,7 @@ abbrev pub IsTooLong : (front back : List Token) → Type 0
 IsTooLong front [] = ⊥
 IsTooLong front (t ∷ back) = IsLive (front ++ t ∷ []) × (ends_in_break front ≡ true) × (begins_statement t.kind ≡ true) × (begun front ≡ 4096)
 
--- Why the tokens `back` may not stand behind `front`.
+-- Why the tokens `back` may not stand after `front`.
 abbrev pub Reason : Rule → (front back : List Token) → Type 0
 Reason S5 front back = IsFirstWrong front back × (IsMixed front back → ⊥)
 Reason S6 front back = IsFirstWrong front back × IsMixed front back

@@ -7,13 +7,13 @@ use Rattle.wf_parse_grammar.specs.declared.tokens.Kind.{Kind}
 use Rattle.wf_parse_grammar.specs.declared.tokens.Kind.TheVariants as kinds
 use Rattle.wf_parse_grammar.specs.declared.tokens.Token.{Token}
 
--- Statements stand behind these.
+-- Statements stand after these.
 abbrev pub is_break : Kind → Bool
 is_break kinds.OpenCurly = true
 is_break kinds.Semicolon = true
 is_break _ = false
 
--- Such a token begins a statement where it stands behind a break.
+-- Such a token begins a statement where it stands after a break.
 abbrev pub begins_statement : Kind → Bool
 begins_statement (kinds.Name n) = true
 begins_statement kinds.This = true
@@ -32,7 +32,7 @@ abbrev pub one_more_where : Bool → ℕ → ℕ
 one_more_where true n = suc n
 one_more_where false n = n
 
--- The count behind one more token: a method begins at its `func`.
+-- The count after one more token: a method begins at its `func`.
 abbrev pub counted : (behind_break : Bool) → ℕ → Kind → ℕ
 counted behind n kinds.Func = 0
 counted true n t = one_more_where (begins_statement t) n
@@ -47,7 +47,7 @@ abbrev pub count_from : (behind_break : Bool) → ℕ → List Token → ℕ
 count_from behind n [] = n
 count_from behind n (t ∷ ts) = count_from (is_break t.kind) (counted behind n t.kind) ts
 
--- Whether the tokens end in a break, and how many statements begin behind the last `func`.
+-- Whether the tokens end in a break, and how many statements begin after the last `func`.
 abbrev pub ends_in_break : List Token → Bool
 ends_in_break tokens = break_from false tokens
 

@@ -123,7 +123,7 @@ abbrev pub all_prefixed : List PrefixVal → TypeTree → TypeTree
 all_prefixed [] t = t
 all_prefixed (p ∷ ps) t = prefixed p (all_prefixed ps t)
 
--- A path with this in front of its name.
+-- A path with this before its name.
 abbrev pub bare_path : Name → Path
 bare_path n = record { root = roots.Bare; name = n; at = n.at }
 
@@ -133,7 +133,7 @@ this_path at n = record { root = roots.This; name = n; at = at }
 abbrev pub args_path : Place → Name → Path
 args_path at n = record { root = roots.Args; name = n; at = at }
 
--- The values behind an action. Where the topmost values are others than it takes, none are left; this comes of no
+-- The values after an action. Where the topmost values are others than it takes, none are left; this comes of no
 -- list of tokens.
 abbrev pub path_vals : Action → List Val → List Val
 path_vals (does.BarePath n) vs = path (bare_path n) ∷ vs

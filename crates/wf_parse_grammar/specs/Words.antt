@@ -80,7 +80,7 @@ Word syms.ADotsEquals ts rest = (p : Place) × (ts ≡ token kinds.DotsEquals p 
 Word syms.RightRound ts rest = (p : Place) × (ts ≡ token kinds.CloseRound p ∷ rest)
 Word syms.RightSquare ts rest = (p : Place) × (ts ≡ token kinds.CloseSquare p ∷ rest)
 
--- The tokens complete the symbols of a stack, one behind the other.
+-- The tokens complete the symbols of a stack, one after the other.
 abbrev pub Words : List Sym → List Token → List Token → Type 0
 Words [] ts rest = ts ≡ rest
 Words (s ∷ k) ts rest = (mid : List Token) × Word s ts mid × Words k mid rest

@@ -22,7 +22,7 @@ ghost use Rattle.wf_text.specs.declared.rules.Rule.{Rule};
 ghost use Rattle.wf_parse_grammar.specs.Values.{Made};
 ghost use Rattle.wf_parse_grammar.specs.Erasure.{erased, outcome};
 
-/// Live tokens: where the machine has read these tokens, they begin a file. Behind them, the completions of all
+/// Live tokens: where the machine has read these tokens, they begin a file. After them, the completions of all
 /// that is still wanted, from the innermost outwards, make one.
 pub fn what_is_read_begins_a_file()
     ensures { (front : List Token) (wanted : List Sym) → feeds front (File ∷ []) ≡ Some wanted
@@ -41,14 +41,14 @@ pub fn building_is_reading()
         → outcome (building.run limited room tokens wants made) ≡ reading.run limited room tokens (erased wants) }
 {}
 
-/// Every file is built to the trees of its declarations, behind those that were made before, where no limit is set.
+/// Every file is built to the trees of its declarations, after those that were made before, where no limit is set.
 pub fn every_file_is_built()
     ensures { (f : FileForm) (room : ℕ) (decls : List DeclTree)
         → building.run false room (file_before f []) (Read File ∷ []) (record { vals = []; decls = decls })
         ≡ Built (record { vals = []; decls = decls ++ file_trees f }) }
 {}
 
-/// What is built, with limits or without, is a file, and what is made are the trees of its declarations behind those
+/// What is built, with limits or without, is a file, and what is made are the trees of its declarations after those
 /// that were made before.
 pub fn what_is_built_is_a_file()
     ensures { (limited : Bool) (room : ℕ) (tokens : List Token) (decls : List DeclTree) (made : Made)

@@ -4,11 +4,11 @@ use wf_ast::parsed::{Clause, Name, WrittenMark};
 use wf_ast::{Op, TextId};
 use wf_text::Place;
 
-/// A part of the grammar, or what is left of one behind its first tokens.
+/// A part of the grammar, or what is left of one after its first tokens.
 #[derive(Clone, Copy)]
 pub enum Sym {
     File,
-    /// Behind `pub` or `pri`.
+    /// After `pub` or `pri`.
     Decl,
     /// `[ mark ] "(" fields ")"`
     FieldsMark,
@@ -16,7 +16,7 @@ pub enum Sym {
     FieldsOpen,
     /// `fields ")"`
     Fields,
-    /// Behind a field: what follows it, up to the `)`.
+    /// After a field: what follows it, up to the `)`.
     MoreFields,
     /// `[ "+" "(" fields ")" ]`
     OtherFields,
@@ -27,20 +27,20 @@ pub enum Sym {
     WholeType,
     /// `"[" expr "]"`
     ArrayLength,
-    /// Behind `base` and `.` in a type.
+    /// After `base` and `.` in a type.
     BaseName,
     /// `[ "[" [ expr ] "..=" expr "]" ]`
     BoundsPart,
-    /// The same, behind its `[`.
+    /// The same, after its `[`.
     Low,
     /// The statements of a method and its `}`.
     Vars,
-    /// Behind a `var`: what follows it, up to the `}`.
+    /// After a `var`: what follows it, up to the `}`.
     MoreVars,
     Block,
     /// The statements of a block and its `}`.
     Items,
-    /// Behind a statement: what follows it, up to the `}`.
+    /// After a statement: what follows it, up to the `}`.
     MoreItems,
     /// A statement that began with a path.
     PathStmt,
@@ -55,15 +55,15 @@ pub enum Sym {
     CallMark,
     /// `{ "else" "if" expr block } [ "else" block ]`
     Else,
-    /// The same, behind an `else`.
+    /// The same, after an `else`.
     ElseTail,
-    /// Behind `while`.
+    /// After `while`.
     WhileHead,
-    /// Behind `while .`.
+    /// After `while .`.
     LabelHead,
     /// `{ "," clause expr } [ "," ] block`
     Clauses,
-    /// The same, behind a `,`.
+    /// The same, after a `,`.
     ClauseTail,
     /// `[ "endwhile" ]`
     EndPart,
@@ -82,7 +82,7 @@ pub enum Sym {
     Rest,
     /// What may follow an operand of a chain.
     Links(Op),
-    /// Behind a whole operation.
+    /// After a whole operation.
     End,
     Operand,
     Atom,
@@ -90,11 +90,11 @@ pub enum Sym {
     PathAtom,
     /// An atom that began with `this . NAME`.
     ThisAtom,
-    /// An index or a slice, behind its `[`.
+    /// An index or a slice, after its `[`.
     Cut,
-    /// The same, behind its first expression.
+    /// The same, after its first expression.
     CutTail,
-    /// The same, behind its `..`.
+    /// The same, after its `..`.
     CutEnd,
     /// `[ mark ] "(" givens ")"`
     CallOpen,
@@ -102,7 +102,7 @@ pub enum Sym {
     GivensOpen,
     /// `givens ")"`
     Givens,
-    /// Behind an argument: what follows it, up to the `)`.
+    /// After an argument: what follows it, up to the `)`.
     MoreGivens,
     AName,
     AText,
@@ -125,7 +125,7 @@ pub enum Action {
     PushMark(WrittenMark),
     /// Whether a declaration is `pub`.
     PushPublic(bool),
-    /// `=`, or an operator in front of it.
+    /// `=`, or an operator before it.
     PushSign { op: Option<Op>, at: Place },
 
     // paths and what a call is made on
@@ -136,7 +136,7 @@ pub enum Action {
     ArgsPath,
     /// A path.
     PathReceiver,
-    /// A method's name, and the place of the `this` in front of it.
+    /// A method's name, and the place of the `this` before it.
     ThisMethod,
 
     // expressions
@@ -195,7 +195,7 @@ pub enum Action {
 
     // statements
     StartItems,
-    /// A statement, those in front of it.
+    /// A statement, those before it.
     AddStmt,
     /// The statements of a block.
     CloseBlock(Place),
@@ -217,14 +217,14 @@ pub enum Action {
     NoElse,
     /// A block.
     SomeElse,
-    /// What stands behind `else`, the arms, the statement's place.
+    /// What stands after `else`, the arms, the statement's place.
     IfStmt,
     StartClauses,
     /// An expression, the place of the clause's word, the clauses in front.
     AddClause(Clause),
     /// A block, clauses, an expression, the statement's place.
     LoopStmt,
-    /// The same with a name, the label, in front of the expression.
+    /// The same with a name, the label, before the expression.
     LabelledStmt,
     NoLabel,
     /// A name.
@@ -240,7 +240,7 @@ pub enum Action {
     NoVia,
     /// Arguments, a text.
     SomeVia,
-    /// What stands behind `via`, an expression, the statement's place.
+    /// What stands after `via`, an expression, the statement's place.
     AssertStmt,
 
     // declarations

@@ -150,7 +150,7 @@ pub(crate) fn more_fields(token: Token) -> Build
     }
 }
 
-// The operator in front of a second list of fields, if any.
+// The operator before a second list of fields, if any.
 pub(crate) fn plus(op: Op) -> Build
     ensures { result ≡ plus_build op }
 {

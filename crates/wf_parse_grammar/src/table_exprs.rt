@@ -176,7 +176,7 @@ pub(crate) fn this_atom(token: Token) -> Build
             Make(Action::CallExpr),
         ]),
         Kind::OpenSquare => Build::Take(Wants::led(
-            Lead::Two(Action::ThisPath, Action::PushPlace(token.at)),
+            Lead::ThisPath(token.at),
             &[Read(Sym::Cut)],
             &[],
         )),
@@ -191,7 +191,7 @@ pub(crate) fn this_atom(token: Token) -> Build
     }
 }
 
-// An index or a slice, behind its `[`.
+// An index or a slice, after its `[`.
 pub(crate) fn cut(token: Token) -> Build
     ensures { result ≡ cut_build token.kind token.at }
 {
@@ -201,7 +201,7 @@ pub(crate) fn cut(token: Token) -> Build
     }
 }
 
-// The same, behind its first expression.
+// The same, after its first expression.
 pub(crate) fn cut_tail(token: Token) -> Build
     ensures { result ≡ cut_tail_build token.kind token.at }
 {
@@ -212,7 +212,7 @@ pub(crate) fn cut_tail(token: Token) -> Build
     }
 }
 
-// The same, behind its `..`.
+// The same, after its `..`.
 pub(crate) fn cut_end(token: Token) -> Build
     ensures { result ≡ cut_end_build token.kind token.at }
 {
@@ -236,19 +236,13 @@ pub(crate) fn rest(token: Token) -> Build
 {
     match token.kind {
         Kind::Chain(op) => Build::Take(Wants::around(
-            Lead::Two(
-                Action::StartChain { op, at: token.at },
-                Action::PushPlace(token.at),
-            ),
+            Lead::Chain { op, at: token.at },
             &[Read(Sym::Operand), Make(Action::AddLink)],
             Sym::Links(op),
             &[],
         )),
         Kind::Binary(op) => Build::Take(Wants::led(
-            Lead::Two(
-                Action::StartChain { op, at: token.at },
-                Action::PushPlace(token.at),
-            ),
+            Lead::Chain { op, at: token.at },
             &[
                 Read(Sym::Operand),
                 Make(Action::AddLink),
@@ -303,7 +297,7 @@ pub(crate) fn end(token: Token) -> Build
     }
 }
 
-// The `(` of a call, behind its mark.
+// The `(` of a call, after its mark.
 pub(crate) fn givens_open(token: Token) -> Build
     ensures { result ≡ givens_open_build token.kind token.at }
 {

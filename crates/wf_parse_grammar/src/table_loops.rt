@@ -124,7 +124,7 @@ pub(crate) fn end_label(label: TextId, token: Token) -> Build
     }
 }
 
-// This name, behind `endwhile .`.
+// This name, after `endwhile .`.
 pub(crate) fn label(label: TextId, token: Token) -> Build
     ensures { result ≡ label_build label token.kind token.at }
 {
@@ -140,7 +140,7 @@ pub(crate) fn label(label: TextId, token: Token) -> Build
     }
 }
 
-// A label, if any, behind `break` or `continue`.
+// A label, if any, after `break` or `continue`.
 pub(crate) fn label_part(token: Token) -> Build
     ensures { result ≡ label_part_build token.kind token.at }
 {

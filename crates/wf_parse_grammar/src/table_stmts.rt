@@ -18,20 +18,17 @@ pub(crate) fn stmt(token: Token, after: &'static [Want]) -> Build
 {
     match token.kind {
         Kind::Name(text) => Build::Begin(Wants::led(
-            Lead::Two(
-                Action::PushPlace(token.at),
-                Action::BarePath(Name { text, at: token.at }),
-            ),
+            Lead::PlacedPath(Name { text, at: token.at }),
             &[Read(Sym::PathStmt)],
             after,
         )),
         Kind::This => Build::Begin(Wants::led(
-            Lead::Two(Action::PushPlace(token.at), Action::PushPlace(token.at)),
+            Lead::Places(token.at),
             &[Read(Sym::ADot), Read(Sym::AName), Read(Sym::ThisStmt)],
             after,
         )),
         Kind::Args => Build::Begin(Wants::led(
-            Lead::Two(Action::PushPlace(token.at), Action::PushPlace(token.at)),
+            Lead::Places(token.at),
             &[
                 Read(Sym::ADot),
                 Read(Sym::AName),
@@ -203,24 +200,18 @@ fn path_target(token: Token) -> Build
 {
     match token.kind {
         Kind::Equals => Build::Take(Wants::led(
-            Lead::Two(
-                Action::PathTarget,
-                Action::PushSign {
-                    op: None,
-                    at: token.at,
-                },
-            ),
+            Lead::Target {
+                op: None,
+                at: token.at,
+            },
             &[Read(Sym::Expr), Make(Action::AssignStmt)],
             &[],
         )),
         Kind::Update(op) => Build::Take(Wants::led(
-            Lead::Two(
-                Action::PathTarget,
-                Action::PushSign {
-                    op: Some(op),
-                    at: token.at,
-                },
-            ),
+            Lead::Target {
+                op: Some(op),
+                at: token.at,
+            },
             &[Read(Sym::Expr), Make(Action::AssignStmt)],
             &[],
         )),
@@ -306,7 +297,7 @@ fn this_path_stmt(token: Token) -> Build
 {
     match token.kind {
         Kind::OpenSquare => Build::Take(Wants::led(
-            Lead::Two(Action::ThisPath, Action::PushPlace(token.at)),
+            Lead::ThisPath(token.at),
             &[
                 Read(Sym::Expr),
                 Read(Sym::RightSquare),
@@ -323,26 +314,18 @@ fn this_path_stmt(token: Token) -> Build
             Make(Action::CallStmt),
         ]),
         Kind::Equals => Build::Take(Wants::led(
-            Lead::Three(
-                Action::ThisPath,
-                Action::PathTarget,
-                Action::PushSign {
-                    op: None,
-                    at: token.at,
-                },
-            ),
+            Lead::ThisTarget {
+                op: None,
+                at: token.at,
+            },
             &[Read(Sym::Expr), Make(Action::AssignStmt)],
             &[],
         )),
         Kind::Update(op) => Build::Take(Wants::led(
-            Lead::Three(
-                Action::ThisPath,
-                Action::PathTarget,
-                Action::PushSign {
-                    op: Some(op),
-                    at: token.at,
-                },
-            ),
+            Lead::ThisTarget {
+                op: Some(op),
+                at: token.at,
+            },
             &[Read(Sym::Expr), Make(Action::AssignStmt)],
             &[],
         )),
@@ -356,7 +339,7 @@ fn this_path_stmt(token: Token) -> Build
     }
 }
 
-// The call behind `=?`.
+// The call after `=?`.
 pub(crate) fn call(token: Token) -> Build
     ensures { result ≡ call_build token.kind token.at }
 {

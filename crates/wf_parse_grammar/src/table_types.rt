@@ -84,7 +84,7 @@ pub(crate) fn bounds(token: Token) -> Build
     }
 }
 
-// The bounds of a type, behind their `[`.
+// The bounds of a type, after their `[`.
 pub(crate) fn low(token: Token) -> Build
     ensures { result ≡ low_build token.kind token.at }
 {

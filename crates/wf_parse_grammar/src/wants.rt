@@ -1,7 +1,7 @@
 // Wanted things, which contracts see as a list. The lists of the table stand in the program; what a token tells stands
 // beside them, so that nothing is allotted for a token.
 
-ghost use Rattle.std.specs.Prelude.{◌≡◌, ◌++◌, List, ◌∷◌, OnOk};
+ghost use Rattle.std.specs.Prelude.{◌≡◌, ◌++◌, List, ◌∷◌, IfOk, OnOk};
 ghost use Rattle.wf_parse_grammar.specs.declared.symbols.Want.{Want};
 ghost use Rattle.wf_parse_grammar.specs.declared.symbols.Want.TheVariants.{Read};
 ghost use Rattle.wf_parse_grammar.specs.Wanted.{led_by, asked_by};
@@ -9,15 +9,28 @@ ghost use Rattle.wf_parse_grammar.specs.Wanted.{led_by, asked_by};
 use crate::symbols::{Action, Sym, Want};
 use stacks::Stack;
 use std::marker::Model;
-use wf_text::NoMemory;
+use wf_ast::Op;
+use wf_ast::parsed::Name;
+use wf_text::{NoMemory, Place};
 
-/// The actions in front of a list of the table, the first one first.
+/// The actions before a list of the table. Those of two or three have each a name, so that a list stays small: it is
+/// handed on for every token.
 #[derive(Clone, Copy)]
 pub enum Lead {
     Empty,
     One(Action),
-    Two(Action, Action),
-    Three(Action, Action, Action),
+    /// A place, twice.
+    Places(Place),
+    /// The place of a name, and the name as a path.
+    PlacedPath(Name),
+    /// The path that began with `this`, and a place.
+    ThisPath(Place),
+    /// A chain that begins with this operator, and the operator's place.
+    Chain { op: Op, at: Place },
+    /// A path as a target, and the sign of the assignment.
+    Target { op: Option<Op>, at: Place },
+    /// The same, where the path began with `this`.
+    ThisTarget { op: Option<Op>, at: Place },
 }
 
 /// Wanted things, the first one in front.
@@ -35,23 +48,14 @@ impl Model for Wants {
     ghost view = { λ w. led_by w.lead (w.rest.now ++ asked_by w.last w.after.now) };
 }
 
-/// Puts the actions on the stack, the first of them topmost.
-fn push_lead(lead: Lead, stack: &mut Stack<Want>) -> Result<(), NoMemory>
-    ensures { OnOk result (stack.new ≡ led_by lead stack.old) }
+/// Puts a list of the table on the stack, its first thing topmost. Many are empty, and cost nothing.
+fn push_list(list: &[Want], stack: &mut Stack<Want>) -> Result<(), NoMemory>
+    ensures { OnOk result (stack.new ≡ list.now ++ stack.old) }
 {
-    match lead {
-        Lead::Empty => Ok(()),
-        Lead::One(first) => stack.push(Want::Make(first)),
-        Lead::Two(first, second) => {
-            stack.push(Want::Make(second))?;
-            stack.push(Want::Make(first))
-        }
-        Lead::Three(first, second, third) => {
-            stack.push(Want::Make(third))?;
-            stack.push(Want::Make(second))?;
-            stack.push(Want::Make(first))
-        }
+    if list.is_empty() {
+        return Ok(());
     }
+    stack.push_all(list)
 }
 
 /// Puts the symbol on the stack, if there is one.
@@ -101,14 +105,14 @@ impl Wants {
         }
     }
 
-    /// Puts the wanted things on the stack, the first of them topmost. After `NoMemory` some of the last of them are
-    /// on it.
-    pub fn push_on(&self, stack: &mut Stack<Want>) -> Result<(), NoMemory>
-        ensures { OnOk result (stack.new ≡ self.now ++ stack.old) }
+    /// Puts the wanted things on the stack, the first of them topmost, but for the actions before them: these are the
+    /// answer. After `NoMemory` some of the last of them are on it.
+    pub fn push_on(&self, stack: &mut Stack<Want>) -> Result<Lead, NoMemory>
+        ensures { IfOk result (λ lead. led_by lead stack.new ≡ self.now ++ stack.old) }
     {
-        stack.push_all(self.after)?;
+        push_list(self.after, stack)?;
         push_last(self.last, stack)?;
-        stack.push_all(self.rest)?;
-        push_lead(self.lead, stack)
+        push_list(self.rest, stack)?;
+        Ok(self.lead)
     }
 }

@@ -81,7 +81,7 @@ tokens-of known (item ∷ items) =
     let rest = tokens-of now items in
     (t ∷ rest.0, (there.0, rest.1))
 
--- The tokens of a file for the grammar, behind texts that are known.
+-- The tokens of a file for the grammar, after texts that are known.
 record Lexed (number : ℕ) (bytes : List ℕ) (known : List (List ℕ)) : Type 0 where
   texts : List (List ℕ)
   tokens : List Token

@@ -1,4 +1,4 @@
--- Every list of declarations is that of some nodes: each tree has nodes of its own, behind those of its parts.
+-- Every list of declarations is that of some nodes: each tree has nodes of its own, after those of its parts.
 use Rattle.std.proofs.Common.{◌≡◌, ℕ, Option, None, Some, List, [], ◌∷◌, ◌++◌, length, refl, sym, ◌∙◌, ap, append_assoc, append-nil}
 use Rattle.std.specs.List.{slice_get}
 use Rattle.wf_text.specs.declared.place.Place.{Place}
@@ -36,7 +36,7 @@ use Rattle.wf_ast.proofs.TreeLemmas.{slice_get-seam}
 abbrev Reader : Type 0 → Type 0 → Type 0
 Reader Y X = List ExprTree → List StmtTree → Y → X
 
--- Behind these trees there are nodes and a part of theirs that stands for this, whatever nodes come behind them.
+-- After these trees there are nodes and a part of theirs that stands for this, whatever nodes come after them.
 record Stands {X Y : Type 0} (at : Reader Y X) (es : List ExprTree) (ts : List StmtTree) (x : X) : Type 0 where
   exprs : List ExprNode
   new : List ExprTree

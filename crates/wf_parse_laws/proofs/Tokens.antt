@@ -19,7 +19,7 @@ record ReadsOne (old : State) : Type 0 where
   on : new.over ≡ false
   falls : left new < left old
 
--- A gap and what is behind it.
+-- A gap and what is after it.
 record Cut (due : Bool) (bytes : List ℕ) : Type 0 where
   gap : List ℕ
   behind : List ℕ

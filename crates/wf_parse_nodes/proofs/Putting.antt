@@ -1,4 +1,4 @@
--- What a package and a stack stand for behind one node more.
+-- What a package and a stack stand for after one node more.
 use Rattle.std.proofs.Common.{◌≡◌, ◌<◌, ◌≤◌, ◌+◌, ℕ, Some, List, [], ◌∷◌, ◌++◌, length, refl, sym, ◌∙◌, ap, subst, arith, length-append}
 use Rattle.std.specs.List.{slice_get}
 use Rattle.wf_ast.specs.declared.numbers.ExprId.{ExprId}

@@ -122,7 +122,7 @@ ProductParts e k (makes.Decl n) = DeclParts e k n.decl
 abbrev pub AreOf : Parsed → List Value → Type 0
 AreOf p vs = ValuesBelow (length p.exprs) (length p.stmts) vs
 
--- What is there where this was made, above these values and behind these declarations.
+-- What is there where this was made, above these values and after these declarations.
 abbrev pub made_with : List ExprTree → List StmtTree → Product → List Val → List DeclTree → Made
 made_with es ss (makes.Value v) vs ds = record { vals = seen_value es ss v ∷ vs; decls = ds }
 made_with es ss (makes.Expr n) vs ds = record { vals = val.expr (expr_made es n.expr n.at) ∷ vs; decls = ds }

@@ -28,7 +28,7 @@ pub fn add_arm(values: &mut Stack<Value>) -> Result<Product, NoMemory>
     Ok(Product::Value(Value::Arms(arms)))
 }
 
-/// The block behind a last `else`.
+/// The block after a last `else`.
 #[inline(never)]
 pub(crate) fn some_else(values: &mut Stack<Value>) -> Product
     requires { fits (shapes.Block ∷ []) values.old ≡ true }

@@ -4,6 +4,7 @@ ghost use Rattle.std.specs.Prelude.{◌≡◌, ◌+◌, ◌<◌, ◌≤◌, ◌^
 ghost use Rattle.wf_ast.specs.ParsedTrees.{expr_trees, stmt_trees, decl_trees};
 ghost use Rattle.wf_parse_grammar.specs.Building.{all_performed};
 ghost use Rattle.wf_parse_grammar.specs.Values.{perform};
+ghost use Rattle.wf_parse_grammar.specs.Wanted.{performed_by};
 ghost use Rattle.wf_parse_nodes.specs.Shapes.{pushes};
 ghost use Rattle.wf_parse_nodes.specs.declared.products.Product.TheVariants as makes;
 ghost use Rattle.wf_parse_nodes.specs.Seen.{ProductParts, made_with, seen_values};
@@ -16,7 +17,7 @@ use crate::values::Value;
 use stacks::{Stack, fits};
 use std::alloc::Global;
 use wf_ast::PackageNodes;
-use wf_parse_grammar::Action;
+use wf_parse_grammar::{Action, Lead};
 use wf_text::NoMemory;
 
 /// A package whose nodes are made of values on a stack.
@@ -116,6 +117,49 @@ impl Maker {
         } else {
             let product = made(self.alloc, action, &mut self.values);
             self.put(product)
+        }
+    }
+
+    /// Performs two actions, one after the other.
+    fn perform_two(&mut self, first: Action, second: Action) -> Result<(), NoMemory>
+        requires sound { IsSound self.old }
+        requires room { nodes self.old + 1 < 2 ^ 32 }
+        ensures made { OnOk result (made self.new ≡ perform second (perform first (made self.old))) }
+        ensures sound { OnOk result (IsSound self.new) }
+        ensures grows { OnOk result (nodes self.new ≤ nodes self.old + 2) }
+        ensures texts { OnOk result (KeepsTexts self.old.package self.new.package) }
+    {
+        self.perform(first)?;
+        self.perform(second)
+    }
+
+    /// Performs the actions before a list of the table.
+    pub fn perform_lead(&mut self, lead: Lead) -> Result<(), NoMemory>
+        requires sound { IsSound self.old }
+        requires room { nodes self.old + 2 < 2 ^ 32 }
+        ensures made { OnOk result (made self.new ≡ performed_by lead (made self.old)) }
+        ensures sound { OnOk result (IsSound self.new) }
+        ensures grows { OnOk result (nodes self.new ≤ nodes self.old + 3) }
+        ensures texts { OnOk result (KeepsTexts self.old.package self.new.package) }
+    {
+        match lead {
+            Lead::Empty => Ok(()),
+            Lead::One(action) => self.perform(action),
+            Lead::Places(at) => self.perform_two(Action::PushPlace(at), Action::PushPlace(at)),
+            Lead::PlacedPath(name) => {
+                self.perform_two(Action::PushPlace(name.at), Action::BarePath(name))
+            }
+            Lead::ThisPath(at) => self.perform_two(Action::ThisPath, Action::PushPlace(at)),
+            Lead::Chain { op, at } => {
+                self.perform_two(Action::StartChain { op, at }, Action::PushPlace(at))
+            }
+            Lead::Target { op, at } => {
+                self.perform_two(Action::PathTarget, Action::PushSign { op, at })
+            }
+            Lead::ThisTarget { op, at } => {
+                self.perform(Action::ThisPath)?;
+                self.perform_two(Action::PathTarget, Action::PushSign { op, at })
+            }
         }
     }
 

@@ -13,7 +13,7 @@ use stacks::Stack;
 use wf_ast::parsed::{Path, Receiver, Root};
 use wf_text::NoMemory;
 
-/// A name behind `this` and a dot.
+/// A name after `this` and a dot.
 #[inline(never)]
 pub(crate) fn this_path(values: &mut Stack<Value>) -> Product
     requires { fits (shapes.Name ∷ shapes.Place ∷ []) values.old ≡ true }
@@ -28,7 +28,7 @@ pub(crate) fn this_path(values: &mut Stack<Value>) -> Product
     }))
 }
 
-/// A name behind `args` and a dot.
+/// A name after `args` and a dot.
 #[inline(never)]
 pub(crate) fn args_path(values: &mut Stack<Value>) -> Product
     requires { fits (shapes.Name ∷ shapes.Place ∷ []) values.old ≡ true }

@@ -17,6 +17,7 @@ use wf_ast::{ExprId, Sequence, StmtId};
 use wf_text::Place;
 
 /// Lets go of what was on the top.
+#[inline(always)]
 fn lost(_top: Option<Value>) {}
 
 /// Takes a name or a text from the top.
@@ -310,7 +311,7 @@ pub(crate) fn pop_arms(values: &mut Stack<Value>) -> Sequence<Arm>
     }
 }
 
-/// Takes the block behind a last `else` from the top.
+/// Takes the block after a last `else` from the top.
 #[inline(never)]
 pub(crate) fn pop_otherwise(values: &mut Stack<Value>) -> Option<Block>
     requires { fits (shapes.Otherwise ∷ []) values.old ≡ true }

@@ -23,7 +23,7 @@ fn closed_core(core: OpenCore) -> Core
     }
 }
 
-/// `slice` in front of a type.
+/// `slice` before a type.
 #[inline(never)]
 pub fn add_slice(at: Place, values: &mut Stack<Value>) -> Result<Product, NoMemory>
     requires { fits (shapes.Prefixes ∷ []) values.old ≡ true }
@@ -34,7 +34,7 @@ pub fn add_slice(at: Place, values: &mut Stack<Value>) -> Result<Product, NoMemo
     Ok(Product::Value(Value::Prefixes(prefixes)))
 }
 
-/// `array` with a length in front of a type.
+/// `array` with a length before a type.
 #[inline(never)]
 pub fn add_array(values: &mut Stack<Value>) -> Result<Product, NoMemory>
     requires { fits (shapes.Expr ∷ shapes.Place ∷ shapes.Prefixes ∷ []) values.old ≡ true }

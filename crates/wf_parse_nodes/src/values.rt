@@ -8,7 +8,7 @@ use wf_ast::parsed::{
 use wf_ast::{ExprId, Op, Sequence, StmtId};
 use wf_text::Place;
 
-/// The sign of an assignment: `=`, or an operator in front of it.
+/// The sign of an assignment: `=`, or an operator before it.
 #[derive(Clone, Copy)]
 pub struct Sign {
     pub op: Option<Op>,
@@ -58,7 +58,7 @@ pub enum Value {
     Givens(Sequence<Given>),
     /// A call.
     Call(Call),
-    /// What stands in front of a type, as far as it is read.
+    /// What stands before a type, as far as it is read.
     Prefixes(Sequence<Prefix>),
     /// What a type that begins with `base` names.
     Core(OpenCore),
@@ -76,7 +76,7 @@ pub enum Value {
     Target(Target),
     /// The arms of an `if`, as far as they are read.
     Arms(Sequence<Arm>),
-    /// The block behind a last `else`.
+    /// The block after a last `else`.
     Otherwise(Option<Block>),
     /// The promises of a loop, as far as they are read.
     Clauses(Sequence<LoopClause>),

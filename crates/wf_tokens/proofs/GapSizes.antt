@@ -1,4 +1,4 @@
--- The gap in front of bytes is determined: its size is a function of the bytes.
+-- The gap before bytes is determined: its size is a function of the bytes.
 use Rattle.std.proofs.Common.{◌≡◌, ℕ, ◌+◌, ◌-◌, ◌<◌, Bool, false, Option, Some, None, List, [], ◌∷◌, ◌++◌, length, take, drop, refl, suc, ap, subst, sym, ◌∙◌, arith, IsSomeAnd, length-drop}
 use Rattle.std.proofs.lemmas.List.{take_all, take-append-drop, drop-drop}
 use Rattle.std.proofs.Math.Seq.{take-append_seam, drop-append_seam}
@@ -72,7 +72,7 @@ gap_size-whole due inside (byte ∷ gap) behind h = by_answer (λ goes. gap_size
     by_answer sized None e g = absurd g
     by_answer sized (Some goes) e g = ap suc (sized goes g)
 
--- Two cuts of the same bytes into a gap and what is behind it are one.
+-- Two cuts of the same bytes into a gap and what is after it are one.
 pub record SameCut (gap behind other rest : List ℕ) : Type 0 where
   pub front : gap ≡ other
   pub back : behind ≡ rest

@@ -82,7 +82,7 @@ pub record SameText (text rest words behind : List ℕ) : Type 0 where
   pub front : text ≡ words
   pub back : rest ≡ behind
 
--- What is behind a text's opening quote.
+-- What is after a text's opening quote.
 pub inside : (text rest : List ℕ) (t : IsText text) → drop 1 (text ++ rest) ≡ t.inner ++ (34 ∷ rest)
 inside text rest t = ap (λ x. drop 1 (x ++ rest)) t.quoted ∙ append_assoc t.inner (34 ∷ []) rest
 
@@ -103,7 +103,7 @@ same_symbols s other text rest words behind cut p q =
     let back : rest ≡ behind = sym (drop-append_seam text rest) ∙ ap (drop (length text)) cut ∙ ap (λ n. drop n (words ++ behind)) sizes ∙ drop-append_seam words behind in
     record { same_kind = ap (λ x. kind.Symbol x) (same_symbol s other (sym p.spells ∙ front ∙ q.spells)); front = front; back = back }
 
--- A piece's first byte is that of the bytes in front of which it stands.
+-- A piece's first byte is that of the bytes before which it stands.
 pub run_first : (which : TokenKind) (text rest : List ℕ) → IsRunKind which text → begins is_run (text ++ rest) ≡ true
 run_first which text rest h = begins-append is_run text rest (kind_runs which text h).first
 
@@ -157,7 +157,7 @@ piece_no_line which text rest p = by_class (class which text rest p)
     by_class (quoted e h) = begins-no_line is_quote quote_no_line (text ++ rest) (quote_first text rest h)
     by_class (symbol s e h) = begins-no_line is_symbol_byte sign_no_line (text ++ rest) (sign_first s text rest h.spells)
 
--- A longer front of the bytes behind a piece.
+-- A longer front of the bytes after a piece.
 pub record Longer (text rest : List ℕ) (n : ℕ) : Type 0 where
   pub first : ℕ
   pub later : List ℕ
@@ -176,7 +176,7 @@ pub all-append : (test : ℕ → Bool) (xs ys : List ℕ) → list_all test (xs 
 all-append test [] ys h = h
 all-append test (x ∷ xs) ys h = all-append test xs ys (both (test x) (list_all test (xs ++ ys)) h).right
 
--- No run is longer than a whole one, no text goes on behind its closing quote.
+-- No run is longer than a whole one, no text goes on after its closing quote.
 pub no_longer_run : (which other : TokenKind) (text rest : List ℕ) (n : ℕ) → Longer text rest n → begins is_run rest ≡ false → IsRunKind other (take n (text ++ rest)) → ⊥
 no_longer_run which other text rest n l whole h =
     let runs : list_all is_run (l.first ∷ l.more) ≡ true = all-append is_run text (l.first ∷ l.more) (sym (ap (list_all is_run) l.is) ∙ (kind_runs other (take n (text ++ rest)) h).run) in

@@ -1,4 +1,4 @@
--- A gap and the piece behind it are one token read.
+-- A gap and the piece after it are one token read.
 use Rattle.std.proofs.Common.{◌≡◌, ℕ, false, List, ◌++◌, take, drop, refl, sym, ◌∙◌, ap, subst, inl}
 use Rattle.std.proofs.lemmas.List.{take-append-drop}
 use Rattle.wf_text.specs.declared.place.Place.{Place}

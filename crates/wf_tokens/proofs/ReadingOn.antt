@@ -14,7 +14,7 @@ pub reads_more : (old : State) (items : List Item) (between : State) (item : Ite
 reads_more old [] between item new r s = (new, subst (λ (from : State). Reads from item new) (sym r) s, refl)
 reads_more old (first ∷ items) between item new r s = (r.0, r.1, reads_more r.0 items between item new r.2 s)
 
--- Tokens read one behind the other, in two parts.
+-- Tokens read one after the other, in two parts.
 pub reads_both : (old : State) (items : List Item) (between : State) (others : List Item) (new : State) → ReadsAll old items between → ReadsAll between others new → ReadsAll old (items ++ others) new
 reads_both old [] between others new r s = subst (λ (from : State). ReadsAll from others new) (sym r) s
 reads_both old (first ∷ items) between others new r s = (r.0, r.1, reads_both r.0 items between others new r.2 s)
@@ -23,7 +23,7 @@ pub behind_bytes-append : (at : Place) (front back : List ℕ) → behind_bytes 
 behind_bytes-append at [] back = refl
 behind_bytes-append at (byte ∷ front) back = behind_bytes-append (behind_byte at byte) front back
 
--- The place behind the last byte stays the same.
+-- The place after the last byte stays the same.
 pub same_end : (old : State) (item : Item) (new : State) → Reads old item new → behind_bytes new.at new.rest ≡ behind_bytes old.at old.rest
 same_end old item new r = by_case r.1
   where

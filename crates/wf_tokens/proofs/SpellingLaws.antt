@@ -11,7 +11,7 @@ use Rattle.wf_tokens.proofs.GapSizes.{same_gap}
 use Rattle.wf_tokens.proofs.PieceLemmas.{apart}
 use Rattle.wf_tokens.proofs.PieceLaws.{same_piece, piece_no_line}
 
--- Two tokens read from one state, with the states behind them, are one.
+-- Two tokens read from one state, with the states after them, are one.
 pub record SameStep (item : Item) (new : State) (other : Item) (next : State) : Type 0 where
   pub item_is : item ≡ other
   pub new_is : new ≡ next
@@ -20,7 +20,7 @@ pub same_item : (item other : Item) → item.kind ≡ other.kind → item.text �
 same_item item other k t a =
     ap (λ (x : TokenKind). record { kind = x; text = item.text; at = item.at }) k ∙ ap (λ (x : List ℕ). record { kind = other.kind; text = x; at = item.at }) t ∙ ap (λ (x : Place). record { kind = other.kind; text = other.text; at = x }) a
 
--- The state behind a piece.
+-- The state after a piece.
 abbrev pub behind_piece : Item → List ℕ → State
 behind_piece item rest = record { rest = rest; at = behind_bytes item.at item.text; due = ends_statement item.kind; over = false }
 

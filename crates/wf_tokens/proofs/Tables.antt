@@ -38,7 +38,7 @@ none-passes test (x ∷ xs) (suc i) y h at passes = by_test (λ g. none-passes t
     by_test later true e g = cc
     by_test later false e g = later g
 
--- Each entry is at least as large as those behind it.
+-- Each entry is at least as large as those after it.
 abbrev pub is_descending : {X : Type 0} → (X → ℕ) → List X → Bool
 is_descending size [] = true
 is_descending size (x ∷ xs) = list_all (λ y. nat_le (size y) (size x)) xs && is_descending size xs

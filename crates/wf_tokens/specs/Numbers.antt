@@ -25,7 +25,7 @@ ends test text = option_map_or test (slice_get text (length text - 1)) false
 abbrev pub is_digits : (base : ℕ) → List ℕ → Bool
 is_digits base text = begins (is_digit_of base) text && ends (is_digit_of base) text && list_all (λ byte. is_digit_of base byte || is_underscore byte) text
 
--- The value of digits behind those whose value is `value`; underscores count nothing.
+-- The value of digits after those whose value is `value`; underscores count nothing.
 abbrev pub value_with : (base value byte : ℕ) → ℕ
 value_with base value byte = if is_underscore byte then value else value * base + digit_value byte
 
@@ -44,7 +44,7 @@ base_of_mark mark = if nat_eq mark 120 || nat_eq mark 88 then Some 16 else if na
 abbrev pub is_zero : ℕ → Bool
 is_zero byte = nat_eq byte 48
 
--- The base that a `0` with a mark behind it tells.
+-- The base that a `0` with a mark after it tells.
 abbrev pub marked_base : List ℕ → Option ℕ
 marked_base [] = None
 marked_base (_ ∷ []) = None

@@ -42,7 +42,7 @@ pub record IsSymbolPiece (symbol : Symbol) (text rest : List ℕ) : Type 0 where
   pub spells : text ≡ symbol_text symbol
   pub longest : IsLongestSymbol symbol (text ++ rest)
 
--- The text is a piece of this kind, with the rest behind it.
+-- The text is a piece of this kind, with the rest after it.
 abbrev pub IsPiece : TokenKind → (text rest : List ℕ) → Type 0
 IsPiece (kind.Symbol symbol) text rest = IsSymbolPiece symbol text rest
 IsPiece kind.Text text rest = IsText text

@@ -2,11 +2,11 @@
 use Rattle.std.specs.Prelude.{ℕ, ◌+◌, List, [], ◌∷◌, nat_eq, if◌then◌else◌}
 use Rattle.wf_text.specs.declared.place.Place.{Place}
 
--- The place behind one byte.
+-- The place after one byte.
 abbrev pub behind_byte : Place → ℕ → Place
 behind_byte at byte = if nat_eq byte 10 then record { file = at.file; line = at.line + 1; col = 1 } else record { file = at.file; line = at.line; col = at.col + 1 }
 
--- The place behind bytes of which the first stands at the given place.
+-- The place after bytes of which the first stands at the given place.
 abbrev pub behind_bytes : Place → List ℕ → Place
 behind_bytes at [] = at
 behind_bytes at (byte ∷ rest) = behind_bytes (behind_byte at byte) rest

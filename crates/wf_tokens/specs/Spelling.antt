@@ -27,11 +27,11 @@ pub record State : Type 0 where
   pub due : Bool
   pub over : Bool
 
--- In front of a file's first byte.
+-- Before a file's first byte.
 abbrev pub start : (file : ℕ) → (bytes : List ℕ) → State
 start file bytes = record { rest = bytes; at = first_place file; due = false; over = false }
 
--- The words behind which a line end adds a semicolon.
+-- The words after which a line end adds a semicolon.
 abbrev pub word_ends_statement : Word → Bool
 word_ends_statement word.Args = true
 word_ends_statement word.Break = true
@@ -46,14 +46,14 @@ word_ends_statement word.This = true
 word_ends_statement word.True = true
 word_ends_statement _ = false
 
--- The symbols behind which a line end adds a semicolon.
+-- The symbols after which a line end adds a semicolon.
 abbrev pub symbol_ends_statement : Symbol → Bool
 symbol_ends_statement symbol.CloseParen = true
 symbol_ends_statement symbol.CloseBracket = true
 symbol_ends_statement symbol.CloseBrace = true
 symbol_ends_statement _ = false
 
--- A line end behind a token of this kind adds a semicolon.
+-- A line end after a token of this kind adds a semicolon.
 abbrev pub ends_statement : TokenKind → Bool
 ends_statement kind.Name = true
 ends_statement (kind.Number _) = true
@@ -70,12 +70,12 @@ pub record ReadsPiece (old : State) (item : Item) (new : State) : Type 0 where
   pub at : item.at ≡ behind_bytes old.at gap
   pub after : new ≡ record { rest = new.rest; at = behind_bytes item.at item.text; due = ends_statement item.kind; over = false }
 
--- The token of a piece at the front of bytes that stand at this place, and where reading stands behind it.
+-- The token of a piece at the front of bytes that stand at this place, and where reading stands after it.
 pub record TakesPiece (bytes : List ℕ) (at : Place) (kind : TokenKind) (len : ℕ) (item : Item) (new : State) : Type 0 where
   pub is : item ≡ record { kind = kind; text = take len bytes; at = at }
   pub after : new ≡ record { rest = drop len bytes; at = behind_bytes at (take len bytes); due = ends_statement kind; over = false }
 
--- A semicolon that is due, made by a line end: it stands directly behind the last token.
+-- A semicolon that is due, made by a line end: it stands directly after the last token.
 pub record MakesSemicolon (old : State) (item : Item) (new : State) : Type 0 where
   pub gap : List ℕ
   pub cut : old.rest ≡ gap ++ new.rest
@@ -89,8 +89,8 @@ pub record MakesSemicolon (old : State) (item : Item) (new : State) : Type 0 whe
 abbrev pub Reads : State → Item → State → Type 0
 Reads old item new = (old.over ≡ false) × (ReadsPiece old item new ⊎ MakesSemicolon old item new)
 
--- No token can be read: behind the gap no piece can stand, and no line end makes a semicolon that is due. The
--- refusal stands behind the gap.
+-- No token can be read: after the gap no piece can stand, and no line end makes a semicolon that is due. The
+-- refusal stands after the gap.
 pub record IsStuck (old : State) (refusal : Refusal) : Type 0 where
   pub on : old.over ≡ false
   pub gap : List ℕ
@@ -110,7 +110,7 @@ IsOver old = (old.over ≡ true) ⊎ ((old.over ≡ false) × (old.due ≡ false
 abbrev pub left : State → ℕ
 left s = 2 * length s.rest + (if s.due then 1 else 0)
 
--- Tokens one behind the other.
+-- Tokens one after the other.
 abbrev pub ReadsAll : State → List Item → State → Type 0
 ReadsAll old [] new = old ≡ new
 ReadsAll old (item ∷ items) new = (between : State) × Reads old item between × ReadsAll between items new
@@ -121,7 +121,7 @@ pub record IsTokensOf (file : ℕ) (bytes : List ℕ) (items : List Item) : Type
   pub reads : ReadsAll (start file bytes) items last
   pub over : IsOver last
 
--- These are the tokens in front of the first place of a file at which no token can be read, with its refusal.
+-- These are the tokens before the first place of a file at which no token can be read, with its refusal.
 pub record StopsAt (file : ℕ) (bytes : List ℕ) (items : List Item) (refusal : Refusal) : Type 0 where
   pub last : State
   pub reads : ReadsAll (start file bytes) items last
@@ -135,7 +135,7 @@ item_of token = record { kind = token.kind; text = token.bytes.now; at = token.a
 abbrev pub TokensAreUnique : Type 0
 TokensAreUnique = (file : ℕ) (bytes : List ℕ) (items others : List Item) → IsTokensOf file bytes items → IsTokensOf file bytes others → items ≡ others
 
--- Bytes are refused at one place by one rule, behind one list of tokens.
+-- Bytes are refused at one place by one rule, after one list of tokens.
 abbrev pub RefusalsAreUnique : Type 0
 RefusalsAreUnique = (file : ℕ) (bytes : List ℕ) (items others : List Item) (refusal other : Refusal) → StopsAt file bytes items refusal → StopsAt file bytes others other → (items ≡ others) × (refusal ≡ other)
 

@@ -1,4 +1,4 @@
-// Gaps: the blanks and comments in front of a token.
+// Gaps: the blanks and comments before a token.
 
 ghost use Rattle.std.specs.Prelude.{◌≡◌, ◌≤◌, length, take, drop};
 ghost use Rattle.wf_tokens.specs.Gaps.{is_blank, is_slash, begins_comment, gap_goes_on, IsGap, ends_line};
@@ -21,7 +21,7 @@ fn begins_comment(bytes: &[u8]) -> bool
     bytes.len() > 1 && bytes[0] == b'/' && bytes[1] == b'/'
 }
 
-/// Whether the first byte belongs to a gap, and if so, whether a comment goes on behind it. `inside` tells that
+/// Whether the first byte belongs to a gap, and if so, whether a comment goes on after it. `inside` tells that
 /// the byte stands in a comment.
 fn gap_goes_on(due: bool, inside: bool, bytes: &[u8]) -> Option<bool>
     ensures { result ≡ gap_goes_on due inside bytes.now }

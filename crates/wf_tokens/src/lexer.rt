@@ -40,7 +40,7 @@ impl<'a> Lexer<'a> {
     ghost use Rattle.wf_tokens.specs.Places.{behind_bytes};
     ghost use Rattle.wf_tokens.specs.Pieces.{IsFrontPiece};
 
-    /// A lexer in front of the first byte of the file with this number.
+    /// A lexer before the first byte of the file with this number.
     pub fn new(file: u16, bytes: &'a [u8]) -> Lexer<'a>
         requires { length bytes.now ≤ 1048576 }
         ensures { result ≡ start file bytes.now }
@@ -57,14 +57,14 @@ impl<'a> Lexer<'a> {
         }
     }
 
-    /// The place behind the file's last byte.
+    /// The place after the file's last byte.
     pub fn end(&self) -> Place
         ensures { result ≡ behind_bytes self.now.at self.now.rest }
     {
         behind_bytes(self.at, self.rest)
     }
 
-    /// The next token. None behind the last one, and for good behind a refusal: S1 at a byte that begins no
+    /// The next token. None after the last one, and for good after a refusal: S1 at a byte that begins no
     /// token, S2 at a text that isn't closed on its line, S3 at a misspelt number and S4 at one of 2^64 or more.
     pub fn next(&mut self) -> Option<Result<Token<'a>, Refusal>>
         ensures token { IfSome result (λ next. IfOk next (λ token. Reads self.old (item_of token) self.new)) }
@@ -103,7 +103,7 @@ impl<'a> Lexer<'a> {
         }
     }
 
-    /// Takes the piece in front of `behind`, which stands at `at`.
+    /// Takes the piece before `behind`, which stands at `at`.
     fn take_piece(&mut self, piece: Piece, behind: &'a [u8], at: Place) -> Token<'a>
         requires piece { IsFrontPiece piece.kind piece.len behind.now }
         requires line { at.line + length behind.now ≤ 1048577 }

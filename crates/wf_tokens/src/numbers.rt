@@ -111,7 +111,7 @@ fn marked_base(text: &[u8]) -> Option<u64>
     }
 }
 
-/// Whether a `0` stands in front of more.
+/// Whether a `0` stands before more.
 fn has_leading_zero(text: &[u8]) -> bool
     ensures { result ≡ has_leading_zero text.now }
 {

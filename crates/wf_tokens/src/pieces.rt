@@ -19,7 +19,7 @@ pub struct Piece {
     pub len: usize,
 }
 
-/// The piece in front of the bytes. Where none can stand there: S2 where they begin with a quote, S3 or S4
+/// The piece before the bytes. Where none can stand there: S2 where they begin with a quote, S3 or S4
 /// where they begin with a digit, else S1.
 pub fn first_piece(bytes: &[u8]) -> Result<Piece, Rule>
     ensures piece { IfOk result (λ piece. IsFrontPiece piece.kind piece.len bytes.now) }
@@ -57,10 +57,8 @@ fn run_piece(bytes: &[u8]) -> Result<Piece, Rule>
     ensures none { IfErr result (λ rule. IsRefused rule bytes.now) }
 {
     let len = run_len(bytes);
-    match run_kind(&bytes[..len]) {
-        Ok(kind) => Ok(Piece { kind, len }),
-        Err(rule) => Err(rule),
-    }
+    let kind = run_kind(&bytes[..len])?;
+    Ok(Piece { kind, len })
 }
 
 /// The kind of a run of letters, digits and `_`. S3 where a number is misspelt, S4 where it is 2^64 or more.
@@ -71,10 +69,8 @@ fn run_kind(text: &[u8]) -> Result<TokenKind, Rule>
     ensures none { IfErr result (λ rule. RefusesRun rule text.now) }
 {
     if is_digit(text[0]) {
-        return match number_of(text) {
-            Ok(value) => Ok(TokenKind::Number(value)),
-            Err(rule) => Err(rule),
-        };
+        let value = number_of(text)?;
+        return Ok(TokenKind::Number(value));
     }
     match word_of(text) {
         Some(word) => Ok(TokenKind::Keyword(word)),

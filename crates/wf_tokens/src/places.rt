@@ -1,11 +1,11 @@
-// Places behind bytes: a line ends with its line feed, and columns count bytes.
+// Places after bytes: a line ends with its line feed, and columns count bytes.
 
 ghost use Rattle.std.specs.Prelude.{◌≡◌, ◌≤◌, ◌<◌, ◌+◌, ◌^◌, length};
 ghost use Rattle.wf_tokens.specs.Places.{behind_byte, behind_bytes};
 
 use wf_text::Place;
 
-/// The place behind one byte.
+/// The place after one byte.
 fn behind_byte(at: Place, byte: u8) -> Place
     requires line { at.line + 1 < 2 ^ 32 }
     requires col { at.col + 1 < 2 ^ 32 }
@@ -26,7 +26,7 @@ fn behind_byte(at: Place, byte: u8) -> Place
     }
 }
 
-/// The place behind bytes of which the first stands at `at`.
+/// The place after bytes of which the first stands at `at`.
 pub fn behind_bytes(at: Place, bytes: &[u8]) -> Place
     requires line { at.line + length bytes.now < 2 ^ 32 }
     requires col { at.col + length bytes.now < 2 ^ 32 }

@@ -1,4 +1,4 @@
-// The semicolons that line ends add: behind which tokens a statement can end with its line.
+// The semicolons that line ends add: after which tokens a statement can end with its line.
 
 ghost use Rattle.std.specs.Prelude.{◌≡◌};
 ghost use Rattle.wf_tokens.specs.Spelling.{word_ends_statement, symbol_ends_statement, ends_statement};
@@ -7,7 +7,7 @@ use crate::kinds::TokenKind;
 use crate::symbols::Symbol;
 use crate::words::Word;
 
-/// Whether a line end, or the file's end, adds a semicolon behind a token of this kind: behind names, numbers,
+/// Whether a line end, or the file's end, adds a semicolon after a token of this kind: after names, numbers,
 /// texts, closing brackets, and the words that can end a statement.
 pub fn ends_statement(kind: TokenKind) -> bool
     ensures { result ≡ ends_statement kind }

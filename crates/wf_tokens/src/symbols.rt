@@ -7,7 +7,7 @@ ghost use Rattle.wf_tokens.specs.Symbols.{operator_text, assign_text, comparison
 
 use crate::runs::first_byte;
 
-/// An operator that takes two numbers and gives a number. Each can stand directly in front of `=`, which
+/// An operator that takes two numbers and gives a number. Each can stand directly before `=`, which
 /// makes an assignment of it.
 #[derive(Clone, Copy)]
 pub enum Operator {

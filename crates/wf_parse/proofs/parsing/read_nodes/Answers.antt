@@ -5,15 +5,15 @@ use Rattle.wf_parse.proofs.parsing.read_nodes.Goals as goal
 
 pub loop-bytes-init : goal.loop-bytes-init
 loop-bytes-init c =
-    let maker = c.in-Ok.machine.maker in
-    let named = c.in-Ok.ensures.named in
+    let maker = c.in_ok-machine.machine.maker in
+    let named = c.in_ok-machine.ensures.named in
     let no_nodes = new_nodes maker c.as_bytes.result.now named in
     let no_texts = new_texts maker c.as_bytes.result.now named in
     let few = c.requires.bytes in
     let count = c.requires.count in
     record {
       number = refl;
-      sound = new_sound maker c.as_bytes.result.now named c.in-Ok.ensures.none;
+      sound = new_sound maker c.as_bytes.result.now named c.in_ok-machine.ensures.none;
       named = new_name maker c.as_bytes.result.now named ∙ c.as_bytes.ensures.value;
       leads = leads_start maker.package c.as_bytes.result.now (map (λ file. file.items) c.args.files.now) named;
       nodes = omega (arith, no_nodes, few, count);
@@ -44,7 +44,7 @@ loop-bytes-preserved c =
 
 pub returns-in_err-most : goal.returns-in_err-most
 returns-in_err-most c =
-    let p = err_from_is_err_and c.from_residual.result c.from_residual.ensures.1 in
+    let p = err_from_is_err_and c.from_residual-in_err-most.result c.from_residual-in_err-most.ensures.1 in
     let files = c.args.files.now in
     let index = c.loop-bytes.bytes-index in
     let item = c.bytes-item.result in

@@ -2,32 +2,32 @@ use Rattle.std.proofs.Common.{◌≤◌, length, subst}
 use Rattle.wf_parse_grammar.specs.declared.builds.Build.{Build}
 use Rattle.wf_parse.specs.Machines.{wanted}
 use Rattle.wf_parse.proofs.Shortness.{few_wanted}
-use Rattle.wf_parse.proofs.Keeping.{sound_kept, taken_size}
+use Rattle.wf_parse.proofs.Keeping.{taken_size}
 use Rattle.wf_parse.proofs.machine.Machine.read.Goals as goal
 
-pub returns-in-Take-clause-sound : goal.returns-in-Take-clause-sound
-returns-in-Take-clause-sound c = sound_kept c.take.result c.args.self.now.maker c.take.new.self.maker c.requires.sound c.take.ensures.same
+pub take-requires-clause-few : goal.take-requires-clause-few
+take-requires-clause-few c =
+    let few : length (wanted c.build-told.result) ≤ 12 = few_wanted c.args.symbol c.args.token.kind c.args.token.at c.build-told.result c.build-told.ensures in
+    let P : Build → Type 0 = λ b. length (wanted b) ≤ 12 in
+    subst P c.in-Take.is few
+
+pub begin-requires-clause-few : goal.begin-requires-clause-few
+begin-requires-clause-few c =
+    let few : length (wanted c.build-told.result) ≤ 12 = few_wanted c.args.symbol c.args.token.kind c.args.token.at c.build-told.result c.build-told.ensures in
+    let P : Build → Type 0 = λ b. length (wanted b) ≤ 12 in
+    subst P c.in-Begin.is few
+
+pub enter-requires-clause-few : goal.enter-requires-clause-few
+enter-requires-clause-few c =
+    let few : length (wanted c.build-told.result) ≤ 12 = few_wanted c.args.symbol c.args.token.kind c.args.token.at c.build-told.result c.build-told.ensures in
+    let P : Build → Type 0 = λ b. length (wanted b) ≤ 12 in
+    subst P c.in-Enter.is few
 
 pub returns-in-Take-clause-size : goal.returns-in-Take-clause-size
-returns-in-Take-clause-size c =
-    let few : length (wanted c.build-told.result) ≤ 12 = few_wanted c.args.symbol c.args.token.kind c.args.token.at c.build-told.result c.build-told.ensures in
-    let P : Build → Type 0 = λ b. length (wanted b) ≤ 12 in
-    taken_size c.take.result c.args.self.now c.take.new.self c.in-Take.wants (subst P c.in-Take.is few) c.take.ensures.same c.take.ensures.taken
-
-pub returns-in-Begin-clause-sound : goal.returns-in-Begin-clause-sound
-returns-in-Begin-clause-sound c = sound_kept c.begin.result c.args.self.now.maker c.begin.new.self.maker c.requires.sound c.begin.ensures.same
+returns-in-Take-clause-size c = taken_size c.take.result c.args.self.now c.take.new.self c.take.ensures.ok c.take.ensures.size
 
 pub returns-in-Begin-clause-size : goal.returns-in-Begin-clause-size
-returns-in-Begin-clause-size c =
-    let few : length (wanted c.build-told.result) ≤ 12 = few_wanted c.args.symbol c.args.token.kind c.args.token.at c.build-told.result c.build-told.ensures in
-    let P : Build → Type 0 = λ b. length (wanted b) ≤ 12 in
-    taken_size c.begin.result c.args.self.now c.begin.new.self c.in-Begin.wants (subst P c.in-Begin.is few) c.begin.ensures.same c.begin.ensures.taken
-
-pub returns-in-Enter-clause-sound : goal.returns-in-Enter-clause-sound
-returns-in-Enter-clause-sound c = sound_kept c.enter.result c.args.self.now.maker c.enter.new.self.maker c.requires.sound c.enter.ensures.same
+returns-in-Begin-clause-size c = taken_size c.begin.result c.args.self.now c.begin.new.self c.begin.ensures.ok c.begin.ensures.size
 
 pub returns-in-Enter-clause-size : goal.returns-in-Enter-clause-size
-returns-in-Enter-clause-size c =
-    let few : length (wanted c.build-told.result) ≤ 12 = few_wanted c.args.symbol c.args.token.kind c.args.token.at c.build-told.result c.build-told.ensures in
-    let P : Build → Type 0 = λ b. length (wanted b) ≤ 12 in
-    taken_size c.enter.result c.args.self.now c.enter.new.self c.in-Enter.wants (subst P c.in-Enter.is few) c.enter.ensures.same c.enter.ensures.taken
+returns-in-Enter-clause-size c = taken_size c.enter.result c.args.self.now c.enter.new.self c.enter.ensures.ok c.enter.ensures.size

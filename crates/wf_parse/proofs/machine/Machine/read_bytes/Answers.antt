@@ -6,14 +6,14 @@ use Rattle.wf_parse.proofs.PackageReading.{read_one, refuse_one}
 use Rattle.wf_parse.proofs.machine.Machine.read_bytes.Goals as goal
 
 pub read_file-requires-clause-sound : goal.read_file-requires-clause-sound
-read_file-requires-clause-sound c = texts_sound c.args.self.now.maker _ c.requires.sound c.in-Ok.ensures.same refl
+read_file-requires-clause-sound c = texts_sound c.args.self.now.maker _ c.requires.sound c.in_ok-file.ensures.same refl
 
-pub returns-in-Ok-read_file-clause-answers : goal.returns-in-Ok-read_file-clause-answers
-returns-in-Ok-read_file-clause-answers c =
-    let built = rw c.as_slice-tokens.ensures.value at c.in-Ok-read_file.ensures.answers in
-    let count : c.saturating_sub.result ≡ c.args.most - length c.in-Ok.file.tokens.items = search (rules, c.as_slice-tokens.ensures.value) in
-    read_one c.args.number c.args.most c.saturating_sub.result c.args.bytes.now c.args.self.now.maker.package c.file_tokens.new.parsed c.read_file.new.self.maker.package c.in-Ok.file.tokens.items c.in-Ok.file.refused (made c.read_file.new.self.maker)
-    c.in-Ok.ensures.same c.in-Ok.ensures.tokens built refl c.in-Ok-read_file.ensures.texts count
+pub returns-in-Ok-clause-answers : goal.returns-in-Ok-clause-answers
+returns-in-Ok-clause-answers c =
+    let built = rw c.as_slice-tokens.ensures.value at c.in-Ok.ensures.answers in
+    let count : c.saturating_sub.result ≡ c.args.most - length c.in_ok-file.file.tokens.items = search (rules, c.as_slice-tokens.ensures.value) in
+    read_one c.args.number c.args.most c.saturating_sub.result c.args.bytes.now c.args.self.now.maker.package c.file_tokens.new.parsed c.read_file.new.self.maker.package c.in_ok-file.file.tokens.items c.in_ok-file.file.refused (made c.read_file.new.self.maker)
+    c.in_ok-file.ensures.same c.in_ok-file.ensures.tokens built refl c.in-Ok.ensures.texts count
 
 pub returns-in-Err-Refused-clause-answers : goal.returns-in-Err-Refused-clause-answers
 returns-in-Err-Refused-clause-answers c =
@@ -22,6 +22,6 @@ returns-in-Err-Refused-clause-answers c =
     let told = c.refusal_of.ensures in
     let rule_is = c.in-Err-Refused.rule-is in
     let left_is = c.in-Err-Refused.left-is in
-    let is : c.refusal_of.result ≡ refusal_of c.in-Ok.file.end c.in-Ok.file.tokens.items c.in-Ok.file.refused c.in-Err-Refused.rule c.in-Err-Refused.left = cc (told, rule_is, left_is) in
-    refuse_one c.args.number c.args.most c.in-Err-Refused.left c.args.bytes.now c.args.self.now.maker.package c.file_tokens.new.parsed c.in-Ok.file.tokens.items c.in-Ok.file.refused c.in-Err-Refused.rule c.in-Ok.file.end c.refusal_of.result
-    c.in-Ok.ensures.tokens refused c.in-Ok.ensures.end is
+    let is : c.refusal_of.result ≡ refusal_of c.in_ok-file.file.end c.in_ok-file.file.tokens.items c.in_ok-file.file.refused c.in-Err-Refused.rule c.in-Err-Refused.left = cc (told, rule_is, left_is) in
+    refuse_one c.args.number c.args.most c.in-Err-Refused.left c.args.bytes.now c.args.self.now.maker.package c.file_tokens.new.parsed c.in_ok-file.file.tokens.items c.in_ok-file.file.refused c.in-Err-Refused.rule c.in_ok-file.file.end c.refusal_of.result
+    c.in_ok-file.ensures.tokens refused c.in_ok-file.ensures.end is
