@@ -38,7 +38,7 @@ names-decide d =
     uses_found-decides-behind d (λ s. DeclarationBreaks d s ⊎ LabelBreaks d s) (labels_found d (declarations_found d None))
     (labels-decide d (DeclarationBreaks d) (declarations_found d None) (declarations-alone d))
 
--- Behind declarations, labels and uses the circles.
+-- After declarations, labels and uses the circles.
 but-sizes : (d : Declared) (found all : Option Refusal) → found ≡ uses_found d (labels_found d (declarations_found d None)) → DecidesWith (CircleBreaks d) found all
     → Decides (BreaksButSizes d) all
 but-sizes d found all e h =
@@ -60,7 +60,7 @@ to-sections d _ (by_label s b) = inl (inl (inl (inr b)))
 to-sections d _ (by_circle s b) = inl (inr b)
 to-sections d _ (by_size s b) = inr b
 
--- Behind these the sizes: the whole table.
+-- After these the sizes: the whole table.
 pub all-decide : (d : Declared) (found last all : Option Refusal) → found ≡ uses_found d (labels_found d (declarations_found d None)) → DecidesWith (CircleBreaks d) found last
     → DecidesBehind (SizeBreaks d) last all → Decides (Breaks d) all
 all-decide d found last all e h k =

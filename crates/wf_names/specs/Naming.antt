@@ -27,7 +27,7 @@ IsMisnamed parsed (phase.Refused refusal) = IsFirst (Breaks (package_of parsed))
 IsMisnamed parsed phase.Memory = ⊤
 
 -- A package breaks no rule of names, and this is its resolved tree: every name stands for what it names. The order has
--- the numbers of all methods, and each method calls only those in front of it.
+-- the numbers of all methods, and each method calls only those before it.
 pub record IsResolved (parsed : Parsed) (named : NamedParts) : Type 0 where
   pub kept : (refusal : Refusal) → Breaks (package_of parsed) refusal → ⊥
   pub order : List ℕ

@@ -32,7 +32,7 @@ pub ok_row : (r : Result (Unit {0}) NoMemory) (x s t : List ℕ) → s ≡ t →
 ok_row r x s t e h = let P : List ℕ → Type 0 = λ u. OnOk r (x ≡ u) in subst P e h
 
 module _ (k : Known) (row next : List ℕ) where
-  -- A row behind two walks, and behind three.
+  -- A row after two walks, and after three.
   pub rows_append : (us vs : List Use) → next ≡ with_calls k row us → with_calls k next vs ≡ with_calls k row (us ++ vs)
   rows_append us vs e = ap (λ s. with_calls k s vs) e ∙ sym (with_calls-append k row us vs)
 
@@ -104,7 +104,7 @@ module _ (k : Known) (row next : List ℕ) where
       ∙ sym (with_calls-append k (with_calls k row condition) body rest) ∙ sym (with_calls-append k row condition (body ++ rest))
       ∙ sym (ap (λ xs. with_calls k row (arm_uses (arms_at es ts xs last))) split)
 
--- A type: what stands in front of its core, then the core.
+-- A type: what stands before its core, then the core.
 prefixed_calls : (k : Known) (ts : List ExprTree) (row : List ℕ) (p : Prefix) (of : TypeTree)
     → with_calls k row (type_uses (prefixed ts p of)) ≡ with_calls k (with_calls k row (prefix_uses ts p)) (type_uses of)
 prefixed_calls k ts row (prefixes.Slice at) of = refl
@@ -117,7 +117,7 @@ type_calls k ts row (p ∷ ps) core =
     ap (λ s. with_calls k s (type_uses core)) (with_calls-append k row (prefix_uses ts p) (flat_map (prefix_uses ts) ps))
     ∙ type_calls k ts (with_calls k row (prefix_uses ts p)) ps core ∙ sym (prefixed_calls k ts row p (all_prefixed ts ps core))
 
--- A row behind three walks, from an empty one.
+-- A row after three walks, from an empty one.
 pub rows_three : (k : Known) (none first second third : List ℕ) (us vs ws : List Use) → none ≡ [] → first ≡ with_calls k none us → second ≡ with_calls k first vs → third ≡ with_calls k second ws
     → third ≡ with_calls k [] (us ++ (vs ++ ws))
 rows_three k none first second third us vs ws z a b c =

@@ -47,7 +47,7 @@ pub record AreRows (d : Declared) (rows : List (List ℕ)) (k : ℕ) : Type 0 wh
   pub len : length rows ≡ k
   pub made : (a b : ℕ) → a < k → goes rows a b ≡ calls d a b
 
--- The rows of the methods in front of those that are left.
+-- The rows of the methods before those that are left.
 pub record AreRowsInFront (d : Declared) (rows : List (List ℕ)) (left : List Method) : Type 0 where
   pub front : List Method
   pub whole : d.methods ≡ front ++ left

@@ -53,7 +53,7 @@ pub record AreMethodCycles (d : Declared) (named : NamedCycles) : Type 0 where
   pub names : named.names.items ≡ method_names d.methods
   pub cycles : AreCyclesOf rows named
 
--- All methods of a package stand in the order, each behind those that it calls, apart from those that can reach it.
+-- All methods of a package stand in the order, each after those that it calls, apart from those that can reach it.
 pub record IsCallOrder (d : Declared) (order : List ℕ) : Type 0 where
   pub rows : List (List ℕ)
   pub made : AreRows d rows (length d.methods)

@@ -4,7 +4,7 @@ ghost use Rattle.std.specs.Prelude.{◌≡◌, ℕ, List};
 ghost use Rattle.wf_names_rules.specs.Declarations.{Declared};
 ghost use Rattle.wf_names_rules.specs.Found.{RecursName};
 ghost use Rattle.wf_names_rules.specs.NameRules.{CircleBreaks};
-ghost use Rattle.wf_names_cycles.specs.Circling.{DecidesWith, AreCyclesOf, AreStructCycles, AreMethodCycles};
+ghost use Rattle.wf_names_cycles.specs.Circling.{DecidesWith, HoldsItself, CallsItself, AreCyclesOf, AreStructCycles, AreMethodCycles};
 
 use graphs::circles::Cycles;
 use wf_ast::parsed::Name;
@@ -36,14 +36,28 @@ impl NamedCycles {
     }
 }
 
-// What decides of what was found before and of N4 at the names on cycles.
+// The first refusal of what was found before and of N4 at the names on cycles.
 fn recursive(found: Option<Refusal>, named: &NamedCycles) -> Option<Refusal>
     ensures { (rows : List (List ℕ)) → AreCyclesOf rows named.now → DecidesWith (RecursName rows named.now.names.items) found result }
 {
     flagged(found, named.cycles.flags.as_slice(), named.names.as_slice())
 }
 
-/// What decides of what was found before and of N4 at structs that hold themselves and methods that can reach
+/// The first refusal of what was found before and of N4 at structs that hold themselves through fields.
+fn holds_itself(found: Option<Refusal>, structs: &NamedCycles) -> Option<Refusal>
+    ensures { (d : Declared) → AreStructCycles d structs.now → DecidesWith (HoldsItself d) found result }
+{
+    recursive(found, structs)
+}
+
+/// The first refusal of what was found before and of N4 at methods that can reach themselves by calls.
+fn recursion(found: Option<Refusal>, methods: &NamedCycles) -> Option<Refusal>
+    ensures { (d : Declared) → AreMethodCycles d methods.now → DecidesWith (CallsItself d) found result }
+{
+    recursive(found, methods)
+}
+
+/// The first refusal of what was found before and of N4 at structs that hold themselves and methods that can reach
 /// themselves by calls.
 pub fn circle_breaks(
     found: Option<Refusal>,
@@ -52,6 +66,6 @@ pub fn circle_breaks(
 ) -> Option<Refusal>
     ensures { (d : Declared) → AreStructCycles d structs.now → AreMethodCycles d methods.now → DecidesWith (CircleBreaks d) found result }
 {
-    let held = recursive(found, structs);
-    recursive(held, methods)
+    let held = holds_itself(found, structs);
+    recursion(held, methods)
 }

@@ -33,7 +33,7 @@ got-within (y ∷ ys) (suc i) x e = omega (arith, got-within ys i x e)
 pub drop-got : {X : Type 0} (xs : List X) (i : ℕ) (x : X) → slice_get xs i ≡ Some x → drop i xs ≡ x ∷ drop (i + 1) xs
 drop-got xs i x e = drop-one xs i x (got-within xs i x e) ∙ ap (λ y. y ∷ drop (i + 1) xs) (index-got xs i x e)
 
--- A pass over the methods, and over the structs, of a declaration and of those behind it.
+-- A pass over the methods, and over the structs, of a declaration and of those after it.
 pub methods-step : {R : Type 0} (f : R → Method → R) (found next : R) (d : DeclTree) (ds : List DeclTree) → next ≡ fold f found (methods_of (d ∷ []))
     → fold f next (methods_of ds) ≡ fold f found (methods_of (d ∷ ds))
 methods-step f found next (tree.status public text at) ds e = ap (λ r. fold f r (methods_of ds)) e
@@ -61,7 +61,7 @@ module _ {R : Type 0} (es : List ExprTree) (ts : List StmtTree) (decls : List De
       structs-step f found next (decl_made es ts x.public x.decl x.at) (decls_made es ts (drop (i + 1) decls)) e
       ∙ sym (ap (λ xs. fold f found (structs_of (decls_made es ts xs))) (drop-got decls i x h))
 
--- Names of a declaration, and of those behind it.
+-- Names of a declaration, and of those after it.
 pub statuses-split : (d : DeclTree) (ds : List DeclTree) → statuses_of (d ∷ ds) ≡ statuses_of (d ∷ []) ++ statuses_of ds
 statuses-split (tree.status public text at) ds = refl
 statuses-split (tree.constant public name of value at) ds = refl
@@ -106,7 +106,7 @@ gather_step g split es ts decls i x h names next got same e =
     ∙ ap (λ y. names ++ y) (sym (split (decl_made es ts x.public x.decl x.at) (decls_made es ts (drop (i + 1) decls))))
     ∙ sym (ap (λ xs. names ++ g (decls_made es ts xs)) (drop-got decls i x h))
 
--- Behind the last declaration.
+-- After the last declaration.
 drop-over : {X : Type 0} (xs : List X) (i : ℕ) → length xs ≤ i → drop i xs ≡ []
 drop-over [] zero h = refl
 drop-over [] (suc i) h = refl

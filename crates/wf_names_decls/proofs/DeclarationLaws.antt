@@ -36,7 +36,7 @@ names-add texts names =
     adds-then (λ found. soonest found (doubles_of [] names)) (λ found. soonest found (reserved_of texts names)) (RepeatsName names) (ReservesName texts names)
     (doubles-add names) (reserved-add texts names)
 
--- The name behind a limit.
+-- The name after a limit.
 abbrev Beyond : Rule → ℕ → List Name → Refusal → Type 0
 Beyond rule limit names s = (name : Name) × ((slice_get names limit ≡ Some name) × (s ≡ record { rule = rule; at = name.at }))
 
@@ -334,7 +334,7 @@ first-is-spelt : (names : List Name) (text : ℕ) (c : Name) → first_spelt nam
 first-is-spelt [] text c e = absurd (cc e)
 first-is-spelt (n ∷ names) text c e = spelt-if (is_spelt text n) n names text c refl (first-is-spelt names text c) e
 
--- A name of the list is the first of its text or behind it.
+-- A name of the list is the first of its text or after it.
 record IsFirstOr (names : List Name) (j : ℕ) (c : Name) : Type 0 where
   name : Name
   place : ℕ
@@ -530,7 +530,7 @@ covered-decides P Q (Some r) to cover h = record {
   first = λ s q. let c = cover s q in not-before r s c.0 (h.first c.0 c.1.0) c.1.1;
 }
 
--- Behind all passes decides what decided before or what the declarations break.
+-- After all passes decides what decided before or what the declarations break.
 pub declarations-decide : (d : Declared) (P : Refusal → Type 0) (found : Option Refusal) → Decides P found → Decides (λ s. P s ⊎ DeclarationBreaks d s) (declarations_found d found)
 declarations-decide d P found h =
     covered-decides (λ s. P s ⊎ Known d s) (λ s. P s ⊎ DeclarationBreaks d s) (declarations_found d found)

@@ -71,7 +71,7 @@ insert-only : (ps : List Pair) (p q : Pair) → has (insert_key same_pair ps p) 
 unfolding has
 insert-only ps p q h = only-if (list_any (same_pair p) ps) ps p q h
 
--- Two methods of one struct and of one name; `later` is the name of the one behind.
+-- Two methods of one struct and of one name; `later` is the name of the second one.
 record Two (ms : List Owned) (j : ℕ) (b : Owned) : Type 0 where
   i : ℕ
   a : Owned

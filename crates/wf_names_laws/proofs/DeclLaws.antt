@@ -103,7 +103,7 @@ module _ (name : List ℕ) (texts : List (List ℕ)) (decls : List DeclTree) (or
       scope-kept given (method_scope given m) (uses.structure m.owner ∷ method_uses m)
       (all-flat (IsKeptSite given) (method_sites given) given.methods n m (all-behind (IsKeptSite given) (flat_map (struct_sites given) given.structs) (flat_map (method_sites given) given.methods) behind-constants) e)
 
-  -- Constants, each by those in front of it.
+  -- Constants, each by those before it.
   consts-from : (known : List Variable) (cs : List Constant) (n : ℕ) → length known ≡ n → known ++ map as_variable cs ≡ map as_variable given.constants
       → AreKeptSites given (constant_sites known cs) → named_consts made n (resolved_consts given known cs) ≡ true
   consts-from known [] n long whole a = refl

@@ -18,7 +18,7 @@ use Rattle.wf_names_resolve.specs.Package.{resolved_variable, method_in, resolve
 use Rattle.wf_names_laws.proofs.ListLemmas.{list-all-so}
 use Rattle.wf_names_laws.proofs.PackageLemmas.{method-made}
 
--- Where no item stands behind so many, there are no more.
+-- Where no item stands after so many, there are no more.
 few : {X : Type 0} (xs : List X) (n : ℕ) → ((x : X) → slice_get xs n ≡ Some x → ⊥) → length xs ≤ n
 few [] n none = omega arith
 few (x ∷ xs) zero none = absurd (none x refl)

@@ -1,4 +1,4 @@
--- In an order of the methods each calls only those in front of it.
+-- In an order of the methods each calls only those before it.
 use Rattle.std.proofs.Common.{◌≡◌, ℕ, zero, suc, ◌<◌, ◌≤◌, Bool, true, false, not, ◌&&◌, ◌||◌, List, [], ◌∷◌, ◌++◌, length, take, Option, Some, None, slice_get, nat_eq, nat_lt, refl, sym, ap, ◌∙◌, subst, inl, inr, arith, append_assoc}
 use Rattle.std.specs.List.{list_any, flat_map}
 use Rattle.std.proofs.lemmas.Bool.Decides.{nat_tests}
@@ -135,7 +135,7 @@ module _ (texts : List (List ℕ)) (decls : List DeclTree) (name : List ℕ) (or
       let long : length order ≡ length (resolved_methods d decls) = ordered.whole ∙ made.len ∙ sym (methods-long d decls) in
       let P : ℕ → Type 0 = λ n. nat_eq (length order) n ≡ true in subst P long (number_self (length order))
 
-  -- A method with what stands in front of it.
+  -- A method with what stands before it.
   method-front : AreOpen d → (front back : List ℕ) (a : ℕ) (known : ℕ → Bool) → order ≡ front ++ a ∷ back → ((b : ℕ) → holds front b ≡ true → known b ≡ true)
       → method_calls_only known (slice_get p.methods a) ≡ true
   method-front opens front back a known split knows =

@@ -56,7 +56,7 @@ module _ {X : Type 0} (p : X → Bool) where
         none = behind h r.none;
       })
 
-  -- An item that passes and has none in front of it that does.
+  -- An item that passes and has none before it that does.
   pub position-first : (k : ℕ) (xs : List X) (n : ℕ) (x : X) → slice_get xs n ≡ Some x → p x ≡ true
       → ((i : ℕ) (y : X) → i < n → slice_get xs i ≡ Some y → p y ≡ false) → position_from p k xs ≡ Some (k + n)
   position-first k [] n x e h before = absurd (cc e)

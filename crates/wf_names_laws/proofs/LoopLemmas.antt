@@ -10,7 +10,7 @@ labels-same : (text : ℕ) (loop : Option Name) → is_labelled text loop ≡ is
 labels-same text None = refl
 labels-same text (Some label) = refl
 
--- Loops that stand behind the last of the label.
+-- Loops that stand after the last of the label.
 behind-few : (text count : ℕ) (loops : List (Option Name)) → loops_behind text count loops ≤ count + length loops
 behind-few text count [] = omega arith
 behind-few text count (loop ∷ loops) = by_test (is_label text loop) (behind-few text 0 loops) (behind-few text (count + 1) loops)

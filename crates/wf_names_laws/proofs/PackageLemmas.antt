@@ -78,7 +78,7 @@ method-resolved d (tree.method public owner name mark args result body at ∷ de
     (mark, ap (λ x. Some (method_in d mark x)) (same-inner first it e))
 method-resolved d (tree.method public owner name mark args result body at ∷ decls) (suc i) it e = method-resolved d decls i it e
 
--- And a resolved constant of a constant, with those in front of it known.
+-- And a resolved constant of a constant, with those before it known.
 pub const-resolved : (d : Declared) (known : List Variable) (cs : List Constant) (i : ℕ) (c : Constant) → slice_get cs i ≡ Some c
     → (front : List Variable) × (slice_get (resolved_consts d known cs) i ≡ Some (resolved_const (standing_at d (constant_scope front)) c.name c.of c.value))
 const-resolved d known [] i c e = absurd (cc e)

@@ -106,7 +106,7 @@ module _ (name : List ℕ) (texts : List (List ℕ)) (decls : List DeclTree) (or
         | inr same ↦ let b = slice_get_within given.structs n it e in omega (arith, b, same)
       ]
 
-  -- With these levels left, behind the structs that hold it, a struct is whole.
+  -- With these levels left, after the structs that hold it, a struct is whole.
   abbrev WholeBehind : ℕ → Type 0
   WholeBehind levels = (n : ℕ) (it : Structure) (holders : List ℕ) → slice_get given.structs n ≡ Some it → Hold n holders → length given.structs ≤ length holders + levels
       → is_whole made levels n ≡ true

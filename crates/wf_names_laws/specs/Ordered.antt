@@ -3,7 +3,7 @@ use Rattle.std.specs.Prelude.{◌≡◌, true, [], length, nat_eq}
 use Rattle.wf_named.specs.NamedTree.{NamedPackageTree}
 use Rattle.wf_named.specs.WellNamed.{calls_in_front}
 
--- The order has as many numbers as there are methods, and each method calls only those in front of it.
+-- The order has as many numbers as there are methods, and each method calls only those before it.
 pub record HasOrder (p : NamedPackageTree) : Type 0 where
   pub long : nat_eq (length p.order) (length p.methods) ≡ true
   pub in_front : calls_in_front p [] p.order ≡ true

@@ -104,13 +104,13 @@ module _ (k : Standing) (whole : List Variable) (p q r : NamedParts) (made : Lis
       let P : List StmtId → Type 0 = λ ss. VariablesMade k (locals_of (parsed.items_at ts ss close)) whole p q made in
       variables_added (local_of (parsed.stmt_at ts (slice_index_or items i d))) (locals_of (parsed.items_at ts (drop (i + 1) items) close)) more (subst P (drop-one items i d h) m) g b is
 
--- Behind the last there is nothing to make.
+-- After the last there is nothing to make.
 pub variables_all_made : (k : Standing) (rest whole : List Variable) (p q : NamedParts) (made : List NamedVar) → rest ≡ [] → VariablesMade k rest whole p q made
     → map (var_made q.texts (exprs_of q)) made ≡ map (resolved_variable k) whole
 variables_all_made k rest whole p q made e m =
     sym (append-nil (map (var_made q.texts (exprs_of q)) made)) ∙ sym (ap (λ vs. map (var_made q.texts (exprs_of q)) made ++ map (resolved_variable k) vs) e) ∙ m.trees
 
--- A declaration that is put behind those of its kind.
+-- A declaration that is put after those of its kind.
 module _ (old mid new : NamedPackageTree) where
   pub const_put : (x y : ConstTree) → new ≡ with_consts mid (x ∷ []) → mid ≡ old → x ≡ y → new ≡ with_consts old (y ∷ [])
   const_put x y e f g = e ∙ ap (λ t. with_consts t (x ∷ [])) f ∙ ap (λ z. with_consts old (z ∷ [])) g

@@ -23,7 +23,7 @@ use Rattle.wf_names_resolve.specs.Resolved.{word_of}
 use Rattle.wf_names_resolve.specs.Package.{resolved_const, resolved_consts, struct_in, method_in, resolved_structs, resolved_methods, resolved_by}
 use Rattle.wf_names_nodes.specs.Declaring.{with_consts, with_statuses, with_structs, with_methods, with_others}
 
--- Nothing added, and some added behind others.
+-- Nothing added, and some added after others.
 module _ (t : NamedPackageTree) where
   pub no_consts : t ≡ with_consts t []
   no_consts = ap (λ cs. record t { consts = cs }) (sym (append-nil t.consts))
@@ -40,7 +40,7 @@ module _ (t : NamedPackageTree) where
   pub consts_behind : (xs ys : List ConstTree) → with_consts (with_consts t xs) ys ≡ with_consts t (xs ++ ys)
   consts_behind xs ys = ap (λ cs. record t { consts = cs }) (append_assoc t.consts xs ys)
 
--- Lists of declarations behind each other.
+-- Lists of declarations after each other.
 structs_append : (d : Declared) (xs ys : List DeclTree) → resolved_structs d (xs ++ ys) ≡ resolved_structs d xs ++ resolved_structs d ys
 structs_append d [] ys = refl
 structs_append d (tree.status public text at ∷ xs) ys = structs_append d xs ys
@@ -166,7 +166,7 @@ pub package_new : (p : NamedParts) (name : List ℕ) → p ≡ record { package_
 unfolding named_package
 package_new p name e = ap named_package e
 
--- Behind a declaration that declares no constant.
+-- After a declaration that declares no constant.
 pub no_const_known : (d : Declared) (place : ℕ) (s : ScopeNumbers) (known : List Variable) → place ≡ length known → TellsPlaces d (constant_scope known) s → TellsPlaces d (constant_scope (known ++ [])) s
 no_const_known d place s known e h =
     let P : List Variable → Type 0 = λ vs. TellsPlaces d (constant_scope vs) s in

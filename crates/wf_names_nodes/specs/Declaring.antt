@@ -1,4 +1,4 @@
--- Declarations as they are added: what is declared, and a package with more of them behind those that it has.
+-- Declarations as they are added: what is declared, and a package with more of them after those that it has.
 use Rattle.std.specs.Prelude.{Bool, List, ◌++◌, map, Option}
 use Rattle.wf_ast.specs.declared.parsed.Block.{Block}
 use Rattle.wf_ast.specs.declared.parsed.Field.{Field}

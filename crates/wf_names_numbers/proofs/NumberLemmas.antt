@@ -33,7 +33,7 @@ numbers_later p k i (x ∷ xs) = by (p x) (numbers_later p k (i + 1) xs)
     by true r = refl
     by false r = ap (λ n. position_from p n xs) next ∙ r
 
--- A variable behind those that a table tells.
+-- A variable after those that a table tells.
 pub place_pushed : {S : Type 0} (old new : IndexMap ℕ ℕ S) (place : ℕ) (known : List Variable) (v : Variable) → place ≡ length known
     → ((text : ℕ) → get nat_eq new text ≡ with_first nat_eq (get nat_eq old) v.name.text.0 place text) → TellsPlacesOf known old → TellsPlacesOf (known ++ v ∷ []) new
 place_pushed old new place known v e h t text =

@@ -5,6 +5,6 @@ use Rattle.wf_names_rules.specs.Uses.{constant_scope}
 use Rattle.wf_names_resolve.specs.declared.numbers.ScopeNumbers.{ScopeNumbers}
 use Rattle.wf_names_numbers.specs.Numbered.{TellsPlaces, TellsAllConstants}
 
--- Behind the last constant all are known.
+-- After the last constant all are known.
 pub all_constants : (d : Declared) (s : ScopeNumbers) → TellsPlaces d (constant_scope (map as_variable d.constants)) s → TellsAllConstants d s
 all_constants d s t = record { tables = t.tables.constants; places = t.constants }

@@ -1,4 +1,4 @@
--- Tables of numbers that grow by a name at a time. In front of the names that are left, `rest`, a table and these
+-- Tables of numbers that grow by a name at a time. Before the names that are left, `rest`, a table and these
 -- together answer what the whole answers; `next` is the number of the first that is left.
 use Rattle.std.specs.Prelude.{ℕ, cond, List, Option, None, is_some, nat_eq}
 use Rattle.std.specs.Option.{option_or}

@@ -10,7 +10,7 @@ use Rattle.wf_names_resolve.specs.declared.numbers.ScopeNumbers.{ScopeNumbers}
 use Rattle.wf_names_resolve.specs.Standing.{place_in, standing_by, standing_at}
 
 -- The tables of a package tell what its declarations mean, and by which number each name stands: a status by its place
--- behind the ten of the language, a struct by its place among the structs, a field by its place in its struct. Of two
+-- after the ten of the language, a struct by its place among the structs, a field by its place in its struct. Of two
 -- declarations with one name the first is meant.
 pub record TellsNumbers (d : Declared) (p : PackageNumbers) : Type 0 where
   pub tables : TellsPackage d p.tables

@@ -62,7 +62,7 @@ arms_below e f k l m n arms h =
     all_map (λ a. (a.condition.0 < e) × BlockBelow k a.body) (λ a. (a.condition.0 < f) × BlockBelow l a.body)
     (λ a b. (omega (arith, b.0, m), block_below k l n a.body.items b.1)) arms h
 
--- Statements in front of a block.
+-- Statements before a block.
 abbrev pub block_behind : List NamedStmtTree → List StmtId → NamedBlockTree → NamedBlockTree
 block_behind ts [] others = others
 block_behind ts (s ∷ ss) others = tree.more_stmts (stmt_at ts s) (block_behind ts ss others)
@@ -121,7 +121,7 @@ pub record ArmsMade (k : Standing) (loops : List (Option Name)) (es : List ExprT
   pub below : ArmsBelow (length q.exprs) (length q.stmts) made
   pub trees : (last : ArmTrees) → arms_at (exprs_of q) (stmts_of q) made (resolved_arms k loops (parsed.arms_at es ts (drop i arms) last)) ≡ resolved_arms k loops (parsed.arms_at es ts arms last)
 
--- In front of the first nothing is made.
+-- Before the first nothing is made.
 module _ (k : Standing) (loops : List (Option Name)) (es : List ExprTree) (ts : List StmtTree) (p : NamedParts) where
   pub stmts_start : (close : Place) (items made : List StmtId) → made ≡ [] → StmtsMade k loops ts close items 0 p p made
   stmts_start close items made e =
@@ -175,7 +175,7 @@ module _ (k : Standing) (loops : List (Option Name)) (es : List ExprTree) (ts : 
         trees = trees;
       }
 
-  -- Behind the last there is nothing to make.
+  -- After the last there is nothing to make.
   pub stmts_all_made : (close : Place) (items made : List StmtId) → drop i items ≡ [] → StmtsMade k loops ts close items i p q made
       → items_at (stmts_of q) made close ≡ resolved_block k loops (parsed.items_at ts items close)
   stmts_all_made close items made e m =

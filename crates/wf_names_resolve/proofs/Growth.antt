@@ -101,7 +101,7 @@ module _ (p q : NamedParts) (g : Grows p q) where
       ap (λ v. record { name = x.name; value = v } ∷ given_trees (exprs_of q) gs) (expr_kept x.value h.0)
       ∙ ap (λ xs. given_tree (exprs_of p) x ∷ xs) (given_kept gs h.1)
 
--- Of an answer behind another step.
+-- Of an answer after another step.
 pub ok_grows : {X E : Type 0} (p q s : NamedParts) (r : Result X E) → Grows p q → OnOk r (Grows q s) → OnOk r (Grows p s)
 ok_grows p q s (Ok x) g h = grows_more p q s g h
 ok_grows p q s (Err e) g h = tt

@@ -125,7 +125,7 @@ args_below n bytes args callees.Foreign gs h = tt
 args_below n bytes args callees.Missing gs h = tt
 args_below n bytes args callees.Baseless gs h = tt
 
--- The arguments of a base method behind the first of them.
+-- The arguments of a base method after the first of them.
 drop_found : {X : Type 0} (xs : List X) (i : ℕ) (x : X) → slice_get xs i ≡ Some x → drop i xs ≡ x ∷ drop (suc i) xs
 drop_found [] i x e = absurd (cc e)
 drop_found (y ∷ ys) zero x e = let same : y ≡ x = cc e in ap (λ z. z ∷ ys) same
@@ -141,7 +141,7 @@ spelt_step bytes gs args i x old new e h =
     let P : ℕ → Type 0 = λ j. new ++ values_spelt bytes gs (map (λ arg. arg.0) (drop j args)) ≡ old ++ values_spelt bytes gs (map (λ arg. arg.0) (drop i args)) in
     subst P next (ap (λ es. es ++ rest) h ∙ append_more old one rest ∙ sym (ap (λ xs. old ++ values_spelt bytes gs (map (λ arg. arg.0) xs)) (drop_found args i x e)))
 
--- Operands behind those of another list.
+-- Operands after those of another list.
 abbrev pub links_behind : NamedLinkTrees → NamedLinkTrees → NamedLinkTrees
 links_behind tree.no_link others = others
 links_behind (tree.link sign operand first) others = tree.link sign operand (links_behind first others)
@@ -186,7 +186,7 @@ pub record PrefixesMade (k : Standing) (es : List ExprTree) (prefixes : List Pre
   pub below : AllByRecursion (PrefixBelow (length q.exprs)) made
   pub trees : (of : TypeTree) → all_prefixed (exprs_of q) made (resolved_type k (parsed.all_prefixed es (drop i prefixes) of)) ≡ resolved_type k (parsed.all_prefixed es prefixes of)
 
--- In front of the first nothing is made.
+-- Before the first nothing is made.
 module _ (k : Standing) (es : List ExprTree) (p : NamedParts) where
   pub links_start : (links made : List Link) → made ≡ [] → LinksMade k es links 0 p p made
   links_start links made e =
@@ -264,7 +264,7 @@ module _ (k : Standing) (es : List ExprTree) (p q r : NamedParts) (i : ℕ) wher
         trees = trees;
       }
 
-  -- Behind the last there is nothing to make.
+  -- After the last there is nothing to make.
   pub links_made : (links made : List Link) → drop i links ≡ [] → LinksMade k es links i p q made → links_at (exprs_of q) made ≡ resolved_links k (parsed.links_at es links)
   links_made links made e m =
       sym (links_end (links_at (exprs_of q) made)) ∙ sym (ap (λ xs. links_behind (links_at (exprs_of q) made) (resolved_links k (parsed.links_at es xs))) e) ∙ m.trees

@@ -34,7 +34,7 @@ module _ (p q : NamedParts) (g : Grows p q) where
   clauses_kept [] h = refl
   clauses_kept (c ∷ cs) h = let e = expr_kept p q g c.condition h.0 in let es = clauses_kept cs h.1 in cc
 
--- Promises behind those of another list.
+-- Promises after those of another list.
 abbrev pub clauses_behind : NamedClauseTrees → NamedClauseTrees → NamedClauseTrees
 clauses_behind tree.no_clause others = others
 clauses_behind (tree.more_clauses kind condition at first) others = tree.more_clauses kind condition at (clauses_behind first others)

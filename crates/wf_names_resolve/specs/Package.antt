@@ -36,7 +36,7 @@ resolved_method k mark m = record {
   body = resolved_block k [] m.body;
 }
 
--- A constant knows those in front of it, `known`; everything else knows all constants.
+-- A constant knows those before it, `known`; everything else knows all constants.
 abbrev pub resolved_consts : Declared → (known : List Variable) → List Constant → List ConstTree
 resolved_consts d known [] = []
 resolved_consts d known (c ∷ cs) = resolved_const (standing_at d (constant_scope known)) c.name c.of c.value ∷ resolved_consts d (known ++ as_variable c ∷ []) cs
@@ -69,7 +69,7 @@ resolved_by d name decls order = record {
   order = order;
 }
 
--- The package of this name with these texts and declarations; `order` has the numbers of all methods, each behind those
+-- The package of this name with these texts and declarations; `order` has the numbers of all methods, each after those
 -- that it calls.
 abbrev pub resolved_package : (name : List ℕ) → (texts : List (List ℕ)) → List DeclTree → (order : List ℕ) → NamedPackageTree
 resolved_package name texts decls order = resolved_by (declared texts decls) name decls order

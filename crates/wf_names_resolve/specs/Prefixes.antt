@@ -13,7 +13,7 @@ use Rattle.wf_named.specs.NamedTrees.{prefixed, all_prefixed}
 use Rattle.wf_names_resolve.specs.Standing.{Standing}
 use Rattle.wf_names_resolve.specs.Resolved.{number_or, base_type_named, resolved_type}
 
--- In front of whatever type, the resolved prefix makes the resolved type; `es` are the parsed trees and `ts` the
+-- Before whatever type, the resolved prefix makes the resolved type; `es` are the parsed trees and `ts` the
 -- resolved ones.
 abbrev pub ResolvesPrefix : Standing → (es : List ExprTree) → Prefix → (ts : List NamedExprTree) → Prefix → Type 0
 ResolvesPrefix k es p ts r = (of : TypeTree) → prefixed ts r (resolved_type k of) ≡ resolved_type k (parsed.prefixed es p of)

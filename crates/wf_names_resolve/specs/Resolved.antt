@@ -71,7 +71,7 @@ resolved_mark written.Unmarked = marks.Pure
 resolved_mark written.Exclamation = marks.Impure
 resolved_mark written.Question = marks.Coroutine
 
--- A type of the language by its name behind `base.`, which may be none.
+-- A type of the language by its name after `base.`, which may be none.
 abbrev pub sized_type : Option Width → Option BaseType → Option BaseType
 sized_type (Some width) other = Some (bases.Number width)
 sized_type None other = other

@@ -15,7 +15,7 @@ use Rattle.wf_names_resolve.specs.declared.numbers.ScopeNumbers.{ScopeNumbers}
 pub record Standing : Type 0 where
   -- the bytes of a text
   pub bytes : ℕ → List ℕ
-  -- the number of a status of the package: its place behind the ten of the language
+  -- the number of a status of the package: its place after the ten of the language
   pub status : ℕ → Option ℕ
   -- the place of a struct among the structs
   pub structure : ℕ → Option ℕ

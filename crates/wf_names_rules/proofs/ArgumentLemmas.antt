@@ -8,7 +8,7 @@ use Rattle.wf_names_rules.specs.Meanings.{of_base, is_parameter}
 use Rattle.graphs.proofs.NumberLemmas.{number_self, same_number}
 use Rattle.wf_names_rules.proofs.InsertLemmas.{insert-keeps, insert-has, insert-only}
 
--- A base method's arguments behind one that isn't called so.
+-- A base method's arguments after one that isn't called so.
 pub has_step : (bytes : ℕ → List ℕ) (args : List (List ℕ × ArgTy)) (i text : ℕ) (x : List ℕ × ArgTy) → slice_get args i ≡ Some x → bytes_eq x.0 (bytes text) ≡ false
     → is_parameter bytes (of_base (map (λ arg. arg.0) (drop (i + 1) args))) text ≡ is_parameter bytes (of_base (map (λ arg. arg.0) (drop i args))) text
 has_step bytes [] i text x e h = absurd (cc e)

@@ -6,7 +6,7 @@ use Rattle.indexmap.specs.IndexSet.{insert_key}
 use Rattle.graphs.specs.Graphs.{holds}
 use Rattle.graphs.proofs.NumberLemmas.{same_number, number_self}
 
--- A list behind one more number.
+-- A list after one more number.
 holds_pushed : (ks : List ℕ) (a b : ℕ) → holds (ks ++ a ∷ []) b ≡ (holds ks b || nat_eq b a)
 holds_pushed ks a b = list_any-append (nat_eq b) ks (a ∷ []) ∙ ap (λ t. holds ks b || t) (or_false (nat_eq b a))
   where

@@ -18,7 +18,7 @@ use Rattle.wf_names_rules.specs.Meanings.{Known}
 use Rattle.wf_names_rules.specs.Judged.{walked}
 use Rattle.wf_names_rules.proofs.WalkLemmas.{walked-append, ok_same, drop-one}
 
--- An answer behind two walks, and behind three.
+-- An answer after two walks, and after three.
 pub ok_append : (k : Known) (seen next : Seen) (us vs : List Use) (r : Result Seen NoMemory) → next ≡ walked k seen us
     → IfOk r (λ all. all ≡ walked k next vs) → IfOk r (λ all. all ≡ walked k seen (us ++ vs))
 ok_append k seen next us vs r e h = ok_same r (walked k next vs) (walked k seen (us ++ vs)) (ap (λ s. walked k s vs) e ∙ sym (walked-append k seen us vs)) h

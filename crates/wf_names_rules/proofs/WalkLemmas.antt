@@ -163,7 +163,7 @@ module _ (k : Known) (ts : List ExprTree) (seen next : Seen) where
       ∙ sym (walked-append k seen (prefix_uses ts (slice_index_or ps i d)) (flat_map (prefix_uses ts) (drop (i + 1) ps)))
       ∙ sym (ap (λ xs. walked k seen (flat_map (prefix_uses ts) xs)) (drop-one ps i d h))
 
--- A type: what stands in front of its core, then the core.
+-- A type: what stands before its core, then the core.
 prefixed_walked : (k : Known) (ts : List ExprTree) (seen : Seen) (p : Prefix) (of : TypeTree)
     → walked k seen (type_uses (prefixed ts p of)) ≡ walked k (walked k seen (prefix_uses ts p)) (type_uses of)
 prefixed_walked k ts seen (prefixes.Slice at) of = refl

@@ -162,7 +162,7 @@ typed_value d known _ _ a = None
 abbrev pub constant_value : Declared → List Valued → Constant → Option Sized
 constant_value d known c = typed_value d known (width_of (text_of d) c.of) c.of (value_of d (λ text. false) known c.value)
 
--- The constants in order, each with its value, which those in front of it make.
+-- The constants in order, each with its value, which those before it make.
 abbrev pub known_from : Declared → List Valued → List Constant → List Valued
 known_from d known [] = known
 known_from d known (c ∷ cs) = known_from d (known ++ record { name = c.name; value = constant_value d known c } ∷ []) cs

@@ -82,7 +82,7 @@ judged k found (method c) = call_judged k found c
 abbrev pub used_so : Seen → (known : Bool) → Place → Seen
 used_so seen known at = record { found = sooner seen.found (refused_if (not known) N1 at); known = seen.known && known }
 
--- A call behind what it is made on and its values, of which `given` tells.
+-- A call after what it is made on and its values, of which `given` tells.
 abbrev pub call_finished : Known → (given : Seen) → CallTree → Seen
 call_finished k given c = record {
   found = args_judged_if (is_known (callee_of k c) && given.known) k (sooner given.found (callee_refusal (callee_of k c) (call_name c))) (parameters_of k.args (callee_of k c)) (call_name c) (call_args c);

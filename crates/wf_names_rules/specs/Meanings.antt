@@ -25,7 +25,7 @@ use Rattle.wf_names_rules.specs.declared.sorts.Sort.TheVariants as sorts
 use Rattle.wf_names_rules.specs.Declarations.{Variable, Constant, Structure, Method, Declared, is_spelt, text_of, status_named, struct_named, method_named, variable_named, fields_of}
 use Rattle.wf_names_rules.specs.Uses.{Use, own_status, base_status, variable, structure, method, Scope, given_uses}
 
--- The statuses of the language, as they are written behind `base.`.
+-- The statuses of the language, as they are written after `base.`.
 abbrev pub base_status_texts : List (List ℕ)
 base_status_texts =
     codes "$short read" ∷ codes "$short write" ∷ codes "@end of data" ∷ codes "#bad receiver" ∷ codes "#bad argument"
@@ -35,7 +35,7 @@ base_status_texts =
 abbrev pub is_base_status : List ℕ → Bool
 is_base_status text = list_any (λ status. bytes_eq status text) base_status_texts
 
--- The width of a numeric type by its name behind `base.`.
+-- The width of a numeric type by its name after `base.`.
 abbrev pub width_named : List ℕ → Option Width
 width_named name =
     if bytes_eq name (codes "u8") then Some widths.W8
@@ -49,7 +49,7 @@ abbrev pub width_of : (bytes : ℕ → List ℕ) → TypeTree → Option Width
 width_of bytes (tree.base_type name at bounds) = width_named (bytes name.text.0)
 width_of bytes _ = None
 
--- What may be called on a type of this name behind `base.`.
+-- What may be called on a type of this name after `base.`.
 abbrev pub sort_named : List ℕ → Sort
 sort_named name =
     if bytes_eq name (codes "io_reader") then sorts.Methods kinds.Reader
@@ -133,7 +133,7 @@ abbrev pub or_sort : Option Sort → Option Sort → Option Sort
 or_sort (Some s) other = Some s
 or_sort None other = other
 
--- What may be called on what a name stands for behind nothing, behind `this.` and behind `args.`.
+-- What may be called on what a name stands for after nothing, after `this.` and after `args.`.
 abbrev pub sort_at : Known → Root → ℕ → Option Sort
 sort_at k roots.Bare text = or_sort (k.local text) (k.constant text)
 sort_at k roots.This text = k.field text

@@ -76,7 +76,7 @@ declared_names d =
     map (λ c. c.name) d.constants ++ (map (λ s. s.name) d.structs ++ (map (λ m. m.name) d.methods
     ++ (flat_map (λ s. variable_names s.fields) d.structs ++ flat_map (λ m. variable_names m.args ++ variable_names m.locals) d.methods)))
 
--- Of two names that mean different things and are spelt alike the one behind the other.
+-- Of two names that mean different things and are spelt alike the one after the other.
 abbrev pub later_of : Name → Name → Refusal
 later_of a b = if is_before (twice a) (twice b) then twice b else twice a
 

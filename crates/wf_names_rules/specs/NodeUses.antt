@@ -6,7 +6,7 @@ use Rattle.wf_ast.specs.ParsedTree.{ExprTree}
 use Rattle.wf_ast.specs.ParsedTrees.{expr_at}
 use Rattle.wf_names_rules.specs.Uses.{Use, uses_of}
 
--- What stands in front of a type.
+-- What stands before a type.
 abbrev pub prefix_uses : List ExprTree → Prefix → List Use
 prefix_uses ts (prefixes.Slice at) = []
 prefix_uses ts (prefixes.Array length at) = uses_of (expr_at ts length)

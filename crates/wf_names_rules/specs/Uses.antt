@@ -26,7 +26,7 @@ abbrev pub receiver_uses : Receiver → List Use
 receiver_uses (receivers.This at) = []
 receiver_uses (receivers.Path path) = variable path ∷ []
 
--- What an expression uses, its parts' uses in front of its own but for a path.
+-- What an expression uses, its parts' uses before its own but for a path.
 abbrev mutual
   pub uses_of : ExprTree → List Use
   uses_of (tree.number value at) = []
@@ -123,7 +123,7 @@ pub record Scope : Type 0 where
   pub args : List Variable
   pub locals : List Variable
 
--- In the declaration of a constant only those in front of it are known.
+-- In the declaration of a constant only those before it are known.
 abbrev pub constant_scope : List Variable → Scope
 constant_scope known = record { constants = known; this = None; args = []; locals = [] }
 

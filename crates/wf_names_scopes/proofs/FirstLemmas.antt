@@ -56,7 +56,7 @@ module _ {X : Type 0} (p : X → Bool) where
       by true r = refl
       by false r = r
 
--- Whether a name is declared, behind one more declaration.
+-- Whether a name is declared, after one more declaration.
 pub declared_pushed : {X : Type 0} (p : X → Bool) (xs : List X) (x : X) → is_some (position_from p 0 (xs ++ x ∷ [])) ≡ (is_some (position_from p 0 xs) || p x)
 declared_pushed p xs x = position_any p 0 (xs ++ x ∷ []) ∙ any_pushed p xs x ∙ ap (λ b. b || p x) (sym (position_any p 0 xs))
 

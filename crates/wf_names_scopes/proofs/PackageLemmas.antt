@@ -45,7 +45,7 @@ named_found : (d : Declared) (owner : ℕ) → is_some (struct_named d owner) �
 named_found d owner = position_any (λ s. is_spelt owner s.name) 0 d.structs ∙ sym (find_any (λ s. is_spelt owner s.name) d.structs)
 
 module _ (d : Declared) (t : Tables) (s : Structure) (p : TellsPackage d t) where
-  -- The fields that are known behind one more struct.
+  -- The fields that are known after one more struct.
   fields_behind : (owner text : ℕ) → sort_among d.texts (fields_of (with_struct d s) owner) text
       ≡ sort_among d.texts (fields_in (option_or (find (λ s. is_spelt owner s.name) d.structs) (cond (nat_eq s.name.text.0 owner) (Some s) None))) text
   fields_behind owner text =
@@ -109,7 +109,7 @@ methods_append (tree.structure p n mark fs at ∷ xs) ys = methods_append xs ys
 methods_append (tree.method p o n mark args r b at ∷ xs) ys =
     ap (λ rest. record { public = p; owner = o; name = n; args = variables args; result = r; locals = locals_of b; body = b } ∷ rest) (methods_append xs ys)
 
--- What is declared behind one more declaration.
+-- What is declared after one more declaration.
 module _ (texts : List (List ℕ)) (ds : List DeclTree) where
   abbrev with_these : List Name → List Constant → List Structure → List Method → Declared
   with_these names constants structs methods = record { texts = texts; statuses = names; constants = constants; structs = structs; methods = methods }
@@ -150,7 +150,7 @@ pub on_ok : {P Q : Type 0} (r : Result (Unit {0}) NoMemory) → (P → Q) → On
 on_ok (Ok u) f h = f h
 on_ok (Err e) f h = h
 
--- A status, a struct and a method behind those that the tables tell.
+-- A status, a struct and a method after those that the tables tell.
 pub status_more : (texts : List (List ℕ)) (t u : Tables) (public : Bool) (name : Name) (at : Place) → ((d : Declared) → TellsPackage d t → TellsPackage (with_status d name) u)
     → (ds : List DeclTree) → TellsPackage (declared texts ds) t → TellsPackage (declared texts (ds ++ tree.status public name at ∷ [])) u
 status_more texts t u public name at step ds p =
@@ -172,7 +172,7 @@ method_more texts es t u public owner name mark args result body at step ds p =
     let m : Method = record { public = public; owner = owner; name = name; args = variables (fields_at es args); result = result; locals = locals_of body; body = body } in
     subst P (sym (method_declared texts ds public owner name mark (fields_at es args) result body at)) (step (declared texts ds) m refl refl refl es refl p)
 
--- The parts of the tables behind one more.
+-- The parts of the tables after one more.
 pub status_added : (d : Declared) (name : Name) (old new : ℕ → Bool) → ((text : ℕ) → new text ≡ (old text || nat_eq name.text.0 text)) → ((text : ℕ) → old text ≡ is_some (status_named d text))
     → (text : ℕ) → new text ≡ is_some (status_named (with_status d name) text)
 status_added d name old new h k text = h text ∙ ap (λ b. b || nat_eq name.text.0 text) (k text) ∙ sym (declared_pushed (is_spelt text) d.statuses name)

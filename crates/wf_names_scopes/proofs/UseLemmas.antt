@@ -65,7 +65,7 @@ past_end [] (suc i) h = refl
 past_end (x ∷ xs) zero h = absurd (omega (arith, h))
 past_end (x ∷ xs) (suc i) h = past_end xs i (omega (arith, h))
 
--- Constants, each with those in front of it.
+-- Constants, each with those before it.
 constant_sites-append : (known : List Variable) (xs ys : List Constant) → constant_sites known (xs ++ ys) ≡ constant_sites known xs ++ constant_sites (known ++ map as_variable xs) ys
 constant_sites-append known [] ys = ap (λ k. constant_sites k ys) (sym (append-nil known))
 constant_sites-append known (c ∷ xs) ys =

@@ -15,7 +15,7 @@ use Rattle.wf_names_rules.proofs.WalkLemmas.{drop-one}
 use Rattle.wf_names_scopes.specs.Agreeing.{TellsVariables, sort_among}
 use Rattle.wf_names_scopes.specs.Growing.{with_first, TellsUpTo}
 
--- What is meant behind one more variable.
+-- What is meant after one more variable.
 pub sort_pushed : (texts : List (List ℕ)) (front : List Variable) (v : Variable) (text : ℕ)
     → sort_among texts (front ++ v ∷ []) text ≡ option_or (sort_among texts front text) (cond (nat_eq v.name.text.0 text) (Some (sort_of (bytes_of texts) v.of)) None)
 sort_pushed texts [] v text = by (nat_eq v.name.text.0 text)

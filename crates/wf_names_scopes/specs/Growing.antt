@@ -12,15 +12,15 @@ use Rattle.wf_names_rules.specs.Tables.{Pair}
 use Rattle.wf_names_scopes.specs.Agreeing.{TellsVariables, TellsScope, sort_among}
 use Rattle.wf_names_scopes.specs.UsesFound.{sites_judged}
 
--- What a table answers behind one more key, where `look` is what it answers in front.
+-- What a table answers after one more key, where `look` is what it answers in front.
 abbrev pub with_first : {K X : Type 0} → (same : K → K → Bool) → (look : K → Option X) → K → X → K → Option X
 with_first same look key value other = option_or (look other) (cond (same key other) (Some value) None)
 
--- What a table of fields answers behind the fields of one more struct.
+-- What a table of fields answers after the fields of one more struct.
 abbrev pub with_fields : (texts : List (List ℕ)) → (look : Pair → Option Sort) → (owner : ℕ) → List Variable → (other text : ℕ) → Option Sort
 with_fields texts look owner fields other text = option_or (look (other, text)) (cond (nat_eq owner other) (sort_among texts fields text) None)
 
--- A table tells the variables in front of `rest`; with these they are the whole.
+-- A table tells the variables before `rest`; with these they are the whole.
 pub record TellsUpTo {S : Type 0} (texts : List (List ℕ)) (rest whole : List Variable) (table : IndexMap ℕ Sort S) : Type 0 where
   pub front : List Variable
   pub split : front ++ rest ≡ whole
@@ -40,7 +40,7 @@ with_method d m = record { texts = d.texts; statuses = d.statuses; constants = d
 abbrev pub scope_in : Declared → (owner : Name) → (args locals : List Variable) → Scope
 scope_in d owner args locals = record { constants = map as_variable d.constants; this = Some owner.text.0; args = args; locals = locals }
 
--- The constants in front of `rest` are passed.
+-- The constants before `rest` are passed.
 pub record AreConstantsPassed (d : Declared) (began found : Option Refusal) (rest : List Constant) (t : ScopeTables) : Type 0 where
   pub known : List Variable
   pub tells : TellsScope d (constant_scope known) t

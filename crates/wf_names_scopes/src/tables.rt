@@ -117,10 +117,10 @@ fn add_struct(
     ensures { OnOk result ((d : Declared) → d.texts ≡ parsed.now.texts → TellsPackage d tables.old
         → TellsPackage (with_struct d (record { name = name; fields = variables (fields_at (expr_trees parsed.now.exprs) fields.now) })) tables.new) }
 {
-    match add_name(&mut tables.structs, name) {
-        Ok(true) => add_fields(&mut tables.fields, parsed, name.text, fields),
-        Ok(false) => Ok(()),
-        Err(fault) => Err(fault),
+    if add_name(&mut tables.structs, name)? {
+        add_fields(&mut tables.fields, parsed, name.text, fields)
+    } else {
+        Ok(())
     }
 }
 

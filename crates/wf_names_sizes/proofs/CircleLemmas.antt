@@ -1,5 +1,5 @@
 -- Flags of the graph of structs tell which of them hold themselves, and an order in which a walk leaves its numbers
--- has each struct behind those that it holds.
+-- has each struct after those that it holds.
 use Rattle.std.proofs.Common.{◌≡◌, ◌⊎◌, ℕ, ◌<◌, Bool, true, false, List, take, length, Option, Some, None, slice_get, refl, sym, ap, ◌∙◌, inl, inr}
 use Rattle.std.proofs.lemmas.Option.{slice_get_within}
 use Rattle.std.specs.List.{list_any}

@@ -32,7 +32,7 @@ module _ (d : Declared) (flags : List Bool) (sizes : List (Option ℕ)) (holding
     | inr b ↦ none-found vs t b
   ]
 
-  -- The fields behind some that take `n` bytes.
+  -- The fields after some that take `n` bytes.
   large-cause : (s : Structure) → IsStructure d s → (front vs : List Variable) (n : ℕ) (t : Refusal) → s.fields ≡ front ++ vs → Take d front n
       → Among t (large_of d flags sizes (Some (capped n)) vs) → HasLargeField d t
   large-cause s is front [] n t e takes a = absurd (among-none t a)
@@ -75,7 +75,7 @@ module _ (d : Declared) (flags : List Bool) (sizes : List (Option ℕ)) (holding
                 )
           ]
 
-  -- The find at a field behind some.
+  -- The find at a field after some.
   among-large : (front : List Variable) (v : Variable) (back : List Variable) (sum : Option ℕ) (t : Refusal)
       → refused_if (passes (sum_after flags sizes sum (map (part_of d) front)) (sum_after flags sizes sum (map (part_of d) (front ++ v ∷ [])))) L7 v.name.at ≡ Some t
       → Among t (large_of d flags sizes sum (front ++ v ∷ back))

@@ -156,7 +156,7 @@ row-within [] s row h = absurd (cc h)
 row-within (r ∷ rs) zero row h = omega arith
 row-within (r ∷ rs) (suc s) row h = omega (arith, row-within rs s row h)
 
--- Behind the pass all are settled.
+-- After the pass all are settled.
 pub all-settled : (flags : List Bool) (rows : List (List Part)) (order : List ℕ) (sizes : List (Option ℕ)) → IsSettlingOrder flags rows order → AreKnown order sizes → AreSettled flags sizes rows
 all-settled flags rows order sizes h known s row is e = known s (h.every s (row-within rows s row is))
 

@@ -21,7 +21,7 @@ or_first (Some k) t count b = refl
 or_first None true count b = refl
 or_first None false count b = refl
 
--- A struct more behind a table.
+-- A struct more after a table.
 pub first_more : {S T : Type 0} (old : IndexMap ℕ ℕ S) (new : IndexMap ℕ ℕ T) (s : Structure) (count : ℕ) (others : List Structure)
     → ((other : ℕ) → get nat_eq new other ≡ with_first (get nat_eq old) s.name.text.0 count other)
     → (text : ℕ) → option_or (get nat_eq new text) (position_from (λ (x : Structure). is_spelt text x.name) (count + 1) others)

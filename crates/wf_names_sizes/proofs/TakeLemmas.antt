@@ -99,7 +99,7 @@ module _ (d : Declared) where
         | inr k ↦ (let first : r.inner ≡ 0 = k.1 in let second : n ≡ r.rest = take-one vs n r.rest b r.behind in omega (arith, first, second, r.is))
       ]
 
-  -- Fields in front and fields behind.
+  -- Fields, and fields after them.
   pub take-append : (xs ys : List Variable) (n m : ℕ) → Take d xs n → Take d ys m → Take d (xs ++ ys) (n + m)
   take-append _ ys _ m nothing u = let P : ℕ → Type 0 = Take d ys in subst P (let e : m ≡ 0 + m = omega arith in e) u
   take-append _ ys _ m (plain v vs n h a) u =

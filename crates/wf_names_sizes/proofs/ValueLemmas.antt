@@ -89,7 +89,7 @@ module _ (d : Declared) (known : List Valued) (value : ExprTree → Option Sized
   refined_is bits tree.unrefined (Some a) = refl
   refined_is bits (tree.refined low high) a = ap (λ l. bounded bits l (value high) a) (low_is low) ∙ ap (λ h. bounded bits (low_value d known low) h a) (same high)
 
--- A type with a width has its bounds behind it.
+-- A type with a width has its bounds after it.
 pub typed_is : (d : Declared) (known : List Valued) (es : List ExprTree) (ps : List Prefix) (core : Core) (bounds : Option Bounds) (width : Width) (a : Option Sized)
     → Some width ≡ width_of (text_of d) (all_prefixed es ps (core_at es core bounds))
     → typed_value d known (width_of (text_of d) (all_prefixed es ps (core_at es core bounds))) (all_prefixed es ps (core_at es core bounds)) a

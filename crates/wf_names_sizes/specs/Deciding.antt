@@ -1,4 +1,4 @@
--- What decides behind a pass that finds exactly what a rule says.
+-- What decides after a pass that finds exactly what a rule says.
 use Rattle.std.specs.Prelude.{◌≡◌, List, Option}
 use Rattle.wf_text.specs.declared.rules.Refusal.{Refusal}
 use Rattle.wf_text.specs.Precedence.{soonest}

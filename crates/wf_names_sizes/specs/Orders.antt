@@ -8,7 +8,7 @@ use Rattle.wf_names_rules.specs.Sizes.{holds_struct}
 use Rattle.wf_names_sizes.specs.declared.parts.Part.{Part}
 use Rattle.wf_names_sizes.specs.declared.parts.Part.TheVariants as parts
 
--- Every struct of a package stands in the order, and each that it holds stands in front of it or holds itself.
+-- Every struct of a package stands in the order, and each that it holds stands before it or holds itself.
 pub record IsHoldingOrder (d : Declared) (order : List ℕ) : Type 0 where
   pub every : (s : ℕ) → s < length d.structs → holds order s ≡ true
   pub within : (s : ℕ) → holds order s ≡ true → s < length d.structs

@@ -29,7 +29,7 @@ abbrev pub valued : Option Valued → Option (Option Sized)
 valued None = None
 valued (Some k) = Some k.value
 
--- What a table answers behind one more key, where `look` is what it answers in front.
+-- What a table answers after one more key, where `look` is what it answers in front.
 abbrev pub with_first : {X : Type 0} → (look : ℕ → Option X) → ℕ → X → ℕ → Option X
 with_first look key value other = option_or (look other) (cond (nat_eq key other) (Some value) None)
 
@@ -47,7 +47,7 @@ abbrev pub plain_by : (bytes : ℕ → List ℕ) → TypeTree → Option Width
 plain_by bytes (tree.base_type name at tree.unrefined) = width_named (bytes name.text.0)
 plain_by bytes _ = None
 
--- The value of an expression; `constant` is that of a name behind a root.
+-- The value of an expression; `constant` is that of a name after a root.
 abbrev mutual
   pub value_by : (bytes : ℕ → List ℕ) → (constant : Root → ℕ → Option Sized) → ExprTree → Option Sized
   value_by bytes constant (tree.number value at) = fitted None value

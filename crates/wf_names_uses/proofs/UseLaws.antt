@@ -46,7 +46,7 @@ UseBreaksHere k (uses.variable path) s = refused_if (not (has_meaning k (uses.va
 UseBreaksHere k (uses.structure name) s = refused_if (not (has_meaning k (uses.structure name))) N1 name.at ≡ Some s
 UseBreaksHere k (uses.method c) s = CallBreaks k c s
 
--- What is found of the arguments, pass by pass, behind what was known.
+-- What is found of the arguments, pass by pass, after what was known.
 abbrev ArgsFound : (Refusal → Type 0) → Known → Parameters → Name → List GivenValue → Refusal → Type 0
 ArgsFound P k parameters name values s =
     (((P s ⊎ Has s (doubles_of [] (named values))) ⊎ Has s (passed_of k.arg [] values)) ⊎ Has s (unknown_of k.bytes parameters (named values))) ⊎ (missing_of k parameters name values ≡ Some s)

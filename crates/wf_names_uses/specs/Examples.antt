@@ -127,7 +127,7 @@ owner_s = name "s" (at 8 10)
 abbrev pub nothing : BlockTree
 nothing = tree.close (at 10 1)
 
--- The method does this, behind `var v : base.u32`.
+-- The method does this, after `var v : base.u32`.
 abbrev pub body_of : StmtTree → BlockTree
 body_of st = tree.more_stmts (tree.var (name "v" (at 8 109)) (base "u32" (at 8 113)) (at 8 105)) (tree.more_stmts st nothing)
 

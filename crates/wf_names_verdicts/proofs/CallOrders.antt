@@ -1,4 +1,4 @@
--- The methods of a package that keeps the rules of names have an order in which each stands behind those that it calls: those
+-- The methods of a package that keeps the rules of names have an order in which each stands after those that it calls: those
 -- that reach fewer come first.
 use Rattle.std.proofs.Common.{◌≡◌, ℕ, ◌<◌, true, false, List, map, length, slice_get, Option, None, Some, refl, sym, ◌∙◌, ap, arith}
 use Rattle.std.specs.Option.{option_map}

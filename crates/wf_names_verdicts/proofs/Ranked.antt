@@ -94,7 +94,7 @@ module _ (rank : ℕ → ℕ) where
       by_test later true = (all-since (λ z. z < x) (λ z. nat_eq x z ≡ false) (apart-after x) (y ∷ ys) l, h)
       by_test later false = (insert-all (λ z. nat_eq y z ≡ false) x ys (apart-before x y l.0) h.0, later)
 
-  -- Each is of no greater rank than those behind it.
+  -- Each is of no greater rank than those after it.
   abbrev IsRanked : List ℕ → Type 0
   IsRanked [] = ⊤
   IsRanked (x ∷ xs) = ((b : ℕ) → holds xs b ≡ true → rank x ≤ rank b) × IsRanked xs

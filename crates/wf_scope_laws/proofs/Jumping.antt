@@ -23,7 +23,7 @@ label-so : (text : ℕ) (loop : Option Name) → is_label text loop ≡ true →
 label-so text None h = absurd (cc h)
 label-so text (Some label) h = same_number label.text.0 text h
 
--- The last loop of the label, with how many stand behind it.
+-- The last loop of the label, with how many stand after it.
 record LastAt (text : ℕ) (loops : List (Option Name)) (behind : ℕ) : Type 0 where
   n : ℕ
   loop : Option Name

@@ -90,7 +90,7 @@ mutual
     one_spelt : (given : GivenTrees) (name : List ℕ) (names : List (List ℕ)) (i : ℕ) (g : GivenValue) (e : NamedExprTree) (others : NamedArgTrees) → IsTheOne (IsGivenUnder d name) (given_values given) i g
         → ResolvesExpr d scope g.value e → ResolvesSpelt d scope given names others → ResolvesSpelt d scope given (name ∷ names) (tree.more_args e others)
 
-  -- a struct's name is its number, and a type of the language is what its name behind `base.` says
+  -- a struct's name is its number, and a type of the language is what its name after `base.` says
   pub data ResolvesType (d : Declared) (scope : Scope) : TypeTree → NamedTypeTree → Type 0 where
     a_slice_type : (at : Place) (element : TypeTree) (t : NamedTypeTree) → ResolvesType d scope element t → ResolvesType d scope (parsed.slice_of at element) (tree.slice_of at t)
     an_array_type : (length : ExprTree) (e : NamedExprTree) (at : Place) (element : TypeTree) (t : NamedTypeTree) → ResolvesExpr d scope length e → ResolvesType d scope element t

@@ -89,7 +89,7 @@ pub record PathMeans (d : Declared) (scope : Scope) (path : Path) (named : Named
   pub means : VariableMeans d scope path.root path.name.text.0 named.of v
   pub place : named.at ≡ path.at
 
--- The number of a status of the package is its place behind the ten of the language; those that `base.` stands before have 1 to 9.
+-- The number of a status of the package is its place after the ten of the language; those that `base.` stands before have 1 to 9.
 pub record OwnStatusMeans (d : Declared) (text number : ℕ) : Type 0 where
   pub n : ℕ
   pub status : Name

@@ -4,7 +4,7 @@ ghost use Rattle.wf_scope_laws.specs.ResolvedPackages.{PackagesAreResolved, Read
 ghost use Rattle.wf_scope_laws.specs.ScopeLaws.{NamesHaveMeanings};
 
 /// Wherever a package that breaks no rule of names uses a name, resolving gives the number of the one declaration that the name
-/// means there. Behind nothing it is a local of the method or else a constant, behind `this.` a field of the method's struct, behind
+/// means there. After nothing it is a local of the method or else a constant, after `this.` a field of the method's struct, after
 /// `args.` an argument of the method; a struct and a status are known everywhere; a method is one of the struct of `this`, a public
 /// one of the struct that a field is, or a base method of a type.
 pub fn names_have_meanings()
