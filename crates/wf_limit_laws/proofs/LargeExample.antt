@@ -28,7 +28,7 @@ one = plain a [] 0 refl nothing
 two : Take d (a ∷ b ∷ []) 1048576
 two = plain a (b ∷ []) 524288 refl (plain b [] 0 refl nothing)
 
--- The fields in front of one, and that one.
+-- The fields before one, and that one.
 few : (front back : List Variable) (v : Variable) (m : ℕ) → a ∷ b ∷ [] ≡ front ++ v ∷ back → Take d (front ++ v ∷ []) m → 1048576 < m → ⊥
 few [] back v m e t l =
     let same : v ≡ a = cc e in

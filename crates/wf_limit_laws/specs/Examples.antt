@@ -46,7 +46,7 @@ outer =
       fields = record { name = codes "m"; ty = types.Num W64 0 18446744073709551615 } ∷ record { name = codes "inner"; ty = types.Part (record { 0 = 0 }) } ∷ [];
     }
 
--- The package `pub struct s(a : array[65536] base.u64, b : array[65536] base.u64)`, with other fields behind these.
+-- The package `pub struct s(a : array[65536] base.u64, b : array[65536] base.u64)`, with other fields after these.
 abbrev pub large_texts : List (List ℕ)
 large_texts = codes "s" ∷ codes "a" ∷ codes "u64" ∷ codes "b" ∷ codes "c" ∷ codes "u8" ∷ []
 
@@ -56,7 +56,7 @@ longest l c = array_of (number 65536 (at l (c + 6))) (at l c) (base 2 l (c + 13)
 abbrev pub large_decls : FieldTrees → List DeclTree
 large_decls others = structure true (name 0 1 12) Unmarked (more_fields (name 1 1 14) (longest 1 18) (more_fields (name 3 1 41) (longest 1 45) others)) (at 1 5) ∷ []
 
--- The field `c : base.u8` behind them.
+-- The field `c : base.u8` after them.
 abbrev pub one_byte : FieldTrees
 one_byte = more_fields (name 4 1 68) (base 5 1 72) no_field
 

@@ -37,7 +37,7 @@ module _ (In : Place → Type 0) where
       let others = more-items-in In more r rest first.1 in
       ((first.0, others.0), others.1)
 
-  -- The fields of a list, in front of others that stand there.
+  -- The fields of a list, before others that stand there.
   more-fields-in : (more : MoreFieldsForm) (rest : List Token) → TokensAreIn In (more_fields_before more rest)
       → ((behind : FieldTrees) → FieldsAreIn In behind → FieldsAreIn In (more_field_trees more behind)) × TokensAreIn In rest
   more-fields-in LastField rest a = ((λ behind h. h), a)

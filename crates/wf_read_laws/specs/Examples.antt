@@ -31,7 +31,7 @@ of_two op = behind_one op (link (at 1 7) (literal 2) no_link)
 abbrev pub of_three : Op → ExprTree
 of_three op = behind_one op (link (at 1 7) (literal 2) (link (at 1 11) (literal 3) no_link))
 
--- A call that is a whole statement, and an assignment with this operator in front of the `=`.
+-- A call that is a whole statement, and an assignment with this operator before the `=`.
 abbrev pub called : WrittenMark → StmtTree
 called mark = do_call (call (receivers.This (at 1 1)) name mark no_given) (at 1 1)
 

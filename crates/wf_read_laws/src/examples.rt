@@ -22,7 +22,7 @@ pub fn expressions_that_files_have()
     ensures no_rows { list_any (λ op. formed_expr (of_three op)) (Sub ∷ Div ∷ Rem ∷ Shl ∷ Shr ∷ Same ∷ Differs ∷ Less ∷ LessOrSame ∷ Greater ∷ GreaterOrSame ∷ ModAdd ∷ ModSub ∷ ModMul ∷ ModShl ∷ SatAdd ∷ SatSub ∷ []) ≡ false }
 {}
 
-/// A call that is a statement has a mark, the operator in front of an `=` gives a number, and an `if` has a condition.
+/// A call that is a statement has a mark, the operator before an `=` gives a number, and an `if` has a condition.
 pub fn statements_that_files_have()
     ensures marked { list_all (λ mark. formed_stmt (called mark)) (Exclamation ∷ Question ∷ []) ≡ true }
     ensures unmarked { formed_stmt (called Unmarked) ≡ false }

@@ -41,7 +41,7 @@ use Rattle.wf_typed_exprs.specs.Chains.{StandForLinks, AreOperands}
 use Rattle.wf_typed_exprs.specs.Right.{Around, IsRight, AreRight}
 use Rattle.wf_typed_exprs.proofs.FormLaws.{number-numeric, flag-logical, status-state, constant-fits}
 
--- What operands in front of others are made of.
+-- What operands before others are made of.
 record Front (s : Setting) (t : NamedExprTree) (others : Option (List Operand)) (all : List Operand) : Type 0 where
   of : Meaning
   rest : List Operand

@@ -322,7 +322,7 @@ module _ (s : Setting) (nodes : TypedNodes) where
       let it = then-parts (converted (plain_width to)) (meaning s t) right.of right.means in
       record { around = right.around; grammar = right.grammar; named = (both (named_expr right.around.names t) (named_type right.around.names to) right.named).0; of = it.of; means = it.is }
 
-  -- The type behind an `as` that breaks no rule is a width.
+  -- The type after an `as` that breaks no rule is a width.
   pub convert-width : (k : ℕ) (t : NamedExprTree) (to : NamedTypeTree) (at : Place) → IsRight s k (convert t to at) → None ≡ plain_width to → ⊥
   convert-width k t to at right none =
       let it = then-parts (converted (plain_width to)) (meaning s t) right.of right.means in

@@ -74,7 +74,7 @@ makes_stands at t of p q n e h k =
       counted = k.counted ∙ ap number_meant h.means;
     }
 
--- Of an answer behind another step.
+-- Of an answer after another step.
 pub ok_grows : {X E : Type 0} (p q s : TypedNodes) (r : Result X E) → Grows p q → OnOk r (Grows q s) → OnOk r (Grows p s)
 ok_grows p q s (Ok x) g h = grows_more p q s g h
 ok_grows p q s (Err e) g h = tt

@@ -1,4 +1,4 @@
--- One step of the walk behind another, and the operands of a chain one by one.
+-- One step of the walk after another, and the operands of a chain one by one.
 use Rattle.std.proofs.Common.{◌≡◌, ℕ, zero, suc, ◌+◌, ◌<◌, List, [], ◌∷◌, ◌++◌, length, drop, slice_index_or, Option, Some, None, refl, sym, ap, ◌∙◌, subst, arith}
 use Rattle.std.specs.Prelude.{option_map}
 use Rattle.std.proofs.lemmas.List.{append_assoc, append-nil}
@@ -32,7 +32,7 @@ module _ (s : Setting) (p q : TypedNodes) (g : Grows p q) where
   pub rights_kept : (links : NamedLinkTrees) → AreRight s (length p.statuses) links → AreRight s (length q.statuses) links
   rights_kept links h = subst (λ k. AreRight s k links) (sym (statuses_kept p q g)) h
 
--- An operand behind the first, by its place.
+-- An operand after the first, by its place.
 pub link_right : (s : Setting) (k : ℕ) (ts : List NamedExprTree) (ls : List Link) (i : ℕ) (d : Link) → i < length ls → AreRight s k (links_at ts ls)
     → IsRight s k (expr_at ts (slice_index_or ls i d).operand)
 link_right s k ts [] i d h r = absurd (omega (arith, h))
@@ -52,7 +52,7 @@ behind-joined : (os : Option (List Operand)) (at : Place) (m : Option Meaning) (
 behind-joined None at m rest = refl
 behind-joined (Some os) at m rest = pushed-joined os at m rest
 
--- No operand behind the others, and one in front of the rest.
+-- No operand after the others, and one before the rest.
 pub adds_none : (s : Setting) (nodes : TypedNodes) (all : MadeOperands) → AddsLinks s no_link nodes all all
 adds_none s nodes all = record {
   others = [];
@@ -86,7 +86,7 @@ left_next s ts ls i d p q before all next h left g a after last grows rest =
     let more = adds_more s l.sign (expr_at ts l.operand) (links_at ts (drop (i + 1) ls)) q after all next last a grows rest in
     left after last (grows_more p q after g grows) (subst (λ xs. AddsLinks s (links_at ts xs) after all last) (sym (drop-one ls i d h)) more)
 
--- The first operand, then those behind it.
+-- The first operand, then those after it.
 pub operands_all : (s : Setting) (first : NamedExprTree) (links : NamedLinkTrees) (mid after : TypedNodes) (none begun all : MadeOperands) → none ≡ record { parts = []; signs = []; of = Some [] }
     → AddsOperand s first mid none begun → Grows mid after → AddsLinks s links after begun all → AreOperands s first links after all
 operands_all s first links mid after none begun all empty a g b =

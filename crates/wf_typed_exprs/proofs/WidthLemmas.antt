@@ -11,7 +11,7 @@ use Rattle.wf_named.specs.NamedTree.{NamedExprTree, NamedTypeTree}
 use Rattle.wf_named.specs.NamedTrees.{core_at, all_prefixed}
 use Rattle.wf_types_rules.specs.ExprTypes.{plain_width}
 
--- Behind a prefix.
+-- After a prefix.
 pub prefixed-no_width : (ts : List NamedExprTree) (ps : List Prefix) (t : NamedTypeTree) → false ≡ (length ps == 0) → plain_width (all_prefixed ts ps t) ≡ None
 prefixed-no_width ts [] t h = absurd (cc h)
 prefixed-no_width ts (prefixes.Slice at ∷ ps) t h = refl

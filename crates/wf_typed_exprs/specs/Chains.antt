@@ -10,7 +10,7 @@ use Rattle.wf_typed_tree.specs.ElaboratedExprs.{signs_in}
 use Rattle.wf_typed_exprs.specs.declared.elaborated.MadeOperands.{MadeOperands}
 use Rattle.wf_typed_exprs.specs.Nodes.{StandsForExpr}
 
--- These nodes stand for the operands behind a chain's first, in order.
+-- These nodes stand for the operands after a chain's first, in order.
 abbrev pub StandForLinks : Setting → NamedLinkTrees → TypedNodes → List ExprId → Type 0
 StandForLinks s no_link nodes [] = ⊤
 StandForLinks s (link sign t others) nodes (e ∷ es) = StandsForExpr s t nodes e × StandForLinks s others nodes es
@@ -24,7 +24,7 @@ pub record AddsOperand (s : Setting) (t : NamedExprTree) (nodes : TypedNodes) (b
   pub signs : all.signs ≡ before.signs
   pub means : all.of ≡ operand_behind before.of (value_of s t)
 
--- The operands behind the first, each with its sign.
+-- The operands after the first, each with its sign.
 pub record AddsLinks (s : Setting) (links : NamedLinkTrees) (nodes : TypedNodes) (before all : MadeOperands) : Type 0 where
   pub others : List ExprId
   pub stand : StandForLinks s links nodes others

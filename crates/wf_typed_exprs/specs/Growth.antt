@@ -13,7 +13,7 @@ with_exprs nodes es = record nodes { exprs = map (λ x. x.node) es; types = map 
 abbrev pub without_exprs : TypedNodes → TypedNodes
 without_exprs nodes = record nodes { exprs = []; types = []; constants = [] }
 
--- What holds at any time while a package is built: the parts of an expression stand in front of it, and it and its parts
+-- What holds at any time while a package is built: the parts of an expression stand before it, and it and its parts
 -- have the kinds of their types. So many expressions have a number.
 pub record IsBuilt (nodes : TypedNodes) : Type 0 where
   pub ordered : each_numbered (λ e node. parts_below e node.expr) 0 nodes.exprs ≡ true

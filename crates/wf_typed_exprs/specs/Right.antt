@@ -57,7 +57,7 @@ pub record IsRightAnswer (s : Setting) (statuses : ℕ) (c : NamedCall) : Type 0
   pub args : NamedArgTrees
   pub right : IsRight s statuses (answer (call c.callee c.at c.mark args))
 
--- An end of a slice likewise, and the operands of a chain behind its first.
+-- An end of a slice likewise, and the operands of a chain after its first.
 abbrev pub IsRightEnd : Setting → ℕ → NamedPartTree → Type 0
 IsRightEnd s statuses absent = ⊤
 IsRightEnd s statuses (present e) = IsRight s statuses e

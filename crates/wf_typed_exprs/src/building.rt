@@ -63,10 +63,8 @@ impl Building {
         if number >= NUMBERS {
             return Err(AllocError);
         }
-        match self.exprs.push(one) {
-            Ok(()) => return Ok(ExprId(number as u32)),
-            Err(_) => return Err(AllocError),
-        }
+        self.exprs.push(one)?;
+        Ok(ExprId(number as u32))
     }
 
     /// The number of the expression that is added next.

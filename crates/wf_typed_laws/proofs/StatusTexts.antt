@@ -18,7 +18,8 @@ use Rattle.wf_names_resolve.specs.Resolved.{word_of}
 use Rattle.wf_types_rules.specs.DeclaredTypes.{for_types}
 use Rattle.wf_types_rules.specs.Judgements.{two_questions, is_status_text, wrong_status}
 use Rattle.wf_types_rules.specs.Parts.{Part, Site, sites, at_sites, const_sites, status_declared}
-use Rattle.wf_types_rules.specs.TypeRules.{Breaks, refused, status_text}
+use Rattle.wf_types_rules.specs.TypeRules.{Breaks, refused}
+use Rattle.wf_types_rules.proofs.TypeRows as rows
 use Rattle.wf_text.specs.declared.rules.Rule.TheVariants.{T5}
 use Rattle.wf_typed_tree.specs.ElaboratedPackage.{seen_text, typed_package}
 use Rattle.wf_typed_laws.specs.StatusTexts.{is_plain_text, ReadStatusesArePlain}
@@ -105,7 +106,7 @@ module _ (p : NamedPackageTree) (kept : (refusal : Refusal) → Breaks p refusal
     where
       by_case : (found : Option Place) → wrong_status x.around x.part ≡ found → SiteIsRight x
       by_case None e = e
-      by_case (Some at) e = absurd (kept (refused T5 at) (status_text at (record { around = x.around; part = x.part; stands = (i, there); wrong = e })))
+      by_case (Some at) e = absurd (kept (refused T5 at) (record { judge = wrong_status; is_rule = rows.wrong_status; is_wrong = record { around = x.around; part = x.part; stands = (i, there); wrong = e } }))
 
   statuses-right : AllByRecursion (λ w. wrong_status (for_types p) (status_declared w) ≡ None) p.statuses
   unfolding sites

@@ -40,7 +40,7 @@ pub optional_ids_more : (m n : ℕ) → m ≤ n → (b : Option resolved.Block) 
 optional_ids_more m n l None h = refl
 optional_ids_more m n l (Some b) h = ids_more m n l b.items h
 
--- Statements in front of a block.
+-- Statements before a block.
 abbrev pub onto_all : (StmtId → Block → Block) → List StmtId → Block → Block
 onto_all look [] rest = rest
 onto_all look (s ∷ ss) rest = look s (onto_all look ss rest)
@@ -160,7 +160,7 @@ module _ (s : Setting) (k : Known) (loops : List ℕ) (named : NamedParts) (ts :
             ∙ m.trees;
       }
 
--- Arms in front of what stands behind them.
+-- Arms before what stands after them.
 module _ (look : ExprId → ValueTree) (inner : StmtId → Block → Block) (of : Site) where
   arms_push : (behind : Bool → Block → Block) (a : Arm) (chained : Bool) (arms : List Arm) (rest : Block)
       → arms_onto look inner of chained (arms ++ a ∷ []) behind rest ≡ arms_onto look inner of chained arms (λ b m. choose of b (cond_in (look a.cond)) (block_made inner a.body.items) (behind true end) m) rest

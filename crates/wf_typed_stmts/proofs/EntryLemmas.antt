@@ -89,7 +89,7 @@ call_assigned s (answer c) callee at mark args b h k =
     subst P (sym same) (by_callee s callee at mark args b k)
 call_assigned s e callee at mark args b h k = absurd (cc h)
 
--- Arms in front of a last `else`.
+-- Arms before a last `else`.
 pub arms_joined : (s : Setting) (es : List NamedExprTree) (ts : List NamedStmtTree) (arms : List parsed.Arm) (last : NamedArmTrees)
     → arms_entries s (arms_at es ts arms last) ≡ arms_entries s (arms_at es ts arms no_else) ++ arms_entries s last
 arms_joined s es ts [] last = refl

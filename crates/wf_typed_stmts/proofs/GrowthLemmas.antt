@@ -186,7 +186,7 @@ operator_made b c items e left right op sign ty n is made =
     ∙ ap (λ t. chain_of sign (sign ∷ []) ty (sort_of op) (t ∷ tree_of b right ∷ [])) (sym (tree_stays b items left))
     ∙ ap (λ t. chain_of sign (sign ∷ []) ty (sort_of op) (tree_of (with_stmts b items) left ∷ t ∷ [])) (sym (tree_stays b items right))
 
--- One step behind another.
+-- One step after another.
 pub exprs_self : (p : TypedNodes) → GrowsExprs p p
 exprs_self p = record { exprs = grows_self p; makers = refl }
 
@@ -276,7 +276,7 @@ has_kept t p q e g h = record { there = expr_more p q g.exprs e h.there; is = tr
 pub maker_kept : (p q : TypedNodes) → GrowsStmts p q → (s : StmtId) → nat_lt s.0 (length p.stmts) ≡ true → (rest : Block) → onto (stmt_makers q) s rest ≡ onto (stmt_makers p) s rest
 maker_kept p q g s h rest = ap (λ o. unwrap_or o no_stmt rest) (sym (g.same_makers s.0 (below s.0 (length p.stmts) h)))
 
--- Of an answer behind another step.
+-- Of an answer after another step.
 pub ok_so : {X E : Type 0} (r : Result X E) (P Q : X → Type 0) → ((x : X) → P x → Q x) → IfOk r P → IfOk r Q
 ok_so (Ok x) P Q f h = f x h
 ok_so (Err e) P Q f h = tt

@@ -1,4 +1,4 @@
--- What stands in front of a loop's body.
+-- What stands before a loop's body.
 use Rattle.std.proofs.Common.{◌≡◌, ◌∙◌, ap, Bool, List}
 use Rattle.wf_text.specs.declared.place.Place.{Place}
 use Rattle.wf_ast.specs.declared.numbers.ExprId.{ExprId}

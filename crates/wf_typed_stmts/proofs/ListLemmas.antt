@@ -30,7 +30,7 @@ use Rattle.wf_typed_stmts.specs.StmtGrowth.{GrowsExprs, IsBegun}
 use Rattle.wf_typed_stmts.proofs.EntryLemmas.{EntriesTo, entries_to_next, entries_to_end}
 use Rattle.wf_typed_stmts.proofs.GrowthLemmas.{less, exprs_self, exprs_more_still, exprs_more, conditions_more, letters_more, stmts_of_exprs, tree_kept}
 
--- Items in front of others.
+-- Items before others.
 chained : {Y : Type 0} (a b : List Y) (x y : Y) (rest all : List Y) → a ≡ b → x ≡ y → b ++ (y ∷ rest) ≡ all → (a ++ x ∷ []) ++ rest ≡ all
 chained a b x y rest all e f h = append_assoc a (x ∷ []) rest ∙ ap (λ l. l ++ (x ∷ rest)) e ∙ ap (λ z. b ++ (z ∷ rest)) f ∙ h
 

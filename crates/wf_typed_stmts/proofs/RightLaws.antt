@@ -33,7 +33,7 @@ use Rattle.wf_types_rules.specs.ExprTypes.{operand_at, pure_answer, meaning}
 use Rattle.wf_types_rules.specs.DeclaredTypes.{in_method}
 use Rattle.wf_types_rules.specs.Parts.{argument, expr_parts, end_parts, args_parts, whole_call_parts, value_parts, target_parts, condition_parts, clauses_parts, letters_parts, via_parts, stmt_parts, block_parts, arms_parts, assigned, yielded}
 use Rattle.wf_types_rules.specs.Judgements.{fails, both_fail, takes, wanted, may_be_handed, wrong_argument, is_no_target, wrong_target, target_meaning, target_place, updated, wrong_update, is_suspension_text, wrong_yield}
-use Rattle.wf_types_rules.specs.TypeRules as rules
+use Rattle.wf_types_rules.proofs.TypeRows as rows
 use Rattle.wf_types_rules.specs.FirstBreak.{deciding}
 use Rattle.wf_typed_tree.specs.ElaboratedExprs.{type_meant}
 use Rattle.wf_typed_tree.specs.ElaboratedStmts.{unrefined, written_to, status_in}
@@ -128,7 +128,7 @@ module _ (p : NamedPackageTree) (m : NamedMethodTree) (is : MethodIs p m) (whole
   arg-right callee j (path q) fine parts g k =
       let it = method-known p m is q.of k in
       let wrong = either-false (fails may_be_handed (variable around q.of)) (both_fail takes (wanted around callee j) (variable around q.of))
-      (at-none _ q.at (fine T1 wrong_argument (λ at w. rules.argument at w))) in
+      (at-none _ q.at (fine T1 wrong_argument rows.wrong_argument)) in
       path-right q it.0 it.1 (handed-whole it.0 (holds may_be_handed (variable around q.of) it.0 it.1 wrong.0))
   arg-right callee j e fine parts g k = expr-right e parts g k
 
@@ -191,7 +191,7 @@ module _ (p : NamedPackageTree) (m : NamedMethodTree) (is : MethodIs p m) (whole
   target-right : (t : NamedTargetTree) → AllFine p around (target_parts t) → target_by_grammar t ≡ true → named_target names t ≡ true → IsRightTarget around known t
   target-right (to_path q) h g k =
       let to = target-is p 0 m is whole (to_path q) h g k in
-      let open_target = at-none (is_no_target around (to_path q)) q.at (h.0 T2 wrong_target (λ at w. rules.no_target at w)) in
+      let open_target = at-none (is_no_target around (to_path q)) q.at (h.0 T2 wrong_target rows.wrong_target) in
       let same : target_meaning around (to_path q) ≡ variable around q.of = rw open_target refl in
       let of : Meaning = meanings.Typed to.ty in
       (path-right q of (sym same ∙ to.means) (value-whole of (value-is p 0 m is of (written_to around (to_path q)) to.value)), same)
@@ -215,7 +215,7 @@ module _ (p : NamedPackageTree) (m : NamedMethodTree) (is : MethodIs p m) (whole
       (front-known _ (Some []) q [] (map-known (operand_at (place_of e)) (meaning around e) it.of it.means) refl) in
       let T : Option (List Operand) → Type 0 = λ x. option_and_then (not_taken (sort_of op)) x ≡ None in
       let S : Sort → Type 0 = λ s. not_taken s (o ∷ q ∷ []) ≡ None in
-      let numbers = both-numbers sort.0 o q (subst S sort.1 (subst T all (h.0 T1 wrong_update (λ at w. rules.update at w)))) in
+      let numbers = both-numbers sort.0 o q (subst S sort.1 (subst T all (h.0 T1 wrong_update rows.wrong_update))) in
       let target = number-told (target_meaning around t) (meanings.Typed to.ty) to.means numbers.0 in
       record { gives = number; target = target; result = unrefined-number (type_meant (target_meaning around t)) target; value = number-told (meaning around e) it.of it.means numbers.1; right = it }
 
@@ -257,7 +257,7 @@ module _ (p : NamedPackageTree) (m : NamedMethodTree) (is : MethodIs p m) (whole
 
   yield-right : (at : Place) (e : NamedExprTree) → AllFine p around (yielded at e ∷ expr_parts e) → named_expr names e ≡ true → nat_lt (status_in e) known.statuses ≡ true
   yield-right at e h k =
-      status-told e (not-not (is_suspension_text around e) (at-none (not (is_suspension_text around e)) (place_of e) (h.0 E5 wrong_yield (λ at w. rules.no_suspension at w)))) k
+      status-told e (not-not (is_suspension_text around e) (at-none (not (is_suspension_text around e)) (place_of e) (h.0 E5 wrong_yield rows.wrong_yield))) k
 
   mutual
     stmt-right : (loops : ℕ) (st : NamedStmtTree) → AllFine p around (stmt_parts st) → stmt_by_grammar st ≡ true → named_stmt names loops st ≡ true → IsRightStmt around known loops st

@@ -1,4 +1,4 @@
--- One statement behind another: an `if`, a loop, and the step that adds a statement.
+-- One statement after another: an `if`, a loop, and the step that adds a statement.
 use Rattle.std.proofs.Common.{◌≡◌, ◌∙◌, refl, ap, ℕ, ◌+◌, ◌<◌, Bool, true, false, List, [], ◌∷◌, ◌++◌, length, Option, nat_lt, arith, length-append}
 use Rattle.std.specs.List.{list_all}
 use Rattle.wf_text.specs.declared.place.Place.{Place}
@@ -49,7 +49,7 @@ added_stands s loops n t q r node id h is at made =
     let long : length r.stmts ≡ length q.stmts + 1 = ap (λ (ns : List StmtNode). length ns) is ∙ length-append q.stmts (node ∷ []) in
     record { there = omega (arith, at, long); count = long ∙ h.count; makes = λ rest. made rest ∙ h.makes rest }
 
--- The loop itself stands behind its body.
+-- The loop itself stands after its body.
 pub loop_adds : (loops : List ℕ) (n : ℕ) (p q r : TypedNodes) → n ≡ length q.stmts → Adds (n ∷ loops) p q → GrowsExprs q r → AddsParts loops p r
 loop_adds loops n p q r is g h =
     let same = count_same q r h in

@@ -86,7 +86,7 @@ module _ (p q : TypedNodes) (methods : q.methods ≡ p.methods) (texts : q.texts
       let b = given_same a.given k.1 in
       rw (b, texts) refl
 
-  -- The same statement in front of the same block makes the same.
+  -- The same statement before the same block makes the same.
   by_stmt : (inner : StmtId → Block → Block) (n s : ℕ) (at close : Place) (rest : Block) (st : Stmt) → stmt_there p s st ≡ true
       → stmt_made q g inner n (record { stmt = st; at = at; inner = close }) rest ≡ stmt_made p f inner n (record { stmt = st; at = at; inner = close }) rest
   by_stmt inner n s at close rest (stmts.Assign target op value) h =

@@ -24,7 +24,7 @@ is_simple (stmts.If arms otherwise) = false
 is_simple (stmts.While condition clauses body) = false
 is_simple st = true
 
--- What arms make in front of what stands behind them: `behind` tells this by whether an arm stands in front of it, and by
+-- What arms make before what stands after them: `behind` tells this by whether an arm stands before it, and by
 -- what follows it.
 abbrev pub arms_onto : (ExprId → ValueTree) → (StmtId → Block → Block) → Site → (chained : Bool) → List Arm → (behind : Bool → Block → Block) → (rest : Block) → Block
 arms_onto look inner of chained [] behind rest = behind chained rest
@@ -40,7 +40,7 @@ pub record StandsForArm (s : Setting) (loops : List ℕ) (n : ℕ) (e : NamedExp
   pub cond : tree_of nodes a.cond ≡ expr_tree s e
   pub block : block_made (onto (stmt_makers nodes)) a.body.items ≡ block_tree s loops n body
 
--- Arms in front of whatever stands behind them.
+-- Arms before whatever stands after them.
 pub record StandForArms (s : Setting) (loops : List ℕ) (n : ℕ) (es : List NamedExprTree) (ts : List NamedStmtTree) (arms : List parsed.Arm) (nodes : TypedNodes) (made : List Arm) : Type 0 where
   pub below : list_all (arm_exists nodes) made ≡ true
   pub count : (last : NamedArmTrees) → length nodes.stmts + count_arms last ≡ n + count_arms (arms_at es ts arms last)
@@ -49,7 +49,7 @@ pub record StandForArms (s : Setting) (loops : List ℕ) (n : ℕ) (es : List Na
       ≡ arms_tree s loops n of chained (arms_at es ts arms last) rest
   pub some : length arms ≡ length made
 
--- What stands behind the last `else`.
+-- What stands after the last `else`.
 abbrev pub else_made : (StmtId → Block → Block) → Option resolved.Block → Block
 else_made inner None = end
 else_made inner (Some block) = block_made inner block.items

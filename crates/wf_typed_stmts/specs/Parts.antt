@@ -81,7 +81,7 @@ pub record StandsForVia (s : Setting) (by : NamedViaTree) (nodes : TypedNodes) (
   pub there : axiom_exists nodes a ≡ true
   pub means : axiom_made nodes (tree_of nodes) a ≡ axiom_tree s by
 
--- What stands in front of a loop's body.
+-- What stands before a loop's body.
 pub record StandsForHead (s : Setting) (e : NamedExprTree) (clauses : NamedClauseTrees) (body : NamedBlockTree) (close : Place) (nodes : TypedNodes) (head : LoopHead) : Type 0 where
   pub there : is_expr nodes head.cond ≡ true
   pub clauses_there : list_all (λ c. is_expr nodes c.1) head.clauses ≡ true

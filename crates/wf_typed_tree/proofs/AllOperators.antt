@@ -220,7 +220,7 @@ comparison-means c at signs op o q t u m h k =
     let P : Meaning → Type 0 = λ i. HasMeaning c i (number_or at (constant_number i) (chain_of at signs (type_meant (Some i)) (ordering op) (t ∷ u ∷ []))) in
     subst P is (compared c at (first_sign at signs) op o q t u m p k)
 
--- So many operands may stand with an operator, behind its first.
+-- So many operands may stand with an operator, after its first.
 abbrev pub is_row : Op → List Operand → Bool
 is_row op [] = false
 is_row op (q ∷ []) = true

@@ -22,7 +22,7 @@ use Rattle.wf_types_rules.specs.declared.settings.Role.TheVariants as roles
 use Rattle.wf_types_rules.specs.DeclaredTypes.{declared, for_types}
 use Rattle.wf_types_rules.specs.Parts.{argument, expr_parts, args_parts}
 use Rattle.wf_types_rules.specs.Judgements.{fails, both_fail, takes, wanted, meaning_of_argument, may_be_handed, wrong_argument}
-use Rattle.wf_types_rules.specs.TypeRules as rules
+use Rattle.wf_types_rules.proofs.TypeRows as rows
 use Rattle.wf_typed_tree.specs.ElaboratedExprs.{variable_tree, expr_tree, arg_trees}
 use Rattle.wf_typed_tree.specs.ElaboratedPackage.{type_declared, typed_variable}
 use Rattle.wf_typed_tree.specs.MeaningTrees.{HasMeaning}
@@ -98,7 +98,7 @@ module _ (p : NamedPackageTree) (n : ℕ) (m : NamedMethodTree) (is : MethodIs p
       → meaning_of_argument (around p n m is) e ≡ Some of → takes ty of ≡ true
   arg-taken callee j e ty of fine w k =
       let meant : Option Meaning = meaning_of_argument (around p n m is) e in
-      let wrong = either-false (fails may_be_handed meant) (both_fail takes (wanted (around p n m is) callee j) meant) (at-none _ (place_of e) (fine T1 wrong_argument (λ at f. rules.argument at f))) in
+      let wrong = either-false (fails may_be_handed meant) (both_fail takes (wanted (around p n m is) callee j) meant) (at-none _ (place_of e) (fine T1 wrong_argument rows.wrong_argument)) in
       both-hold takes (wanted (around p n m is) callee j) meant ty of w k wrong.1
 
   pub arg-is : (callee : NamedCallee) (j : ℕ) (e : NamedExprTree) (ty : Ty) → Fine p (around p n m is) (argument callee j e) → ArgFine e → by_grammar e ≡ true

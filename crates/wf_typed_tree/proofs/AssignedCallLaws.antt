@@ -29,7 +29,7 @@ use Rattle.wf_types_rules.specs.DeclaredTypes.{declared, for_types, method_type}
 use Rattle.wf_types_rules.specs.Parts.{target_parts, whole_call_parts, assigned}
 use Rattle.wf_types_rules.specs.Judgements.{fails, both_fail, base_arg, wanted, result_of, is_given_nothing, gives_no_value, are_arguments, answer_type, whole_answer, target_meaning, type_in, target_type, target_place, wrong_assigned, no_value_assigned, not_kept_in_status, is_coroutine_called, keeps_no_coroutine}
 use Rattle.wf_types_rules.specs.Judgements as judged
-use Rattle.wf_types_rules.specs.TypeRules as rules
+use Rattle.wf_types_rules.proofs.TypeRows as rows
 use Rattle.wf_typed_tree.specs.ElaboratedExprs.{variable_tree, path_tree, arg_trees}
 use Rattle.wf_typed_tree.specs.ElaboratedStmts.{target_tree, call_tree, assigned_call}
 use Rattle.wf_typed_tree.specs.ElaboratedPackage.{type_declared}
@@ -155,14 +155,14 @@ module _ (p : NamedPackageTree) (n : ℕ) (m : NamedMethodTree) (is : MethodIs p
   call-assigned-keeps loops t (call (callees.Own k) at mark args) h gt ga kt w =
       let parts = both (is_wanted (args_wanted (names p n m is) (callees.Own k)) (count_args args)) (named_args (names p n m is) args) w in
       let it = own-calls p n m is whole k (count_args args) parts.0 in
-      method-assigned loops t (callees.Own k) (own k.0) at mark args it.0 it.1 h.1 (at-none _ (target_place t) (h.0 T2 no_value_assigned (λ at w. rules.no_value at w)))
-      (at-none _ (target_place t) (h.0 T2 wrong_assigned (λ at w. rules.other_type at w))) gt ga kt parts.1
+      method-assigned loops t (callees.Own k) (own k.0) at mark args it.0 it.1 h.1 (at-none _ (target_place t) (h.0 T2 no_value_assigned rows.no_value_assigned))
+      (at-none _ (target_place t) (h.0 T2 wrong_assigned rows.wrong_assigned)) gt ga kt parts.1
   call-assigned-keeps loops t (call (callees.Sub x k) at mark args) h gt ga kt w =
       let parts = both (is_wanted (args_wanted (names p n m is) (callees.Sub x k)) (count_args args)) (named_args (names p n m is) args) w in
       let it = sub-calls p n m is whole x k (count_args args) parts.0 in
-      method-assigned loops t (callees.Sub x k) (sub x.0 k.0) at mark args it.0 it.1 h.1 (at-none _ (target_place t) (h.0 T2 no_value_assigned (λ at w. rules.no_value at w)))
-      (at-none _ (target_place t) (h.0 T2 wrong_assigned (λ at w. rules.other_type at w))) gt ga kt parts.1
+      method-assigned loops t (callees.Sub x k) (sub x.0 k.0) at mark args it.0 it.1 h.1 (at-none _ (target_place t) (h.0 T2 no_value_assigned rows.no_value_assigned))
+      (at-none _ (target_place t) (h.0 T2 wrong_assigned rows.wrong_assigned)) gt ga kt parts.1
   call-assigned-keeps loops t (call (callees.Base on sig) at mark args) h gt ga kt w =
       let parts = both (is_wanted (args_wanted (names p n m is) (callees.Base on sig)) (count_args args)) (named_args (names p n m is) args) w in
-      base-assigned loops t on sig at mark args (on-base p n m is whole on sig (count_args args) parts.0) h.1 (at-none _ (target_place t) (h.0 T2 no_value_assigned (λ at w. rules.no_value at w)))
-      (at-none _ (target_place t) (h.0 T2 wrong_assigned (λ at w. rules.other_type at w))) gt ga kt parts.1
+      base-assigned loops t on sig at mark args (on-base p n m is whole on sig (count_args args) parts.0) h.1 (at-none _ (target_place t) (h.0 T2 no_value_assigned rows.no_value_assigned))
+      (at-none _ (target_place t) (h.0 T2 wrong_assigned rows.wrong_assigned)) gt ga kt parts.1

@@ -26,7 +26,7 @@ use Rattle.wf_types_rules.specs.declared.settings.Role.TheVariants as roles
 use Rattle.wf_types_rules.specs.DeclaredTypes.{in_method}
 use Rattle.wf_types_rules.specs.Parts.{target, expr_parts, target_parts, condition_parts}
 use Rattle.wf_types_rules.specs.Judgements.{fails, wrong_condition, wrong_target, is_no_target, target_meaning, impure_write}
-use Rattle.wf_types_rules.specs.TypeRules as rules
+use Rattle.wf_types_rules.proofs.TypeRows as rows
 use Rattle.wf_typed_tree.specs.ElaboratedExprs.{path_to, variable_tree, path_tree, expr_tree}
 use Rattle.wf_typed_tree.specs.ElaboratedStmts.{written_to, target_tree}
 use Rattle.wf_typed_tree.specs.ElaboratedPackage.{context_of}
@@ -75,7 +75,7 @@ module _ (p : NamedPackageTree) (n : ℕ) (m : NamedMethodTree) (is : MethodIs p
   pub condition-keeps : (e : NamedExprTree) → AllFine p around (condition_parts e) → by_grammar e ≡ true → named_expr names e ≡ true → well_cond context (cond_in (expr_tree around e)) ≡ true
   condition-keeps e h g k =
       let it = value-of e h.1 g k in
-      let flag = holds meant.is_flag (meaning around e) it.of it.means (at-none (fails meant.is_flag (meaning around e)) (place_of e) (h.0 T3 wrong_condition (λ at w. rules.no_condition at w))) in
+      let flag = holds meant.is_flag (meaning around e) it.of it.means (at-none (fails meant.is_flag (meaning around e)) (place_of e) (h.0 T3 wrong_condition rows.wrong_condition)) in
       cond-well context (expr_tree around e) (condition-of context it.of (expr_tree around e) flag it.tree)
 
   -- A target.
@@ -121,20 +121,20 @@ module _ (p : NamedPackageTree) (n : ℕ) (m : NamedMethodTree) (is : MethodIs p
 
   pub variable-target : (at : Place) (x : Variable) → Fine p around (target (to_path (record { of = x; at = at }))) → is_some (type_of_variable names x) ≡ true
       → TargetIs (to_path (record { of = x; at = at }))
-  variable-target at (variables.Const i) fine k = absurd (cc (fine T2 wrong_target (λ at w. rules.no_target at w)))
-  variable-target at (variables.Arg i) fine k = absurd (cc (fine T2 wrong_target (λ at w. rules.no_target at w)))
+  variable-target at (variables.Const i) fine k = absurd (cc (fine T2 wrong_target rows.wrong_target))
+  variable-target at (variables.Arg i) fine k = absurd (cc (fine T2 wrong_target rows.wrong_target))
   variable-target at (variables.Local i) fine k =
       let it = method-known p m is (variables.Local i) k in
       let of = meaning-parts p roles.Local m.locals i.0 it.0 it.1 in
-      let open_target = at-none (is_no_target around (to_path (record { of = variables.Local i; at = at }))) at (fine T2 wrong_target (λ at w. rules.no_target at w)) in
+      let open_target = at-none (is_no_target around (to_path (record { of = variables.Local i; at = at }))) at (fine T2 wrong_target rows.wrong_target) in
       let V : Meaning → Type 0 = λ z. variable around (variables.Local i) ≡ Some z in
       let typed = subst V (sym of.2) it.1 in
       path-target at (variables.Local i) of.0 refl typed open_target (holds is_value (variable around (variables.Local i)) (meanings.Typed of.0) typed open_target)
   variable-target at (variables.Field i) fine k =
       let it = method-known p m is (variables.Field i) k in
       let of = meaning-parts p roles.Field (fields_in p (Some m.of)) i.0 it.0 it.1 in
-      let open_target = at-none (is_no_target around (to_path (record { of = variables.Field i; at = at }))) at (fine T2 wrong_target (λ at w. rules.no_target at w)) in
-      let impure = at-none (is_pure m.mark) at (fine E1 impure_write (λ at w. rules.written at w)) in
+      let open_target = at-none (is_no_target around (to_path (record { of = variables.Field i; at = at }))) at (fine T2 wrong_target rows.wrong_target) in
+      let impure = at-none (is_pure m.mark) at (fine E1 impure_write rows.impure_write) in
       let V : Meaning → Type 0 = λ z. variable around (variables.Field i) ≡ Some z in
       let typed = subst V (sym of.2) it.1 in
       path-target at (variables.Field i) of.0 (not-pure (is_pure m.mark) impure) typed open_target (holds is_value (variable around (variables.Field i)) (meanings.Typed of.0) typed open_target)
@@ -150,7 +150,7 @@ module _ (p : NamedPackageTree) (n : ℕ) (m : NamedMethodTree) (is : MethodIs p
       let typed : meanings.Typed (types.Num num.0 num.1 num.2) ≡ it.of = ap meanings.Typed (sym num.3) ∙ whole.gives in
       let H : Meaning → Type 0 = λ z. HasMeaning context z (expr_tree around (index q i at)) in
       let tree : IsNumber context (bits_of num.0) (expr_tree around (index q i at)) = subst H (sym typed) it.tree in
-      let impure = at-none (is_pure m.mark) at (h.0 E1 impure_write (λ at w. rules.written at w)) in
+      let impure = at-none (is_pure m.mark) at (h.0 E1 impure_write rows.impure_write) in
       let M : Meaning → Type 0 = λ z. meaning around (index q i at) ≡ Some z in
       let means = subst M (sym typed) it.means in
       record {

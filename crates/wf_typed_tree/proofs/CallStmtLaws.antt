@@ -35,7 +35,7 @@ use Rattle.wf_types_rules.specs.ExprTypes.{given_by_base}
 use Rattle.wf_types_rules.specs.Parts.{target_parts, whole_call_parts, kept}
 use Rattle.wf_types_rules.specs.Judgements.{fails, both_fail, base_arg, wanted, result_of, is_given_nothing, gives_no_value, are_arguments, answer_type, whole_answer, target_meaning, type_in, target_type, target_place, wrong_assigned, no_value_assigned, not_kept_in_status, is_coroutine_called, keeps_no_coroutine}
 use Rattle.wf_types_rules.specs.Judgements as judged
-use Rattle.wf_types_rules.specs.TypeRules as rules
+use Rattle.wf_types_rules.proofs.TypeRows as rows
 use Rattle.wf_typed_tree.specs.ElaboratedExprs.{variable_tree, path_tree, arg_trees}
 use Rattle.wf_typed_tree.specs.ElaboratedStmts.{target_tree, call_tree}
 use Rattle.wf_typed_tree.specs.MeaningTrees.{kind_meant}
@@ -207,9 +207,9 @@ module _ (p : NamedPackageTree) (n : ℕ) (m : NamedMethodTree) (is : MethodIs p
   kept-call loops t callee called at mark args it count h gt ga kt ka =
       let parts = fine-split p (around p n m is) (target_parts t) (whole_call_parts (call callee at mark args)) h.1 in
       let to = target-is t parts.0 gt kt in
-      let kept_status = at-none (fails meant.is_status (target_meaning (around p n m is) t)) at (h.0 E4 not_kept_in_status (λ at w. rules.no_status at w)) in
+      let kept_status = at-none (fails meant.is_status (target_meaning (around p n m is) t)) at (h.0 E4 not_kept_in_status rows.not_kept_in_status) in
       let status = status-type to.ty (holds meant.is_status (target_meaning (around p n m is) t) (meanings.Typed to.ty) to.means kept_status) in
-      let coroutine = it.coroutine (not-not (is_coroutine_called (around p n m is) callee) (at-none _ at (h.0 E4 keeps_no_coroutine (λ at w. rules.no_coroutine at w)))) in
+      let coroutine = it.coroutine (not-not (is_coroutine_called (around p n m is) callee) (at-none _ at (h.0 E4 keeps_no_coroutine rows.keeps_no_coroutine))) in
       let T : Ty → Type 0 = λ z. well.takes (context p n m is) (target_tree (around p n m is) t) z ≡ true in
       let same = mark-same p n m is whole callee at mark it.of.mark args parts.1 it.mark in
       call-keeps p n m is whole loops callee called (target_tree (around p n m is) t) true at mark args it count parts.1 ga ka
@@ -229,4 +229,4 @@ module _ (p : NamedPackageTree) (n : ℕ) (m : NamedMethodTree) (is : MethodIs p
       let it = sub-calls p n m is whole x k (count_args args) parts.0 in
       kept-call loops t (callees.Sub x k) (sub x.0 k.0) at mark args it.0 it.1 h gt grammar.1 kt parts.1
   call-kept-keeps loops t (call (callees.Base on sig) at mark args) h gt gc kt w =
-      let called = at-none (not (is_coroutine_called (around p n m is) (callees.Base on sig))) at (h.0 E4 keeps_no_coroutine (λ at w. rules.no_coroutine at w)) in absurd (cc called)
+      let called = at-none (not (is_coroutine_called (around p n m is) (callees.Base on sig))) at (h.0 E4 keeps_no_coroutine rows.keeps_no_coroutine) in absurd (cc called)

@@ -28,7 +28,7 @@ use Rattle.wf_types_rules.specs.declared.settings.Role.TheVariants as roles
 use Rattle.wf_types_rules.specs.DeclaredTypes.{declared, for_types, method_type}
 use Rattle.wf_types_rules.specs.Parts.{whole_call_parts}
 use Rattle.wf_types_rules.specs.Judgements.{fails, own_arg, wanted, declared_mark, wrong_mark, is_impure, impure_call, coroutine_call, result_of, is_coroutine_called, gives_no_value, answer_type}
-use Rattle.wf_types_rules.specs.TypeRules as rules
+use Rattle.wf_types_rules.proofs.TypeRows as rows
 use Rattle.wf_typed_tree.specs.ElaboratedExprs.{arg_trees}
 use Rattle.wf_typed_tree.specs.ElaboratedPackage.{type_declared, typed_variable, typed_method, typed_methods, typed_package}
 use Rattle.wf_typed_tree.proofs.NumberLemmas.{both, and-true, equal-numbers, map-parts}
@@ -107,13 +107,13 @@ module _ (p : NamedPackageTree) (n : ℕ) (m : NamedMethodTree) (is : MethodIs p
   -- The marks of a call.
   pub mark-allowed : (callee : NamedCallee) (at : Place) (mark : Mark) (args : NamedArgTrees) → AllFine p (around p n m is) (whole_call_parts (call callee at mark args)) → allows m.mark mark ≡ true
   mark-allowed callee at mark args h =
-      allowed m.mark mark (at-none (is_impure mark && is_pure m.mark) at (h.0 E1 impure_call (λ at w. rules.impure at w)))
-      (at-none (is_coroutine mark && not (is_coroutine m.mark)) at (h.0 E2 coroutine_call (λ at w. rules.coroutine at w)))
+      allowed m.mark mark (at-none (is_impure mark && is_pure m.mark) at (h.0 E1 impure_call rows.impure_call))
+      (at-none (is_coroutine mark && not (is_coroutine m.mark)) at (h.0 E2 coroutine_call rows.coroutine_call))
 
   pub mark-same : (callee : NamedCallee) (at : Place) (mark own_mark : Mark) (args : NamedArgTrees) → AllFine p (around p n m is) (whole_call_parts (call callee at mark args))
       → declared_mark (around p n m is) callee ≡ Some own_mark → same_mark mark own_mark ≡ true
   mark-same callee at mark own_mark args h e =
-      holds (same_mark mark) (declared_mark (around p n m is) callee) own_mark e (at-none (fails (same_mark mark) (declared_mark (around p n m is) callee)) at (h.0 E3 wrong_mark (λ at w. rules.other_mark at w)))
+      holds (same_mark mark) (declared_mark (around p n m is) callee) own_mark e (at-none (fails (same_mark mark) (declared_mark (around p n m is) callee)) at (h.0 E3 wrong_mark rows.wrong_mark))
 
   mark-told : (k : ℕ) (of : NamedMethodTree) → slice_get p.methods k ≡ Some of → option_map (λ (z : MethodType). z.mark) (slice_get (around p n m is).methods k) ≡ Some of.mark
   mark-told k of e = ap (option_map (λ (z : MethodType). z.mark)) (method-told k of e)

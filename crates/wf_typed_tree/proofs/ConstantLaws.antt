@@ -25,7 +25,7 @@ use Rattle.wf_types_rules.specs.declared.settings.Role.TheVariants as roles
 use Rattle.wf_types_rules.specs.DeclaredTypes.{is_numeric, declared, among_constants, constant_in, constant_with, constant_made, constants_after}
 use Rattle.wf_types_rules.specs.Parts.{Part, Site, constant_declared, at_sites, declared_parts, expr_parts, const_sites, sites}
 use Rattle.wf_types_rules.specs.Judgements.{value_no_number, value_outside, lies_in}
-use Rattle.wf_types_rules.specs.TypeRules as rules
+use Rattle.wf_types_rules.proofs.TypeRows as rows
 use Rattle.wf_types_rules.specs.FirstBreak.{deciding}
 use Rattle.wf_typed_tree.specs.MeaningTrees.{kind_of_type}
 use Rattle.wf_typed_tree.proofs.NumberLemmas.{both, where-parts, map-parts}
@@ -162,8 +162,8 @@ constant-is p known c made h types_named value_named =
     let declared_type = placed-known p s roles.Const c.of (λ e. cc e) split.0.0 split.0.1 written_type in
     let parts = declared-parts s roles.Const c.of declared_type.0 declared_type.1 in
     let value = expr-known p (scope_of_const p (length known)) s front c.value split.1 value_named in
-    let number = numbered-known (meaning s c.value) value.0 value.1 (at-none _ _ (h.0 T1 value_no_number (λ at w. rules.constant_no_number at w))) in
-    let lies = both-hold lies_in (declared s roles.Const c.of) (number_of s c.value) declared_type.0 number.0 declared_type.1 number.1 (at-none _ _ (h.0 T5 value_outside (λ at w. rules.outside at w))) in
+    let number = numbered-known (meaning s c.value) value.0 value.1 (at-none _ _ (h.0 T1 value_no_number rows.value_no_number)) in
+    let lies = both-hold lies_in (declared s roles.Const c.of) (number_of s c.value) declared_type.0 number.0 declared_type.1 number.1 (at-none _ _ (h.0 T5 value_outside rows.value_outside)) in
     let range = written-range s c.of declared_type.0 parts.is in
     let it = constant-lies declared_type.0 number.0 parts.may range lies in
     let D : Option Ty → Type 0 = λ o. IsMade (constant_with o (number_of s c.value)) in

@@ -26,7 +26,7 @@ use Rattle.wf_types_rules.specs.DeclaredTypes.{form_of, is_number_form, may_have
 use Rattle.wf_types_rules.specs.Parts.{placed_type, expr_parts, links_parts, type_parts}
 use Rattle.wf_types_rules.specs.Judgements.{fails, names_others, links_name_others, is_no_constant, form, wrong_type, is_misplaced, misplaced_type, begins_above_zero, is_constant_name}
 use Rattle.wf_types_rules.specs.Meanings as meant
-use Rattle.wf_types_rules.specs.TypeRules as rules
+use Rattle.wf_types_rules.proofs.TypeRows as rows
 use Rattle.wf_typed_tree.proofs.NumberLemmas.{both, and-true, where-parts, width-is, then-parts, map-parts}
 use Rattle.wf_typed_tree.proofs.NoBreaks.{Fine, AllFine, fine-split, at-none, either-false, holds}
 use Rattle.wf_typed_tree.proofs.KnownMeanings.{HasValue, then-known, form-known}
@@ -108,9 +108,9 @@ declared-parts s role t ty h =
 placed-allowed : (p : NamedPackageTree) (s : Setting) (role : Role) (t : NamedTypeTree) → is_misplaced s role t ≡ fails (may_have role) (form s t)
     → Fine p s (placed_type role t) → AllFine p s (type_parts t) → HasValue (written s t) → HasValue (declared s role t)
 placed-allowed p s role t same fine parts it =
-    let misplaced : fails (may_have role) (form s t) ≡ false = sym same ∙ at-none (is_misplaced s role t) _ (fine T1 misplaced_type (λ at w. rules.misplaced at w)) in
+    let misplaced : fails (may_have role) (form s t) ≡ false = sym same ∙ at-none (is_misplaced s role t) _ (fine T1 misplaced_type rows.misplaced_type) in
     let may = holds (may_have role) (form s t) (form_of it.0) (form-known p s t it.0 parts it.1) misplaced in
-    let zero = holds (is_zero_kept role) (written s t) it.0 it.1 (at-none (fails (is_zero_kept role) (written s t)) _ (fine T5 begins_above_zero (λ at w. rules.not_zero at w))) in
+    let zero = holds (is_zero_kept role) (written s t) it.0 it.1 (at-none (fails (is_zero_kept role) (written s t)) _ (fine T5 begins_above_zero rows.begins_above_zero)) in
     let allowed : if_allowed role it.0 ≡ Some it.0 = allow (may_be role it.0) (is_zero_kept role it.0) it.0 may zero in
     (it.0, then-known (if_allowed role) (written s t) it.0 it.0 it.1 allowed)
   where
@@ -170,20 +170,20 @@ module _ (p : NamedPackageTree) (names : Scope) (s : Setting) where
     type-renamed (array_of length at element) h n =
         let named = both (named_expr names length) (named_type names element) n in
         let parts = fine-split p s (expr_parts length) (type_parts element) h.1 in
-        let wrong = either-false (is_no_constant s length) (fails is_number_form (form s element)) (at-none _ at (h.0 T1 wrong_type (λ at w. rules.unknown_type at w))) in
+        let wrong = either-false (is_no_constant s length) (fails is_number_form (form s element)) (at-none _ at (h.0 T1 wrong_type rows.wrong_type)) in
         let alone = either-false (names_others length) (fails meant.is_constant (meaning s length)) wrong.0 in
         and-true (named_expr (only_constants names) length) (named_type (only_constants names) element) (expr-renamed length parts.0 alone.0 named.0) (type-renamed element parts.1 named.1)
-    type-renamed (base_type None at bounds) h n = absurd (cc (h.0 T1 wrong_type (λ at w. rules.unknown_type at w)))
+    type-renamed (base_type None at bounds) h n = absurd (cc (h.0 T1 wrong_type rows.wrong_type))
     type-renamed (base_type (Some of) at unrefined) h n = refl
     type-renamed (base_type (Some (bases.Number width)) at (refined absent high)) h n =
-        let wrong = at-none _ at (h.0 T1 wrong_type (λ at w. rules.unknown_type at w)) in
+        let wrong = at-none _ at (h.0 T1 wrong_type rows.wrong_type) in
         expr-renamed high h.1 (either-false (names_others high) (fails meant.is_constant (meaning s high)) wrong).0 n
     type-renamed (base_type (Some (bases.Number width)) at (refined (present least) high)) h n =
         let named = both (named_expr names least) (named_expr names high) n in
         let parts = fine-split p s (expr_parts least) (expr_parts high) h.1 in
-        let wrong = either-false (is_no_constant s least) (is_no_constant s high) (at-none _ at (h.0 T1 wrong_type (λ at w. rules.unknown_type at w))) in
+        let wrong = either-false (is_no_constant s least) (is_no_constant s high) (at-none _ at (h.0 T1 wrong_type rows.wrong_type)) in
         let first = either-false (names_others least) (fails meant.is_constant (meaning s least)) wrong.0 in
         let last = either-false (names_others high) (fails meant.is_constant (meaning s high)) wrong.1 in
         and-true (named_expr (only_constants names) least) (named_expr (only_constants names) high) (expr-renamed least parts.0 first.0 named.0) (expr-renamed high parts.1 last.0 named.1)
-    type-renamed (base_type (Some of) at (refined low high)) h n = absurd (cc (h.0 T1 wrong_type (λ at w. rules.unknown_type at w)))
+    type-renamed (base_type (Some of) at (refined low high)) h n = absurd (cc (h.0 T1 wrong_type rows.wrong_type))
     type-renamed (struct_type k at) h n = n

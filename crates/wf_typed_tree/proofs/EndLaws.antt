@@ -16,7 +16,7 @@ use Rattle.wf_types_rules.specs.declared.settings.Setting.{Setting}
 use Rattle.wf_types_rules.specs.declared.settings.Role.TheVariants as roles
 use Rattle.wf_types_rules.specs.DeclaredTypes.{may_be, declared, for_types, in_method}
 use Rattle.wf_types_rules.specs.Judgements.{block_leaves, is_word_true, stmt_stops, block_stops, arms_stop, reaches_end}
-use Rattle.wf_types_rules.specs.TypeRules as rules
+use Rattle.wf_types_rules.proofs.TypeRows as rows
 use Rattle.wf_typed_tree.specs.ElaboratedExprs.{expr_tree}
 use Rattle.wf_typed_tree.specs.ElaboratedStmts.{simple_tree, count_stmt, count_block, count_arms, site, stmt_tree, block_tree, arms_tree}
 use Rattle.wf_typed_tree.specs.ElaboratedPackage.{type_declared, typed_method}
@@ -111,6 +111,6 @@ method-answers p n m is g = by_result m.gives refl
     by_result : (o : Option NamedTypeTree) → m.gives ≡ o → answers_always m.mark (option_map (type_declared p (roles.Result m.mark)) o) (typed_method p n m).body ≡ true
     by_result None e = refl
     by_result (Some t) e =
-        let judged = at-none _ _ (is.body.0 T4 reaches_end (λ at w. rules.no_result at w)) in
+        let judged = at-none _ _ (is.body.0 T4 reaches_end rows.reaches_end) in
         let G : Option NamedTypeTree → Type 0 = λ o. (not (is_coroutine m.mark) && (is_some (option_map (declared (for_types p) (roles.Result m.mark)) o) && not (block_stops m.body))) ≡ false in
         block-ends (in_method p m) [] n m.body g (body-stops p m m.mark t (is.gives t e).0 (is.gives t e).1 (subst G e judged))

@@ -33,7 +33,7 @@ use Rattle.wf_types_rules.specs.ExprTypes.{only_where, element_of, slice_in, pur
 use Rattle.wf_types_rules.specs.DeclaredTypes.{form_of, is_number_form, is_numeric, holds_zero}
 use Rattle.wf_types_rules.specs.Parts.{expr_parts, end_parts, links_parts, type_parts}
 use Rattle.wf_types_rules.specs.Judgements.{at_if, fails, if_both, wrong_number, wrong_end, is_known_end, wrong_operand, unfit_operand, node_without_value, leaves_width, names_others, is_no_constant, is_no_low_bound, base_form, refined_form, with_elements, form, wrong_type, misplaced_type, crossed_bounds, is_too_high, high_bound, no_elements, element_above_zero, call_inside, wrong_mark}
-use Rattle.wf_types_rules.specs.TypeRules as rules
+use Rattle.wf_types_rules.proofs.TypeRows as rows
 use Rattle.wf_typed_tree.proofs.NumberLemmas.{both, and-true, where-parts}
 use Rattle.wf_typed_tree.proofs.ExprLaws.{kind-wanted}
 use Rattle.wf_typed_tree.proofs.NoBreaks.{AllFine, fine-split, at-none, either-false, not-not, first-none, holds, both-hold, there-of, some-is}
@@ -187,7 +187,7 @@ form-known p s (base_type (Some of) at unrefined) ty h e =
     let F : Ty → Type 0 = λ z. Some (base_form of) ≡ Some (form_of z) in
     subst F same (ap Some (base-formed of))
 form-known p s (base_type (Some (bases.Number width)) at (refined low high)) ty h e =
-    refined-formed width (low_number s low) (number_of s high) (is_no_low_bound s low || is_no_constant s high) ty (at-none _ at (h.0 T1 wrong_type (λ at w. rules.unknown_type at w))) e
+    refined-formed width (low_number s low) (number_of s high) (is_no_low_bound s low || is_no_constant s high) ty (at-none _ at (h.0 T1 wrong_type rows.wrong_type)) e
 form-known p s (base_type (Some of) at (refined low high)) ty h e = absurd (cc e)
 form-known p s (struct_type n at) ty h e = let same : types.Part (record { 0 = n }) ≡ ty = cc e in let F : Ty → Type 0 = λ z. Some forms.Struct ≡ Some (form_of z) in subst F same refl
 
@@ -199,14 +199,14 @@ module _ (p : NamedPackageTree) (names : Scope) (s : Setting) (known : (x : Vari
     expr-known (truth value at) h n = (_, refl)
     expr-known (path q) h n =
         let it = known q.of n in
-        let value = holds is_value (variable s q.of) it.0 it.1 (at-none (fails is_value (variable s q.of)) q.at (h.0 T1 wrong_operand (λ at w. rules.operand at w))) in
+        let value = holds is_value (variable s q.of) it.0 it.1 (at-none (fails is_value (variable s q.of)) q.at (h.0 T1 wrong_operand rows.wrong_operand)) in
         (it.0, then-known (only_where is_value) (variable s q.of) it.0 it.0 it.1 (where-known (is_value it.0) it.0 value))
     expr-known (index q i at) h n =
         let named = both (is_there names q) (named_expr names i) n in
         let base = known q.of named.0 in
         let place = expr-known i h.1 named.1 in
         let all = and-true (is_some (variable s q.of)) (is_some (meaning s i)) (some-is (variable s q.of) base.0 base.1) (some-is (meaning s i) place.0 place.1) in
-        let wrong = first-none (at_if (fails (λ m. is_some (element_of m)) (variable s q.of)) q.at) (wrong_number s i) (judged _ _ all (h.0 T1 wrong_operand (λ at w. rules.operand at w))) in
+        let wrong = first-none (at_if (fails (λ m. is_some (element_of m)) (variable s q.of)) q.at) (wrong_number s i) (judged _ _ all (h.0 T1 wrong_operand rows.wrong_operand)) in
         let element = there-of (element_of base.0) (holds (λ m. is_some (element_of m)) (variable s q.of) base.0 base.1 (at-none (fails (λ m. is_some (element_of m)) (variable s q.of)) q.at wrong.0)) in
         let number = holds meant.is_number (meaning s i) place.0 place.1 (at-none (fails meant.is_number (meaning s i)) (place_of i) wrong.1) in
         let gives = then-known element_of (variable s q.of) base.0 element.0 base.1 element.1 in
@@ -221,7 +221,7 @@ module _ (p : NamedPackageTree) (names : Scope) (s : Setting) (known : (x : Vari
         let second = end-known to parts.1 ends.1 in
         let all = and-true (is_some (variable s q.of)) (is_known_end s from && is_known_end s to) (some-is (variable s q.of) base.0 base.1) (and-true (is_known_end s from) (is_known_end s to) first second) in
         let wrong =
-        first-none (at_if (fails (λ m. is_some (slice_in m)) (variable s q.of)) q.at) (first_of (wrong_end s from) (wrong_end s to)) (judged _ _ all (h.0 T1 wrong_operand (λ at w. rules.operand at w))) in
+        first-none (at_if (fails (λ m. is_some (slice_in m)) (variable s q.of)) q.at) (first_of (wrong_end s from) (wrong_end s to)) (judged _ _ all (h.0 T1 wrong_operand rows.wrong_operand)) in
         let wrong_ends = first-none (wrong_end s from) (wrong_end s to) wrong.1 in
         let cells = there-of (slice_in base.0) (holds (λ m. is_some (slice_in m)) (variable s q.of) base.0 base.1 (at-none (fails (λ m. is_some (slice_in m)) (variable s q.of)) q.at wrong.0)) in
         let gives = then-known slice_in (variable s q.of) base.0 cells.0 base.1 cells.1 in
@@ -232,15 +232,15 @@ module _ (p : NamedPackageTree) (names : Scope) (s : Setting) (known : (x : Vari
         let wanted = both (is_wanted (args_wanted names (callees.Base on sig)) (count_args args)) (named_args names args) n in
         let kind = kind-wanted _ _ (count_args args) wanted.0 in
         let it = known on.of (kind-there (type_of_variable names on.of) sig kind) in
-        let inside = either-false (not (is_pure mark)) false (at-none _ at (h.0 E3 call_inside (λ at w. rules.inside at w))) in
-        let same = not-not (same_mark mark (row_of sig).mark) (at-none _ at (h.0 E3 wrong_mark (λ at w. rules.other_mark at w))) in
+        let inside = either-false (not (is_pure mark)) false (at-none _ at (h.0 E3 call_inside rows.call_inside)) in
+        let same = not-not (same_mark mark (row_of sig).mark) (at-none _ at (h.0 E3 wrong_mark rows.wrong_mark)) in
         let gives = pure-known sig mark it.0 (not-not (is_pure mark) inside.0) same in
         (gives.0, then-known (pure_answer sig mark) (variable s on.of) it.0 gives.0 it.1 gives.1)
     expr-known (answer (call (callees.Own k) at mark args)) h n =
-        let inside = either-false (not (is_pure mark)) true (at-none _ at (h.0 E3 call_inside (λ at w. rules.inside at w))) in
+        let inside = either-false (not (is_pure mark)) true (at-none _ at (h.0 E3 call_inside rows.call_inside)) in
         absurd (cc inside.1)
     expr-known (answer (call (callees.Sub x k) at mark args)) h n =
-        let inside = either-false (not (is_pure mark)) true (at-none _ at (h.0 E3 call_inside (λ at w. rules.inside at w))) in
+        let inside = either-false (not (is_pure mark)) true (at-none _ at (h.0 E3 call_inside rows.call_inside)) in
         absurd (cc inside.1)
     expr-known (chain op first links at) h n =
         let named = both (named_expr names first) (named_links names links) n in
@@ -252,9 +252,9 @@ module _ (p : NamedPackageTree) (names : Scope) (s : Setting) (known : (x : Vari
         let os : List Operand = operand_at (place_of first) head.0 ∷ behind.0 in
         let P : Option (List Operand) → Type 0 = λ o. option_and_then (not_taken (sort_of op)) o ≡ None in
         let Q : Option (List Operand) → Type 0 = λ o. option_and_then (not_fitting (sort_of op)) o ≡ None in
-        let taken = subst P all (h.0 T1 wrong_operand (λ at w. rules.operand at w)) in
-        let fitting = subst Q all (h.0 T5 unfit_operand (λ at w. rules.unfit_beside at w)) in
-        let valued = not-true _ (holds (λ os. not (has_no_value (sort_of op) os)) (operands s first links) os all (at-none _ at (h.0 T5 node_without_value (λ at w. rules.without_value at w)))) in
+        let taken = subst P all (h.0 T1 wrong_operand rows.wrong_operand) in
+        let fitting = subst Q all (h.0 T5 unfit_operand rows.unfit_operand) in
+        let valued = not-true _ (holds (λ os. not (has_no_value (sort_of op) os)) (operands s first links) os all (at-none _ at (h.0 T5 node_without_value rows.node_without_value))) in
         let gives = operator-known (sort_of op) os taken fitting valued in
         (gives.0, then-known (meaning_of_operator (sort_of op)) (operands s first links) os gives.0 all gives.1)
     expr-known (convert e t at) h n =
@@ -262,16 +262,16 @@ module _ (p : NamedPackageTree) (names : Scope) (s : Setting) (known : (x : Vari
         let parts = fine-split p s (expr_parts e) (type_parts t) h.1.1 in
         let it = expr-known e parts.0 named.0 in
         let ty = type-known t parts.1 named.1 in
-        let misplaced = at-none _ _ (h.1.0 T1 misplaced_type (λ at w. rules.misplaced at w)) in
+        let misplaced = at-none _ _ (h.1.0 T1 misplaced_type rows.misplaced_type) in
         let W : Option Form → Type 0 = λ o. (is_some o && not (is_some (plain_width t))) ≡ false in
         let width = there-of (plain_width t) (not-not (is_some (plain_width t)) (subst W (form-known p s t ty.0 parts.1 ty.1) misplaced)) in
-        let number = holds meant.is_number (meaning s e) it.0 it.1 (at-none (fails meant.is_number (meaning s e)) (place_of e) (h.0 T1 wrong_operand (λ at w. rules.operand at w))) in
-        let stays = not-true _ (holds (λ m. not (leaves_width m t)) (meaning s e) it.0 it.1 (at-none _ at (h.0 T5 node_without_value (λ at w. rules.without_value at w)))) in
+        let number = holds meant.is_number (meaning s e) it.0 it.1 (at-none (fails meant.is_number (meaning s e)) (place_of e) (h.0 T1 wrong_operand rows.wrong_operand)) in
+        let stays = not-true _ (holds (λ m. not (leaves_width m t)) (meaning s e) it.0 it.1 (at-none _ at (h.0 T5 node_without_value rows.node_without_value))) in
         let gives = converted-known t it.0 width.0 width.1 number stays in
         (gives.0, then-known (converted (plain_width t)) (meaning s e) it.0 gives.0 it.1 gives.1)
     expr-known (negation e at) h n =
         let it = expr-known e h.1 n in
-        let flag = holds meant.is_flag (meaning s e) it.0 it.1 (at-none (fails meant.is_flag (meaning s e)) (place_of e) (h.0 T1 wrong_operand (λ at w. rules.operand at w))) in
+        let flag = holds meant.is_flag (meaning s e) it.0 it.1 (at-none (fails meant.is_flag (meaning s e)) (place_of e) (h.0 T1 wrong_operand rows.wrong_operand)) in
         (it.0, then-known (only_where meant.is_flag) (meaning s e) it.0 it.0 it.1 (where-known (meant.is_flag it.0) it.0 flag))
 
     end-known : (part : NamedPartTree) → AllFine p s (end_parts part) → named_part names part ≡ true → is_known_end s part ≡ true
@@ -291,37 +291,37 @@ module _ (p : NamedPackageTree) (names : Scope) (s : Setting) (known : (x : Vari
     type-known (slice_of at element) h n =
         let it = type-known element h.1 n in
         let W : Option Form → Type 0 = λ o. (is_some o && not (is_some (plain_width element))) ≡ false in
-        let width = there-of (plain_width element) (not-not (is_some (plain_width element)) (subst W (form-known p s element it.0 h.1 it.1) (at-none _ at (h.0 T1 wrong_type (λ at w. rules.unknown_type at w))))) in
+        let width = there-of (plain_width element) (not-not (is_some (plain_width element)) (subst W (form-known p s element it.0 h.1 it.1) (at-none _ at (h.0 T1 wrong_type rows.wrong_type)))) in
         (types.Slice width.0, map-known types.Slice (plain_width element) width.0 width.1)
     type-known (array_of length at element) h n =
         let named = both (named_expr names length) (named_type names element) n in
         let parts = fine-split p s (expr_parts length) (type_parts element) h.1 in
         let count = expr-known length parts.0 named.0 in
         let of = type-known element parts.1 named.1 in
-        let wrong = either-false (is_no_constant s length) (fails is_number_form (form s element)) (at-none _ at (h.0 T1 wrong_type (λ at w. rules.unknown_type at w))) in
+        let wrong = either-false (is_no_constant s length) (fails is_number_form (form s element)) (at-none _ at (h.0 T1 wrong_type rows.wrong_type)) in
         let constant = numbered-known (meaning s length) count.0 count.1 (either-false (names_others length) (fails meant.is_constant (meaning s length)) wrong.0).1 in
-        let positive = holds (nat_lt 0) (number_of s length) constant.0 constant.1 (at-none _ (place_of length) (h.0 T5 no_elements (λ at w. rules.empty_array at w))) in
+        let positive = holds (nat_lt 0) (number_of s length) constant.0 constant.1 (at-none _ (place_of length) (h.0 T5 no_elements rows.no_elements)) in
         let numeric = holds is_number_form (form s element) (form_of of.0) (form-known p s element of.0 parts.1 of.1) wrong.1 in
-        let zero = holds holds_zero (written s element) of.0 of.1 (at-none _ _ (h.0 T5 element_above_zero (λ at w. rules.element_not_zero at w))) in
+        let zero = holds holds_zero (written s element) of.0 of.1 (at-none _ _ (h.0 T5 element_above_zero rows.element_above_zero)) in
         array-known (number_of s length) (written s element) constant.0 of.0 constant.1 of.1 positive numeric zero
-    type-known (base_type None at bounds) h n = absurd (cc (h.0 T1 wrong_type (λ at w. rules.unknown_type at w)))
+    type-known (base_type None at bounds) h n = absurd (cc (h.0 T1 wrong_type rows.wrong_type))
     type-known (base_type (Some of) at unrefined) h n = (base_of of, refl)
     type-known (base_type (Some (bases.Number width)) at (refined absent high)) h n =
-        let wrong = at-none _ at (h.0 T1 wrong_type (λ at w. rules.unknown_type at w)) in
+        let wrong = at-none _ at (h.0 T1 wrong_type rows.wrong_type) in
         let upper = expr-known high h.1 n in
         let number = numbered-known (meaning s high) upper.0 upper.1 (either-false (names_others high) (fails meant.is_constant (meaning s high)) wrong).1 in
-        let low = both-hold (λ m n. not (is_too_high (2 ^ bits_of width) m n)) (Some 0) (number_of s high) 0 number.0 refl number.1 (at-none _ (place_of high) (h.0 T5 high_bound (λ at w. rules.too_high at w))) in
+        let low = both-hold (λ m n. not (is_too_high (2 ^ bits_of width) m n)) (Some 0) (number_of s high) 0 number.0 refl number.1 (at-none _ (place_of high) (h.0 T5 high_bound rows.high_bound)) in
         refined-known width (Some 0) (number_of s high) 0 number.0 refl number.1 (grind (arith, nat_tests)) (not-true _ low)
     type-known (base_type (Some (bases.Number width)) at (refined (present least) high)) h n =
         let named = both (named_expr names least) (named_expr names high) n in
         let parts = fine-split p s (expr_parts least) (expr_parts high) h.1 in
-        let wrong = either-false (is_no_constant s least) (is_no_constant s high) (at-none _ at (h.0 T1 wrong_type (λ at w. rules.unknown_type at w))) in
+        let wrong = either-false (is_no_constant s least) (is_no_constant s high) (at-none _ at (h.0 T1 wrong_type rows.wrong_type)) in
         let lower = expr-known least parts.0 named.0 in
         let upper = expr-known high parts.1 named.1 in
         let first = numbered-known (meaning s least) lower.0 lower.1 (either-false (names_others least) (fails meant.is_constant (meaning s least)) wrong.0).1 in
         let last = numbered-known (meaning s high) upper.0 upper.1 (either-false (names_others high) (fails meant.is_constant (meaning s high)) wrong.1).1 in
-        let order = both-hold nat_le (number_of s least) (number_of s high) first.0 last.0 first.1 last.1 (at-none _ (place_of least) (h.0 T5 crossed_bounds (λ at w. rules.crossed at w))) in
-        let low = both-hold (λ m n. not (is_too_high (2 ^ bits_of width) m n)) (number_of s least) (number_of s high) first.0 last.0 first.1 last.1 (at-none _ (place_of high) (h.0 T5 high_bound (λ at w. rules.too_high at w))) in
+        let order = both-hold nat_le (number_of s least) (number_of s high) first.0 last.0 first.1 last.1 (at-none _ (place_of least) (h.0 T5 crossed_bounds rows.crossed_bounds)) in
+        let low = both-hold (λ m n. not (is_too_high (2 ^ bits_of width) m n)) (number_of s least) (number_of s high) first.0 last.0 first.1 last.1 (at-none _ (place_of high) (h.0 T5 high_bound rows.high_bound)) in
         refined-known width (number_of s least) (number_of s high) first.0 last.0 first.1 last.1 order (not-true _ low)
-    type-known (base_type (Some of) at (refined low high)) h n = absurd (cc (h.0 T1 wrong_type (λ at w. rules.unknown_type at w)))
+    type-known (base_type (Some of) at (refined low high)) h n = absurd (cc (h.0 T1 wrong_type rows.wrong_type))
     type-known (struct_type k at) h n = (_, refl)

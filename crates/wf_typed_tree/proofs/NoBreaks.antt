@@ -11,22 +11,22 @@ use Rattle.wf_types_rules.specs.declared.settings.Setting.{Setting}
 use Rattle.wf_types_rules.specs.Operands.{first_of}
 use Rattle.wf_types_rules.specs.Parts.{Part, IsPart}
 use Rattle.wf_types_rules.specs.Judgements.{at_if, fails, both_fail}
-use Rattle.wf_types_rules.specs.TypeRules.{refused, IsWrong, Breaks}
+use Rattle.wf_types_rules.specs.TypeRules.{refused, IsRule, Breaks}
 use Rattle.wf_types_rules.specs.FirstBreak.{deciding}
 use Rattle.wf_types_rules.proofs.FirstBreakLaws.{deciding-decides}
 
 -- No judgement of the table finds fault with the part.
 abbrev pub Fine : NamedPackageTree → Setting → Part → Type 0
-Fine p s x = (rule : Rule) (judge : Setting → Part → Option Place) → ((at : Place) → IsWrong p judge at → Breaks p (refused rule at)) → judge s x ≡ None
+Fine p s x = (rule : Rule) (judge : Setting → Part → Option Place) → IsRule rule judge → judge s x ≡ None
 
 pub part-fine : (p : NamedPackageTree) → deciding p ≡ None → (s : Setting) (x : Part) → IsPart p s x → Fine p s x
-part-fine p none s x is rule judge breaks = by_place (judge s x) refl
+part-fine p none s x is rule judge listed = by_place (judge s x) refl
   where
     by_place : (o : Option Place) → judge s x ≡ o → o ≡ None
     by_place None e = refl
     by_place (Some at) e =
         let D : Option Refusal → Type 0 = Decides (Breaks p) in
-        absurd (subst D none (deciding-decides p) (refused rule at) (breaks at (record { around = s; part = x; stands = is; wrong = e })))
+        absurd (subst D none (deciding-decides p) (refused rule at) (record { judge = judge; is_rule = listed; is_wrong = record { around = s; part = x; stands = is; wrong = e } }))
 
 abbrev pub AllFine : NamedPackageTree → Setting → List Part → Type 0
 AllFine p s [] = ⊤

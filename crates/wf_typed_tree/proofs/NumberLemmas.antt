@@ -38,7 +38,7 @@ same-self n = grind (arith, nat_tests)
 pub equal-numbers : (m n : ℕ) → nat_eq m n ≡ true → m ≡ n
 equal-numbers m n h = grind (arith, nat_tests, h)
 
--- An argument that is named, and those behind it.
+-- An argument that is named, and those after it.
 pub named-more : (s : Scope) (e : NamedExprTree) (others : NamedArgTrees) → named_args s (more_args e others) ≡ true → (named_expr s e ≡ true) × (named_args s others ≡ true)
 named-more s e others h = let first = both (named_expr s e) _ h in (first.0, (both (named_args s others) _ first.1).0)
 

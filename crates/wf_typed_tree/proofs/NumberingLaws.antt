@@ -1,4 +1,4 @@
--- The statements of a typed package are numbered in order, method by method, each behind those inside it.
+-- The statements of a typed package are numbered in order, method by method, each after those inside it.
 use Rattle.std.proofs.Common.{◌≡◌, ℕ, zero, suc, ◌+◌, true, false, List, [], ◌∷◌, ◌++◌, refl, sym, ap, ◌∙◌, arith}
 use Rattle.std.specs.List.{list_all, flat_map}
 use Rattle.std.proofs.lemmas.List.{append-nil, append_assoc}
@@ -26,7 +26,7 @@ numbers-last : (n a : ℕ) → numbers_from n a ++ (n + a) ∷ [] ≡ numbers_fr
 numbers-last n a = numbers-join n a 1 ∙ (let more : a + 1 ≡ suc a = omega arith in ap (numbers_from n) more)
 
 module _ (s : Setting) where
-  -- What stands behind the first numbers of a statement.
+  -- What stands after the first numbers of a statement.
   inner-last : (n a : ℕ) (rest : List ℕ) → numbers_from n a ++ (n + a) ∷ rest ≡ numbers_from n (suc a) ++ rest
   inner-last n a rest = sym (append_assoc (numbers_from n a) ((n + a) ∷ []) rest) ∙ ap (λ xs. xs ++ rest) (numbers-last n a)
 

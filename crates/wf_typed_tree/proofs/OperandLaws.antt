@@ -128,7 +128,7 @@ operands-of c w (o ∷ os) (t ∷ ts) h k = (operand-of c w o.of t h.0 k.0, oper
 operands-of c w [] (t ∷ ts) h k = absurd k
 operands-of c w (o ∷ os) [] h k = absurd k
 
--- What one width means of the first operand, and of those behind it.
+-- What one width means of the first operand, and of those after it.
 pub record OfOneWidth (width : Option Width) (o : Operand) (os : List Operand) : Type 0 where
   pub number : meant.is_number o.of ≡ true
   pub same : differs_in width (meant.width_of o.of) ≡ false
@@ -165,7 +165,7 @@ fits-own w (meanings.Constant (Some v) n) h k = let e : v ≡ w = cc k in rw e (
 fits-own w (meanings.Typed (types.Num v lo hi)) h k = let e : v ≡ w = cc k in rw e (same-self (bits_of w))
 fits-own w m h k = absurd (cc h)
 
--- Behind an operand with a width all have it.
+-- After an operand with a width all have it.
 all-fit-behind : (w : Width) (os : List Operand) → not_of_one_width (Some w) os ≡ None → first_not (fits_width (Some w)) os ≡ None → AllFit w os
 all-fit-behind w [] h k = tt
 all-fit-behind w (o ∷ os) h k =

@@ -34,7 +34,7 @@ use Rattle.wf_types_rules.specs.DeclaredTypes.{declared, for_types}
 use Rattle.wf_types_rules.specs.Parts.{expr_parts, end_parts, letters_parts, via_parts, condition_parts, target_parts, value_parts, assigned, returned, yielded}
 use Rattle.wf_types_rules.specs.Judgements.{fails, both_fail, target_meaning, type_in, target_type, target_place, wrong_assigned, updated, wrong_update, unfit_update, wrong_result, is_wrong_return, wrong_return, yielded_outside, wrong_yield, is_suspension_text, wrong_letter}
 use Rattle.wf_types_rules.specs.Judgements as judged
-use Rattle.wf_types_rules.specs.TypeRules as rules
+use Rattle.wf_types_rules.proofs.TypeRows as rows
 use Rattle.wf_typed_tree.specs.ElaboratedExprs.{type_meant, number_or, expr_tree}
 use Rattle.wf_typed_tree.specs.ElaboratedStmts.{unrefined, type_of_update, written_to, target_tree, update_tree, assign_tree, returned_tree, status_in, letter_trees, axiom_tree, loop_meant}
 use Rattle.wf_typed_tree.specs.ElaboratedPackage.{seen_text, type_declared, typed_package}
@@ -150,7 +150,7 @@ module _ (p : NamedPackageTree) (n : ℕ) (m : NamedMethodTree) (is : MethodIs p
       let to = target-is p n m is whole t parts.0 gt kt in
       let it = value-of p n m is e parts.1 ge ke in
       let taken = both-hold judged.takes (target_type (around p n m is) t) (meaning (around p n m is) e) to.ty it.of (target-typed t to) it.means
-      (at-none _ (target_place t) (h.0 T2 wrong_assigned (λ at w. rules.other_type at w))) in
+      (at-none _ (target_place t) (h.0 T2 wrong_assigned rows.wrong_assigned)) in
       let of : ValueTree = expr_tree (around p n m is) e in
       to.accepts.assigned of (fits-value (context p n m is) to.ty it.of of taken (value-is p n m is it.of of it.tree) it.tree)
 
@@ -169,8 +169,8 @@ module _ (p : NamedPackageTree) (n : ℕ) (m : NamedMethodTree) (is : MethodIs p
       (front-known _ (Some []) q [] (map-known (operand_at (place_of e)) (meaning (around p n m is) e) it.of it.means) refl) in
       let T : Option (List Operand) → Type 0 = λ x. option_and_then (not_taken (sort_of op)) x ≡ None in
       let U : Option (List Operand) → Type 0 = λ x. option_and_then (not_fitting (sort_of op)) x ≡ None in
-      let taken = subst T all (h.0 T1 wrong_update (λ at w. rules.update at w)) in
-      let fitting = subst U all (h.0 T5 unfit_update (λ at w. rules.unfit_in_update at w)) in
+      let taken = subst T all (h.0 T1 wrong_update rows.wrong_update) in
+      let fitting = subst U all (h.0 T5 unfit_update rows.unfit_update) in
       let TS : Sort → Type 0 = λ s. not_taken s (o ∷ q ∷ []) ≡ None in
       let US : Sort → Type 0 = λ s. not_fitting s (o ∷ q ∷ []) ≡ None in
       let target : Target = target_tree (around p n m is) t in
@@ -213,9 +213,9 @@ module _ (p : NamedPackageTree) (n : ℕ) (m : NamedMethodTree) (is : MethodIs p
       → well_simple (context p n m is) loops (typed.give_back (returned_tree (around p n m is) e)) ≡ true
   return-keeps loops at absent h g k =
       nothing-returned (context p n m is) m.mark (declared (for_types p) (roles.Result m.mark)) (type_declared p (roles.Result m.mark)) m.gives
-      (at-none _ at (h.0 T4 wrong_return (λ at w. rules.other_result at w)))
+      (at-none _ at (h.0 T4 wrong_return rows.wrong_return))
   return-keeps loops at (present e) h g k =
-      value-returned m.mark m.gives e (value-of p n m is e h.1 g k) (at-none _ at (h.0 T4 wrong_return (λ at w. rules.other_result at w))) is.gives
+      value-returned m.mark m.gives e (value-of p n m is e h.1 g k) (at-none _ at (h.0 T4 wrong_return rows.wrong_return)) is.gives
 
   -- Suspensions.
   suspension-seen : (e : NamedExprTree) → is_suspension_text (around p n m is) e ≡ true → is_suspension (slice_get (typed_package p).statuses (status_in e)) ≡ true
@@ -228,8 +228,8 @@ module _ (p : NamedPackageTree) (n : ℕ) (m : NamedMethodTree) (is : MethodIs p
       → well_simple (context p n m is) loops (typed.yield (status_in e)) ≡ true
   yield-keeps loops at e h =
       and-true (is_coroutine m.mark) (is_suspension (slice_get (typed_package p).statuses (status_in e)))
-      (not-not (is_coroutine m.mark) (at-none (not (is_coroutine m.mark)) at (h.0 E2 yielded_outside (λ at w. rules.yielded at w))))
-      (suspension-seen e (not-not (is_suspension_text (around p n m is) e) (at-none (not (is_suspension_text (around p n m is) e)) (place_of e) (h.0 E5 wrong_yield (λ at w. rules.no_suspension at w)))))
+      (not-not (is_coroutine m.mark) (at-none (not (is_coroutine m.mark)) at (h.0 E2 yielded_outside rows.yielded_outside)))
+      (suspension-seen e (not-not (is_suspension_text (around p n m is) e) (at-none (not (is_suspension_text (around p n m is) e)) (place_of e) (h.0 E5 wrong_yield rows.wrong_yield))))
 
   -- Assertions.
   letters-keep : (given : LetterTrees) → AllFine p (around p n m is) (letters_parts given) → letters_by_grammar given ≡ true → named_letters (names p n m is) given ≡ true
@@ -241,7 +241,7 @@ module _ (p : NamedPackageTree) (n : ℕ) (m : NamedMethodTree) (is : MethodIs p
       let parts = fine-split p (around p n m is) (expr_parts e) (letters_parts others) h.1 in
       let it = value-of p n m is e parts.0 grammar.0 named.0 in
       let number = holds meant.is_number (meaning (around p n m is) e) it.of it.means
-      (at-none (fails meant.is_number (meaning (around p n m is) e)) (place_of e) (h.0 T1 wrong_letter (λ at w. rules.letter at w))) in
+      (at-none (fails meant.is_number (meaning (around p n m is) e)) (place_of e) (h.0 T1 wrong_letter rows.wrong_letter)) in
       let t : ValueTree = expr_tree (around p n m is) e in
       let of = whole-tree (context p n m is) t (whole-number (context p n m is) it.of t number it.tree) in
       and-true (well_num (context p n m is) (num_in t)) _ (and-true (is_whole_number (num_in t)) (well_part (context p n m is) (num_in t)) of.0 of.1) (letters-keep others parts.1 grammar.1 named.1)

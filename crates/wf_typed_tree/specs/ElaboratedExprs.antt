@@ -80,7 +80,7 @@ abbrev mutual
   end_tree s absent = typed.absent
   end_tree s (present e) = typed.present (num_in (expr_tree s e))
 
-  -- The operands of a chain behind its first, in order.
+  -- The operands of a chain after its first, in order.
   pub link_trees : Setting → NamedLinkTrees → List ValueTree
   link_trees s no_link = []
   link_trees s (link sign e others) = expr_tree s e ∷ link_trees s others

@@ -1,4 +1,4 @@
--- The typed trees of statements: an `else if` is an `if` that is chained to the one in front of its `else`, a call stands by
+-- The typed trees of statements: an `else if` is an `if` that is chained to the one before its `else`, a call stands by
 -- its kind, and a jump tells the number of its loop.
 use Rattle.std.specs.Prelude.{ℕ, suc, ◌+◌, Bool, true, false, List, [], ◌∷◌, Option, None, Some, if◌then◌else◌, slice_get, unwrap_or}
 use Rattle.wf_text.specs.declared.place.Place.{Place}
@@ -31,7 +31,7 @@ abbrev pub unrefined : Ty → Ty
 unrefined (types.Num width lo hi) = all_of width
 unrefined ty = ty
 
--- The type of what an operator in front of an `=` gives: that of the operator between the target and the value.
+-- The type of what an operator before an `=` gives: that of the operator between the target and the value.
 abbrev pub type_of_update : Setting → NamedTargetTree → Ty
 type_of_update s t = unrefined (type_meant (target_meaning s t))
 
@@ -101,7 +101,7 @@ stmt_place (back e at) = at
 stmt_place (suspend e at) = at
 stmt_place (claim e by at) = at
 
--- The statements of a package are numbered in written order, each behind those inside it. So many statements are there,
+-- The statements of a package are numbered in written order, each after those inside it. So many statements are there,
 -- with those inside them.
 abbrev mutual
   pub count_stmt : NamedStmtTree → ℕ
@@ -125,7 +125,7 @@ abbrev pub clause_trees : Setting → NamedClauseTrees → List (Clause × CondT
 clause_trees s no_clause = []
 clause_trees s (more_clauses kind e at others) = (kind, cond_in (expr_tree s e)) ∷ clause_trees s others
 
--- What stands in front of a loop's body.
+-- What stands before a loop's body.
 abbrev pub head_tree : Setting → NamedExprTree → NamedClauseTrees → NamedBlockTree → Head
 head_tree s e clauses body =
     record { cond = cond_in (expr_tree s e); clauses = clause_trees s clauses; is_left = block_leaves 0 body; close = closing_brace body }

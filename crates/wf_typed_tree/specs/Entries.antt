@@ -1,6 +1,6 @@
 -- What is known of each expression of a typed package beside its tree, by number: where it stands, its type, and its number
 -- where it is constant. The entries of a package are those of its methods in order, and of a method those of its locals' names
--- and of its body; the parts of an expression stand in front of the whole.
+-- and of its body; the parts of an expression stand before the whole.
 use Rattle.std.specs.Prelude.{ℕ, ◌+◌, List, [], ◌∷◌, ◌++◌, map, Option, None, Some, option_and_then, if◌then◌else◌}
 use Rattle.std.specs.List.{flat_map}
 use Rattle.wf_text.specs.declared.place.Place.{Place}
@@ -73,7 +73,7 @@ abbrev mutual
   link_entries s no_link = []
   link_entries s (link sign e others) = (part_entries s e ++ whole_entry s e ∷ []) ++ link_entries s others
 
--- An expression, with its parts in front of it.
+-- An expression, with its parts before it.
 abbrev pub expr_entries : Setting → NamedExprTree → List Entry
 expr_entries s e = part_entries s e ++ whole_entry s e ∷ []
 
@@ -101,7 +101,7 @@ assigned_entries s (answer (call (callees.Base on sig) at mark args)) =
 assigned_entries s (answer c) = call_entries s c
 assigned_entries s e = expr_entries s e
 
--- An operator with `=` stands behind its two operands.
+-- An operator with `=` stands after its two operands.
 abbrev pub update_entry : Setting → NamedTargetTree → (sign : Place) → Entry
 update_entry s t sign = record { at = sign; ty = type_of_update s t; constant = None }
 
@@ -121,7 +121,7 @@ abbrev pub via_entries : Setting → NamedViaTree → List Entry
 via_entries s by_itself = []
 via_entries s (via text given) = letter_entries s given
 
--- Statements. The body of a loop stands in front of its condition.
+-- Statements. The body of a loop stands before its condition.
 abbrev mutual
   pub stmt_entries : Setting → NamedStmtTree → List Entry
   stmt_entries s (assign t op sign e at) = assign_entries s t op sign e

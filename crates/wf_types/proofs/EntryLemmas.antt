@@ -37,7 +37,7 @@ pub locals_end : (s : Setting) (old p : TypedNodes) (places : List Place) (n : �
     → AddsEntries old p (local_entries s 0 places)
 locals_end s old p places n past to = entries_to_end old p (local_entries s n (drop n places)) (local_entries s 0 places) to (ap (local_entries s n) (drop_all n places past))
 
--- A method in its setting: its locals, and its body behind them.
+-- A method in its setting: its locals, and its body after them.
 pub method_adds : (texts : List (List ℕ)) (es : List NamedExprTree) (xs locals : List NamedVar) (body : NamedBlockTree) (of : locals ≡ xs) (s t : Setting) → s ≡ t → (old mid new : TypedNodes)
     → AddsEntries old mid (local_entries s 0 (places_named locals)) → AddsEntries mid new (block_entries s body)
     → AddsEntries old new (local_entries t 0 (places_of (map (var_made texts es) xs)) ++ block_entries t body)

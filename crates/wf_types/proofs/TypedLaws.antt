@@ -33,7 +33,7 @@ use Rattle.wf_types_rules.specs.DeclaredTypes.{for_types, types_in}
 use Rattle.wf_types_rules.specs.FirstBreak.{deciding}
 use Rattle.wf_types_rules.specs.Judgements.{is_status_text, wrong_status}
 use Rattle.wf_types_rules.specs.Parts.{status_declared, at_sites, const_sites, sites}
-use Rattle.wf_types_rules.specs.TypeRules as rules
+use Rattle.wf_types_rules.proofs.TypeRows as rows
 use Rattle.wf_typed_tree.specs.ElaboratedPackage.{seen_text, typed_package}
 use Rattle.wf_typed_tree.specs.ElaboratedStmts.{count_block}
 use Rattle.wf_typed_tree.proofs.Agreement.{package-is}
@@ -60,7 +60,7 @@ module _ (p : NamedPackageTree) (name : List ℕ) where
   texts_told : (ws : List Word) → AllFine p (for_types p) (map status_declared ws) → list_all has_kind_byte (map (λ (w : Word). seen_text name w.text) ws) ≡ true
   texts_told [] h = refl
   texts_told (w ∷ ws) h =
-      let right : is_status_text w.text ≡ true = not-not (is_status_text w.text) (at-none (not (is_status_text w.text)) w.at (h.0 T5 wrong_status (λ at wrong. rules.status_text at wrong))) in
+      let right : is_status_text w.text ≡ true = not-not (is_status_text w.text) (at-none (not (is_status_text w.text)) w.at (h.0 T5 wrong_status rows.wrong_status)) in
       let first = text_told name w.text right in
       let others = texts_told ws h.1 in
       rw (first, others) refl

@@ -43,10 +43,7 @@ pub fn elaborate_locals(
             of: Variable::Local(LocalId(number as u32)),
             at: locals[number].name.at,
         };
-        match nodes.push_path(alloc, named, around, path) {
-            Ok(_) => {}
-            Err(fault) => return Err(fault),
-        }
+        nodes.push_path(alloc, named, around, path)?;
     }
     Ok(())
 }

@@ -53,7 +53,7 @@ judged_plain s found parts = refl
 pub decided-sites : (s : Setting) (found : Option Refusal) (parts : List Part) → decided found (at_sites s parts) ≡ judged s found parts
 decided-sites s found parts = decided_plain found (at_sites s parts) ∙ ap (soonest found) (sites_alone s parts) ∙ sym (judged_plain s found parts)
 
--- A constant behind its parts.
+-- A constant after its parts.
 constant_alone : (s : Setting) (found : Option Refusal) (c : ConstTree) → constant_found (declared s roles.Const c.of) (value_of s c.value) found ≡ judged s found (constant_declared c ∷ [])
 unfolding judged
 constant_alone s found c = refl
@@ -76,7 +76,7 @@ pub constants_with : (known : List (Option Constant)) (c : ConstTree) (s t : Set
     → of ≡ constant_made known c → t ≡ among_constants (known ++ constant_made known c ∷ [])
 constants_with known c s t of e k h = e ∙ ap (λ (r : Setting). record r { constants = r.constants ++ of ∷ [] }) k ∙ ap (λ o. among_constants (known ++ o ∷ [])) h
 
--- Constants that are left, where those in front of them are known.
+-- Constants that are left, where those before them are known.
 pub record ConstsJudged (all left : List ConstTree) (found : Option Refusal) (around : Setting) : Type 0 where
   pub known : List (Option Constant)
   pub is : around ≡ among_constants known
@@ -136,7 +136,7 @@ pub one_copied : {X : Type 0} (xs : List X) (i : ℕ) (d : X) → i < length xs 
 one_copied xs i d h before next e =
     ap (λ zs. zs ++ drop (i + 1) xs) e ∙ append_assoc before (slice_index_or xs i d ∷ []) (drop (i + 1) xs) ∙ sym (ap (λ ys. before ++ ys) (drop-one xs i d h))
 
--- Parts of two settings, one list behind the other.
+-- Parts of two settings, one list after the other.
 pub two_settings : (s inner : Setting) (found head last : Option Refusal) (xs ys : List Part) → head ≡ judged s found xs → last ≡ judged inner head ys → last ≡ decided found (at_sites s xs ++ at_sites inner ys)
 two_settings s inner found head last xs ys first next =
     next ∙ sym (decided-sites inner head ys) ∙ ap (λ f. decided f (at_sites inner ys)) (first ∙ sym (decided-sites s found xs)) ∙ sym (decided-append found (at_sites s xs) (at_sites inner ys))

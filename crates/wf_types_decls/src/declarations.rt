@@ -1,12 +1,12 @@
 // Constants and statuses.
 
-ghost use Rattle.std.specs.Prelude.{◌≡◌, ◌<◌, ◌++◌, ◌∷◌, [], None, length, map, nat_eq, IfOk};
+ghost use Rattle.std.specs.Prelude.{◌≡◌, ◌<◌, ◌++◌, ◌∷◌, [], None, not, length, map, nat_eq, option_and_then, slice_get, IfOk};
 ghost use Rattle.wf_ast.specs.BaseStatuses.{base_statuses as texts_of_language};
 ghost use Rattle.wf_named.specs.NamedParts.{exprs_of, NamedConstBelow};
-ghost use Rattle.wf_named.specs.NamedTrees.{const_made, word_at};
+ghost use Rattle.wf_named.specs.NamedTrees.{const_made, word_at, text_or};
 ghost use Rattle.wf_types_rules.specs.DeclaredTypes.{among_constants, constants_after, constant_made};
-ghost use Rattle.wf_types_rules.specs.Judgements.{fails, both_fail, lies_in as lies_within, two_questions as questions_in_a_row, is_status_text as text_of_status};
-ghost use Rattle.wf_types_rules.specs.Meanings.{is_constant as means_constant};
+ghost use Rattle.wf_types_rules.specs.Judgements.{at_if as at_place_if, fails, both_fail, lies_in as lies_within, two_questions as questions_in_a_row, is_status_text as text_of_status};
+ghost use Rattle.wf_types_rules.specs.Meanings.{is_constant as means_constant, constant_number};
 ghost use Rattle.wf_types_rules.specs.Parts.{constant_declared, status_declared, declared_parts, expr_parts, const_sites};
 ghost use Rattle.wf_types_rules.specs.declared.settings.Role.TheVariants as roles;
 ghost use Rattle.wf_types_exprs.specs.Judged.{judged};
@@ -17,6 +17,7 @@ use wf_ast::parsed::Name;
 use wf_ast::{Sequence, Ty};
 use wf_base::Mark;
 use wf_named::{NamedConst, NamedNodes};
+use wf_text::Place;
 use wf_text::categories::Category;
 use wf_text::faults::NoMemory;
 use wf_text::precedence::sooner;
@@ -29,7 +30,7 @@ use wf_types_meanings::places::{at_if, told};
 use wf_types_meanings::types::{constant_with, lies_in};
 use wf_types_meanings::values::number_in;
 use wf_types_operators::meanings::is_constant;
-use wf_types_rules::{Constant, Meaning, Role, Setting};
+use wf_types_rules::{Constant, Role, Setting};
 
 const BASE_STATUSES: [&str; 10] = [
     "",
@@ -58,12 +59,12 @@ pub struct JudgedConsts {
     pub around: Setting,
 }
 
-fn is_no_constant(of: Option<Meaning>) -> bool
-    ensures { result ≡ fails means_constant of }
+fn value_no_number(v: Value) -> Option<Place>
+    ensures { result ≡ at_place_if (fails means_constant v.of) v.at }
 {
-    match of {
-        Some(m) => !is_constant(m),
-        None => false,
+    match v.of {
+        Some(m) => at_if(!is_constant(m), v.at),
+        None => None,
     }
 }
 
@@ -78,16 +79,18 @@ fn lies_outside(ty: Option<Ty>, n: Option<u64>) -> bool
     }
 }
 
+fn value_outside(ty: Option<Ty>, v: Value) -> Option<Place>
+    ensures { result ≡ at_place_if (both_fail lies_within ty (option_and_then constant_number v.of)) v.at }
+{
+    at_if(lies_outside(ty, number_in(v.of)), v.at)
+}
+
 /// What the value of a constant of this type breaks.
 pub(crate) fn judged_constant(found: Option<Refusal>, ty: Option<Ty>, v: Value) -> Option<Refusal>
     ensures { result ≡ constant_found ty v found }
 {
-    let wrong = at_if(is_no_constant(v.of), v.at);
-    let outside = at_if(lies_outside(ty, number_in(v.of)), v.at);
-    sooner(
-        sooner(found, told(Rule::T1, wrong)),
-        told(Rule::T5, outside),
-    )
+    let numeric = sooner(found, told(Rule::T1, value_no_number(v)));
+    sooner(numeric, told(Rule::T5, value_outside(ty, v)))
 }
 
 /// A constant, where `around` knows those before it.
@@ -199,12 +202,19 @@ pub(crate) fn is_status_text(text: &[u8]) -> bool
     }
 }
 
+fn wrong_status(nodes: &NamedNodes, text: Name) -> Option<Place>
+    requires { text.text.0 < length nodes.now.texts }
+    ensures { result ≡ at_place_if (not (text_of_status (text_or (slice_get nodes.now.texts text.text.0)))) text.at }
+{
+    let right = is_status_text(nodes.text(text.text));
+    at_if(!right, text.at)
+}
+
 fn judge_status(found: Option<Refusal>, nodes: &NamedNodes, text: Name) -> Option<Refusal>
     requires { text.text.0 < length nodes.now.texts }
     ensures { (s : _) → result ≡ judged s found (status_declared (word_at nodes.now.texts text) ∷ []) }
 {
-    let wrong = !is_status_text(nodes.text(text.text));
-    sooner(found, told(Rule::T5, at_if(wrong, text.at)))
+    sooner(found, told(Rule::T5, wrong_status(nodes, text)))
 }
 
 /// The package's own statuses.

@@ -67,7 +67,7 @@ pub judged-swap : (s : Setting) (found : Option Refusal) (xs ys : List Part) →
 unfolding judged
 judged-swap s found xs ys = soonest-swap found (flat_map (refusals_at s) xs) (flat_map (refusals_at s) ys)
 
--- A whole may be judged behind its parts.
+-- A whole may be judged after its parts.
 pub judged-last : (s : Setting) (found : Option Refusal) (x : Part) (xs : List Part) → judged s (judged s found xs) (x ∷ []) ≡ judged s found (x ∷ xs)
 judged-last s found x xs = judged-swap s found xs (x ∷ []) ∙ sym (judged-append s found (x ∷ []) xs)
 

@@ -44,7 +44,7 @@ joined-some : (rest : Option (List Operand)) → operands_joined (Some []) rest 
 joined-some None = refl
 joined-some (Some rest) = refl
 
--- The first operand, then those behind it.
+-- The first operand, then those after it.
 pub operands_begun : (s : Setting) (first : NamedExprTree) (links : NamedLinkTrees) (begun : Option (List Operand)) → begun ≡ operand_behind (Some []) (value_of s first)
     → operands_joined begun (operands_behind s links) ≡ operands s first links
 operands_begun s first links begun e =

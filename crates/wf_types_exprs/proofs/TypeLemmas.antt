@@ -1,4 +1,4 @@
--- What is found at a type behind its parts, and what type it is.
+-- What is found at a type after its parts, and what type it is.
 use Rattle.std.proofs.Common.{◌≡◌, ◌∙◌, refl, sym, ap, ℕ, zero, suc, ◌-◌, ◌<◌, ◌≤◌, ◌^◌, Bool, true, false, not, ◌||◌, List, [], ◌∷◌, ◌++◌, length, drop, slice_index_or, Option, Some, None, option_map, arith, drop-cons}
 use Rattle.wf_text.specs.declared.place.Place.{Place}
 use Rattle.wf_text.specs.declared.rules.Refusal.{Refusal}
@@ -25,7 +25,7 @@ use Rattle.wf_types_rules.specs.Parts.{placed_type, type_part, expr_parts, end_p
 use Rattle.wf_types_exprs.specs.declared.found.Bound.{Bound}
 use Rattle.wf_types_exprs.specs.declared.found.WrittenType.{WrittenType}
 use Rattle.wf_types_exprs.specs.Judged.{judged, bound_of, low_bound, TellsType}
-use Rattle.wf_types_exprs.specs.Found.{slice_type_found, array_type_found, is_unfit_low, low_number_of, crossing, goes_above, refined_found, refined_base, refined_base_form, placed_found}
+use Rattle.wf_types_exprs.specs.Found.{slice_type_found, array_type_found, is_unfit_low, low_number_of, refined_crossing, goes_above, refined_found, refined_base, refined_base_form, placed_found}
 use Rattle.wf_types_exprs.proofs.JudgedLaws.{judged-append, judged-last, judged-turned}
 
 -- A type at its place.
@@ -48,7 +48,7 @@ pub declared_found : (s : Setting) (found : Option Refusal) (role : Role) (t : N
 declared_found s found role t w h =
     placed_judged s found role t w h ∙ ap (λ f. judged s f (placed_type role t ∷ [])) h.found ∙ judged-last s found (placed_type role t) (type_parts t)
 
--- The same behind an operand.
+-- The same after an operand.
 pub converted_found : (s : Setting) (found before : Option Refusal) (e : NamedExprTree) (t : NamedTypeTree) (w : WrittenType) → before ≡ judged s found (expr_parts e) → TellsType s before t w
     → placed_found roles.Conversion w.of w.kind w.plain w.at w.found ≡ judged s found (placed_type roles.Conversion t ∷ (expr_parts e ++ type_parts t))
 converted_found s found before e t w h k =
@@ -72,10 +72,10 @@ unfolding judged
 refined_same s found None at absent high = refl
 refined_same s found None at (present e) high = refl
 refined_same s found (Some (bases.Number width)) at absent high =
-    ap (λ b. sooner (sooner (sooner found (told T1 (at_if (is_unfit_low (low_bound s absent) || is_no_constant s high) at))) (told T5 (crossing (low_bound s absent) (bound_of s high))))
+    ap (λ b. sooner (sooner (sooner found (told T1 (at_if (is_unfit_low (low_bound s absent) || is_no_constant s high) at))) (told T5 (refined_crossing (Some (bases.Number width)) (low_bound s absent) (bound_of s high))))
     (told T5 (at_if b (place_of high)))) (above_same width (low_number_of (low_bound s absent)) (number_of s high))
 refined_same s found (Some (bases.Number width)) at (present e) high =
-    ap (λ b. sooner (sooner (sooner found (told T1 (at_if (is_unfit_low (low_bound s (present e)) || is_no_constant s high) at))) (told T5 (crossing (low_bound s (present e)) (bound_of s high))))
+    ap (λ b. sooner (sooner (sooner found (told T1 (at_if (is_unfit_low (low_bound s (present e)) || is_no_constant s high) at))) (told T5 (refined_crossing (Some (bases.Number width)) (low_bound s (present e)) (bound_of s high))))
     (told T5 (at_if b (place_of high)))) (above_same width (low_number_of (low_bound s (present e))) (number_of s high))
 refined_same s found (Some bases.Flag) at absent high = refl
 refined_same s found (Some bases.Flag) at (present e) high = refl

@@ -88,7 +88,7 @@ calling_found s inside callee at mark found =
     sooner (sooner (sooner (sooner found (told E1 (at_if (is_impure mark && is_pure s.mark) at))) (told E2 (at_if (is_coroutine mark && not (is_coroutine s.mark)) at)))
     (told E3 (wrong_inside inside callee at mark))) (told E3 (at_if (fails (same_mark mark) (declared_mark s callee)) at))
 
--- A prefix of a type, in front of elements of this type and form.
+-- A prefix of a type, before elements of this type and form.
 abbrev pub slice_type_found : (element : Option Form) → (plain : Option Width) → Place → Option Refusal → Option Refusal
 slice_type_found element plain at found = sooner found (told T1 (at_if (is_some element && not (is_some plain)) at))
 
@@ -106,24 +106,28 @@ abbrev pub low_number_of : Option Bound → Option ℕ
 low_number_of None = Some 0
 low_number_of (Some b) = b.number
 
-abbrev pub crossing : (low : Option Bound) → (high : Bound) → Option Place
-crossing None high = None
-crossing (Some low) high = at_if (both_fail nat_le low.number high.number) low.at
-
 abbrev pub goes_above : Width → (low high : Option ℕ) → Bool
 goes_above width (Some m) (Some n) = is_too_high (2 ^ bits_of width) m n
 goes_above width low high = false
 
-abbrev pub bounds_found : Width → (low : Option Bound) → (high : Bound) → Place → Option Refusal → Option Refusal
-bounds_found width low high at found =
-    sooner (sooner (sooner found (told T1 (at_if (is_unfit_low low || high.unfit) at))) (told T5 (crossing low high)))
-    (told T5 (at_if (goes_above width (low_number_of low) high.number) high.at))
+-- Bounds after any type of the language: what is no type, crossed bounds, and an upper bound above the type.
+abbrev pub refined_wrong : Option BaseType → (low : Option Bound) → (high : Bound) → Place → Option Place
+refined_wrong (Some (bases.Number width)) low high at = at_if (is_unfit_low low || high.unfit) at
+refined_wrong of low high at = Some at
 
--- Bounds behind any type of the language, and the type that this is.
+abbrev pub refined_crossing : Option BaseType → (low : Option Bound) → (high : Bound) → Option Place
+refined_crossing (Some (bases.Number width)) (Some low) high = at_if (both_fail nat_le low.number high.number) low.at
+refined_crossing of low high = None
+
+abbrev pub refined_high : Option BaseType → (low : Option Bound) → (high : Bound) → Option Place
+refined_high (Some (bases.Number width)) low high = at_if (goes_above width (low_number_of low) high.number) high.at
+refined_high of low high = None
+
 abbrev pub refined_found : Option BaseType → (low : Option Bound) → (high : Bound) → Place → Option Refusal → Option Refusal
-refined_found (Some (bases.Number width)) low high at found = bounds_found width low high at found
-refined_found of low high at found = sooner found (told T1 (Some at))
+refined_found of low high at found =
+    sooner (sooner (sooner found (told T1 (refined_wrong of low high at))) (told T5 (refined_crossing of low high))) (told T5 (refined_high of low high))
 
+-- The type that this is.
 abbrev pub refined_base : Option BaseType → (low : Option Bound) → (high : Bound) → Option Ty
 refined_base (Some (bases.Number width)) low high = refined_type width (low_number_of low) high.number
 refined_base of low high = None

@@ -48,7 +48,7 @@ abbrev pub argument_parts : NamedCallee → (n : ℕ) → NamedExprTree → List
 argument_parts callee n (path p) = argument callee n (path p) ∷ []
 argument_parts callee n e = argument callee n e ∷ expr_parts e
 
--- Operands behind others, where each means something.
+-- Operands after others, where each means something.
 abbrev pub operand_pushed : List Operand → Place → Option Meaning → Option (List Operand)
 operand_pushed os at (Some m) = Some (os ++ record { at = at; of = m } ∷ [])
 operand_pushed os at None = None

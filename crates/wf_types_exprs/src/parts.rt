@@ -1,14 +1,14 @@
 // What each kind of expression breaks and means, by what its parts mean.
 
-ghost use Rattle.std.specs.Prelude.{◌≡◌, ◌&&◌, ◌||◌, Some, None, if◌then◌else◌, option_map, option_and_then};
+ghost use Rattle.std.specs.Prelude.{◌≡◌, ◌&&◌, ◌||◌, not, Some, None, if◌then◌else◌, option_map, option_and_then};
 ghost use Rattle.wf_ast.specs.TypedTrees.{sort_of};
 ghost use Rattle.wf_named.specs.NamedTree as tree;
 ghost use Rattle.wf_types_rules.specs.declared.meanings.Meaning.TheVariants as meanings;
 ghost use Rattle.wf_types_rules.specs.Meanings.{variable as variable_in, is_flag as means_flag};
-ghost use Rattle.wf_types_rules.specs.Operands.{meaning_of_operator as operator_means};
+ghost use Rattle.wf_types_rules.specs.Operands.{meaning_of_operator as operator_means, not_taken as first_untaken, not_fitting as first_unfit, has_no_value as lacks_value};
 ghost use Rattle.wf_types_rules.specs.ExprTypes.{only_where, meaning, element_of, slice_in, if_number as only_for_number, converted as converts, answer_inside};
-ghost use Rattle.wf_ast.specs.WellTyped.{same_mark as same_marks};
-ghost use Rattle.wf_types_rules.specs.Judgements.{fails, both_fail, takes as takes_value, may_be_handed as may_hand, is_argument as fits_argument, answer_type as type_answered, declared_mark as mark_declared};
+ghost use Rattle.wf_ast.specs.WellTyped.{same_mark as same_marks, is_coroutine as marked_coroutine, is_pure as marked_pure};
+ghost use Rattle.wf_types_rules.specs.Judgements.{at_if as at_place_if, is_impure as marked_impure, fails, both_fail, takes as takes_value, may_be_handed as may_hand, is_argument as fits_argument, answer_type as type_answered, declared_mark as mark_declared};
 ghost use Rattle.wf_types_rules.specs.FirstBreak.{told as told_by};
 ghost use Rattle.wf_text.specs.Precedence.{sooner as sooner_of};
 ghost use Rattle.wf_text.specs.declared.rules.Rule.TheVariants as rules;
@@ -35,7 +35,7 @@ use wf_types_operators::meanings::{greatest, is_flag, is_number, is_value};
 use wf_types_operators::taken::not_taken;
 use wf_types_rules::{Meaning, Operand, Setting};
 
-fn no_number(v: Value) -> Option<Place>
+fn wrong_number(v: Value) -> Option<Place>
     ensures { result ≡ no_number_at v }
 {
     match v.of {
@@ -44,7 +44,7 @@ fn no_number(v: Value) -> Option<Place>
     }
 }
 
-fn no_flag(v: Value) -> Option<Place>
+fn wrong_operand_in_negation(v: Value) -> Option<Place>
     ensures { result ≡ no_flag_at v }
 {
     match v.of {
@@ -53,7 +53,7 @@ fn no_flag(v: Value) -> Option<Place>
     }
 }
 
-fn no_value(v: Value) -> Option<Place>
+fn wrong_operand_in_path(v: Value) -> Option<Place>
     ensures { result ≡ no_value_at v }
 {
     match v.of {
@@ -68,9 +68,9 @@ pub(crate) fn judged_path(found: Option<Refusal>, around: &Setting, path: NamedP
     ensures of { result.of ≡ meaning around.now (tree.path path) }
 {
     let of = variable(around, path.of);
-    let wrong = no_value(Value { of, at: path.at });
+    let v = Value { of, at: path.at };
     Judged {
-        found: sooner(found, told(Rule::T1, wrong)),
+        found: sooner(found, told(Rule::T1, wrong_operand_in_path(v))),
         of: as_value(of),
     }
 }
@@ -85,13 +85,13 @@ pub fn base_value(around: &Setting, path: NamedPath) -> Value
     }
 }
 
-fn no_index(base: Value, index: Value) -> Option<Place>
+fn wrong_operand_in_index(base: Value, index: Value) -> Option<Place>
     ensures { result ≡ no_index_at base index }
 {
     match base.of {
         Some(m) => {
             if index.of.is_some() {
-                first_place(at_if(!element(m).is_some(), base.at), no_number(index))
+                first_place(at_if(!element(m).is_some(), base.at), wrong_number(index))
             } else {
                 None
             }
@@ -106,16 +106,16 @@ pub fn judged_index(found: Option<Refusal>, base: Value, index: Value) -> Judged
     ensures of { result.of ≡ option_map meanings.Typed (only_for_number index.of (option_and_then element_of base.of)) }
 {
     Judged {
-        found: sooner(found, told(Rule::T1, no_index(base, index))),
+        found: sooner(found, told(Rule::T1, wrong_operand_in_index(base, index))),
         of: typed(if_number(index.of, elements(base.of))),
     }
 }
 
-fn no_end(end: Option<Value>) -> Option<Place>
+fn wrong_end(end: Option<Value>) -> Option<Place>
     ensures { result ≡ no_end_at end }
 {
     match end {
-        Some(v) => no_number(v),
+        Some(v) => wrong_number(v),
         None => None,
     }
 }
@@ -144,7 +144,7 @@ fn both_known(from: Option<Value>, to: Option<Value>) -> bool
     is_known(from) && is_known(to)
 }
 
-fn no_slice(base: Value, from: Option<Value>, to: Option<Value>) -> Option<Place>
+fn wrong_operand_in_slice(base: Value, from: Option<Value>, to: Option<Value>) -> Option<Place>
     ensures { result ≡ no_slice_at base from to }
 {
     match base.of {
@@ -152,7 +152,7 @@ fn no_slice(base: Value, from: Option<Value>, to: Option<Value>) -> Option<Place
             if both_known(from, to) {
                 first_place(
                     at_if(!slice(m).is_some(), base.at),
-                    first_place(no_end(from), no_end(to)),
+                    first_place(wrong_end(from), wrong_end(to)),
                 )
             } else {
                 None
@@ -170,18 +170,39 @@ pub(crate) fn judged_slice(ends: JudgedEnds, base: Value) -> Judged
     Judged {
         found: sooner(
             ends.found,
-            told(Rule::T1, no_slice(base, ends.from, ends.to)),
+            told(Rule::T1, wrong_operand_in_slice(base, ends.from, ends.to)),
         ),
         of: typed(if_end(ends.from, if_end(ends.to, slices(base.of)))),
     }
 }
 
+fn wrong_operand_in_chain(op: Op, os: &[Operand]) -> Option<Place>
+    ensures { result ≡ first_untaken (sort_of op) os.now }
+{
+    not_taken(op, os)
+}
+
+fn node_without_value_in_chain(op: Op, os: &[Operand], at: Place) -> Option<Place>
+    ensures { result ≡ at_place_if (lacks_value (sort_of op) os.now) at }
+{
+    at_if(has_no_value(op, os), at)
+}
+
+fn unfit_operand(op: Op, os: &[Operand]) -> Option<Place>
+    ensures { result ≡ first_unfit (sort_of op) os.now }
+{
+    not_fitting(op, os)
+}
+
 fn found_in_chain(found: Option<Refusal>, op: Op, os: &[Operand], at: Place) -> Option<Refusal>
     ensures { result ≡ chain_found (sort_of op) (Some os.now) at found }
 {
-    let taken = sooner(found, told(Rule::T1, not_taken(op, os)));
-    let valued = sooner(taken, told(Rule::T5, at_if(has_no_value(op, os), at)));
-    sooner(valued, told(Rule::T5, not_fitting(op, os)))
+    let taken = sooner(found, told(Rule::T1, wrong_operand_in_chain(op, os)));
+    let valued = sooner(
+        taken,
+        told(Rule::T5, node_without_value_in_chain(op, os, at)),
+    );
+    sooner(valued, told(Rule::T5, unfit_operand(op, os)))
 }
 
 /// A chain of operands, where each means something.
@@ -210,6 +231,18 @@ fn is_cut(of: Option<Meaning>, width: Option<Width>) -> bool
     }
 }
 
+fn wrong_operand_in_conversion(v: Value) -> Option<Place>
+    ensures { result ≡ no_number_at v }
+{
+    wrong_number(v)
+}
+
+fn node_without_value_in_conversion(v: Value, width: Option<Width>, at: Place) -> Option<Place>
+    ensures { result ≡ at_place_if (cuts v.of width) at }
+{
+    at_if(is_cut(v.of, width), at)
+}
+
 /// A conversion to numbers of a width.
 pub(crate) fn judged_conversion(
     found: Option<Refusal>,
@@ -220,9 +253,12 @@ pub(crate) fn judged_conversion(
     ensures found { result.found ≡ conversion_found v width at found }
     ensures of { result.of ≡ option_and_then (converts width) v.of }
 {
-    let taken = sooner(found, told(Rule::T1, no_number(v)));
+    let taken = sooner(found, told(Rule::T1, wrong_operand_in_conversion(v)));
     Judged {
-        found: sooner(taken, told(Rule::T5, at_if(is_cut(v.of, width), at))),
+        found: sooner(
+            taken,
+            told(Rule::T5, node_without_value_in_conversion(v, width, at)),
+        ),
         of: conversion(width, v.of),
     }
 }
@@ -233,7 +269,7 @@ pub(crate) fn judged_negation(found: Option<Refusal>, v: Value) -> Judged
     ensures of { result.of ≡ option_and_then (only_where means_flag) v.of }
 {
     Judged {
-        found: sooner(found, told(Rule::T1, no_flag(v))),
+        found: sooner(found, told(Rule::T1, wrong_operand_in_negation(v))),
         of: as_flag(v.of),
     }
 }
@@ -250,14 +286,19 @@ fn is_wrong_argument(ty: Option<Ty>, of: Option<Meaning>) -> bool
     }
 }
 
+fn wrong_argument(ty: Option<Ty>, v: Value) -> Option<Place>
+    ensures { result ≡ at_place_if (fails may_hand v.of || both_fail takes_value ty v.of) v.at }
+{
+    at_if(is_wrong_argument(ty, v.of), v.at)
+}
+
 /// An argument, by the type that is wanted of it.
 pub(crate) fn judged_argument(found: Option<Refusal>, ty: Option<Ty>, v: Value) -> JudgedArgs
     ensures found { result.found ≡ argument_found ty v found }
     ensures fit { result.fit ≡ fits_argument ty v.of }
 {
-    let wrong = at_if(is_wrong_argument(ty, v.of), v.at);
     JudgedArgs {
-        found: sooner(found, told(Rule::T1, wrong)),
+        found: sooner(found, told(Rule::T1, wrong_argument(ty, v))),
         fit: is_argument(ty, v.of),
     }
 }
@@ -272,13 +313,28 @@ fn call_inside(inside: bool, call: &NamedCall) -> Option<Place>
     }
 }
 
-fn has_other_mark(around: &Setting, call: &NamedCall) -> bool
-    ensures { result ≡ fails (same_marks call.now.mark) (mark_declared around.now call.now.callee) }
+fn wrong_mark(around: &Setting, call: &NamedCall) -> Option<Place>
+    ensures { result ≡ at_place_if (fails (same_marks call.now.mark) (mark_declared around.now call.now.callee)) call.now.at }
 {
     match declared_mark(around, call.callee) {
-        Some(mark) => !same_mark(call.mark, mark),
-        None => false,
+        Some(mark) => at_if(!same_mark(call.mark, mark), call.at),
+        None => None,
     }
+}
+
+fn impure_call(around: &Setting, call: &NamedCall) -> Option<Place>
+    ensures { result ≡ at_place_if (marked_impure call.now.mark && marked_pure around.now.mark) call.now.at }
+{
+    at_if(is_impure(call.mark) && is_pure(around.mark), call.at)
+}
+
+fn coroutine_call(around: &Setting, call: &NamedCall) -> Option<Place>
+    ensures { result ≡ at_place_if (marked_coroutine call.now.mark && not (marked_coroutine around.now.mark)) call.now.at }
+{
+    at_if(
+        is_coroutine(call.mark) && !is_coroutine(around.mark),
+        call.at,
+    )
 }
 
 /// What a call breaks by its mark; `inside` tells whether it stands inside an expression.
@@ -290,20 +346,10 @@ pub(crate) fn judged_calling(
 ) -> Option<Refusal>
     ensures { result ≡ calling_found around.now inside call.now.callee call.now.at call.now.mark found }
 {
-    let impure = at_if(is_impure(call.mark) && is_pure(around.mark), call.at);
-    let coroutine = at_if(
-        is_coroutine(call.mark) && !is_coroutine(around.mark),
-        call.at,
-    );
-    let outside = sooner(
-        sooner(found, told(Rule::E1, impure)),
-        told(Rule::E2, coroutine),
-    );
-    let marked = at_if(has_other_mark(around, call), call.at);
-    sooner(
-        sooner(outside, told(Rule::E3, call_inside(inside, call))),
-        told(Rule::E3, marked),
-    )
+    let pure = sooner(found, told(Rule::E1, impure_call(around, call)));
+    let outside = sooner(pure, told(Rule::E2, coroutine_call(around, call)));
+    let nested = sooner(outside, told(Rule::E3, call_inside(inside, call)));
+    sooner(nested, told(Rule::E3, wrong_mark(around, call)))
 }
 
 /// What a call inside an expression means.

@@ -1,14 +1,14 @@
 // What each kind of type breaks, and what type it is, by its parts.
 
-ghost use Rattle.std.specs.Prelude.{◌≡◌, None, Some, ◌||◌, nat_lt, nat_le, option_map};
+ghost use Rattle.std.specs.Prelude.{◌≡◌, None, Some, not, ◌&&◌, ◌||◌, is_some, nat_lt, nat_le, option_map};
 ghost use Rattle.wf_ast.specs.declared.types.Ty.TheVariants as types;
 ghost use Rattle.wf_named.specs.NamedTree as tree;
 ghost use Rattle.wf_types_rules.specs.declared.settings.Form.TheVariants as forms;
 ghost use Rattle.wf_types_rules.specs.ExprTypes.{array_type as type_of_array, plain_width};
 ghost use Rattle.wf_types_rules.specs.DeclaredTypes.{is_number_form as number_form, holds_zero as has_zero, may_have as may_stand_as, is_zero_kept as keeps_zero};
-ghost use Rattle.wf_types_rules.specs.Judgements.{fails, both_fail, with_elements as form_with_elements};
+ghost use Rattle.wf_types_rules.specs.Judgements.{at_if as at_place_if, fails, both_fail, with_elements as form_with_elements};
 ghost use Rattle.wf_types_exprs.specs.Judged.{TellsType};
-ghost use Rattle.wf_types_exprs.specs.Found.{slice_type_found, array_type_found, is_unfit_low as unfit_low, low_number_of, crossing as crossing_at, goes_above as above_width, bounds_found, refined_found, refined_base as refined_to, refined_base_form, is_misplaced_type as misplaced, placed_found};
+ghost use Rattle.wf_types_exprs.specs.Found.{slice_type_found, array_type_found, is_unfit_low as unfit_low, low_number_of, refined_crossing, goes_above as above_width, refined_wrong, refined_high, refined_found, refined_base as refined_to, refined_base_form, is_misplaced_type as misplaced, placed_found};
 
 use crate::found::{Bound, WrittenType};
 use wf_ast::Ty;
@@ -34,13 +34,21 @@ fn slices_of(plain: Option<Width>) -> Option<Ty>
     }
 }
 
+fn wrong_type_of_slice(element: WrittenType, at: Place) -> Option<Place>
+    ensures { result ≡ at_place_if (is_some element.kind && not (is_some element.plain)) at }
+{
+    at_if(element.kind.is_some() && !element.plain.is_some(), at)
+}
+
 /// A slice of elements of this type.
 pub(crate) fn written_slice(element: WrittenType, at: Place) -> WrittenType
     ensures { result ≡ record { found = slice_type_found element.kind element.plain at element.found; of = option_map types.Slice element.plain; kind = form_with_elements forms.Slice element.kind; plain = None; at = at } }
 {
-    let wrong = at_if(element.kind.is_some() && !element.plain.is_some(), at);
     WrittenType {
-        found: sooner(element.found, told(Rule::T1, wrong)),
+        found: sooner(
+            element.found,
+            told(Rule::T1, wrong_type_of_slice(element, at)),
+        ),
         of: slices_of(element.plain),
         kind: with_elements(Form::Slice, element.kind),
         plain: None,
@@ -66,15 +74,6 @@ fn is_not_numeric(kind: Option<Form>) -> bool
     }
 }
 
-fn lacks_zero(ty: Option<Ty>) -> bool
-    ensures { result ≡ fails has_zero ty }
-{
-    match ty {
-        Some(ty) => !holds_zero(ty),
-        None => false,
-    }
-}
-
 fn is_zero(n: Option<u64>) -> bool
     ensures { result ≡ fails (nat_lt 0) n }
 {
@@ -82,6 +81,43 @@ fn is_zero(n: Option<u64>) -> bool
         Some(n) => n == 0,
         None => false,
     }
+}
+
+fn wrong_type_of_array(count: Bound, element: WrittenType, at: Place) -> Option<Place>
+    ensures { result ≡ at_place_if (count.unfit || fails number_form element.kind) at }
+{
+    at_if(count.unfit || is_not_numeric(element.kind), at)
+}
+
+fn no_elements(count: Bound) -> Option<Place>
+    ensures { result ≡ at_place_if (fails (nat_lt 0) count.number) count.at }
+{
+    at_if(is_zero(count.number), count.at)
+}
+
+fn element_above_zero(element: WrittenType) -> Option<Place>
+    ensures { result ≡ at_place_if (fails has_zero element.of) element.at }
+{
+    match element.of {
+        Some(ty) => at_if(!holds_zero(ty), element.at),
+        None => None,
+    }
+}
+
+fn found_in_array(
+    found: Option<Refusal>,
+    count: Bound,
+    element: WrittenType,
+    at: Place,
+) -> Option<Refusal>
+    ensures { result ≡ array_type_found count element.of element.kind element.at at found }
+{
+    let fit = sooner(
+        found,
+        told(Rule::T1, wrong_type_of_array(count, element, at)),
+    );
+    let filled = sooner(fit, told(Rule::T5, no_elements(count)));
+    sooner(filled, told(Rule::T5, element_above_zero(element)))
 }
 
 /// An array of so many elements of this type. `found` is what decides so far, its length included.
@@ -93,14 +129,8 @@ pub(crate) fn written_array(
 ) -> WrittenType
     ensures { result ≡ record { found = array_type_found count element.of element.kind element.at at found; of = type_of_array count.number element.of; kind = form_with_elements forms.Array element.kind; plain = None; at = at } }
 {
-    let wrong = at_if(count.unfit || is_not_numeric(element.kind), at);
-    let empty = at_if(is_zero(count.number), count.at);
-    let above = at_if(lacks_zero(element.of), element.at);
     WrittenType {
-        found: sooner(
-            sooner(sooner(found, told(Rule::T1, wrong)), told(Rule::T5, empty)),
-            told(Rule::T5, above),
-        ),
+        found: found_in_array(found, count, element, at),
         of: array_type(count.number, element.of),
         kind: with_elements(Form::Array, element.kind),
         plain: None,
@@ -192,12 +222,19 @@ fn is_above(low: Option<u64>, high: Option<u64>) -> bool
     }
 }
 
-fn crossing(low: Option<Bound>, high: Bound) -> Option<Place>
-    ensures { result ≡ crossing_at low high }
+fn crossed_bounds(of: Option<BaseType>, low: Option<Bound>, high: Bound) -> Option<Place>
+    ensures { result ≡ refined_crossing of low high }
 {
-    match low {
-        Some(low) => at_if(is_above(low.number, high.number), low.at),
-        None => None,
+    match (of, low) {
+        (Some(BaseType::Number(_)), Some(low)) => {
+            at_if(is_above(low.number, high.number), low.at)
+        }
+        (Some(BaseType::Number(_)), None) => None,
+        (Some(BaseType::Flag), _) => None,
+        (Some(BaseType::Status), _) => None,
+        (Some(BaseType::Reader), _) => None,
+        (Some(BaseType::Writer), _) => None,
+        (None, _) => None,
     }
 }
 
@@ -212,24 +249,37 @@ fn goes_above(width: Width, low: Option<u64>, high: Option<u64>) -> bool
     }
 }
 
-fn found_in_bounds(
-    found: Option<Refusal>,
-    width: Width,
+fn high_bound(of: Option<BaseType>, low: Option<Bound>, high: Bound) -> Option<Place>
+    ensures { result ≡ refined_high of low high }
+{
+    match of {
+        Some(BaseType::Number(width)) => {
+            at_if(goes_above(width, low_number(low), high.number), high.at)
+        }
+        Some(BaseType::Flag) => None,
+        Some(BaseType::Status) => None,
+        Some(BaseType::Reader) => None,
+        Some(BaseType::Writer) => None,
+        None => None,
+    }
+}
+
+fn wrong_type_with_bounds(
+    of: Option<BaseType>,
     low: Option<Bound>,
     high: Bound,
     at: Place,
-) -> Option<Refusal>
-    ensures { result ≡ bounds_found width low high at found }
+) -> Option<Place>
+    ensures { result ≡ refined_wrong of low high at }
 {
-    let wrong = at_if(is_unfit(low, high), at);
-    let above = at_if(goes_above(width, low_number(low), high.number), high.at);
-    sooner(
-        sooner(
-            sooner(found, told(Rule::T1, wrong)),
-            told(Rule::T5, crossing(low, high)),
-        ),
-        told(Rule::T5, above),
-    )
+    match of {
+        Some(BaseType::Number(_)) => at_if(is_unfit(low, high), at),
+        Some(BaseType::Flag) => Some(at),
+        Some(BaseType::Status) => Some(at),
+        Some(BaseType::Reader) => Some(at),
+        Some(BaseType::Writer) => Some(at),
+        None => Some(at),
+    }
 }
 
 fn found_in_refined(
@@ -241,14 +291,12 @@ fn found_in_refined(
 ) -> Option<Refusal>
     ensures { result ≡ refined_found of low high at found }
 {
-    match of {
-        Some(BaseType::Number(width)) => found_in_bounds(found, width, low, high, at),
-        Some(BaseType::Flag) => sooner(found, Some(Refusal { rule: Rule::T1, at })),
-        Some(BaseType::Status) => sooner(found, Some(Refusal { rule: Rule::T1, at })),
-        Some(BaseType::Reader) => sooner(found, Some(Refusal { rule: Rule::T1, at })),
-        Some(BaseType::Writer) => sooner(found, Some(Refusal { rule: Rule::T1, at })),
-        None => sooner(found, Some(Refusal { rule: Rule::T1, at })),
-    }
+    let fit = sooner(
+        found,
+        told(Rule::T1, wrong_type_with_bounds(of, low, high, at)),
+    );
+    let ordered = sooner(fit, told(Rule::T5, crossed_bounds(of, low, high)));
+    sooner(ordered, told(Rule::T5, high_bound(of, low, high)))
 }
 
 fn refined_base(of: Option<BaseType>, low: Option<Bound>, high: Bound) -> Option<Ty>
@@ -324,12 +372,18 @@ fn is_misplaced(role: Role, kind: Option<Form>, plain: Option<Width>) -> bool
     }
 }
 
-fn begins_above_zero(role: Role, ty: Option<Ty>) -> bool
-    ensures { result ≡ fails (keeps_zero role) ty }
+fn misplaced_type(role: Role, of: WrittenType) -> Option<Place>
+    ensures { result ≡ at_place_if (misplaced role of.kind of.plain) of.at }
 {
-    match ty {
-        Some(ty) => !is_zero_kept(role, ty),
-        None => false,
+    at_if(is_misplaced(role, of.kind, of.plain), of.at)
+}
+
+fn begins_above_zero(role: Role, of: WrittenType) -> Option<Place>
+    ensures { result ≡ at_place_if (fails (keeps_zero role) of.of) of.at }
+{
+    match of.of {
+        Some(ty) => at_if(!is_zero_kept(role, ty), of.at),
+        None => None,
     }
 }
 
@@ -337,10 +391,6 @@ fn begins_above_zero(role: Role, ty: Option<Ty>) -> bool
 pub(crate) fn found_at_place(found: Option<Refusal>, role: Role, of: WrittenType) -> Option<Refusal>
     ensures { result ≡ placed_found role of.of of.kind of.plain of.at found }
 {
-    let misplaced = at_if(is_misplaced(role, of.kind, of.plain), of.at);
-    let above = at_if(begins_above_zero(role, of.of), of.at);
-    sooner(
-        sooner(found, told(Rule::T1, misplaced)),
-        told(Rule::T5, above),
-    )
+    let placed = sooner(found, told(Rule::T1, misplaced_type(role, of)));
+    sooner(placed, told(Rule::T5, begins_above_zero(role, of)))
 }

@@ -1,1 +1,2 @@
 pub mod FirstBreakLaws
+pub mod TypeRows

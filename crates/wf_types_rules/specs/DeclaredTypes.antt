@@ -101,7 +101,7 @@ constant_with ty n = None
 abbrev pub constant_made : List (Option Constant) → ConstTree → Option Constant
 constant_made known c = constant_with (declared (among_constants known) roles.Const c.of) (number_of (among_constants known) c.value)
 
--- The constants of a package in order: each knows those in front of it.
+-- The constants of a package in order: each knows those before it.
 abbrev pub constants_after : List (Option Constant) → List ConstTree → List (Option Constant)
 constants_after known [] = known
 constants_after known (c ∷ cs) = constants_after (known ++ constant_made known c ∷ []) cs

@@ -68,7 +68,7 @@ abbrev pub is_known_end : Setting → NamedPartTree → Bool
 is_known_end s absent = true
 is_known_end s (present e) = is_some (meaning s e)
 
--- An operand of a type that isn't taken, or of another width than one in front of it; an array, a struct or io that stands
+-- An operand of a type that isn't taken, or of another width than one before it; an array, a struct or io that stands
 -- as a value.
 abbrev pub wrong_operand : Setting → Part → Option Place
 wrong_operand s (expression (path p)) = at_if (fails is_value (variable s p.of)) p.at
@@ -203,7 +203,7 @@ wrong_type s (type_part (slice_of at element)) = at_if (is_some (form s element)
 wrong_type s (type_part (array_of length at element)) = at_if (is_no_constant s length || fails is_number_form (form s element)) at
 wrong_type s x = None
 
--- A type that by its form may not stand where it does. Behind `as` it has no bounds.
+-- A type that by its form may not stand where it does. After `as` it has no bounds.
 abbrev pub is_misplaced : Setting → Role → NamedTypeTree → Bool
 is_misplaced s roles.Conversion t = is_some (form s t) && not (is_some (plain_width t))
 is_misplaced s role t = fails (may_have role) (form s t)
@@ -254,7 +254,7 @@ abbrev pub value_outside : Setting → Part → Option Place
 value_outside s (constant_declared c) = at_if (both_fail lies_in (declared s roles.Const c.of) (number_of s c.value)) (place_of c.value)
 value_outside s x = None
 
--- A status text begins with `#`, `$` or `@`, has something behind it, and has no two `?`, of byte 63, in a row.
+-- A status text begins with `#`, `$` or `@`, has something after it, and has no two `?`, of byte 63, in a row.
 abbrev pub two_questions : List ℕ → Bool
 two_questions (a ∷ b ∷ bs) = (nat_eq a 63 && nat_eq b 63) || two_questions (b ∷ bs)
 two_questions bs = false

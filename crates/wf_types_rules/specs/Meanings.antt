@@ -37,8 +37,8 @@ variable s (variables.Local x) = option_map meanings.Typed (there (slice_get s.l
 variable s (variables.Field x) = option_map meanings.Typed (there (slice_get s.fields x.0))
 variable s (variables.Arg x) = option_map meanings.Typed (there (slice_get s.args x.0))
 
--- Arrays, structs and io are no values: an array or io stands in front of a base method, an array also in front of a `[`,
--- a struct in front of a method of its own, and io as an argument.
+-- Arrays, structs and io are no values: an array or io stands before a base method, an array also before a `[`,
+-- a struct before a method of its own, and io as an argument.
 abbrev pub is_value : Meaning → Bool
 is_value (meanings.Typed types.Reader) = false
 is_value (meanings.Typed types.Writer) = false

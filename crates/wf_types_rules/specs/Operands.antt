@@ -22,7 +22,7 @@ abbrev pub first_of : {X : Type 0} → (a b : Option X) → Option X
 first_of None b = b
 first_of (Some a) b = Some a
 
--- Numbers of one width, `width` being that of an operand in front of them: the place of the first that is none.
+-- Numbers of one width, `width` being that of an operand before them: the place of the first that is none.
 abbrev pub differs_in : (a b : Option Width) → Bool
 differs_in (Some a) (Some b) = not (same_width a b)
 differs_in a b = false

@@ -137,7 +137,7 @@ declared_parts role t = placed_type role t ∷ type_parts t
 abbrev pub variables_parts : Role → List VarTree → List Part
 variables_parts role xs = flat_map (λ x. declared_parts role x.of) xs
 
--- Each constant knows those in front of it.
+-- Each constant knows those before it.
 abbrev pub const_sites : List (Option Constant) → List ConstTree → List Site
 const_sites known [] = []
 const_sites known (c ∷ cs) =

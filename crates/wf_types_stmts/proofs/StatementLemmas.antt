@@ -1,4 +1,4 @@
--- What is found at a statement behind its parts.
+-- What is found at a statement after its parts.
 use Rattle.std.proofs.Common.{◌≡◌, ◌∙◌, refl, sym, ap, ℕ, ◌+◌, ◌<◌, Bool, true, false, List, [], ◌∷◌, ◌++◌, length, drop, slice_index_or, Option, Some, None}
 use Rattle.wf_text.specs.declared.place.Place.{Place}
 use Rattle.wf_text.specs.declared.rules.Refusal.{Refusal}
@@ -16,7 +16,7 @@ use Rattle.wf_types_rules.specs.declared.meanings.Meaning.{Meaning}
 use Rattle.wf_types_rules.specs.declared.settings.Setting.{Setting}
 use Rattle.wf_types_rules.specs.Meanings.{place_of}
 use Rattle.wf_types_rules.specs.ExprTypes.{meaning}
-use Rattle.wf_types_rules.specs.Judgements.{at_if, both_fail, takes, is_no_target_of, is_field, target_place, target_meaning, target_type, value_of as value_assigned, no_value_assigned, is_suspension_text, block_stops, closing_brace}
+use Rattle.wf_types_rules.specs.Judgements.{at_if, both_fail, takes, target_place, target_meaning, target_type, value_of as value_assigned, no_value_assigned, is_suspension_text, block_stops, closing_brace}
 use Rattle.wf_types_rules.specs.Parts.{Part, target, assigned, kept, condition, letter_value, returned, yielded, whole_body, expr_parts, end_parts, target_parts, value_parts, whole_call_parts, condition_parts, clauses_parts, letters_parts}
 use Rattle.wf_types_rules.specs.FirstBreak.{told}
 use Rattle.wf_types_exprs.specs.declared.found.Value.{Value}
@@ -27,15 +27,15 @@ use Rattle.wf_types_stmts.specs.Statements.{target_found, assigned_found, two_op
 use Rattle.wf_types_stmts.specs.Targets.{target_value, call_in, right_value, lacks_value}
 
 -- Targets.
-pub path_found : (s : Setting) (found : Option Refusal) (p : NamedPath) → target_found s (is_no_target_of s p.of) (is_field p.of) p.at found ≡ judged s found (target_parts (to_path p))
+pub path_found : (s : Setting) (found : Option Refusal) (p : NamedPath) → target_found s (to_path p) found ≡ judged s found (target_parts (to_path p))
 unfolding judged
 path_found s found p = refl
 
-element_alone : (s : Setting) (found : Option Refusal) (p : NamedPath) (i : NamedExprTree) (at : Place) → target_found s false true at found ≡ judged s found (target (to_element p i at) ∷ [])
+element_alone : (s : Setting) (found : Option Refusal) (p : NamedPath) (i : NamedExprTree) (at : Place) → target_found s (to_element p i at) found ≡ judged s found (target (to_element p i at) ∷ [])
 unfolding judged
 element_alone s found p i at = refl
 
-pub element_found : (s : Setting) (found begun after : Option Refusal) (p : NamedPath) (i : NamedExprTree) (at : Place) → begun ≡ target_found s false true at found
+pub element_found : (s : Setting) (found begun after : Option Refusal) (p : NamedPath) (i : NamedExprTree) (at : Place) → begun ≡ target_found s (to_element p i at) found
     → after ≡ judged s begun (expr_parts (index p i at)) → after ≡ judged s found (target_parts (to_element p i at))
 element_found s found begun after p i at same e =
     e ∙ ap (λ f. judged s f (expr_parts (index p i at))) (same ∙ element_alone s found p i at)
@@ -44,11 +44,11 @@ element_found s found begun after p i at same e =
 pub element_value : (s : Setting) (p : NamedPath) (i : NamedExprTree) (at : Place) (m : Option Meaning) → m ≡ meaning s (index p i at) → record { of = m; at = at } ≡ target_value s (to_element p i at)
 element_value s p i at m e = let V : Option Meaning → Value = λ x. record { of = x; at = at } in ap V e
 
--- A whole behind its parts.
+-- A whole after its parts.
 behind : (s : Setting) (found before after : Option Refusal) (x : Part) (xs : List Part) → after ≡ judged s before (x ∷ []) → before ≡ judged s found xs → after ≡ judged s found (x ∷ xs)
 behind s found before after x xs last e = last ∙ ap (λ f. judged s f (x ∷ [])) e ∙ judged-last s found x xs
 
--- And one list of parts behind another.
+-- And one list of parts after another.
 pub then_parts : (s : Setting) (found before after : Option Refusal) (xs ys : List Part) → before ≡ judged s found xs → after ≡ judged s before ys → after ≡ judged s found (xs ++ ys)
 then_parts s found before after xs ys first last = last ∙ ap (λ f. judged s f ys) first ∙ sym (judged-append s found xs ys)
 

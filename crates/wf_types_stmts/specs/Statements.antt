@@ -7,21 +7,23 @@ use Rattle.wf_text.specs.Precedence.{sooner}
 use Rattle.wf_ast.specs.declared.operators.Op.{Op}
 use Rattle.wf_ast.specs.declared.types.Ty.{Ty}
 use Rattle.wf_ast.specs.TypedTrees.{sort_of}
-use Rattle.wf_ast.specs.WellTyped.{is_coroutine, is_pure}
+use Rattle.wf_ast.specs.WellTyped.{is_coroutine}
 use Rattle.wf_named.specs.declared.nodes.NamedCallee.{NamedCallee}
+use Rattle.wf_named.specs.NamedTree.{NamedTargetTree}
 use Rattle.wf_types_rules.specs.declared.meanings.Meaning.{Meaning}
 use Rattle.wf_types_rules.specs.declared.meanings.Operand.{Operand}
 use Rattle.wf_types_rules.specs.declared.settings.Setting.{Setting}
 use Rattle.wf_types_rules.specs.Meanings.{is_number, is_flag, is_status}
 use Rattle.wf_types_rules.specs.Operands.{not_taken, not_fitting}
 use Rattle.wf_types_rules.specs.ExprTypes.{in_front, operand_at}
-use Rattle.wf_types_rules.specs.Judgements.{at_if, fails, both_fail, takes, type_in, wrong_result, is_coroutine_called}
+use Rattle.wf_types_rules.specs.Judgements.{at_if, fails, both_fail, takes, type_in, wrong_result, is_coroutine_called, wrong_target, impure_write}
+use Rattle.wf_types_rules.specs.Parts.{target}
 use Rattle.wf_types_rules.specs.FirstBreak.{told}
 use Rattle.wf_types_exprs.specs.declared.found.Value.{Value}
 
--- A target: `wrong` is what may not be written to, `outside` what only a method that isn't pure writes to.
-abbrev pub target_found : Setting → (wrong outside : Bool) → Place → Option Refusal → Option Refusal
-target_found s wrong outside at found = sooner (sooner found (told T2 (at_if wrong at))) (told E1 (at_if (outside && is_pure s.mark) at))
+-- A target, whatever the index of an element breaks.
+abbrev pub target_found : Setting → NamedTargetTree → Option Refusal → Option Refusal
+target_found s t found = sooner (sooner found (told T2 (wrong_target s (target t)))) (told E1 (impure_write s (target t)))
 
 -- `=`: the type of a target takes the value, which is there.
 abbrev pub type_of : Value → Option Ty
@@ -39,9 +41,9 @@ abbrev pub operands_found : Op → Option (List Operand) → Option Refusal → 
 operands_found op os found = sooner (sooner found (told T1 (option_and_then (not_taken (sort_of op)) os))) (told T5 (option_and_then (not_fitting (sort_of op)) os))
 
 -- `=?`: in a coroutine, of a coroutine, in a status.
-abbrev pub kept_found : Setting → (target : Option Meaning) → NamedCallee → Place → Option Refusal → Option Refusal
-kept_found s target callee at found =
-    sooner (sooner (sooner found (told E2 (at_if (not (is_coroutine s.mark)) at))) (told E4 (at_if (fails is_status target) at)))
+abbrev pub kept_found : Setting → (to : Option Meaning) → NamedCallee → Place → Option Refusal → Option Refusal
+kept_found s to callee at found =
+    sooner (sooner (sooner found (told E2 (at_if (not (is_coroutine s.mark)) at))) (told E4 (at_if (fails is_status to) at)))
     (told E4 (at_if (not (is_coroutine_called s callee)) at))
 
 -- A condition, and what is given for a letter of an axiom.
@@ -52,12 +54,12 @@ abbrev pub letter_found : Value → Option Refusal → Option Refusal
 letter_found v found = sooner found (told T1 (at_if (fails is_number v.of) v.at))
 
 -- `return`, whose value may be absent.
-abbrev pub is_wrong_result : Setting → Option Value → Bool
-is_wrong_result s None = is_coroutine s.mark || is_some s.gives
-is_wrong_result s (Some v) = if is_coroutine s.mark then fails is_status v.of else wrong_result s.gives v.of
+abbrev pub is_wrong_return : Setting → Option Value → Bool
+is_wrong_return s None = is_coroutine s.mark || is_some s.gives
+is_wrong_return s (Some v) = if is_coroutine s.mark then fails is_status v.of else wrong_result s.gives v.of
 
 abbrev pub return_found : Setting → Option Value → Place → Option Refusal → Option Refusal
-return_found s v at found = sooner found (told T4 (at_if (is_wrong_result s v) at))
+return_found s v at found = sooner found (told T4 (at_if (is_wrong_return s v) at))
 
 -- `yield?`, of a suspension's text or of anything else, which stands at `place`.
 abbrev pub yield_found : Setting → (suspends : Bool) → (place at : Place) → Option Refusal → Option Refusal

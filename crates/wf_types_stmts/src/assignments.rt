@@ -1,10 +1,13 @@
 // Assignments: `=`, operators with `=`, and `=?`.
 
-ghost use Rattle.std.specs.Prelude.{◌≡◌, ◌<◌, ◌∷◌, ◌++◌, [], None, Some, length, IfOk, IfSome, IfNone, option_and_then};
+ghost use Rattle.std.specs.Prelude.{◌≡◌, ◌<◌, ◌∷◌, ◌++◌, [], None, Some, not, length, IfOk, IfSome, IfNone, option_and_then};
+ghost use Rattle.wf_ast.specs.TypedTrees.{sort_of};
+ghost use Rattle.wf_ast.specs.WellTyped.{is_coroutine as marked_coroutine};
 ghost use Rattle.wf_named.specs.NamedParts.{exprs_of, ArgsBelow, NamedTargetBelow};
 ghost use Rattle.wf_named.specs.NamedTrees.{expr_at, call_at, target_at};
-ghost use Rattle.wf_types_rules.specs.Judgements.{type_in as typed_so, both_fail, fails, takes as takes_value};
+ghost use Rattle.wf_types_rules.specs.Judgements.{at_if as at_place_if, type_in as typed_so, both_fail, fails, takes as takes_value, is_coroutine_called as calls_coroutine};
 ghost use Rattle.wf_types_rules.specs.Meanings.{is_status as means_status};
+ghost use Rattle.wf_types_rules.specs.Operands.{not_taken as first_untaken, not_fitting as first_unfit};
 ghost use Rattle.wf_types_rules.specs.Parts.{assigned, kept, target_parts, value_parts, whole_call_parts};
 ghost use Rattle.wf_types_exprs.specs.Judged.{judged, value_of};
 ghost use Rattle.wf_types_stmts.specs.Statements.{type_of as type_meant, assigned_found, two_operands, operands_found, kept_found};
@@ -71,6 +74,18 @@ pub(crate) fn is_no_status(of: Option<Meaning>) -> bool
     }
 }
 
+fn wrong_assigned(target: Value, value: Value) -> Option<Place>
+    ensures { result ≡ at_place_if (both_fail takes_value (type_meant target) value.of) target.at }
+{
+    at_if(is_not_taken(type_of(target.of), value.of), target.at)
+}
+
+fn no_value_assigned(target: Value, lacks: bool) -> Option<Place>
+    ensures { result ≡ at_place_if lacks target.at }
+{
+    at_if(lacks, target.at)
+}
+
 /// What `=` breaks. `lacks` tells whether the value is a call that gives none.
 pub(crate) fn judged_assigned(
     found: Option<Refusal>,
@@ -80,19 +95,27 @@ pub(crate) fn judged_assigned(
 ) -> Option<Refusal>
     ensures { result ≡ assigned_found target value lacks found }
 {
-    let ty = type_of(target.of);
-    let wrong = at_if(is_not_taken(ty, value.of), target.at);
-    let taken = sooner(found, told(Rule::T2, wrong));
-    sooner(taken, told(Rule::T2, at_if(lacks, target.at)))
+    let taken = sooner(found, told(Rule::T2, wrong_assigned(target, value)));
+    sooner(taken, told(Rule::T2, no_value_assigned(target, lacks)))
+}
+
+fn wrong_update(op: Op, os: &[Operand]) -> Option<Place>
+    ensures { result ≡ first_untaken (sort_of op) os.now }
+{
+    not_taken(op, os)
+}
+
+fn unfit_update(op: Op, os: &[Operand]) -> Option<Place>
+    ensures { result ≡ first_unfit (sort_of op) os.now }
+{
+    not_fitting(op, os)
 }
 
 fn operands_judged(found: Option<Refusal>, op: Op, os: &[Operand]) -> Option<Refusal>
     ensures { result ≡ operands_found op (Some os.now) found }
 {
-    sooner(
-        sooner(found, told(Rule::T1, not_taken(op, os))),
-        told(Rule::T5, not_fitting(op, os)),
-    )
+    let taken = sooner(found, told(Rule::T1, wrong_update(op, os)));
+    sooner(taken, told(Rule::T5, unfit_update(op, os)))
 }
 
 /// What an operator with `=` breaks.
@@ -124,6 +147,24 @@ pub(crate) fn judged_update(
     }
 }
 
+fn kept_outside(around: &Setting, at: Place) -> Option<Place>
+    ensures { result ≡ at_place_if (not (marked_coroutine around.now.mark)) at }
+{
+    at_if(!is_coroutine(around.mark), at)
+}
+
+fn not_kept_in_status(target: Option<Meaning>, at: Place) -> Option<Place>
+    ensures { result ≡ at_place_if (fails means_status target) at }
+{
+    at_if(is_no_status(target), at)
+}
+
+fn keeps_no_coroutine(around: &Setting, callee: NamedCallee, at: Place) -> Option<Place>
+    ensures { result ≡ at_place_if (not (calls_coroutine around.now callee)) at }
+{
+    at_if(!is_coroutine_called(around, callee), at)
+}
+
 /// What `=?` breaks, by the meaning of its target.
 pub(crate) fn judged_kept(
     found: Option<Refusal>,
@@ -134,16 +175,9 @@ pub(crate) fn judged_kept(
 ) -> Option<Refusal>
     ensures { result ≡ kept_found around.now target callee at found }
 {
-    let outside = at_if(!is_coroutine(around.mark), at);
-    let other = at_if(is_no_status(target), at);
-    let uncalled = at_if(!is_coroutine_called(around, callee), at);
-    sooner(
-        sooner(
-            sooner(found, told(Rule::E2, outside)),
-            told(Rule::E4, other),
-        ),
-        told(Rule::E4, uncalled),
-    )
+    let inside = sooner(found, told(Rule::E2, kept_outside(around, at)));
+    let kept = sooner(inside, told(Rule::E4, not_kept_in_status(target, at)));
+    sooner(kept, told(Rule::E4, keeps_no_coroutine(around, callee, at)))
 }
 
 /// The call that an expression is, if it is one.

@@ -1,16 +1,16 @@
 // Conditions, what is given to an axiom, `return` and `yield?`.
 
-ghost use Rattle.std.specs.Prelude.{◌≡◌, ◌<◌, ◌∷◌, ◌++◌, length, slice_get, IfOk};
+ghost use Rattle.std.specs.Prelude.{◌≡◌, ◌<◌, ◌∷◌, ◌++◌, not, length, slice_get, IfOk};
 ghost use Rattle.std.specs.List.{AllByRecursion};
 ghost use Rattle.wf_ast.specs.ParsedParts.{IsBelow};
-ghost use Rattle.wf_ast.specs.WellTyped.{is_suspension};
+ghost use Rattle.wf_ast.specs.WellTyped.{is_coroutine as marked_coroutine, is_suspension};
 ghost use Rattle.wf_named.specs.NamedParts.{exprs_of, LettersBelow, AxiomBelow};
 ghost use Rattle.wf_named.specs.NamedTrees.{expr_at, part_at, clauses_at, letters_at, via_at};
-ghost use Rattle.wf_types_rules.specs.Judgements.{fails, wrong_result, is_suspension_text};
+ghost use Rattle.wf_types_rules.specs.Judgements.{at_if as at_place_if, fails, wrong_result, is_suspension_text};
 ghost use Rattle.wf_types_rules.specs.Meanings.{is_flag as means_flag, is_number as means_number};
 ghost use Rattle.wf_types_rules.specs.Parts.{letter_value, returned, yielded, end_parts, expr_parts, condition_parts, clauses_parts, letters_parts, via_parts};
 ghost use Rattle.wf_types_exprs.specs.Judged.{judged};
-ghost use Rattle.wf_types_stmts.specs.Statements.{condition_found, letter_found, is_wrong_result as wrong_result_in, return_found, yield_found};
+ghost use Rattle.wf_types_stmts.specs.Statements.{condition_found, letter_found, is_wrong_return as wrong_return_in, return_found, yield_found};
 
 use crate::assignments::{is_no_status, is_not_taken};
 use std::alloc::Global;
@@ -31,21 +31,21 @@ use wf_types_meanings::places::{at_if, told};
 use wf_types_operators::meanings::{is_flag, is_number};
 use wf_types_rules::{Meaning, Setting};
 
-fn is_no_flag(of: Option<Meaning>) -> bool
-    ensures { result ≡ fails means_flag of }
+fn wrong_condition(v: Value) -> Option<Place>
+    ensures { result ≡ at_place_if (fails means_flag v.of) v.at }
 {
-    match of {
-        Some(m) => !is_flag(m),
-        None => false,
+    match v.of {
+        Some(m) => at_if(!is_flag(m), v.at),
+        None => None,
     }
 }
 
-fn is_no_number(of: Option<Meaning>) -> bool
-    ensures { result ≡ fails means_number of }
+fn wrong_letter(v: Value) -> Option<Place>
+    ensures { result ≡ at_place_if (fails means_number v.of) v.at }
 {
-    match of {
-        Some(m) => !is_number(m),
-        None => false,
+    match v.of {
+        Some(m) => at_if(!is_number(m), v.at),
+        None => None,
     }
 }
 
@@ -53,14 +53,14 @@ fn is_no_number(of: Option<Meaning>) -> bool
 pub(crate) fn judged_condition(found: Option<Refusal>, v: Value) -> Option<Refusal>
     ensures { result ≡ condition_found v found }
 {
-    sooner(found, told(Rule::T3, at_if(is_no_flag(v.of), v.at)))
+    sooner(found, told(Rule::T3, wrong_condition(v)))
 }
 
 /// What a value breaks that is given for a letter of an axiom.
 pub(crate) fn judged_letter(found: Option<Refusal>, v: Value) -> Option<Refusal>
     ensures { result ≡ letter_found v found }
 {
-    sooner(found, told(Rule::T1, at_if(is_no_number(v.of), v.at)))
+    sooner(found, told(Rule::T1, wrong_letter(v)))
 }
 
 fn is_no_result(gives: Option<Option<Ty>>, of: Option<Meaning>) -> bool
@@ -72,8 +72,8 @@ fn is_no_result(gives: Option<Option<Ty>>, of: Option<Meaning>) -> bool
     }
 }
 
-fn is_wrong_result(around: &Setting, value: Option<Value>) -> bool
-    ensures { result ≡ wrong_result_in around.now value }
+fn is_wrong_return(around: &Setting, value: Option<Value>) -> bool
+    ensures { result ≡ wrong_return_in around.now value }
 {
     match value {
         Some(v) => {
@@ -87,6 +87,12 @@ fn is_wrong_result(around: &Setting, value: Option<Value>) -> bool
     }
 }
 
+fn wrong_return(around: &Setting, value: Option<Value>, at: Place) -> Option<Place>
+    ensures { result ≡ at_place_if (wrong_return_in around.now value) at }
+{
+    at_if(is_wrong_return(around, value), at)
+}
+
 /// What a `return` breaks, whose value may be absent.
 pub(crate) fn judged_return(
     found: Option<Refusal>,
@@ -96,8 +102,19 @@ pub(crate) fn judged_return(
 ) -> Option<Refusal>
     ensures { result ≡ return_found around.now value at found }
 {
-    let wrong = at_if(is_wrong_result(around, value), at);
-    sooner(found, told(Rule::T4, wrong))
+    sooner(found, told(Rule::T4, wrong_return(around, value, at)))
+}
+
+fn yielded_outside(around: &Setting, at: Place) -> Option<Place>
+    ensures { result ≡ at_place_if (not (marked_coroutine around.now.mark)) at }
+{
+    at_if(!is_coroutine(around.mark), at)
+}
+
+fn wrong_yield(suspends: bool, place: Place) -> Option<Place>
+    ensures { result ≡ at_place_if (not suspends) place }
+{
+    at_if(!suspends, place)
 }
 
 /// What a `yield?` breaks. `suspends` tells whether a suspension's text stands there, at `place`.
@@ -110,11 +127,8 @@ pub(crate) fn judged_yield(
 ) -> Option<Refusal>
     ensures { result ≡ yield_found around.now suspends place at found }
 {
-    let outside = at_if(!is_coroutine(around.mark), at);
-    sooner(
-        sooner(found, told(Rule::E2, outside)),
-        told(Rule::E5, at_if(!suspends, place)),
-    )
+    let inside = sooner(found, told(Rule::E2, yielded_outside(around, at)));
+    sooner(inside, told(Rule::E5, wrong_yield(suspends, place)))
 }
 
 fn is_suspension_at(statuses: &[Sequence<u8>], status: StatusId) -> bool

@@ -5,8 +5,10 @@ ghost use Rattle.wf_named.specs.NamedParts.{exprs_of, NamedTargetBelow};
 ghost use Rattle.wf_named.specs.NamedTree as tree;
 ghost use Rattle.wf_named.specs.NamedTrees.{expr_at, target_at};
 ghost use Rattle.wf_types_rules.specs.ExprTypes.{meaning};
+ghost use Rattle.wf_types_rules.specs.Judgements as judgements;
 ghost use Rattle.wf_types_rules.specs.Judgements.{is_no_target_of as no_target_of, is_field as field_named, target_meaning, fails};
 ghost use Rattle.wf_types_rules.specs.Meanings.{is_value as means_value};
+ghost use Rattle.wf_types_rules.specs.Parts as parts;
 ghost use Rattle.wf_types_rules.specs.Parts.{target_parts, expr_parts};
 ghost use Rattle.wf_types_exprs.specs.Judged.{judged};
 ghost use Rattle.wf_types_stmts.specs.Statements.{target_found as found_at_target};
@@ -60,21 +62,30 @@ fn is_field(of: Variable) -> bool
     }
 }
 
-/// What a target breaks: `wrong` is what may not be written to, `outside` what only a method that isn't pure writes to.
-pub(crate) fn target_found(
-    found: Option<Refusal>,
-    around: &Setting,
-    wrong: bool,
-    outside: bool,
-    at: Place,
-) -> Option<Refusal>
-    ensures { result ≡ found_at_target around.now wrong outside at found }
+fn wrong_target(around: &Setting, target: NamedTarget) -> Option<Place>
+    ensures { (es : _) → result ≡ judgements.wrong_target around.now (parts.target (target_at es target)) }
 {
-    let impure = at_if(outside && is_pure(around.mark), at);
-    sooner(
-        sooner(found, told(Rule::T2, at_if(wrong, at))),
-        told(Rule::E1, impure),
-    )
+    match target {
+        NamedTarget::Path(path) => at_if(is_no_target_of(around, path.of), path.at),
+        NamedTarget::Element { .. } => None,
+    }
+}
+
+fn impure_write(around: &Setting, target: NamedTarget) -> Option<Place>
+    ensures { (es : _) → result ≡ judgements.impure_write around.now (parts.target (target_at es target)) }
+{
+    match target {
+        NamedTarget::Path(path) => at_if(is_field(path.of) && is_pure(around.mark), path.at),
+        NamedTarget::Element { at, .. } => at_if(is_pure(around.mark), at),
+    }
+}
+
+/// What a target breaks, whatever the index of an element breaks.
+fn target_found(found: Option<Refusal>, around: &Setting, target: NamedTarget) -> Option<Refusal>
+    ensures { (es : _) → result ≡ found_at_target around.now (target_at es target) found }
+{
+    let open = sooner(found, told(Rule::T2, wrong_target(around, target)));
+    sooner(open, told(Rule::E1, impure_write(around, target)))
 }
 
 // What a path means as a target.
@@ -93,9 +104,8 @@ pub(crate) fn judged_path(found: Option<Refusal>, around: &Setting, path: NamedP
     ensures found { result.found ≡ judged around.now found (target_parts (tree.to_path path)) }
     ensures value { result.value ≡ target_value around.now (tree.to_path path) }
 {
-    let wrong = is_no_target_of(around, path.of);
     JudgedValue {
-        found: target_found(found, around, wrong, is_field(path.of), path.at),
+        found: target_found(found, around, NamedTarget::Path(path)),
         value: Value {
             of: path_written(around, path),
             at: path.at,
@@ -136,7 +146,7 @@ pub(crate) fn judge_target(
     match target {
         NamedTarget::Path(path) => Ok(judged_path(found, around, path)),
         NamedTarget::Element { base, index, at } => {
-            let begun = target_found(found, around, false, true, at);
+            let begun = target_found(found, around, NamedTarget::Element { base, index, at });
             let j = judge_element(alloc, begun, nodes, around, base, index)?;
             Ok(JudgedValue {
                 found: j.found,

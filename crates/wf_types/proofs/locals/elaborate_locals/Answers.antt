@@ -16,15 +16,15 @@ loop-number-preserved c =
     let old = c.loop-number.nodes in
     let new = c.push_path.new.self in
     let made = c.loop-number.invariant in (
-      exprs_more_still c.args.nodes.now old new made.0 c.in-Ok.ensures.grows,
+      exprs_more_still c.args.nodes.now old new made.0 c.in_ok-push_path.ensures.grows,
       (
-        c.in-Ok.ensures.begun,
+        c.in_ok-push_path.ensures.begun,
         (
-          first_more c.args.around.now old new (places_named xs) (length c.args.nodes.now.exprs) n (get_or xs n x).name.at c.in-Ok.field-0.node c.in-Ok.ensures.grows (place_at xs n x c.loop-number-test.true)
-              (c.in-Ok.ensures.number ∙ made.1.1.1.1) c.in-Ok.ensures.stands made.1.1.0,
+          first_more c.args.around.now old new (places_named xs) (length c.args.nodes.now.exprs) n (get_or xs n x).name.at c.in_ok-push_path.field-0.node c.in_ok-push_path.ensures.grows (place_at xs n x c.loop-number-test.true)
+              (c.in_ok-push_path.ensures.number ∙ made.1.1.1.1) c.in_ok-push_path.ensures.stands made.1.1.0,
           (
-            local_next c.args.around.now c.args.nodes.now old new (places_named xs) n (get_or xs n x).name.at (place_at xs n x c.loop-number-test.true) made.1.1.1.0 c.in-Ok.ensures.entries,
-            omega (arith, c.in-Ok.ensures.count, made.1.1.1.1),
+            local_next c.args.around.now c.args.nodes.now old new (places_named xs) n (get_or xs n x).name.at (place_at xs n x c.loop-number-test.true) made.1.1.1.0 c.in_ok-push_path.ensures.entries,
+            omega (arith, c.in_ok-push_path.ensures.count, made.1.1.1.1),
           ),
         ),
       ),

@@ -1,7 +1,8 @@
+use Rattle.std.specs.Prelude.{[]}
 use Rattle.std.proofs.Common.{◌∙◌}
 use Rattle.wf_types_stmts.proofs.StatementLemmas.{path_found}
 use Rattle.wf_types_stmts.proofs.targets.judged_path.Goals as goal
 
 pub returns-clause-found : goal.returns-clause-found
 returns-clause-found c =
-    (rw (c.is_no_target_of-wrong.ensures, c.is_field.ensures) at c.target_found.ensures) ∙ path_found c.args.around.now c.args.found c.args.path
+    c.target_found.ensures [] ∙ path_found c.args.around.now c.args.found c.args.path
