@@ -11,7 +11,7 @@ use wf_facts_exprs::{Cmp, Side};
 pub struct Premises {
     /// How many of the items are premises: one to three.
     pub count: u8,
-    /// The premises in order. What stands behind them compares 0 with 0, and is no premise.
+    /// The premises in order. What stands after them compares 0 with 0, and is no premise.
     pub items: [(Side, Cmp, Side); 3],
 }
 
@@ -27,7 +27,7 @@ impl Premises {
         }
     }
 
-    /// Adds a premise behind the others.
+    /// Adds a premise after the others.
     pub(crate) fn push(&mut self, item: (Side, Cmp, Side))
         requires { self.old.count < 3 }
         ensures claims { (nodes : TypedNodes) → claims_of_items nodes self.new ≡ claims_of_items nodes self.old ++ claim_of_item nodes item ∷ [] }

@@ -36,16 +36,11 @@ pub(crate) fn check_arms(
     ensures fit { OnOk result (arms_fit walk.now.t.now (claims_in walk.now.t.now facts.now.list) arms.now ≡ true) }
 {
     let at = first_place(walk.t, s);
-    let mut known = match facts.copy(walk.alloc) {
-        Ok(known) => known,
-        Err(_) => return Err(PhaseFault::Memory),
-    };
+    let mut known = facts.copy(walk.alloc)?;
     let mut room = true;
     for arm in arms {
-        match check_arm(walk, at, arm.cond, &mut known) {
-            Ok(fits) => room = room && fits,
-            Err(fault) => return Err(fault),
-        }
+        let fits = check_arm(walk, at, arm.cond, &mut known)?;
+        room = room && fits;
     }
     let _few = known.len();
     if room {
@@ -71,18 +66,10 @@ fn check_arm(walk: &Walk, at: Place, cond: ExprId, known: &mut Facts) -> Result<
     ensures over { IsOver walk.now.t.now known.new }
     ensures checks { ChecksArm walk.now.t.now at (claims_in walk.now.t.now known.old.list) (node_cond walk.now.t.now cond) result known.new }
 {
-    match check_condition(walk.t, known.as_slice(), cond) {
-        Ok(()) => {}
-        Err(refusal) => return Err(PhaseFault::Refused(refusal)),
-    }
-    let fits = match has_room(walk, at, cond, known) {
-        Ok(fits) => fits,
-        Err(_) => return Err(PhaseFault::Memory),
-    };
-    match add(known, walk.t, cond, false, at) {
-        Ok(()) => Ok(fits),
-        Err(refusal) => Err(PhaseFault::Refused(refusal)),
-    }
+    check_condition(walk.t, known.as_slice(), cond)?;
+    let fits = has_room(walk, at, cond, known)?;
+    add(known, walk.t, cond, false, at)?;
+    Ok(fits)
 }
 
 // Whether the list where a condition holds keeps to the limit.
@@ -168,20 +155,19 @@ pub(crate) fn meet_last(
     ensures over { IsOver t.now facts.new }
     ensures comes { (walked : Result (Reached Known) Refusal) → Comes t.now walked way facts.old → Comes t.now (going_on walked (λ known. Ok (passed (joined (known_of t.now met) known)))) result facts.new }
 {
-    match way {
-        Ok(Way::GoesOn) => {
+    match way? {
+        Way::GoesOn => {
             meet_end(t, met, facts);
             Ok(Way::GoesOn)
         }
-        Ok(Way::Stops) => match met {
+        Way::Stops => match met {
             Some(first) => {
                 *facts = first;
                 Ok(Way::GoesOn)
             }
             None => Ok(Way::Stops),
         },
-        Ok(Way::Found) => Ok(Way::Found),
-        Err(fault) => Err(fault),
+        Way::Found => Ok(Way::Found),
     }
 }
 

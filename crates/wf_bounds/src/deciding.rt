@@ -23,10 +23,8 @@ pub fn check(alloc: Global, t: Typed) -> Result<Accepted, PhaseFault>
     ensures accepted { IfOk result (λ a. IsAccepted a) }
     ensures refused { IfErr result (IsRefusedFor t) }
 {
-    match examine(alloc, &t) {
-        Ok(points) => Ok(Accepted::new(t, points)),
-        Err(fault) => Err(fault),
-    }
+    let points = examine(alloc, &t)?;
+    Ok(Accepted::new(t, points))
 }
 
 // The points of a package that is accepted.
@@ -35,10 +33,8 @@ fn examine(alloc: Global, t: &Typed) -> Result<Points, PhaseFault>
     ensures accepted { IfOk result (λ points. IsAccepted (record { nodes = t.now; points = points })) }
     ensures refused { IfErr result (IsRefusedFor t.now) }
 {
-    match check_methods(alloc, t) {
-        Ok(()) => points(alloc, t),
-        Err(fault) => Err(fault),
-    }
+    check_methods(alloc, t)?;
+    points(alloc, t)
 }
 
 // What the rules of facts refuse, methods in order.
@@ -47,10 +43,7 @@ fn check_methods(alloc: Global, t: &Typed) -> Result<(), PhaseFault>
     ensures { Decides (facts_refusal t.now) result }
 {
     for m in 0..t.methods() {
-        match check_method(alloc, t, MethodId(m)) {
-            Ok(()) => {}
-            Err(fault) => return Err(fault),
-        }
+        check_method(alloc, t, MethodId(m))?;
     }
     Ok(())
 }

@@ -27,18 +27,10 @@ pub(crate) fn enter_body(walk: &Walk, w: StmtId, facts: &Facts) -> Result<Facts,
     requires over { IsOver walk.now.t.now facts.now }
     ensures { Enters walk.now.t.now (claims_in walk.now.t.now facts.now.list) (place_at walk.now.t.now w) (head_at walk.now.t.now w) result }
 {
-    match enter(facts, walk.t, w) {
-        Ok(()) => {}
-        Err(refusal) => return Err(PhaseFault::Refused(refusal)),
-    }
-    let mut known = match head_facts(walk.alloc, walk.t, w) {
-        Ok(known) => known,
-        Err(fault) => return Err(fault),
-    };
-    match test(walk, w, &mut known) {
-        Ok(()) => Ok(known),
-        Err(fault) => Err(fault),
-    }
+    enter(facts, walk.t, w)?;
+    let mut known = head_facts(walk.alloc, walk.t, w)?;
+    test(walk, w, &mut known)?;
+    Ok(known)
 }
 
 // What the test of a loop's condition requires of the facts at its head, which become those before its body.
@@ -49,18 +41,10 @@ fn test(walk: &Walk, w: StmtId, known: &mut Facts) -> Result<(), PhaseFault>
     ensures tests { Tests walk.now.t.now (claims_in walk.now.t.now known.old.list) (place_at walk.now.t.now w) (head_at walk.now.t.now w) result known.new }
 {
     let cond = head_of(walk.t, w).cond;
-    match check_condition(walk.t, known.as_slice(), cond) {
-        Ok(()) => {}
-        Err(refusal) => return Err(PhaseFault::Refused(refusal)),
-    }
-    match at_exit(walk.alloc, known, walk.t, w) {
-        Ok(()) => {}
-        Err(fault) => return Err(fault),
-    }
-    match add(known, walk.t, cond, true, place_of(walk.t, w)) {
-        Ok(()) => Ok(()),
-        Err(refusal) => Err(PhaseFault::Refused(refusal)),
-    }
+    check_condition(walk.t, known.as_slice(), cond)?;
+    at_exit(walk.alloc, known, walk.t, w)?;
+    add(known, walk.t, cond, true, place_of(walk.t, w))?;
+    Ok(())
 }
 
 /// Where a loop's body has been walked through, with the facts `inside` at its end: the way back, and what is known after the
@@ -79,17 +63,16 @@ pub(crate) fn leave_body(
     ensures over { IsOver walk.now.t.now facts.new }
     ensures comes { (walked : Result (Reached Known) Refusal) → Comes walk.now.t.now walked way inside → Comes walk.now.t.now (going_on walked (left_loop (place_at walk.now.t.now w) (head_at walk.now.t.now w))) result facts.new }
 {
-    match way {
-        Ok(Way::GoesOn) => match way_back(&inside, walk.t, w, walk.t.inner_place(w)) {
-            Ok(()) => go_behind(walk, w, facts),
-            Err(refusal) => Err(PhaseFault::Refused(refusal)),
-        },
-        Ok(Way::Stops) => go_behind(walk, w, facts),
-        Ok(Way::Found) => {
+    match way? {
+        Way::GoesOn => {
+            way_back(&inside, walk.t, w, walk.t.inner_place(w))?;
+            go_behind(walk, w, facts)
+        }
+        Way::Stops => go_behind(walk, w, facts),
+        Way::Found => {
             *facts = inside;
             Ok(Way::Found)
         }
-        Err(fault) => Err(fault),
     }
 }
 
@@ -104,11 +87,6 @@ fn go_behind(walk: &Walk, w: StmtId, facts: &mut Facts) -> Result<Way, PhaseFaul
     if is_word_true(walk.t, head.cond) && !head.has_break {
         return Ok(Way::Stops);
     }
-    match after_facts(walk.alloc, walk.t, w) {
-        Ok(known) => {
-            *facts = known;
-            Ok(Way::GoesOn)
-        }
-        Err(fault) => Err(fault),
-    }
+    *facts = after_facts(walk.alloc, walk.t, w)?;
+    Ok(Way::GoesOn)
 }

@@ -33,20 +33,15 @@ pub(crate) fn check_method(alloc: Global, t: &Typed, m: MethodId) -> Result<(), 
     requires ready { IsReady t.now m.0 }
     ensures { Decides (method_refusal t.now m.0) result }
 {
-    let mut facts = match start(alloc, t, m) {
-        Ok(facts) => facts,
-        Err(_) => return Err(PhaseFault::Memory),
-    };
+    let mut facts = start(alloc, t, m)?;
     let walk = Walk {
         alloc,
         t,
         m,
         sought: None,
     };
-    match walk_method(&walk, &mut facts) {
-        Ok(_) => Ok(()),
-        Err(fault) => Err(fault),
-    }
+    walk_method(&walk, &mut facts)?;
+    Ok(())
 }
 
 /// What is known before a statement, as far as it stands in a method in which nothing is refused.

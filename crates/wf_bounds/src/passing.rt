@@ -26,9 +26,9 @@ pub(crate) fn pass_stmt(walk: &Walk, s: StmtId, facts: &mut Facts) -> Result<Way
     ensures over { IsOver walk.now.t.now facts.new }
     ensures comes { Comes walk.now.t.now (walked_single (all_round walk.now.t.now walk.now.m.0) (claims_in walk.now.t.now facts.old.list) (site_at walk.now.t.now s) (simple_at walk.now.t.now s)) result facts.new }
 {
-    match pass(walk.t, walk.m, facts, s) {
-        Ok(true) => Ok(Way::GoesOn),
-        Ok(false) => Ok(Way::Stops),
-        Err(refusal) => Err(PhaseFault::Refused(refusal)),
+    if pass(walk.t, walk.m, facts, s)? {
+        Ok(Way::GoesOn)
+    } else {
+        Ok(Way::Stops)
     }
 }

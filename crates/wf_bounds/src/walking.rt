@@ -86,11 +86,10 @@ pub(crate) fn walk_block(
     ensures comes { Comes walk.now.t.now (walked_listed (walked_at walk.now.t.now walk.now.m.0 walk.now.sought) (claims_in walk.now.t.now facts.old.list) block.now.items) result facts.new }
 {
     for s in block.items.as_slice() {
-        match walk_stmt(walk, *s, facts) {
-            Ok(Way::GoesOn) => {}
-            Ok(Way::Stops) => return Ok(Way::Stops),
-            Ok(Way::Found) => return Ok(Way::Found),
-            Err(fault) => return Err(fault),
+        match walk_stmt(walk, *s, facts)? {
+            Way::GoesOn => {}
+            Way::Stops => return Ok(Way::Stops),
+            Way::Found => return Ok(Way::Found),
         }
     }
     Ok(Way::GoesOn)
@@ -114,10 +113,7 @@ fn walk_if(
     ensures over { IsOver walk.now.t.now facts.new }
     ensures comes { Comes walk.now.t.now (walked_if walk.now.t.now (walked_at walk.now.t.now walk.now.m.0 walk.now.sought) (claims_in walk.now.t.now facts.old.list) (site_at walk.now.t.now s) arms.now otherwise.now) result facts.new }
 {
-    match check_arms(walk, s, arms, facts) {
-        Ok(()) => {}
-        Err(fault) => return Err(fault),
-    }
+    check_arms(walk, s, arms, facts)?;
     let way = walk_arms(walk, s, arms, otherwise, facts);
     let _few = facts.len();
     way
@@ -143,11 +139,10 @@ fn walk_arms(
 {
     let mut met = None;
     for arm in arms {
-        match walk_arm(walk, s, arm, &mut met, facts) {
-            Ok(Way::GoesOn) => {}
-            Ok(Way::Stops) => {}
-            Ok(Way::Found) => return Ok(Way::Found),
-            Err(fault) => return Err(fault),
+        match walk_arm(walk, s, arm, &mut met, facts)? {
+            Way::GoesOn => {}
+            Way::Stops => {}
+            Way::Found => return Ok(Way::Found),
         }
     }
     let way = walk_else(walk, s, otherwise, facts);
@@ -175,10 +170,7 @@ fn walk_arm(
     ensures over { IsOver walk.now.t.now facts.new }
     ensures passes { PassesArm walk.now.t.now (walked_listed (walked_at walk.now.t.now walk.now.m.0 walk.now.sought) (with_condition (claims_in walk.now.t.now facts.old.list) (node_cond walk.now.t.now arm.now.cond) true) arm.now.body.items) (with_condition (claims_in walk.now.t.now facts.old.list) (node_cond walk.now.t.now arm.now.cond) false) result (known_of walk.now.t.now met.old) (known_of walk.now.t.now met.new) facts.new }
 {
-    let mut front = match split(walk, arm.cond, facts) {
-        Ok(front) => front,
-        Err(_) => return Err(PhaseFault::Memory),
-    };
+    let mut front = split(walk, arm.cond, facts)?;
     let way = walk_block(walk, s.0, &arm.body, &mut front);
     meet_arm(walk.t, way, front, met, facts);
     way
@@ -215,10 +207,7 @@ fn walk_loop(walk: &Walk, w: StmtId, body: &Block, facts: &mut Facts) -> Result<
     ensures over { IsOver walk.now.t.now facts.new }
     ensures comes { Comes walk.now.t.now (walked_loop (walked_at walk.now.t.now walk.now.m.0 walk.now.sought) (claims_in walk.now.t.now facts.old.list) (place_at walk.now.t.now w) (head_at walk.now.t.now w) body.now.items) result facts.new }
 {
-    let mut inside = match enter_body(walk, w, facts) {
-        Ok(inside) => inside,
-        Err(fault) => return Err(fault),
-    };
+    let mut inside = enter_body(walk, w, facts)?;
     let way = walk_block(walk, w.0, body, &mut inside);
     leave_body(walk, w, way, inside, facts)
 }

@@ -143,7 +143,7 @@ counting_with is_left body =
 abbrev pub counting : PackageTree
 counting = counting_with false (plain (site 0 8 9) (one_more 8 9) end)
 
--- The same with a `break` in front of `i += 1`.
+-- The same with a `break` before `i += 1`.
 abbrev pub breaking : PackageTree
 breaking = counting_with true (plain (site 0 8 9) (break_from 9) (plain (site 1 9 9) (one_more 9 9) end))
 
@@ -324,7 +324,7 @@ in_bounds col = k_at 12 col
 abbrev pub any_word : (col : ℕ) → NumTree
 any_word col = m_at 12 col
 
--- if this.n > 0 { .. return this.n - 1 }, with or without this.clear!() in front of the return
+-- if this.n > 0 { .. return this.n - 1 }, with or without this.clear!() before the return
 abbrev less_one : (n line : ℕ) → Block
 less_one n line = plain (site n line 9) (give_back (Some (numeric (link (on line 23) (on line 23) minus 32 false (n_at line 16) (number (on line 25) 1))))) end
 

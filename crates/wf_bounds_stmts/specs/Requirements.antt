@@ -74,6 +74,11 @@ abbrev pub lies_refusal : Rule → List Claim → Option NumType → ValueTree �
 lies_refusal rule fs (Some of) (numeric t) = demand (lies_in of (range_of fs t)) rule (place_of_number t)
 lies_refusal rule fs of t = None
 
+-- The range of a value under a list of facts, if it is a number.
+abbrev pub range_in : List Claim → ValueTree → Option Range
+range_in fs (numeric t) = Some (range_of fs t)
+range_in fs t = None
+
 -- Values that are handed over, each with the type of numbers that takes it, if one does. They are looked at in written order, whatever order they
 -- are declared in: of those that are refused, the one that stands first decides.
 

@@ -80,7 +80,7 @@ abbrev pub stepped : List Claim → Thing → Option Change → List Claim
 stepped fs x None = without x fs
 stepped fs x (Some change) = changed x change fs
 
--- What stands after an assignment. `op` is the operator in front of the `=`.
+-- What stands after an assignment. `op` is the operator before the `=`.
 abbrev pub assigned : List Claim → Target → (op : Option Arith) → ValueTree → List Claim
 assigned fs (to_number at of path) None (numeric t) = known_equal (without (thing_at path) fs) (read at of path) (thing_at path) t
 assigned fs (to_number at of path) (Some op) (numeric t) = stepped fs (thing_at path) (step_of (read at of path) t)

@@ -48,15 +48,11 @@ fn check_taken(
     requires there { IsTrue (is_expr t.now target) }
     ensures { result ≡ unless_refused (answer_refusal (claims_in t.now facts.now) at (target_of (tree_of t.now target)) (number_type answers)) tt }
 {
-    match check_target(t, facts, target) {
-        Ok(()) => {
-            if holds_all(taken(t, target), answers) {
-                Ok(())
-            } else {
-                Err(Refusal { rule: Rule::B1, at })
-            }
-        }
-        Err(refusal) => Err(refusal),
+    check_target(t, facts, target)?;
+    if holds_all(taken(t, target), answers) {
+        Ok(())
+    } else {
+        Err(Refusal { rule: Rule::B1, at })
     }
 }
 
@@ -105,11 +101,7 @@ pub(crate) fn await_answer(
     ensures settles { Settles t.now (answer_refusal (interrupted (claims_in t.now facts.old.list)) at (optional_target (tree_of t.now) target) (number_type answers)) (awaited (claims_in t.now facts.old.list) (optional_target (tree_of t.now) target)) result facts.new }
 {
     interrupt(t, facts);
-    match check_answer(t, facts.as_slice(), at, target, answers) {
-        Ok(()) => {
-            drop_target(t, facts, target);
-            Ok(())
-        }
-        Err(refusal) => Err(refusal),
-    }
+    check_answer(t, facts.as_slice(), at, target, answers)?;
+    drop_target(t, facts, target);
+    Ok(())
 }

@@ -39,10 +39,7 @@ pub(crate) fn assert(
     ensures over { IsOver t.now facts.new }
     ensures answers { Answers t.now at (claim_refusal (claims_in t.now facts.old.list) at (node_cond t.now goal) (axiom_made t.now (tree_of t.now) by.now)) (with_condition (claims_in t.now facts.old.list) (node_cond t.now goal) true) result facts.new }
 {
-    match check_assertion(t, facts.as_slice(), at, goal, by) {
-        Ok(()) => {}
-        Err(refusal) => return Err(refusal),
-    }
+    check_assertion(t, facts.as_slice(), at, goal, by)?;
     match facts.add_condition(t, goal, true) {
         Ok(()) => {
             let _few = facts.len();
@@ -77,15 +74,11 @@ fn check_required(t: &Typed, facts: &[Fact], at: Place, goal: ExprId) -> Result<
     requires goal { IsTrue (is_condition_at t.now goal) }
     ensures { result ≡ unless_refused (required (claims_in t.now facts.now) B6 at (node_cond t.now goal)) tt }
 {
-    match check_condition(t, facts, goal) {
-        Ok(()) => {
-            if gives(t, facts, goal, true) {
-                Ok(())
-            } else {
-                Err(Refusal { rule: Rule::B6, at })
-            }
-        }
-        Err(refusal) => Err(refusal),
+    check_condition(t, facts, goal)?;
+    if gives(t, facts, goal, true) {
+        Ok(())
+    } else {
+        Err(Refusal { rule: Rule::B6, at })
     }
 }
 
@@ -96,13 +89,9 @@ fn check_by_axiom(t: &Typed, facts: &[Fact], goal: ExprId, by: &AxiomRef) -> Res
     requires by { IsAxiomOf t.now by.now }
     ensures { result ≡ unless_refused (or_else (cond_refusal (claims_in t.now facts.now) (node_cond t.now goal)) (or_else (given_refusal (claims_in t.now facts.now) (given_trees t.now by.now.given)) (axiom_refusal (claims_in t.now facts.now) by.now.at (node_cond t.now goal) (given_trees t.now by.now.given) (axiom_named (text_of t.now by.now.name))))) tt }
 {
-    match check_condition(t, facts, goal) {
-        Ok(()) => match check_given(t, facts, by.given.as_slice()) {
-            Ok(()) => check_axiom(t, facts, goal, by),
-            Err(refusal) => Err(refusal),
-        },
-        Err(refusal) => Err(refusal),
-    }
+    check_condition(t, facts, goal)?;
+    check_given(t, facts, by.given.as_slice())?;
+    check_axiom(t, facts, goal, by)
 }
 
 // The axiom that is named is known, matches, and has its premises.
@@ -165,10 +154,7 @@ fn check_premises(
 {
     let offsets = premise_offsets(a);
     for i in 0..p.count as usize {
-        match check_premise(t, facts, p.items[i], inside_text(text_at, offsets[i])) {
-            Ok(()) => {}
-            Err(refusal) => return Err(refusal),
-        }
+        check_premise(t, facts, p.items[i], inside_text(text_at, offsets[i]))?;
     }
     Ok(())
 }
@@ -227,10 +213,7 @@ fn check_given(t: &Typed, facts: &[Fact], given: &[(TextId, ExprId)]) -> Result<
     ensures { result ≡ unless_refused (given_refusal (claims_in t.now facts.now) (given_trees t.now given.now)) tt }
 {
     for i in 0..given.len() {
-        match check_number(t, facts, given[i].1) {
-            Ok(()) => {}
-            Err(refusal) => return Err(refusal),
-        }
+        check_number(t, facts, given[i].1)?;
     }
     Ok(())
 }

@@ -11,11 +11,11 @@ ghost use Rattle.wf_bounds_stmts.specs.Targets.{assign_refusal, assigned, known_
 ghost use Rattle.wf_bounds_stmts.specs.Nodes.{known_variable, number_variable as number_variable_in};
 ghost use Rattle.wf_bounds_stmts.specs.Outcomes.{Answers, Makes, MayBeDropped};
 
-use crate::limits::{check_lies, is_number, look_at};
+use crate::limits::{check_range, checked, is_number, look_at};
 use crate::targets::{check_target, drop_written, number_variable, taken, written};
 use wf_ast::{ExprId, Thing, Typed, mentions};
 use wf_facts::{Facts, Full};
-use wf_facts_exprs::{Cmp, Fact, Side, check_value};
+use wf_facts_exprs::{Cmp, Fact, Side};
 use wf_text::{Place, Refusal, Rule};
 
 /// Checks what an assignment requires.
@@ -30,13 +30,9 @@ pub(crate) fn check_assigned(
     requires value { IsTrue (is_expr t.now value) }
     ensures { result ≡ unless_refused (assign_refusal (claims_in t.now facts.now) (target_of (tree_of t.now target)) (tree_of t.now value)) tt }
 {
-    match check_value(t, facts, value) {
-        Ok(()) => match check_target(t, facts, target) {
-            Ok(()) => check_lies(t, facts, Rule::B1, taken(t, target), value),
-            Err(refusal) => Err(refusal),
-        },
-        Err(refusal) => Err(refusal),
-    }
+    let range = checked(t, facts, value)?;
+    check_target(t, facts, target)?;
+    check_range(t, Rule::B1, taken(t, target), value, range)
 }
 
 /// Makes known that a variable has the number that has been written to it, unless that is told by the variable itself.
@@ -112,10 +108,7 @@ pub(crate) fn assign(
     ensures over { IsOver t.now facts.new }
     ensures answers { Answers t.now at (assign_refusal (claims_in t.now facts.old.list) (target_of (tree_of t.now target)) (tree_of t.now value)) (assigned (claims_in t.now facts.old.list) (target_of (tree_of t.now target)) None (tree_of t.now value)) result facts.new }
 {
-    match check_assigned(t, facts.as_slice(), target, value) {
-        Ok(()) => {}
-        Err(refusal) => return Err(refusal),
-    }
+    check_assigned(t, facts.as_slice(), target, value)?;
     let x = written(t, target);
     drop_written(t, facts, x);
     match know_written(t, facts, target, x, value) {

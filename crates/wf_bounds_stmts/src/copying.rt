@@ -46,18 +46,11 @@ pub(crate) fn copy_out(
     ensures over { IsOver t.now facts.new }
     ensures settles { Settles t.now (perform_refusal (claims_in t.now facts.old.list) at (optional_target (tree_of t.now) target) (copy_to_writer io.0 (node_slice t.now source))) (performed (claims_in t.now facts.old.list) (optional_target (tree_of t.now) target) (copy_to_writer io.0 (node_slice t.now source))) result facts.new }
 {
-    match check_one(t, facts.as_slice(), Rule::B8, Ty::Flag, source) {
-        Ok(()) => {}
-        Err(refusal) => return Err(refusal),
-    }
+    check_one(t, facts.as_slice(), Rule::B8, Ty::Flag, source)?;
     facts.drop_mentions(t, Thing::Arg(io));
-    match check_answer(t, facts.as_slice(), at, target, COUNT) {
-        Ok(()) => {
-            drop_target(t, facts, target);
-            Ok(())
-        }
-        Err(refusal) => Err(refusal),
-    }
+    check_answer(t, facts.as_slice(), at, target, COUNT)?;
+    drop_target(t, facts, target);
+    Ok(())
 }
 
 /// The rule of a copy to a slice, which is checked first. `at` is the place of the method's name.
@@ -79,18 +72,11 @@ pub(crate) fn copy_in(
     ensures over { IsOver t.now facts.new }
     ensures settles { Settles t.now (perform_refusal (claims_in t.now facts.old.list) at (optional_target (tree_of t.now) target) (copy_to_slice (node_slice t.now on) (node_slice t.now source))) (performed (claims_in t.now facts.old.list) (optional_target (tree_of t.now) target) (copy_to_slice (node_slice t.now on) (node_slice t.now source))) result facts.new }
 {
-    match check_copied(t, facts.as_slice(), on, source) {
-        Ok(()) => {}
-        Err(refusal) => return Err(refusal),
-    }
+    check_copied(t, facts.as_slice(), on, source)?;
     facts.drop_mentions(t, Thing::Element);
-    match check_answer(t, facts.as_slice(), at, target, COUNT) {
-        Ok(()) => {
-            drop_target(t, facts, target);
-            Ok(())
-        }
-        Err(refusal) => Err(refusal),
-    }
+    check_answer(t, facts.as_slice(), at, target, COUNT)?;
+    drop_target(t, facts, target);
+    Ok(())
 }
 
 // The two slices of a copy.
@@ -100,8 +86,6 @@ fn check_copied(t: &Typed, facts: &[Fact], on: ExprId, source: ExprId) -> Result
     requires source { IsTrue (is_expr t.now source) }
     ensures { result ≡ unless_refused (or_else (value_refusal (claims_in t.now facts.now) (tree_of t.now on)) (all_handed B8 (claims_in t.now facts.now) ((None, tree_of t.now source) ∷ []))) tt }
 {
-    match check_value(t, facts, on) {
-        Ok(()) => check_one(t, facts, Rule::B8, Ty::Flag, source),
-        Err(refusal) => Err(refusal),
-    }
+    check_value(t, facts, on)?;
+    check_one(t, facts, Rule::B8, Ty::Flag, source)
 }

@@ -5,7 +5,7 @@ ghost use Rattle.std.specs.Prelude.{◌≡◌, None, Some};
 ghost use Rattle.wf_text.specs.declared.rules.Rule.TheVariants.{B1, B5, B6, B7, B8, B9, B10, B11, B12};
 ghost use Rattle.wf_bounds_stmts.specs.Examples.{on, refused, refusal, refusal_of, returning, difference, again_the_difference, nothing_left, filling, at_most_4, below_4, counting, breaking, peeking, asserting, unfounded, founded, parsing, about_the_digit, known_at, summing, in_bounds, any_word, clearing, keeping, asserting_at_most, entering, merging};
 
-/// The parser of decimal numbers is accepted. In front of `c -= 0x30` its list is `c <> 0`, `c >= 48` and `c <= 57`. Where
+/// The parser of decimal numbers is accepted. Before `c -= 0x30` its list is `c <> 0`, `c >= 48` and `c <= 57`. Where
 /// the last digit may be 6, the sum that it goes into may be too large for its type.
 #[tactic(auto, unfolding(wf_facts_exprs::specs::RangeOf::met))]
 pub fn a_parser()
@@ -87,7 +87,7 @@ pub fn an_entry()
     ensures open { refused (entering 1) ≡ refusal B10 11 5 }
 {}
 
-/// Behind an `if` stands what stands at the end of each of its blocks.
+/// After an `if` stands what stands at the end of each of its blocks.
 #[tactic(auto, unfolding(wf_facts_exprs::specs::RangeOf::met))]
 pub fn an_end_of_branches()
     ensures same { refused (merging 2) ≡ None }

@@ -49,10 +49,7 @@ pub(crate) fn skip_fast(
     ensures over { IsOver t.now facts.new }
     ensures settles { Settles t.now (perform_refusal (claims_in t.now facts.old.list) at (optional_target (tree_of t.now) target) (skip_tree (io_in (tree_of t.now on)) (node_number t.now actual) (node_number t.now worst_case))) (performed (claims_in t.now facts.old.list) (optional_target (tree_of t.now) target) (skip_tree (io_in (tree_of t.now on)) (node_number t.now actual) (node_number t.now worst_case))) result facts.new }
 {
-    match check_skip(t, facts.as_slice(), at, on, actual, worst_case) {
-        Ok(()) => {}
-        Err(refusal) => return Err(refusal),
-    }
+    check_skip(t, facts.as_slice(), at, on, actual, worst_case)?;
     facts.lower_length(t, io_of(t, on), number(t, worst_case));
     take_answer(t, facts, at, target)
 }
@@ -75,10 +72,7 @@ pub(crate) fn write_fast(
     ensures over { IsOver t.now facts.new }
     ensures settles { Settles t.now (perform_refusal (claims_in t.now facts.old.list) at (optional_target (tree_of t.now) target) (write_tree (io_in (tree_of t.now on)) (node_number t.now byte))) (performed (claims_in t.now facts.old.list) (optional_target (tree_of t.now) target) (write_tree (io_in (tree_of t.now on)) (node_number t.now byte))) result facts.new }
 {
-    match check_write(t, facts.as_slice(), at, on, byte) {
-        Ok(()) => {}
-        Err(refusal) => return Err(refusal),
-    }
+    check_write(t, facts.as_slice(), at, on, byte)?;
     facts.lower_length(t, io_of(t, on), Some(1));
     take_answer(t, facts, at, target)
 }
@@ -102,15 +96,9 @@ fn check_skip(
     look_at(t, on);
     look_at(t, actual);
     look_at(t, worst_case);
-    match check_two(t, facts, Rule::B8, all_of(Width::W32), actual, worst_case) {
-        Ok(()) => {}
-        Err(refusal) => return Err(refusal),
-    }
+    check_two(t, facts, Rule::B8, all_of(Width::W32), actual, worst_case)?;
     let most = Side::Expr(worst_case);
-    match check_given(t, facts, at, Side::Expr(actual), Cmp::Le, most) {
-        Ok(()) => {}
-        Err(refusal) => return Err(refusal),
-    }
+    check_given(t, facts, at, Side::Expr(actual), Cmp::Le, most)?;
     check_given(t, facts, at, Side::Length(on), Cmp::Ge, most)
 }
 
@@ -130,10 +118,7 @@ fn check_write(
 {
     look_at(t, on);
     look_at(t, byte);
-    match check_one(t, facts, Rule::B8, all_of(Width::W8), byte) {
-        Ok(()) => {}
-        Err(refusal) => return Err(refusal),
-    }
+    check_one(t, facts, Rule::B8, all_of(Width::W8), byte)?;
     check_given(t, facts, at, Side::Length(on), Cmp::Ge, Side::Num(1))
 }
 
@@ -173,13 +158,9 @@ fn take_answer(
     ensures over { IsOver t.now facts.new }
     ensures settles { Settles t.now (answer_refusal (claims_in t.now facts.old.list) at (optional_target (tree_of t.now) target) None) (unwritten (optional_target (tree_of t.now) target) (claims_in t.now facts.old.list)) result facts.new }
 {
-    match check_answer(t, facts.as_slice(), at, target, Ty::Flag) {
-        Ok(()) => {
-            drop_target(t, facts, target);
-            Ok(())
-        }
-        Err(refusal) => Err(refusal),
-    }
+    check_answer(t, facts.as_slice(), at, target, Ty::Flag)?;
+    drop_target(t, facts, target);
+    Ok(())
 }
 
 /// The argument that a reader or a writer is.

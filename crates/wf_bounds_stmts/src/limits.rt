@@ -1,15 +1,15 @@
 // Values that have to lie in a type.
 
-ghost use Rattle.std.specs.Prelude.{◌≡◌, ℕ, IsTrue, None};
+ghost use Rattle.std.specs.Prelude.{◌≡◌, ℕ, List, IsTrue, None, Some};
 ghost use Rattle.wf_ast.specs.TypedTrees.{tree_of, type_of_node};
 ghost use Rattle.wf_ast.specs.TypedInvariant.{is_expr, is_numeric, is_tree_of};
-ghost use Rattle.wf_facts_exprs.specs.Claims.{claims_in, AreFacts};
+ghost use Rattle.wf_facts_exprs.specs.Claims.{Claim, claims_in, AreFacts};
 ghost use Rattle.wf_facts_exprs.specs.Demands.{unless_refused, value_refusal};
-ghost use Rattle.wf_bounds_stmts.specs.Requirements.{lies_in as range_lies_in, lies_refusal, number_type};
+ghost use Rattle.wf_bounds_stmts.specs.Requirements.{lies_in as range_lies_in, lies_refusal, number_type, range_in};
 
 use crate::places::place;
 use wf_ast::{ExprId, Ty, Typed};
-use wf_facts_exprs::{Fact, range_of};
+use wf_facts_exprs::{Fact, check_value, checked_range, range_of};
 use wf_num::Range;
 use wf_text::{Refusal, Rule};
 
@@ -26,29 +26,70 @@ pub(crate) fn check_lies(
     requires fine { value_refusal (claims_in t.now facts.now) (tree_of t.now e) ≡ None }
     ensures { result ≡ unless_refused (lies_refusal rule (claims_in t.now facts.now) (number_type ty) (tree_of t.now e)) tt }
 {
-    look_at(t, e);
-    if !is_number(ty) {
-        return Ok(());
-    }
-    let of_value = t.type_of(e);
-    if !is_number(of_value) {
-        return Ok(());
-    }
-    check_number(t, facts, rule, ty, e)
+    check_range(t, rule, ty, e, range_where_number(t, facts, e))
 }
 
-fn check_number(t: &Typed, facts: &[Fact], rule: Rule, ty: Ty, e: ExprId) -> Result<(), Refusal>
+// The range of a value whose demands are met, if it is a number.
+fn range_where_number(t: &Typed, facts: &[Fact], e: ExprId) -> Option<Range>
     requires known { AreFacts t.now facts.now }
     requires there { IsTrue (is_expr t.now e) }
-    requires number { IsTrue (is_numeric (type_of_node t.now e.0)) }
-    requires tree { IsTrue (is_tree_of (type_of_node t.now e.0) (tree_of t.now e)) }
-    requires takes { IsTrue (is_numeric ty) }
     requires fine { value_refusal (claims_in t.now facts.now) (tree_of t.now e) ≡ None }
-    ensures { result ≡ unless_refused (lies_refusal rule (claims_in t.now facts.now) (number_type ty) (tree_of t.now e)) tt }
+    ensures { result ≡ range_in (claims_in t.now facts.now) (tree_of t.now e) }
+{
+    look_at(t, e);
+    if is_number(t.type_of(e)) {
+        Some(range_of(t, facts, e))
+    } else {
+        None
+    }
+}
+
+/// Checks what a value requires, and answers its range where it is a number.
+pub(crate) fn checked(t: &Typed, facts: &[Fact], e: ExprId) -> Result<Option<Range>, Refusal>
+    requires known { AreFacts t.now facts.now }
+    requires there { IsTrue (is_expr t.now e) }
+    ensures { result ≡ unless_refused (value_refusal (claims_in t.now facts.now) (tree_of t.now e)) (range_in (claims_in t.now facts.now) (tree_of t.now e)) }
+{
+    look_at(t, e);
+    if is_number(t.type_of(e)) {
+        let range = checked_range(t, facts, e)?;
+        Ok(Some(range))
+    } else {
+        check_value(t, facts, e)?;
+        Ok(None)
+    }
+}
+
+/// Checks that a value with this range, if it is a number, lies in a type, if that is one of numbers.
+pub(crate) fn check_range(
+    t: &Typed,
+    rule: Rule,
+    ty: Ty,
+    e: ExprId,
+    range: Option<Range>,
+) -> Result<(), Refusal>
+    requires there { IsTrue (is_expr t.now e) }
+    ensures { (facts : List Claim) → range ≡ range_in facts (tree_of t.now e) → result ≡ unless_refused (lies_refusal rule facts (number_type ty) (tree_of t.now e)) tt }
+{
+    match range {
+        Some(range) => {
+            if is_number(ty) {
+                check_number(t, rule, ty, e, range)
+            } else {
+                Ok(())
+            }
+        }
+        None => Ok(()),
+    }
+}
+
+fn check_number(t: &Typed, rule: Rule, ty: Ty, e: ExprId, range: Range) -> Result<(), Refusal>
+    requires there { IsTrue (is_expr t.now e) }
+    requires takes { IsTrue (is_numeric ty) }
+    ensures { (facts : List Claim) → Some range ≡ range_in facts (tree_of t.now e) → result ≡ unless_refused (lies_refusal rule facts (number_type ty) (tree_of t.now e)) tt }
 {
     match ty {
         Ty::Num { lo, hi, .. } => {
-            let range = range_of(t, facts, e);
             if lies_in(lo, hi, range) {
                 Ok(())
             } else {

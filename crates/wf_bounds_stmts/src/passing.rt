@@ -114,18 +114,14 @@ fn after(facts: &Facts, answer: Result<(), Refusal>) -> Result<bool, Refusal>
     ensures { (nodes : TypedNodes) (at : Place) (refusal : Option Refusal) (known : Known) → Told nodes at refusal known answer facts.now → Passes nodes at refusal known result facts.now }
 {
     let _few = facts.len();
-    match answer {
-        Ok(()) => Ok(true),
-        Err(refusal) => Err(refusal),
-    }
+    answer?;
+    Ok(true)
 }
 
 // One that doesn't.
 fn leaves(answer: Result<(), Refusal>) -> Result<bool, Refusal>
     ensures { (refusal : Option Refusal) → answer ≡ unless_refused refusal tt → result ≡ unless_refused refusal false }
 {
-    match answer {
-        Ok(()) => Ok(false),
-        Err(refusal) => Err(refusal),
-    }
+    answer?;
+    Ok(false)
 }

@@ -25,12 +25,12 @@ pub(crate) fn check_returned(
 {
     match value {
         None => Ok(()),
-        Some(e) => match check_value(t, facts, e) {
-            Ok(()) => match gives {
+        Some(e) => {
+            check_value(t, facts, e)?;
+            match gives {
                 None => Ok(()),
                 Some(ty) => check_lies(t, facts, Rule::B1, ty, e),
-            },
-            Err(refusal) => Err(refusal),
-        },
+            }
+        }
     }
 }

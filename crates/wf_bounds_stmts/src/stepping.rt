@@ -23,7 +23,7 @@ use wf_ast::{Expr, ExprId, Op, Thing, Typed, same};
 use wf_facts::{Change, Facts};
 use wf_text::Refusal;
 
-/// An assignment with an operator, whose value is the node of the operator between the target and what stands behind the
+/// An assignment with an operator, whose value is the node of the operator between the target and what stands after the
 /// sign. A refusal is the first of what it requires.
 pub(crate) fn assign_by(
     t: &Typed,
@@ -38,10 +38,7 @@ pub(crate) fn assign_by(
     ensures over { IsOver t.now facts.new }
     ensures settles { (op : Arith) → Settles t.now (assign_refusal (claims_in t.now facts.old.list) (target_of (tree_of t.now target)) (tree_of t.now value)) (assigned (claims_in t.now facts.old.list) (target_of (tree_of t.now target)) (Some op) (tree_of t.now value)) result facts.new }
 {
-    match check_assigned(t, facts.as_slice(), target, value) {
-        Ok(()) => {}
-        Err(refusal) => return Err(refusal),
-    }
+    check_assigned(t, facts.as_slice(), target, value)?;
     let x = written(t, target);
     match number_variable(t.type_of(target), x) {
         Some(x) => step_variable(t, facts, target, x, value),

@@ -85,7 +85,8 @@ claims-common nodes fs others xs ys words left right few seen =
 
 -- A thing with a set is the one whose set stands there.
 thing_back : (x : Thing) → has_set x ≡ true → thing_of (set_number x) ≡ x
-thing_back (things.Local x) h = rw h refl
+thing_back (things.Local x) h =
+    let e : 4 + x.0 ≡ suc (suc (suc (suc x.0))) = omega arith in ap thing_of e
 thing_back things.This h = refl
 thing_back things.Args h = refl
 thing_back things.Element h = refl
@@ -93,13 +94,12 @@ thing_back things.SliceLocals h = refl
 thing_back (things.Field x) h = absurd (cc (h))
 thing_back (things.Arg x) h = absurd (cc (h))
 
-pub IsOver-pushed : (nodes : TypedNodes) (old : FactList) (f : Fact) (list : List Fact) (sets kept before : List FactSet) (n : ℕ) → n ≡ length old.list → before ≡ old.sets → kept ≡ sets → list ≡ old.list ++ f ∷ [] → is_fact nodes f ≡ true
+pub IsOver-pushed : (nodes : TypedNodes) (old : FactList) (f : Fact) (list : List Fact) (sets before : List FactSet) (n : ℕ) → n ≡ length old.list → before ≡ old.sets → list ≡ old.list ++ f ∷ [] → is_fact nodes f ≡ true
     → ((k : ℕ) → k < 260 → (j : ℕ) → j < 512 → member (words_at sets k) j ≡ ((nat_eq j n && claim_mentions (thing_of k) (claim_in nodes f)) || member (words_at before k) j))
-    → IsOver nodes old → IsOver nodes (record { list = list; sets = kept })
-IsOver-pushed nodes old f list sets kept before n count same kept_is more fact marks over =
-    let R : List Fact → Type 0 = λ fs. IsOver nodes (record { list = fs; sets = kept }) in
-    let S : List FactSet → Type 0 = λ ss. IsOver nodes (record { list = old.list ++ f ∷ []; sets = ss }) in
-    subst R (sym more) (subst S (sym kept_is) (record {
+    → IsOver nodes old → IsOver nodes (record { list = list; sets = sets })
+IsOver-pushed nodes old f list sets before n count same more fact marks over =
+    let R : List Fact → Type 0 = λ fs. IsOver nodes (record { list = fs; sets = sets }) in
+    subst R (sym more) (record {
       facts = All-push (λ g. is_fact nodes g ≡ true) old.list f over.facts fact;
       sets = λ x h.
           let k = set_number x in
@@ -111,7 +111,7 @@ IsOver-pushed nodes old f list sets kept before n count same kept_is more fact m
           ∙ ap (λ ss. (nat_eq j (length (mentioning nodes x old.list)) && b) || member (words_at ss k) j) same in
           let P : List Bool → Type 0 = IsSetOf (words_at sets k) in
           subst P (sym (map-append (λ g. claim_mentions x (claim_in nodes g)) old.list (f ∷ []))) (IsSetOf-put (set_of old x) (words_at sets k) (mentioning nodes x old.list) b (over.sets x h) put);
-    }))
+    })
 
 pub claims-pushed : (nodes : TypedNodes) (fs gs : List Fact) (f : Fact) → gs ≡ fs ++ f ∷ [] → is_among (claims_in nodes fs) (claim_in nodes f) ≡ false
     → claims_in nodes gs ≡ added (claims_in nodes fs) (claim_in nodes f)

@@ -1,7 +1,7 @@
 -- Facts leave the list, and all sets move with it.
 use Rattle.std.proofs.Common.{◌≡◌, ℕ, zero, suc, ◌+◌, ◌<◌, ◌≤◌, Bool, true, false, ◌&&◌, ◌||◌, ◌⊎◌, inl, inr, List, [], ◌∷◌, ◌++◌, length, get_or, take, drop, map, refl, sym, ap, ◌∙◌, subst, arith, add-one}
-use Rattle.std.specs.Prelude.{slice_set, All, nat_eq}
-use Rattle.std.proofs.lemmas.Bool.{cases_eq}
+use Rattle.std.specs.Prelude.{slice_set, nat_eq, replicate}
+use Rattle.std.proofs.lemmas.Bool.{cases_eq, cases_lt}
 use Rattle.std.proofs.lemmas.Bool.Decides.{nat_tests}
 use Rattle.std.proofs.lemmas.List.{append-nil, take_more, take_more_set, get_or-drop, drop-drop, drop-set-lt, length-set, length-take-le, take_all, get_or_default, map-append}
 use Rattle.std.proofs.lemmas.List.Elements.{All-nil, All-cons, All-head, All-tail}
@@ -14,7 +14,7 @@ use Rattle.wf_facts.specs.declared.sets.FactSet.{FactSet}
 use Rattle.wf_facts.specs.Sets.{member, members, IsSetOf, unmarked}
 use Rattle.wf_facts.specs.FactLists.{without}
 use Rattle.wf_facts.specs.IndexedFacts.{FactList, IsOver, has_set, set_number, set_of, mentioning, words_at}
-use Rattle.wf_facts.proofs.SetLemmas.{length-members, unmarked-push, unmarked_none, unmarked_one, members_known, IsSetOf-put, all_stay, stays_before}
+use Rattle.wf_facts.proofs.SetLemmas.{length-members, unmarked-push, unmarked_none, unmarked_one, members_known, IsSetOf-put, all_stay, stays_before, empty_set, none_in_zeros}
 
 -- What stays of the first `i` stands in front, and the rest is as it was.
 pub record Closes {X : Type 0} (dropped : List ℕ) (xs ys : List X) (stay i : ℕ) : Type 0 where
@@ -185,40 +185,67 @@ number_below things.SliceLocals h = omega arith
 number_below (things.Field x) h = absurd (cc (h))
 number_below (things.Arg x) h = absurd (cc (h))
 
-pub IsOver-dropped : (nodes : TypedNodes) (old : FactList) (dropped : List ℕ) (sets : List FactSet) → length old.list ≤ 512 → length old.sets ≡ 260
-    → ((k : ℕ) → k < length old.sets → Leaves dropped (length old.list) (words_at old.sets k) (words_at sets k))
+-- A set that isn't in use stays empty.
+words_past : (sets : List FactSet) (k : ℕ) → length sets ≤ k → words_at sets k ≡ replicate 8 0
+words_past [] k h = refl
+words_past (s ∷ sets) zero h = absurd (omega (arith, h))
+words_past (s ∷ sets) (suc k) h = words_past sets k (omega (arith, h))
+
+Leaves-empty : (dropped : List ℕ) (n : ℕ) → n ≤ 512 → Leaves dropped n (replicate 8 0) (replicate 8 0)
+Leaves-empty dropped n few = Leaves-same dropped n 0 (replicate 8 0) (omega arith) few (λ k h. absurd (omega (arith, h))) (λ k a b. none_in_zeros k)
+
+pub Leaves-each : (dropped : List ℕ) (n : ℕ) (xs ys : List FactSet) → n ≤ 512 → length ys ≡ length xs → ((k : ℕ) → k < length xs → Leaves dropped n (words_at xs k) (words_at ys k))
+    → (k : ℕ) → Leaves dropped n (words_at xs k) (words_at ys k)
+Leaves-each dropped n xs ys few long moved k = by (cases_lt k (length xs))
+  where
+    by : (k < length xs) ⊎ (length xs ≤ k) → Leaves dropped n (words_at xs k) (words_at ys k)
+    by (inl h) = moved k h
+    by (inr h) =
+        let P : List ℕ → Type 0 = λ ws. Leaves dropped n ws (words_at ys k) in
+        let Q : List ℕ → Type 0 = λ ws. Leaves dropped n (replicate 8 0) ws in
+        subst P (sym (words_past xs k h)) (subst Q (sym (words_past ys k (omega (arith, h, long)))) (Leaves-empty dropped n few))
+
+pub words_pushed : (sets : List FactSet) (s : FactSet) → s.words ≡ replicate 8 0 → (k : ℕ) → words_at (sets ++ s ∷ []) k ≡ words_at sets k
+words_pushed [] s empty zero = empty
+words_pushed [] s empty (suc k) = refl
+words_pushed (r ∷ sets) s empty zero = refl
+words_pushed (r ∷ sets) s empty (suc k) = words_pushed sets s empty k
+
+pub words_beyond : (sets : List FactSet) (k : ℕ) (empty : List ℕ) → empty ≡ replicate 8 0 → length sets ≤ k → empty ≡ words_at sets k
+words_beyond sets k empty is h = is ∙ sym (words_past sets k h)
+
+pub IsOver-dropped : (nodes : TypedNodes) (old : FactList) (dropped : List ℕ) (sets : List FactSet)
+    → ((k : ℕ) → Leaves dropped (length old.list) (words_at old.sets k) (words_at sets k))
     → IsOver nodes old → IsOver nodes (record { list = unmarked (members dropped (length old.list)) old.list; sets = sets })
-IsOver-dropped nodes old dropped sets few whole moved over = record {
+IsOver-dropped nodes old dropped sets moved over = record {
   facts = facts-unmarked nodes (members dropped (length old.list)) old.list over.facts;
   sets = λ x h.
       let P : List Bool → Type 0 = IsSetOf (words_at sets (set_number x)) in
       subst P (sym (map-unmarked (λ f. claim_mentions x (claim_in nodes f)) (members dropped (length old.list)) old.list))
-      (moved (set_number x) (omega (arith, number_below x h, whole)) (mentioning nodes x old.list) (sym (length-mentioning nodes x old.list)) (over.sets x h));
+      (moved (set_number x) (mentioning nodes x old.list) (sym (length-mentioning nodes x old.list)) (over.sets x h));
 }
 
 -- The same with what stood before named anew.
-pub IsOver-left : (nodes : TypedNodes) (old : FactList) (dropped : List ℕ) (list : List Fact) (before sets kept : List FactSet) (n : ℕ) → n ≡ length old.list → before ≡ old.sets → kept ≡ sets
-    → length old.list ≤ 512 → length old.sets ≡ 260 → list ≡ unmarked (members dropped (length old.list)) old.list
-    → ((k : ℕ) → k < length before → Leaves dropped n (words_at before k) (words_at sets k))
-    → IsOver nodes old → IsOver nodes (record { list = list; sets = kept })
-IsOver-left nodes old dropped list before sets kept n count same kept_is few whole left moved over =
-    let P : List FactSet → Type 0 = λ bs. (k : ℕ) → k < length bs → Leaves dropped n (words_at bs k) (words_at sets k) in
-    let Q : ℕ → Type 0 = λ m. (k : ℕ) → k < length old.sets → Leaves dropped m (words_at old.sets k) (words_at sets k) in
-    let R : List Fact → Type 0 = λ fs. IsOver nodes (record { list = fs; sets = kept }) in
-    let S : List FactSet → Type 0 = λ ss. IsOver nodes (record { list = unmarked (members dropped (length old.list)) old.list; sets = ss }) in
-    subst R (sym left) (subst S (sym kept_is) (IsOver-dropped nodes old dropped sets few whole (subst Q count (subst P same moved)) over))
+pub IsOver-left : (nodes : TypedNodes) (old : FactList) (dropped : List ℕ) (list : List Fact) (before sets : List FactSet) (n : ℕ) → n ≡ length old.list → before ≡ old.sets
+    → list ≡ unmarked (members dropped (length old.list)) old.list
+    → ((k : ℕ) → Leaves dropped n (words_at before k) (words_at sets k))
+    → IsOver nodes old → IsOver nodes (record { list = list; sets = sets })
+IsOver-left nodes old dropped list before sets n count same left moved over =
+    let P : List FactSet → Type 0 = λ bs. (k : ℕ) → Leaves dropped n (words_at bs k) (words_at sets k) in
+    let Q : ℕ → Type 0 = λ m. (k : ℕ) → Leaves dropped m (words_at old.sets k) (words_at sets k) in
+    let R : List Fact → Type 0 = λ fs. IsOver nodes (record { list = fs; sets = sets }) in
+    subst R (sym left) (IsOver-dropped nodes old dropped sets (subst Q count (subst P same moved)) over)
 
 -- The set that stands for a thing.
-pub set_found : (known : FactList) (list : List Fact) (sets : List FactSet) → record { list = list; sets = sets } ≡ known → length sets ≡ 260 → (x : Thing) → has_set x ≡ true
-    → (k : ℕ) → k ≡ set_number x → (s : FactSet) → s ≡ get_or sets k s → s.words ≡ set_of known x
-set_found known list sets seen whole x h k is s read =
-    sym (words_read sets k s (omega (arith, number_below x h, is, whole)) read) ∙ ap (words_at sets) is ∙ ap (λ f. words_at f.sets (set_number x)) seen
+pub set_found : (known : FactList) (list : List Fact) (sets : List FactSet) → record { list = list; sets = sets } ≡ known → (x : Thing)
+    → (k : ℕ) → k ≡ set_number x → (words : List ℕ) → words ≡ words_at sets k → words ≡ set_of known x
+set_found known list sets seen x k is words read = read ∙ ap (words_at sets) is ∙ ap (λ f. words_at f.sets (set_number x)) seen
 
-pub set_known : (nodes : TypedNodes) (known : FactList) (list : List Fact) (sets : List FactSet) → record { list = list; sets = sets } ≡ known → length sets ≡ 260 → (x : Thing) → has_set x ≡ true
-    → IsOver nodes known → (k : ℕ) → k ≡ set_number x → (s : FactSet) → s ≡ get_or sets k s → IsSetOf s.words (mentioning nodes x known.list)
-set_known nodes known list sets seen whole x h over k is s read =
+pub set_known : (nodes : TypedNodes) (known : FactList) (list : List Fact) (sets : List FactSet) → record { list = list; sets = sets } ≡ known → (x : Thing) → has_set x ≡ true
+    → IsOver nodes known → (k : ℕ) → k ≡ set_number x → (words : List ℕ) → words ≡ words_at sets k → IsSetOf words (mentioning nodes x known.list)
+set_known nodes known list sets seen x h over k is words read =
     let P : List ℕ → Type 0 = λ ws. IsSetOf ws (mentioning nodes x known.list) in
-    subst P (sym (set_found known list sets seen whole x h k is s read)) (over.sets x h)
+    subst P (sym (set_found known list sets seen x k is words read)) (over.sets x h)
 
 claims-unmarked : (nodes : TypedNodes) (x : Thing) (fs : List Fact) → claims_in nodes (unmarked (mentioning nodes x fs) fs) ≡ without x (claims_in nodes fs)
 claims-unmarked nodes x [] = refl
@@ -237,19 +264,17 @@ claims-dropped nodes x words fs few set =
     ap (λ ms. claims_in nodes (unmarked ms fs)) known ∙ claims-unmarked nodes x fs
 
 -- The empty list.
-pub empty_words : (sets : List FactSet) (k : ℕ) → All (λ s. IsSetOf s.words []) sets → k < length sets → IsSetOf (words_at sets k) []
-empty_words [] k all h = absurd (omega (arith, h))
-empty_words (s ∷ sets) zero all h = All-head (λ s. IsSetOf s.words []) s sets all
-empty_words (s ∷ sets) (suc k) all h = empty_words sets k (All-tail (λ s. IsSetOf s.words []) s sets all) (omega (arith, h))
-
-IsOver-empty : (nodes : TypedNodes) (sets : List FactSet) → All (λ s. IsSetOf s.words []) sets → length sets ≡ 260 → IsOver nodes (record { list = []; sets = sets })
-IsOver-empty nodes sets all whole = record {
+IsOver-empty : (nodes : TypedNodes) → IsOver nodes (record { list = []; sets = [] })
+IsOver-empty nodes = record {
   facts = All-nil (λ f. is_fact nodes f ≡ true);
-  sets = λ x h. empty_words sets (set_number x) all (omega (arith, number_below x h, whole));
+  sets = λ x h. empty_set;
 }
 
-pub IsOver-new : (nodes : TypedNodes) (list : List Fact) (sets : List FactSet) → list ≡ [] → All (λ s. IsSetOf s.words []) sets → length sets ≡ 260 → IsOver nodes (record { list = list; sets = sets })
-IsOver-new nodes list sets none all whole = let P : List Fact → Type 0 = λ fs. IsOver nodes (record { list = fs; sets = sets }) in subst P (sym none) (IsOver-empty nodes sets all whole)
+pub IsOver-new : (nodes : TypedNodes) (list : List Fact) (sets : List FactSet) → list ≡ [] → sets ≡ [] → IsOver nodes (record { list = list; sets = sets })
+IsOver-new nodes list sets none unused =
+    let P : List Fact → Type 0 = λ fs. IsOver nodes (record { list = fs; sets = sets }) in
+    let Q : List FactSet → Type 0 = λ ss. IsOver nodes (record { list = []; sets = ss }) in
+    subst P (sym none) (subst Q (sym unused) (IsOver-empty nodes))
 
 -- One more fact of a list is looked at.
 pub mentioning-more : (nodes : TypedNodes) (x : Thing) (fs : List Fact) (i : ℕ) (d : Fact) → i < length fs

@@ -1,11 +1,10 @@
 -- A fact comes into the sets of what it mentions.
 use Rattle.std.proofs.Common.{◌≡◌, ℕ, zero, suc, ◌+◌, ◌<◌, ◌≤◌, Bool, true, false, ◌&&◌, ◌||◌, ◌⊎◌, inl, inr, List, [], ◌∷◌, length, take, drop, Some, None, refl, sym, ap, ◌∙◌, subst, arith}
-use Rattle.std.specs.Prelude.{slice_get, slice_set, nat_eq, nat_lt}
-use Rattle.std.proofs.lemmas.Bool.{cases_eq, cases_lt}
+use Rattle.std.specs.Prelude.{slice_get, slice_set, nat_eq}
+use Rattle.std.proofs.lemmas.Bool.{cases_eq}
 use Rattle.std.proofs.lemmas.Bool.Decides.{nat_tests}
 use Rattle.wf_ast.specs.declared.numbers.ExprId.{ExprId}
 use Rattle.wf_ast.specs.declared.things.Thing.{Thing}
-use Rattle.wf_ast.specs.declared.things.Thing.TheVariants as things
 use Rattle.wf_ast.specs.declared.types.Ty.{Ty}
 use Rattle.wf_ast.specs.declared.resolved.Expr.{Expr}
 use Rattle.wf_ast.specs.declared.typed_nodes.TypedNodes.{TypedNodes}
@@ -42,6 +41,10 @@ marks-both n p q xs ys zs a b k h j low =
     by true true false m = refl
     by true false true m = refl
     by true false false m = refl
+
+-- The sets stand as they did before.
+pub marks-from : (n : ℕ) (p : ℕ → Bool) (xs ys zs : List FactSet) → ((k : ℕ) → words_at ys k ≡ words_at xs k) → Marks n p ys zs → Marks n p xs zs
+marks-from n p xs ys zs same m k h j low = m k h j low ∙ ap (λ ws. (nat_eq j n && p k) || member ws j) (same k)
 
 pub marks-one : (n : ℕ) (xs : List FactSet) (i : ℕ) (old : List ℕ) (written : FactSet) → i < length xs → words_at xs i ≡ old
     → ((j : ℕ) → j < 512 → member written.words j ≡ (nat_eq j n || member old j)) → Marks n (λ k. nat_eq k i) xs (slice_set xs i written)
@@ -127,50 +130,45 @@ module _ (nodes : TypedNodes) (e : ExprId) (expr : Expr) (it : Lent nodes e expr
       by false m = parts-seen m (parts_of expr) 0 refl refl ∙ sym (ap (λ b. b || any_mentions (tree_of nodes) x (parts_of expr)) m)
 
 -- The set of each thing that a node names by itself.
-low-thing : (k : ℕ) → k < 256 → thing_of k ≡ things.Local (record { 0 = k })
-low-thing k h = let low : nat_lt k 256 ≡ true = grind (arith, nat_tests, h) in rw low refl
+each-set : (P : ℕ → Type 0) → P 0 → P 1 → P 2 → P 3 → ((k : ℕ) → k < 256 → P (suc (suc (suc (suc k))))) → (k : ℕ) → k < 260 → P k
+each-set P this args element slices low zero h = this
+each-set P this args element slices low (suc zero) h = args
+each-set P this args element slices low (suc (suc zero)) h = element
+each-set P this args element slices low (suc (suc (suc zero))) h = slices
+each-set P this args element slices low (suc (suc (suc (suc k)))) h = low k (omega (arith, h))
 
-each-set : (P : ℕ → Type 0) → ((k : ℕ) → k < 256 → P k) → P 256 → P 257 → P 258 → P 259 → (k : ℕ) → k < 260 → P k
-each-set P low this args element slices k h = by (cases_lt k 256)
+past : (k m : ℕ) → m < 4 → nat_eq (suc (suc (suc (suc k)))) m ≡ false
+past k m h = grind (arith, nat_tests, h)
+
+pub field-met : (n k : ℕ) → k < 260 → path_is (thing_of k) (field n) ≡ nat_eq k 0
+field-met n = each-set (λ k. path_is (thing_of k) (field n) ≡ nat_eq k 0) refl refl refl refl (λ k l. sym (past k 0 (omega arith)))
+
+pub arg-met : (n k : ℕ) → k < 260 → path_is (thing_of k) (arg n) ≡ nat_eq k 1
+arg-met n = each-set (λ k. path_is (thing_of k) (arg n) ≡ nat_eq k 1) refl refl refl refl (λ k l. sym (past k 1 (omega arith)))
+
+pub element-met : (k : ℕ) → k < 260 → is_element (thing_of k) ≡ nat_eq k 2
+element-met = each-set (λ k. is_element (thing_of k) ≡ nat_eq k 2) refl refl refl refl (λ k l. sym (past k 2 (omega arith)))
+
+pub local-met : (n k : ℕ) → k < 260 → path_is (thing_of k) (local n) ≡ nat_eq k (4 + n)
+local-met n = each-set (λ k. path_is (thing_of k) (local n) ≡ nat_eq k (4 + n)) (sym (short 0 (omega arith))) (sym (short 1 (omega arith))) (sym (short 2 (omega arith))) (sym (short 3 (omega arith))) (λ k l. by k (cases_eq k n))
   where
-    last : (k ≡ 256 → ⊥) → (k ≡ 257 → ⊥) → (k ≡ 258) ⊎ (k ≡ 258 → ⊥) → 256 ≤ k → P k
-    last a b (inl e) l = subst P (sym e) element
-    last a b (inr c) l = let e : 259 ≡ k = omega (arith, a, b, c, l, h) in subst P e slices
+    short : (m : ℕ) → m < 4 → nat_eq m (4 + n) ≡ false
+    short m h = grind (arith, nat_tests, h)
 
-    next : (k ≡ 256 → ⊥) → (k ≡ 257) ⊎ (k ≡ 257 → ⊥) → 256 ≤ k → P k
-    next a (inl e) l = subst P (sym e) args
-    next a (inr b) l = last a b (cases_eq k 258) l
-
-    high : (k ≡ 256) ⊎ (k ≡ 256 → ⊥) → 256 ≤ k → P k
-    high (inl e) l = subst P (sym e) this
-    high (inr a) l = next a (cases_eq k 257) l
-
-    by : (k < 256) ⊎ (256 ≤ k) → P k
-    by (inl l) = low k l
-    by (inr l) = high (cases_eq k 256) l
-
-pub field-met : (n k : ℕ) → k < 260 → path_is (thing_of k) (field n) ≡ nat_eq k 256
-field-met n = each-set (λ k. path_is (thing_of k) (field n) ≡ nat_eq k 256) (λ k l. let other : nat_eq k 256 ≡ false = grind (arith, nat_tests, l) in rw (low-thing k l) (sym other)) refl refl refl refl
-
-pub arg-met : (n k : ℕ) → k < 260 → path_is (thing_of k) (arg n) ≡ nat_eq k 257
-arg-met n = each-set (λ k. path_is (thing_of k) (arg n) ≡ nat_eq k 257) (λ k l. let other : nat_eq k 257 ≡ false = grind (arith, nat_tests, l) in rw (low-thing k l) (sym other)) refl refl refl refl
-
-pub element-met : (k : ℕ) → k < 260 → is_element (thing_of k) ≡ nat_eq k 258
-element-met = each-set (λ k. is_element (thing_of k) ≡ nat_eq k 258) (λ k l. let other : nat_eq k 258 ≡ false = grind (arith, nat_tests, l) in rw (low-thing k l) (sym other)) refl refl refl refl
-
-pub local-met : (n k : ℕ) → n < 256 → k < 260 → path_is (thing_of k) (local n) ≡ nat_eq k n
-local-met n k h = each-set (λ k. path_is (thing_of k) (local n) ≡ nat_eq k n) (λ k l. rw (low-thing k l) refl) (past 256 (omega arith)) (past 257 (omega arith)) (past 258 (omega arith)) (past 259 (omega arith)) k
-  where
-    past : (m : ℕ) → 256 ≤ m → false ≡ nat_eq m n
-    past m l = grind (arith, nat_tests, h, l)
+    by : (k : ℕ) → (k ≡ n) ⊎ (k ≡ n → ⊥) → nat_eq k n ≡ nat_eq (suc (suc (suc (suc k)))) (4 + n)
+    by k (inl e) =
+        let a : nat_eq k n ≡ true = grind (arith, nat_tests, e) in
+        let b : nat_eq (suc (suc (suc (suc k)))) (4 + n) ≡ true = grind (arith, nat_tests, e) in a ∙ sym b
+    by k (inr e) =
+        let a : nat_eq k n ≡ false = grind (arith, nat_tests, e) in
+        let b : nat_eq (suc (suc (suc (suc k)))) (4 + n) ≡ false = grind (arith, nat_tests, e) in a ∙ sym b
 
 -- A local from 256 on has no set.
 pub local-unmet : (n k : ℕ) → 256 ≤ n → k < 260 → false ≡ path_is (thing_of k) (local n)
-local-unmet n k h = each-set (λ k. false ≡ path_is (thing_of k) (local n)) (λ k l. let other : nat_eq k n ≡ false = grind (arith, nat_tests, h, l) in rw (low-thing k l) (sym other)) refl refl refl refl k
+local-unmet n k h = each-set (λ k. false ≡ path_is (thing_of k) (local n)) refl refl refl refl (λ k l. let other : nat_eq k n ≡ false = grind (arith, nat_tests, h, l) in sym other) k
 
-pub local-is-met : (ty : Ty) (n k : ℕ) → k < 260 → (path_is (thing_of k) (local n) || (is_list ty && nat_eq k 259)) ≡ local_is (thing_of k) ty n
-local-is-met ty n = each-set (λ k. (path_is (thing_of k) (local n) || (is_list ty && nat_eq k 259)) ≡ local_is (thing_of k) ty n)
-    (λ k l. let other : nat_eq k 259 ≡ false = grind (arith, nat_tests, l) in rw (low-thing k l, other) (by (nat_eq k n) (is_list ty))) refl refl refl refl
+pub local-is-met : (ty : Ty) (n k : ℕ) → k < 260 → (path_is (thing_of k) (local n) || (is_list ty && nat_eq k 3)) ≡ local_is (thing_of k) ty n
+local-is-met ty n = each-set (λ k. (path_is (thing_of k) (local n) || (is_list ty && nat_eq k 3)) ≡ local_is (thing_of k) ty n) refl refl refl refl (λ k l. let other = past k 3 (omega arith) in rw other (by (nat_eq k n) (is_list ty)))
   where
     by : (b l : Bool) → (b || (l && false)) ≡ (b || (l && b))
     by true l = refl

@@ -16,7 +16,7 @@ zeros_at zero j = refl
 zeros_at (suc n) zero = refl
 zeros_at (suc n) (suc j) = zeros_at n j
 
-none_in_zeros : (i : ℕ) → member (zeros 8) i ≡ false
+pub none_in_zeros : (i : ℕ) → member (zeros 8) i ≡ false
 unfolding member
 none_in_zeros i = rw (zeros_at 8 (i / 64), bit_at-zero (i % 64)) refl
 

@@ -1,5 +1,5 @@
 -- A list of facts beside the sets of those that mention a thing.
-use Rattle.std.specs.Prelude.{◌≡◌, ℕ, zero, suc, ◌<◌, ◌≤◌, Bool, true, false, ◌&&◌, ◌||◌, List, [], ◌∷◌, length, map, if◌then◌else◌, nat_lt, nat_eq}
+use Rattle.std.specs.Prelude.{◌≡◌, ℕ, zero, suc, ◌+◌, ◌<◌, ◌≤◌, Bool, true, false, ◌&&◌, ◌||◌, List, [], ◌∷◌, length, map, nat_lt, nat_eq, replicate}
 use Rattle.wf_ast.specs.declared.things.Thing.{Thing}
 use Rattle.wf_ast.specs.declared.things.Thing.TheVariants as things
 use Rattle.wf_ast.specs.declared.typed_nodes.TypedNodes.{TypedNodes}
@@ -24,23 +24,26 @@ abbrev pub IsNamedInSets : Thing → Type 0
 IsNamedInSets (things.Local x) = x.0 < 256
 IsNamedInSets x = Unit {0}
 
--- The place of its set.
+-- The number of its set.
 abbrev pub set_number : Thing → ℕ
-set_number (things.Local x) = x.0
-set_number things.This = 256
-set_number things.Args = 257
-set_number things.Element = 258
-set_number things.SliceLocals = 259
+set_number things.This = 0
+set_number things.Args = 1
+set_number things.Element = 2
+set_number things.SliceLocals = 3
+set_number (things.Local x) = 4 + x.0
 set_number x = 260
 
--- The thing with the set at a place.
+-- The thing with the set of a number.
 abbrev pub thing_of : ℕ → Thing
-thing_of k =
-    if nat_lt k 256 then things.Local (record { 0 = k })
-    else (if nat_eq k 256 then things.This else (if nat_eq k 257 then things.Args else (if nat_eq k 258 then things.Element else things.SliceLocals)))
+thing_of zero = things.This
+thing_of (suc zero) = things.Args
+thing_of (suc (suc zero)) = things.Element
+thing_of (suc (suc (suc zero))) = things.SliceLocals
+thing_of (suc (suc (suc (suc k)))) = things.Local (record { 0 = k })
 
+-- The words of the set of a number; beyond the sets they are those of the empty one.
 abbrev pub words_at : List FactSet → ℕ → List ℕ
-words_at [] k = []
+words_at [] k = replicate 8 0
 words_at (s ∷ ss) zero = s.words
 words_at (s ∷ ss) (suc k) = words_at ss k
 
@@ -60,11 +63,16 @@ pub record IsOver (nodes : TypedNodes) (known : FactList) : Type 0 where
   pub facts : AreFacts nodes known.list
   pub sets : (x : Thing) → has_set x ≡ true → IsSetOf (set_of known x) (mentioning nodes x known.list)
 
--- There is room for 512 facts, and a set for each thing.
-pub record HasRoom (len capacity sets : ℕ) : Type 0 where
+-- There is room for 512 facts.
+pub record HasRoom (len capacity : ℕ) : Type 0 where
   pub few : len ≤ 512
   pub room : 512 ≤ capacity
-  pub whole : sets ≡ 260
+
+-- There is room for the set of each thing, and the empty set stands for those that aren't in use.
+pub record HasSets (len capacity : ℕ) (none : List ℕ) : Type 0 where
+  pub few : len ≤ 260
+  pub room : 260 ≤ capacity
+  pub empty : none ≡ replicate 8 0
 
 -- 512 facts stand, and this one isn't among them.
 pub record IsFullFor (nodes : TypedNodes) (known : FactList) (f : Fact) : Type 0 where

@@ -6,7 +6,7 @@ ghost use Rattle.wf_facts.specs.FactLists.{added, common};
 ghost use Rattle.wf_facts.specs.IndexedFacts.{IsOver, IsFullFor};
 ghost use Rattle.wf_facts.specs.Sets.{IsSetOf};
 
-use crate::list::{Facts, SETS};
+use crate::list::Facts;
 use crate::marking::mark;
 use crate::sameness::same_fact;
 use crate::sets::FactSet;
@@ -47,7 +47,7 @@ impl Facts {
             return Err(Full);
         }
         self.list.push_reserved(f);
-        mark(t, f, n, self.sets.as_mut_slice());
+        mark(t, f, n, &mut self.sets);
         Ok(())
     }
 
@@ -68,8 +68,7 @@ impl Facts {
     {
         let mut list = Vec::with_capacity(alloc, 512)?;
         list.extend_from_slice(self.list.as_slice())?;
-        let mut sets = Vec::with_capacity(alloc, SETS)?;
-        sets.extend_from_slice(self.sets.as_slice())?;
+        let sets = self.sets.copy(alloc)?;
         Ok(Facts { list, sets })
     }
 }

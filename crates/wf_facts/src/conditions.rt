@@ -84,10 +84,7 @@ impl Facts {
         ensures full { OnErr result (StopsAt (claims_in t.now self.old.list) (facts_of_all t.now answer parts.now) (claims_in t.now self.new.list)) }
     {
         for i in 0..parts.len() {
-            match self.add_condition(t, parts[i], answer) {
-                Ok(()) => {}
-                Err(full) => return Err(full),
-            }
+            self.add_condition(t, parts[i], answer)?;
         }
         Ok(())
     }
@@ -155,10 +152,7 @@ impl Facts {
         ensures ok { OnOk result (claims_in t.now self.new.list ≡ added (claims_in t.now self.old.list) (claim_in t.now f)) }
         ensures full { OnErr result (StopsAt (claims_in t.now self.old.list) (claim_in t.now f ∷ []) (claims_in t.now self.new.list)) }
     {
-        match self.push(t, f) {
-            Ok(()) => Ok(()),
-            Err(full) => Err(full),
-        }
+        self.push(t, f)
     }
 }
 

@@ -22,7 +22,7 @@ impl Facts {
         ensures over { (nodes : TypedNodes) → IsOver nodes self.old → IsOver nodes self.new }
         ensures claims { (nodes : TypedNodes) → IsOver nodes self.old → claims_in nodes self.new.list ≡ without x (claims_in nodes self.old.list) }
     {
-        let dropped = self.sets[set_number(x)];
+        let dropped = *self.sets.at(set_number(x));
         self.drop_set(&dropped);
     }
 
@@ -44,7 +44,7 @@ impl Facts {
         ensures { IsSetOf result.words (mentioning t.now x self.now.list) }
     {
         if has_set(x) {
-            return self.sets[set_number(x)];
+            return *self.sets.at(set_number(x));
         }
         let list = self.list.as_slice();
         let mut meant = FactSet::new();
@@ -67,7 +67,7 @@ impl Facts {
         }
         let stay = close_up(self.list.as_mut_slice(), dropped, first);
         self.list.truncate(stay);
-        move_sets(self.sets.as_mut_slice(), dropped, first, n);
+        self.sets.move_places(dropped, first, n);
     }
 }
 
@@ -90,7 +90,7 @@ fn close_up(list: &mut [Fact], dropped: &FactSet, first: usize) -> usize
 }
 
 // Moves the places in each set once those of `dropped`, none of them before `first`, leave a list of `n`.
-fn move_sets(sets: &mut [FactSet], dropped: &FactSet, first: usize, n: usize)
+pub(crate) fn move_sets(sets: &mut [FactSet], dropped: &FactSet, first: usize, n: usize)
     requires few { n ≤ 512 }
     requires first { first ≤ n }
     requires before { (k : ℕ) → k < first → member dropped.now.words k ≡ false }

@@ -10,7 +10,7 @@ ghost use Rattle.wf_facts.specs.FactLists.{with_condition, without};
 ghost use Rattle.wf_facts.specs.IndexedFacts.{FactList, mentioning};
 ghost use Rattle.wf_facts.specs.Sets.{IsSetOf};
 
-/// Behind `if c == 0` and `if (c < 48) or (57 < c)`, which both leave, three facts stand: `c <> 0`, `c >= 48`, `c <= 57`.
+/// After `if c == 0` and `if (c < 48) or (57 < c)`, which both leave, three facts stand: `c <> 0`, `c >= 48`, `c <= 57`.
 pub fn facts_of_a_digit()
     ensures { with_condition (with_condition [] is_zero false) is_no_digit false ≡ digit_facts }
 {}

@@ -13,6 +13,7 @@ pub mod laws;
 mod list;
 mod marking;
 mod mentioning;
+mod numbered;
 mod sameness;
 mod sets;
 

@@ -5,7 +5,7 @@ ghost use Rattle.wf_ast.specs.declared.typed_nodes.TypedNodes.{TypedNodes};
 ghost use Rattle.wf_facts.specs.IndexedFacts.{FactList, IsOver, IsNamedInSets, has_set as thing_has_set, set_number as number_of_set, mentioning, words_at};
 ghost use Rattle.wf_facts.specs.Sets.{IsSetOf};
 
-use crate::sets::FactSet;
+use crate::numbered::Sets;
 use std::alloc::Global;
 use std::marker::Model;
 use wf_ast::{Thing, Typed};
@@ -17,7 +17,7 @@ use wf_text::NoMemory;
 #[derive(Drop)]
 pub struct Facts {
     pub(crate) list: Vec<Fact>,
-    pub(crate) sets: Vec<FactSet>,
+    pub(crate) sets: Sets,
 }
 
 impl Model for Facts {
@@ -26,13 +26,10 @@ impl Model for Facts {
 
     ghost Value = { FactList };
 
-    ghost view = { λ f. record { list = f.list.items; sets = f.sets.items } };
+    ghost view = { λ f. record { list = f.list.items; sets = f.sets } };
 
-    ghost invariant = { λ f. HasRoom (length f.list.items) (vec_capacity f.list) (length f.sets.items) };
+    ghost invariant = { λ f. HasRoom (length f.list.items) (vec_capacity f.list) };
 }
-
-/// How many sets there are: one for each local that a method may have, and four more.
-pub(crate) const SETS: usize = 260;
 
 impl Facts {
     /// The empty list, with room for 512 facts.
@@ -41,10 +38,7 @@ impl Facts {
         ensures over { IfOk result (λ facts. (nodes : TypedNodes) → IsOver nodes facts) }
     {
         let list = Vec::with_capacity(alloc, 512)?;
-        let mut sets = Vec::with_capacity(alloc, SETS)?;
-        for place in 0..SETS {
-            sets.push_reserved(FactSet::new());
-        }
+        let sets = Sets::new(alloc)?;
         Ok(Facts { list, sets })
     }
 
@@ -85,7 +79,7 @@ impl Facts {
         if !has_set(x) {
             return None;
         }
-        Some(&self.sets[set_number(x)].words)
+        Some(&self.sets.at(set_number(x)).words)
     }
 }
 
@@ -97,17 +91,17 @@ pub(crate) fn has_set(x: Thing) -> bool
     !matches!(x, Thing::Field(_) | Thing::Arg(_))
 }
 
-// The place of a thing's set.
+// The number of a thing's set.
 pub(crate) fn set_number(x: Thing) -> usize
     requires { thing_has_set x ≡ true }
     ensures { result ≡ number_of_set x }
 {
     match x {
-        Thing::Local(n) => n.0 as usize,
-        Thing::This => 256,
-        Thing::Args => 257,
-        Thing::Element => 258,
-        Thing::SliceLocals => 259,
+        Thing::This => 0,
+        Thing::Args => 1,
+        Thing::Element => 2,
+        Thing::SliceLocals => 3,
+        Thing::Local(n) => 4 + n.0 as usize,
         _ => unreachable!(),
     }
 }

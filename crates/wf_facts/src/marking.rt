@@ -11,15 +11,14 @@ ghost use Rattle.wf_facts_exprs.specs.declared.facts.Side.TheVariants as sides;
 ghost use Rattle.wf_facts.specs.IndexedFacts.{Marks, thing_of};
 
 use crate::list::set_number;
-use crate::sets::FactSet;
+use crate::numbered::Sets;
 use wf_ast::{Expr, ExprId, LocalId, Thing, Ty, Typed};
 use wf_facts_exprs::{Fact, Side};
 
 /// Puts fact `n` into the set of each thing that it mentions.
-pub(crate) fn mark(t: &Typed, f: Fact, n: usize, sets: &mut [FactSet])
+pub(crate) fn mark(t: &Typed, f: Fact, n: usize, sets: &mut Sets)
     requires fact { is_fact t.now f ≡ true }
     requires place { n < 512 }
-    requires whole { length sets.old ≡ 260 }
     ensures { Marks n (λ k. claim_mentions (thing_of k) (claim_in t.now f)) sets.old sets.new }
 {
     match f {
@@ -32,10 +31,9 @@ pub(crate) fn mark(t: &Typed, f: Fact, n: usize, sets: &mut [FactSet])
 }
 
 // The same of a side.
-fn mark_side(t: &Typed, side: Side, n: usize, sets: &mut [FactSet])
+fn mark_side(t: &Typed, side: Side, n: usize, sets: &mut Sets)
     requires side { is_side t.now side ≡ true }
     requires place { n < 512 }
-    requires whole { length sets.old ≡ 260 }
     ensures { Marks n (λ k. side_mentions (thing_of k) (side_in t.now side)) sets.old sets.new }
 {
     match side {
@@ -47,20 +45,18 @@ fn mark_side(t: &Typed, side: Side, n: usize, sets: &mut [FactSet])
 }
 
 // The node of an expression tells the kind of its tree.
-fn mark_number(t: &Typed, e: ExprId, n: usize, sets: &mut [FactSet])
+fn mark_number(t: &Typed, e: ExprId, n: usize, sets: &mut Sets)
     requires number { is_number_at t.now e ≡ true }
     requires place { n < 512 }
-    requires whole { length sets.old ≡ 260 }
     ensures { Marks n (λ k. num_mentions (thing_of k) (num_in (tree_of t.now e))) sets.old sets.new }
 {
     let _node = t.expr(e);
     mark_expr(t, e, n, sets);
 }
 
-fn mark_condition(t: &Typed, e: ExprId, n: usize, sets: &mut [FactSet])
+fn mark_condition(t: &Typed, e: ExprId, n: usize, sets: &mut Sets)
     requires condition { is_condition_at t.now e ≡ true }
     requires place { n < 512 }
-    requires whole { length sets.old ≡ 260 }
     ensures { Marks n (λ k. cond_mentions (thing_of k) (cond_in (tree_of t.now e))) sets.old sets.new }
 {
     let _node = t.expr(e);
@@ -68,10 +64,9 @@ fn mark_condition(t: &Typed, e: ExprId, n: usize, sets: &mut [FactSet])
 }
 
 // The sum of two constants is a number, and mentions nothing.
-fn mark_sum(t: &Typed, a: ExprId, b: ExprId, n: usize, sets: &mut [FactSet])
+fn mark_sum(t: &Typed, a: ExprId, b: ExprId, n: usize, sets: &mut Sets)
     requires sum { is_side t.now (sides.Sum a b) ≡ true }
     requires place { n < 512 }
-    requires whole { length sets.old ≡ 260 }
     ensures { Marks n (λ k. side_mentions (thing_of k) (side_in t.now (sides.Sum a b))) sets.old sets.new }
 {
     mark_number(t, a, n, sets);
@@ -79,10 +74,9 @@ fn mark_sum(t: &Typed, a: ExprId, b: ExprId, n: usize, sets: &mut [FactSet])
 }
 
 // A length mentions what its operand does.
-fn mark_length(t: &Typed, e: ExprId, n: usize, sets: &mut [FactSet])
+fn mark_length(t: &Typed, e: ExprId, n: usize, sets: &mut Sets)
     requires length { is_side t.now (sides.Length e) ≡ true }
     requires place { n < 512 }
-    requires whole { length sets.old ≡ 260 }
     ensures { Marks n (λ k. num_mentions (thing_of k) (length_in t.now e (type_of_node t.now e.0) (tree_of t.now e))) sets.old sets.new }
 {
     let _node = t.expr(e);
@@ -90,10 +84,9 @@ fn mark_length(t: &Typed, e: ExprId, n: usize, sets: &mut [FactSet])
 }
 
 // Puts a place into the sets of what an expression mentions. A constant mentions nothing.
-fn mark_expr(t: &Typed, e: ExprId, n: usize, sets: &mut [FactSet])
+fn mark_expr(t: &Typed, e: ExprId, n: usize, sets: &mut Sets)
     requires node { e.0 < length t.now.exprs }
     requires place { n < 512 }
-    requires whole { length sets.old ≡ 260 }
     ensures { Marks n (λ k. mentions (tree_of t.now e) (thing_of k)) sets.old sets.new }
 {
     let expr = t.expr(e);
@@ -107,9 +100,8 @@ fn mark_expr(t: &Typed, e: ExprId, n: usize, sets: &mut [FactSet])
 }
 
 // And into those of what an expression, which is no constant number, mentions by itself, whatever its parts mention.
-fn mark_named(expr: &Expr, ty: Ty, n: usize, sets: &mut [FactSet])
+fn mark_named(expr: &Expr, ty: Ty, n: usize, sets: &mut Sets)
     requires place { n < 512 }
-    requires whole { length sets.old ≡ 260 }
     ensures { Marks n (λ k. head_mentions (thing_of k) ty expr.now) sets.old sets.new }
 {
     match expr {
@@ -117,31 +109,29 @@ fn mark_named(expr: &Expr, ty: Ty, n: usize, sets: &mut [FactSet])
             mark_local(*x, n, sets);
             mark_if_list(ty, n, sets);
         }
-        Expr::Field(_) => insert(sets, set_number(Thing::This), n),
-        Expr::Arg(_) => insert(sets, set_number(Thing::Args), n),
-        Expr::Index { .. } => insert(sets, set_number(Thing::Element), n),
+        Expr::Field(_) => sets.insert(set_number(Thing::This), n),
+        Expr::Arg(_) => sets.insert(set_number(Thing::Args), n),
+        Expr::Index { .. } => sets.insert(set_number(Thing::Element), n),
         _ => {}
     }
 }
 
 // A method has at most 256 locals.
-fn mark_local(x: LocalId, n: usize, sets: &mut [FactSet])
+fn mark_local(x: LocalId, n: usize, sets: &mut Sets)
     requires place { n < 512 }
-    requires whole { length sets.old ≡ 260 }
     ensures { Marks n (λ k. path_is (thing_of k) (local x.0)) sets.old sets.new }
 {
     if x.0 < 256 {
-        insert(sets, x.0 as usize, n);
+        sets.insert(set_number(Thing::Local(x)), n);
     }
 }
 
-fn mark_if_list(ty: Ty, n: usize, sets: &mut [FactSet])
+fn mark_if_list(ty: Ty, n: usize, sets: &mut Sets)
     requires place { n < 512 }
-    requires whole { length sets.old ≡ 260 }
-    ensures { Marks n (λ k. is_list_type ty && nat_eq k 259) sets.old sets.new }
+    ensures { Marks n (λ k. is_list_type ty && nat_eq k 3) sets.old sets.new }
 {
     if is_list(ty) {
-        insert(sets, set_number(Thing::SliceLocals), n);
+        sets.insert(set_number(Thing::SliceLocals), n);
     }
 }
 
@@ -149,14 +139,4 @@ fn is_list(ty: Ty) -> bool
     ensures { result ≡ is_list_type ty }
 {
     matches!(ty, Ty::Slice(_) | Ty::Array { .. })
-}
-
-// Puts a place into one set.
-fn insert(sets: &mut [FactSet], at: usize, n: usize)
-    requires set { at < 260 }
-    requires place { n < 512 }
-    requires whole { length sets.old ≡ 260 }
-    ensures { Marks n (λ k. nat_eq k at) sets.old sets.new }
-{
-    sets[at].insert(n);
 }

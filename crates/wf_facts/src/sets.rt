@@ -1,6 +1,6 @@
 // Sets of facts of a list, which hold 512 places.
 
-ghost use Rattle.std.specs.Prelude.{◌≡◌, ℕ, ◌<◌, ◌≤◌, ◌&&◌, ◌||◌, [], nat_eq, true, false};
+ghost use Rattle.std.specs.Prelude.{◌≡◌, ℕ, ◌<◌, ◌≤◌, ◌&&◌, ◌||◌, [], nat_eq, replicate, true, false};
 ghost use Rattle.wf_facts.specs.Sets.{member, members, ArePlaces, IsSetOf, unmarked};
 
 /// A set of places of a list: bit `i mod 64` of word `i / 64` is that of place `i`.
@@ -12,7 +12,8 @@ pub struct FactSet {
 impl FactSet {
     /// The set of no place.
     pub fn new() -> FactSet
-        ensures { IsSetOf result.words [] }
+        ensures none { IsSetOf result.words [] }
+        ensures words { result.words ≡ replicate 8 0 }
     {
         FactSet { words: [0; 8] }
     }

@@ -1,5 +1,5 @@
 -- What a range holds, it holds still once it was met with what is true of the number.
-use Rattle.std.proofs.Common.{◌≡◌, ℕ, pos, ◌+◌, ◌-◌, ◌<◌, ◌≤◌, ◌⊎◌, inl, inr, min, Bool, true, false, not, ◌&&◌, ◌||◌, nat_lt, nat_eq, refl, sym, ◌∙◌, subst, arith}
+use Rattle.std.proofs.Common.{◌≡◌, ℕ, pos, Option, Some, None, ◌+◌, ◌-◌, ◌<◌, ◌≤◌, ◌⊎◌, inl, inr, min, Bool, true, false, not, ◌&&◌, ◌||◌, nat_lt, nat_eq, refl, sym, ◌∙◌, subst, arith}
 use Rattle.std.specs.Prelude.{if◌then◌else◌, int_lt, int_le}
 use Rattle.std.specs.Int.{int_max}
 use Rattle.std.proofs.lemmas.Int.{ints, clamps}
@@ -11,7 +11,7 @@ use Rattle.wf_num.proofs.RangeLaws.{some, Holds-meet, Holds-exact}
 use Rattle.wf_ast.specs.TypedTree.{Order, less, at_most, equal, differs, at_least, greater}
 use Rattle.wf_ast.specs.Value.{compares}
 use Rattle.wf_facts_exprs.specs.Claims.{flip, complement}
-use Rattle.wf_facts_exprs.specs.RangeOf.{non_empty, up_to, from_on, below, narrowed, is_low_end, without, thinned, allows_less, allows_equal, allows_greater, implies, allows_no_more}
+use Rattle.wf_facts_exprs.specs.RangeOf.{non_empty, up_to, from_on, below, narrowed, is_low_end, without, thinned, met_with, allows_less, allows_equal, allows_greater, implies, allows_no_more}
 use Rattle.wf_facts_exprs.specs.Given.{decided, second_rule}
 
 -- ---- tests
@@ -35,6 +35,12 @@ or_cases false b h = inr h
 pub both_of : (a b : Bool) → (a && b) ≡ true → (a ≡ true) × (b ≡ true)
 both_of true b h = (refl, h)
 both_of false b h = absurd (cc (h))
+
+-- A claim whose operator a pass leaves out makes nothing of a range.
+pub met_with_passed : (pass : Order → ℕ → Range → Range) (about : Bool) (op : Order) (n : Option ℕ) (r : Range) → ((m : ℕ) (q : Range) → pass op m q ≡ q) → r ≡ met_with pass about op n r
+met_with_passed pass true op (Some n) r h = sym (h n r)
+met_with_passed pass true op None r h = refl
+met_with_passed pass false op n r h = refl
 
 -- ---- comparisons
 

@@ -127,7 +127,7 @@ is_num answer = false
 abbrev pub gives_number : BaseSig → Bool
 gives_number sig = is_num (row_of sig).gives && same_mark (row_of sig).mark Pure
 
--- The ends of a slice stand in front of it, and are numbers.
+-- The ends of a slice stand before it, and are numbers.
 abbrev pub end_fits : TypedNodes → (e end : ExprId) → Bool
 end_fits nodes e i = nat_lt i.0 e.0 && is_number_at nodes i
 
@@ -138,7 +138,7 @@ optional_end_fits nodes e (Some i) = end_fits nodes e i
 abbrev pub ends_fit : TypedNodes → ExprId → (from to : Option ExprId) → Bool
 ends_fit nodes e from to = optional_end_fits nodes e from && optional_end_fits nodes e to
 
--- The demands of a slice behind those of what is sliced.
+-- The demands of a slice after those of what is sliced.
 abbrev pub ends_refusal : List Claim → Place → SliceTree → (from to : EndTree) → Option Refusal
 ends_refusal fs at cells from to = or_else (end_refusal fs from) (or_else (end_refusal fs to) (ends_demand fs at cells from to))
 

@@ -44,10 +44,8 @@ fn check_number(t: &Typed, facts: &[Fact], e: ExprId) -> Result<(), Refusal>
     requires node { IsTrue (is_number_at t.now e) }
     ensures { result ≡ unless_refused (num_refusal (claims_in t.now facts.now) false (node_number t.now e)) tt }
 {
-    match judge(t, facts, e) {
-        Ok(_) => Ok(()),
-        Err(refusal) => Err(refusal),
-    }
+    judge(t, facts, e)?;
+    Ok(())
 }
 
 // Those of a condition.
@@ -127,10 +125,8 @@ fn check_pair(t: &Typed, facts: &[Fact], a: ExprId, b: ExprId) -> Result<(), Ref
     requires right { IsTrue (is_number_at t.now b) }
     ensures { result ≡ unless_refused (or_else (num_refusal (claims_in t.now facts.now) false (node_number t.now a)) (num_refusal (claims_in t.now facts.now) false (node_number t.now b))) tt }
 {
-    match check_number(t, facts, a) {
-        Ok(()) => check_number(t, facts, b),
-        Err(refusal) => Err(refusal),
-    }
+    check_number(t, facts, a)?;
+    check_number(t, facts, b)
 }
 
 // Conditions, in order.
@@ -141,10 +137,7 @@ fn check_all(t: &Typed, facts: &[Fact], e: ExprId, parts: &[ExprId]) -> Result<(
     ensures { result ≡ unless_refused (conds_refusal (claims_in t.now facts.now) t.now parts.now) tt }
 {
     for i in 0..parts.len() {
-        match check_condition(t, facts, parts[i]) {
-            Ok(()) => {}
-            Err(refusal) => return Err(refusal),
-        }
+        check_condition(t, facts, parts[i])?;
     }
     Ok(())
 }

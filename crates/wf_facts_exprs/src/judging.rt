@@ -33,10 +33,8 @@ pub(crate) fn judge(t: &Typed, facts: &[Fact], e: ExprId) -> Result<Range, Refus
     ensures answer { result ≡ judged (claims_in t.now facts.now) (node_number t.now e) }
     ensures small { IfOk result (λ r. IsSmall r) }
 {
-    match judge_rule(t, facts, e) {
-        Ok(r) => close(t, e, meet_facts(t, facts, expr_shape(t, e), r)),
-        Err(refusal) => Err(refusal),
-    }
+    let r = judge_rule(t, facts, e)?;
+    close(t, e, meet_facts(t, facts, expr_shape(t, e), r))
 }
 
 // An operator has to lie in its width.
@@ -181,14 +179,8 @@ fn judge_element(
     ensures answer { result ≡ ruled (claims_in t.now facts.now) (node_number t.now e) }
     ensures small { IfOk result (λ r. IsSmall r) }
 {
-    match judge_slice(t, facts, base) {
-        Ok(()) => {}
-        Err(refusal) => return Err(refusal),
-    }
-    let range = match judge(t, facts, at) {
-        Ok(range) => range,
-        Err(refusal) => return Err(refusal),
-    };
+    judge_slice(t, facts, base)?;
+    let range = judge(t, facts, at)?;
     let index = Ranged {
         side: Side::Expr(at),
         range,
@@ -280,10 +272,7 @@ fn judge_convert(
     ensures answer { result ≡ ruled (claims_in t.now facts.now) (node_number t.now e) }
     ensures small { IfOk result (λ r. IsSmall r) }
 {
-    let range = match judge(t, facts, of) {
-        Ok(range) => range,
-        Err(refusal) => return Err(refusal),
-    };
+    let range = judge(t, facts, of)?;
     if range.fits(bits_in(to)) {
         Ok(range)
     } else {
@@ -338,10 +327,8 @@ fn judge_length(t: &Typed, facts: &[Fact], e: ExprId, on: ExprId) -> Result<Rang
     ensures answer { result ≡ ruled (claims_in t.now facts.now) (node_number t.now e) }
     ensures small { IfOk result (λ r. IsSmall r) }
 {
-    match judge_slice(t, facts, on) {
-        Ok(()) => Ok(elements_rule(t, on)),
-        Err(refusal) => Err(refusal),
-    }
+    judge_slice(t, facts, on)?;
+    Ok(elements_rule(t, on))
 }
 
 // A peek needs its bytes.
@@ -433,10 +420,7 @@ fn judge_cut(
     requires below { base.0 < e.0 }
     ensures answer { result ≡ judged_slice (claims_in t.now facts.now) (node_slice t.now e) }
 {
-    match judge_slice(t, facts, base) {
-        Ok(()) => {}
-        Err(refusal) => return Err(refusal),
-    }
+    judge_slice(t, facts, base)?;
     match (from, to) {
         (None, None) => Ok(()),
         (Some(i), None) => judge_from(t, facts, e, base, i),
@@ -455,16 +439,12 @@ fn judge_from(t: &Typed, facts: &[Fact], e: ExprId, base: ExprId, i: ExprId) -> 
     requires here { e.0 < length t.now.exprs }
     ensures answer { result ≡ unless_refused (ends_refusal (claims_in t.now facts.now) (place_of_node t.now e.0) (node_slice t.now base) (present (node_number t.now i)) absent) tt }
 {
-    match judge(t, facts, i) {
-        Ok(range) => {
-            let first = Ranged {
-                side: Side::Expr(i),
-                range,
-            };
-            ordered_ends(t, facts, e, first, length_side(t, facts, base))
-        }
-        Err(refusal) => Err(refusal),
-    }
+    let range = judge(t, facts, i)?;
+    let first = Ranged {
+        side: Side::Expr(i),
+        range,
+    };
+    ordered_ends(t, facts, e, first, length_side(t, facts, base))
 }
 
 // Whether an end is at most what it has to be.
@@ -497,10 +477,7 @@ fn judge_up_to(t: &Typed, facts: &[Fact], e: ExprId, base: ExprId, j: ExprId) ->
     requires here { e.0 < length t.now.exprs }
     ensures answer { result ≡ unless_refused (ends_refusal (claims_in t.now facts.now) (place_of_node t.now e.0) (node_slice t.now base) absent (present (node_number t.now j))) tt }
 {
-    let range = match judge(t, facts, j) {
-        Ok(range) => range,
-        Err(refusal) => return Err(refusal),
-    };
+    let range = judge(t, facts, j)?;
     let last = Ranged {
         side: Side::Expr(j),
         range,
@@ -509,10 +486,8 @@ fn judge_up_to(t: &Typed, facts: &[Fact], e: ExprId, base: ExprId, j: ExprId) ->
         side: Side::Num(0),
         range: number_range(t, facts, 0),
     };
-    match ordered_ends(t, facts, e, zero, last) {
-        Ok(()) => ordered_ends(t, facts, e, last, length_side(t, facts, base)),
-        Err(refusal) => Err(refusal),
-    }
+    ordered_ends(t, facts, e, zero, last)?;
+    ordered_ends(t, facts, e, last, length_side(t, facts, base))
 }
 
 #[cycle(judging)]
@@ -531,26 +506,18 @@ fn judge_between(
     requires here { e.0 < length t.now.exprs }
     ensures answer { result ≡ unless_refused (ends_refusal (claims_in t.now facts.now) (place_of_node t.now e.0) (node_slice t.now base) (present (node_number t.now i)) (present (node_number t.now j))) tt }
 {
-    let range = match judge(t, facts, i) {
-        Ok(range) => range,
-        Err(refusal) => return Err(refusal),
-    };
+    let range = judge(t, facts, i)?;
     let first = Ranged {
         side: Side::Expr(i),
         range,
     };
-    let range = match judge(t, facts, j) {
-        Ok(range) => range,
-        Err(refusal) => return Err(refusal),
-    };
+    let range = judge(t, facts, j)?;
     let last = Ranged {
         side: Side::Expr(j),
         range,
     };
-    match ordered_ends(t, facts, e, first, last) {
-        Ok(()) => ordered_ends(t, facts, e, last, length_side(t, facts, base)),
-        Err(refusal) => Err(refusal),
-    }
+    ordered_ends(t, facts, e, first, last)?;
+    ordered_ends(t, facts, e, last, length_side(t, facts, base))
 }
 
 /// An operator with its right operand's place in the chain.
@@ -581,20 +548,14 @@ fn judge_chain(
     requires numbers { IsTrue (list_all (is_number_at t.now) parts.now) }
     ensures answer { result ≡ ruled (claims_in t.now facts.now) (node_number t.now e) }
 {
-    let mut r = match judge(t, facts, parts[0]) {
-        Ok(r) => r,
-        Err(refusal) => return Err(refusal),
-    };
+    let mut r = judge(t, facts, parts[0])?;
     for i in 1..parts.len() {
-        match judge_next(t, facts, link_at(t, facts, e, op, parts, i), parts[i], r) {
-            Ok(next) => r = next,
-            Err(refusal) => return Err(refusal),
-        }
+        r = judge_next(t, facts, link_at(t, facts, e, op, parts, i), parts[i], r)?;
     }
     Ok(r)
 }
 
-// The operator in front of an operand.
+// The operator before an operand.
 fn link_at(t: &Typed, facts: &[Fact], e: ExprId, op: Op, parts: &[ExprId], i: usize) -> Link
     requires known { AreFacts t.now facts.now }
     requires node { IsTrue (is_number_at t.now e) }
@@ -655,14 +616,8 @@ fn judge_next(
     ensures answer { result ≡ one_more (claims_in t.now facts.now) (arith_of link.op) link.bits link.sign link.ordered link.last r (node_number t.now part) }
     ensures small { link.last ≡ false → IfOk result (λ r. IsSmall r) }
 {
-    let operand = match judge(t, facts, part) {
-        Ok(range) => range,
-        Err(refusal) => return Err(refusal),
-    };
-    match operand_demand(link.op, link.bits, link.sign, operand) {
-        Ok(()) => {}
-        Err(refusal) => return Err(refusal),
-    }
+    let operand = judge(t, facts, part)?;
+    operand_demand(link.op, link.bits, link.sign, operand)?;
     let next = operator_range(link.op, link.bits, link.ordered, r, operand);
     if lies_in(link, next) {
         Ok(next)

@@ -19,5 +19,5 @@ pub use conditions::check_value;
 pub use facts::{Cmp, Fact, Side};
 pub use giving::gives;
 pub use operands::{compared_by, is_number, joins, needs_all};
-pub use ranges::{gives_sides, range_of};
+pub use ranges::{checked_range, gives_sides, range_of};
 pub use sides::same_side;

@@ -1,7 +1,8 @@
 //! What a range is met with: the facts that compare the same tree with a number.
 
-ghost use Rattle.std.specs.Prelude.{◌≡◌, ◌<◌, ◌^◌, length, IsTrue, nat_lt, IfSome};
+ghost use Rattle.std.specs.Prelude.{◌≡◌, ℕ, ◌<◌, ◌^◌, length, IsTrue, nat_lt, IfSome};
 ghost use Rattle.wf_num.specs.Ranges.{IsSmall};
+ghost use Rattle.wf_num.specs.declared.ranges.Range.{Range};
 ghost use Rattle.wf_ast.specs.TypedTrees.{num_in, tree_of};
 ghost use Rattle.wf_ast.specs.Same.{same_num};
 ghost use Rattle.wf_facts_exprs.specs.Claims.{AreFacts, claim_in, claims_in, is_fact, is_number_at, is_side, order_of, side_in, tree_of_side};
@@ -47,6 +48,7 @@ fn meet_by(t: &Typed, facts: &[Fact], pass: Pass, shape: Shape, r: Range) -> Ran
     met
 }
 
+#[tactic(auto, using(crate::proofs::PassLemmas::met_with_passed))]
 fn meet_fact(t: &Typed, fact: Fact, pass: Pass, shape: Shape, r: Range) -> Range
     requires known { IsTrue (is_fact t.now fact) }
     requires shape { IsTrue (shape_fits t.now shape) }
@@ -54,17 +56,38 @@ fn meet_fact(t: &Typed, fact: Fact, pass: Pass, shape: Shape, r: Range) -> Range
     ensures small { IsSmall r → IsSmall result }
 {
     match fact {
-        Fact::Compare { left, op, right } => match number_of(t, right) {
-            Some(n) => {
-                if is_side_of(t, left, shape) {
-                    meet_number(pass, op, n, r)
-                } else {
-                    r
-                }
+        Fact::Compare { left, op, right } => {
+            if passes_over(pass, op) {
+                return r;
             }
-            None => r,
-        },
+            match number_of(t, right) {
+                Some(n) => {
+                    if is_side_of(t, left, shape) {
+                        meet_number(pass, op, n, r)
+                    } else {
+                        r
+                    }
+                }
+                None => r,
+            }
+        }
         Fact::Cond { .. } => r,
+    }
+}
+
+// Whether a pass leaves the comparisons of an operator to the other.
+fn passes_over(pass: Pass, op: Cmp) -> bool
+    ensures { IsTrue result → (n : ℕ) (r : Range) → pass_of pass (order_of op) n r ≡ r }
+{
+    match pass {
+        Pass::Narrow => match op {
+            Cmp::Ne => true,
+            Cmp::Lt | Cmp::Le | Cmp::Eq | Cmp::Ge | Cmp::Gt => false,
+        },
+        Pass::Thin => match op {
+            Cmp::Ne => false,
+            Cmp::Lt | Cmp::Le | Cmp::Eq | Cmp::Ge | Cmp::Gt => true,
+        },
     }
 }
 

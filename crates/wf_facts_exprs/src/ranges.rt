@@ -1,13 +1,13 @@
 //! The range of an expression under a list of facts, and what the list gives of two sides.
 
-ghost use Rattle.std.specs.Prelude.{◌≡◌, ◌<◌, ◌^◌, false, IsTrue, None};
+ghost use Rattle.std.specs.Prelude.{◌≡◌, ◌<◌, ◌^◌, false, IsTrue, IfOk, None};
 ghost use Rattle.wf_num.specs.Ranges.{IsSmall, exact_range};
 ghost use Rattle.wf_ast.specs.TypedTree.{number};
 ghost use Rattle.wf_ast.specs.TypedTrees.{no_place};
 ghost use Rattle.wf_facts_exprs.specs.Claims.{AreFacts, claims_in, is_number_at, is_side, order_of, side_in};
 ghost use Rattle.wf_facts_exprs.specs.RangeOf.{met, range_of as range_under, side_range};
 ghost use Rattle.wf_facts_exprs.specs.Given.{gives_sides as sides_given};
-ghost use Rattle.wf_facts_exprs.specs.Demands.{num_refusal, side_refusal};
+ghost use Rattle.wf_facts_exprs.specs.Demands.{num_refusal, side_refusal, unless_refused};
 ghost use Rattle.wf_facts_exprs.specs.Operands.{node_number};
 
 use crate::facts::{Cmp, Fact, Side};
@@ -17,6 +17,7 @@ use crate::meeting::meet_facts;
 use crate::shapes::Shape;
 use wf_ast::{ExprId, Typed};
 use wf_num::Range;
+use wf_text::Refusal;
 
 /// The range of a number whose demands are met under these facts.
 pub fn range_of(t: &Typed, facts: &[Fact], e: ExprId) -> Range
@@ -30,6 +31,16 @@ pub fn range_of(t: &Typed, facts: &[Fact], e: ExprId) -> Range
         Ok(range) => range,
         Err(_) => unreachable!(),
     }
+}
+
+/// The range of a number under these facts, or the first of its demands that isn't met.
+pub fn checked_range(t: &Typed, facts: &[Fact], e: ExprId) -> Result<Range, Refusal>
+    requires known { AreFacts t.now facts.now }
+    requires node { IsTrue (is_number_at t.now e) }
+    ensures answer { result ≡ unless_refused (num_refusal (claims_in t.now facts.now) false (node_number t.now e)) (range_under (claims_in t.now facts.now) (node_number t.now e)) }
+    ensures small { IfOk result (λ r. IsSmall r) }
+{
+    judge(t, facts, e)
 }
 
 /// Whether the facts give that two sides, whose demands are met, compare so: by a fact that compares them, or by their

@@ -5,8 +5,6 @@ use Rattle.std.proofs.lemmas.Bool.{and_parts}
 use Rattle.std.proofs.lemmas.Bool.Decides.{nat_tests}
 use Rattle.std.proofs.lemmas.List.{length-append}
 use Rattle.wf_text.specs.declared.place.Place.{Place}
-use Rattle.wf_text.specs.declared.faults.PhaseFault.{PhaseFault}
-use Rattle.wf_text.specs.declared.faults.PhaseFault.TheVariants as faults
 use Rattle.wf_text.specs.declared.rules.Rule.{Rule}
 use Rattle.wf_text.specs.declared.rules.Rule.TheVariants.{L8}
 use Rattle.wf_text.specs.declared.rules.Refusal.{Refusal}
@@ -24,7 +22,7 @@ use Rattle.wf_facts.specs.Conditions.{StopsAt}
 use Rattle.wf_loops.specs.declared.moments.Moment.{Moment}
 use Rattle.wf_loops.specs.declared.moments.Moment.TheVariants.{Leave}
 use Rattle.wf_loops.specs.LoopRules.{is_asked, rule_of, required, promises_refusal, with_promises, limit, after_list}
-use Rattle.wf_loops.specs.LoopNodes.{are_conditions, promises_in, phase_answer}
+use Rattle.wf_loops.specs.LoopNodes.{are_conditions, promises_in}
 
 -- The promise at a place, and those from the next one on.
 module _ (nodes : TypedNodes) where
@@ -152,11 +150,6 @@ pub found_no_room : (at : Place) (before facts after : List Claim) → StopsAt b
 found_no_room at before facts after h =
     refused_by (limit at (all_added before facts)) (record { rule = L8; at = at }) (past_limit at (all_added before facts) (too_many facts before h.count h.next after h.is h.so_far h.many h.other))
 
--- What a call that takes memory answers.
-pub phase_refused : (refusal : Option Refusal) (answer : Result (Unit {0}) Refusal) (fault : PhaseFault) → answer ≡ unless_refused refusal (tt {0}) → phase_answer answer ≡ Err fault → (found : Refusal) × (fault ≡ faults.Refused found) × (refusal ≡ Some found)
-phase_refused None answer fault h k = absurd (cc (h, k))
-phase_refused (Some found) answer fault h k = (found, cc (h, k), refl)
-
 -- A list that is refused by the limit for one promise is so for all.
 pub asked_past : (at : Place) (moment : Moment) (asked : Bool) (t : CondTree) (rest : List (Clause × CondTree)) (fs whole : List Claim) (found : Refusal) → asked ≡ true
     → whole ≡ with_promises moment (if asked then with_condition fs t true else fs) rest → limit at (with_condition fs t true) ≡ Some found → limit at whole ≡ Some found
@@ -164,7 +157,7 @@ asked_past at moment asked t rest fs whole found h e past =
     let e' : whole ≡ with_promises moment (with_condition fs t true) rest = e ∙ ap (λ b. with_promises moment (if b then with_condition fs t true else fs) rest) h in
     ap (limit at) e' ∙ limit_grows at (with_condition fs t true) (with_promises moment (with_condition fs t true) rest) found (with_promises_grows moment (with_condition fs t true) rest) past
 
--- What the promises of the list behind a loop are refused by, the whole list is.
+-- What the promises of the list after a loop are refused by, the whole list is.
 pub after_past : (nodes : TypedNodes) (at : Place) (head : Head) (list : List Fact) (ps : List (Clause × CondTree)) (found : Refusal) → list ≡ [] → head.clauses ≡ ps
     → limit at (with_promises Leave (claims_in nodes list) ps) ≡ Some found → limit at (after_list head) ≡ Some found
 after_past nodes at head list ps found none same h = by head.is_left (ap (λ l. limit at (with_promises Leave (claims_in nodes l) head.clauses)) (sym none) ∙ ap (λ cs. limit at (with_promises Leave (claims_in nodes list) cs)) same ∙ h)

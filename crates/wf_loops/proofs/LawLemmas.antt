@@ -165,7 +165,7 @@ module _ (c : Context) (s : State) (lawful : IsLawful c s) where
         let hold = promises-hold Test fs at head.clauses k all conds.1 h in
         (hold, promises-true s Test [] head.clauses tt hold)
 
-    -- Behind a loop without a `break` the condition doesn't hold.
+    -- After a loop without a `break` the condition doesn't hold.
     after-true : (left : Bool) → AllHold s Leave head.clauses → (left ≡ false → truth_of s head.cond ≡ Some false)
         → AllTrue s (if left then with_promises Leave [] head.clauses else with_condition (with_promises Leave [] head.clauses) head.cond false)
     after-true true hold h = promises-true s Leave [] head.clauses tt hold

@@ -20,7 +20,7 @@ AllHold s moment [] = Unit {0}
 AllHold s moment (c ∷ cs) = (is_asked moment c.0 ≡ true → truth_of s c.1 ≡ Some true) × AllHold s moment cs
 
 -- The condition goes into the body, whose first list is true; or it ends the loop, whose `inv` and `post` are true, and so
--- is the list behind it.
+-- is the list after it.
 pub data Tested (s : State) (head : Head) : Type 0 where
   goes_in : truth_of s head.cond ≡ Some true → AllTrue s (body_list (head_list head) head) → Tested s head
   ends : truth_of s head.cond ≡ Some false → AllHold s Leave head.clauses → AllTrue s (after_list head) → Tested s head

@@ -50,10 +50,6 @@ abbrev pub promises_in : TypedNodes → List (Clause × ExprId) → List (Clause
 promises_in nodes clauses = map (λ c. (c.0, node_cond nodes c.1)) clauses
 
 -- An answer by a phase: a refusal, or want of memory, which may come at any time.
-abbrev pub phase_answer : {X : Type 0} → Result X Refusal → Result X PhaseFault
-phase_answer (Ok x) = Ok x
-phase_answer (Err refusal) = Err (faults.Refused refusal)
-
 abbrev pub Decides : {X : Type 0} → Option Refusal → Result X PhaseFault → Type 0
 Decides refusal (Ok x) = refusal ≡ None
 Decides refusal (Err (faults.Refused found)) = refusal ≡ Some found

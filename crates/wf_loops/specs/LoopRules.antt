@@ -1,7 +1,7 @@
 -- What the promises of a loop ask, and what they tell. `pre` and `inv` are asked wherever the loop's condition is about to
 -- be tested: where the loop is entered, and on each way back. `inv` and `post` are asked where the loop is left, by its
--- condition or by a `break`. At its head and behind it a loop knows what is promised there, and nothing of what was known
--- in front of it.
+-- condition or by a `break`. At its head and after it a loop knows what is promised there, and nothing of what was known
+-- before it.
 use Rattle.std.specs.Prelude.{Bool, true, false, List, [], ◌∷◌, length, Option, None, if◌then◌else◌, nat_le}
 use Rattle.wf_text.specs.declared.place.Place.{Place}
 use Rattle.wf_text.specs.declared.rules.Rule.{Rule}
@@ -80,7 +80,7 @@ exit_refusal fs at head =
     if is_word_true head.cond then None
     else or_else (limit at (exit_list fs head)) (promises_refusal Leave (exit_list fs head) at head.clauses)
 
--- What is known behind the loop. Where no `break` leaves it, its condition doesn't hold there.
+-- What is known after the loop. Where no `break` leaves it, its condition doesn't hold there.
 abbrev pub after_list : Head → List Claim
 after_list head =
     if head.is_left then with_promises Leave [] head.clauses else with_condition (with_promises Leave [] head.clauses) head.cond false
@@ -92,6 +92,6 @@ test_refusal at head =
     or_else (limit at (head_list head)) (or_else (cond_refusal (head_list head) head.cond)
     (or_else (exit_refusal (head_list head) at head) (limit at (body_list (head_list head) head))))
 
--- What a loop asks in front of its body.
+-- What a loop asks before its body.
 abbrev pub front_refusal : List Claim → Place → Head → Option Refusal
 front_refusal fs at head = or_else (entry_refusal fs at head) (test_refusal at head)

@@ -8,7 +8,7 @@ ghost use Rattle.wf_facts.specs.IndexedFacts.{IsOver};
 ghost use Rattle.wf_loops.specs.LoopRules.{is_asked as asked_at, rule_of as rule_of_clause, required, promises_refusal, entry_refusal, way_back_refusal, break_refusal, exit_refusal};
 ghost use Rattle.wf_loops.specs.LoopNodes.{is_loop, head_at, place_at, are_conditions, promises_in, Decides};
 
-use crate::lists::{add, or_refused};
+use crate::lists::add;
 use crate::loops::{head_of, is_word_true, place_of};
 use crate::moments::Moment;
 use std::alloc::Global;
@@ -61,8 +61,9 @@ pub fn at_exit(alloc: Global, head: &Facts, t: &Typed, w: StmtId) -> Result<(), 
     }
     let at = place_of(t, w);
     let mut facts = head.copy(alloc)?;
-    or_refused(add(&mut facts, t, cond, false, at))?;
-    or_refused(ask(&facts, t, w, Moment::Leave, at))
+    add(&mut facts, t, cond, false, at)?;
+    ask(&facts, t, w, Moment::Leave, at)?;
+    Ok(())
 }
 
 // The promises of a loop at a moment, under these facts.

@@ -8,7 +8,7 @@ ghost use Rattle.wf_loops.specs.LoopRules.{entry_refusal, way_back_refusal, brea
 ghost use Rattle.wf_loops.specs.Examples.{known, counting, counting_below, broken_off, promising_a_sum};
 
 /// A loop counts to 10, with `inv i <= 10` and `post i >= 5`. It is entered with `i == 0`, and each way back, where `i` is
-/// at most 10 and below 11, is fine. Its head knows the `inv`, its body besides that `i < 10`, and behind it stands what
+/// at most 10 and below 11, is fine. Its head knows the `inv`, its body besides that `i < 10`, and after it stands what
 /// both promise, and that `i >= 10`: by this the `post` is given at the exit.
 #[tactic(auto, unfolding(wf_facts_exprs::specs::RangeOf::met))]
 pub fn a_loop_that_counts()
@@ -20,7 +20,7 @@ pub fn a_loop_that_counts()
     ensures after { after_list (counting false) ≡ known at_most 10 ∷ known at_least 5 ∷ known at_least 10 ∷ [] }
 {}
 
-/// A `break` at the head of its body would break the `post`, and behind the loop nothing would be known of its condition.
+/// A `break` at the head of its body would break the `post`, and after the loop nothing would be known of its condition.
 #[tactic(auto, unfolding(wf_facts_exprs::specs::RangeOf::met))]
 pub fn a_loop_that_a_break_leaves()
     ensures refused { (at : Place) → break_refusal (known at_most 10 ∷ known less 10 ∷ []) at (counting true) ≡ Some (record { rule = B12; at = at }) }

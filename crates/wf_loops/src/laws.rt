@@ -31,12 +31,12 @@ pub fn a_head_list_is_true()
 {}
 
 /// Where the head list is true and the test of the condition isn't refused, the condition isn't stuck: it goes into the
-/// body, whose first list is true, or it ends the loop, whose `inv` and `post` are true, and so is the list behind it.
+/// body, whose first list is true, or it ends the loop, whose `inv` and `post` are true, and so is the list after it.
 pub fn a_test_of_a_loop_is_not_stuck()
     ensures { (c : Context) (s : State) (at : Place) (head : Head) → IsLawful c s → well_head c head ≡ true → AllTrue s (head_list head) → test_refusal at head ≡ None → Tested s head }
 {}
 
-/// Where the facts at a `break` are true and it isn't refused, `inv` and `post` are true, and so is the list behind the
+/// Where the facts at a `break` are true and it isn't refused, `inv` and `post` are true, and so is the list after the
 /// loop that it leaves.
 pub fn what_a_break_leaves_is_true()
     ensures { (c : Context) (s : State) (fs : List Claim) (at : Place) (head : Head) → IsLawful c s → well_claims c fs ≡ true → well_head c head ≡ true → AllTrue s fs → break_refusal fs at head ≡ None → head.is_left ≡ true → AllHold s Leave head.clauses × AllTrue s (after_list head) }

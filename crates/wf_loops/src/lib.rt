@@ -1,5 +1,5 @@
 // The loop rules: what the promises `pre`, `inv` and `post` of a loop ask where it is entered, on each way back, where
-// its condition ends it and at each `break`; and the facts that stand at its head and behind it.
+// its condition ends it and at each `break`; and the facts that stand at its head and after it.
 #![tactic(auto)]
 
 mod asking;

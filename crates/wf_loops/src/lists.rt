@@ -1,4 +1,4 @@
-// The facts that stand at a loop's head, and behind it.
+// The facts that stand at a loop's head, and after it.
 
 ghost use Rattle.std.specs.Prelude.{◌≡◌, ◌≤◌, length, true, OnOk};
 ghost use Rattle.wf_facts_exprs.specs.Claims.{claims_in, is_condition_at};
@@ -7,7 +7,7 @@ ghost use Rattle.wf_facts_exprs.specs.Operands.{node_cond};
 ghost use Rattle.wf_facts.specs.FactLists.{with_condition};
 ghost use Rattle.wf_facts.specs.IndexedFacts.{IsOver};
 ghost use Rattle.wf_loops.specs.LoopRules.{with_promises, limit, head_list, after_list};
-ghost use Rattle.wf_loops.specs.LoopNodes.{is_loop, head_at, place_at, are_conditions, promises_in, Makes, phase_answer};
+ghost use Rattle.wf_loops.specs.LoopNodes.{is_loop, head_at, place_at, are_conditions, promises_in, Makes};
 
 use crate::asking::is_asked;
 use crate::loops::{head_of, place_of};
@@ -27,11 +27,11 @@ pub fn head_facts(alloc: Global, t: &Typed, w: StmtId) -> Result<Facts, PhaseFau
     let at = place_of(t, w);
     let clauses = head.clauses.as_slice();
     let mut facts = Facts::new(alloc)?;
-    or_refused(add_promises(&mut facts, t, clauses, Moment::Test, at))?;
+    add_promises(&mut facts, t, clauses, Moment::Test, at)?;
     Ok(facts)
 }
 
-/// What is known behind a loop: the facts of each `inv` and each `post`, in written order, and, where no `break` leaves the
+/// What is known after a loop: the facts of each `inv` and each `post`, in written order, and, where no `break` leaves the
 /// loop, those of its condition that doesn't hold. L8 at the `while` comes exactly where they are more than 512.
 pub fn after_facts(alloc: Global, t: &Typed, w: StmtId) -> Result<Facts, PhaseFault>
     requires { is_loop t.now w ≡ true }
@@ -41,21 +41,11 @@ pub fn after_facts(alloc: Global, t: &Typed, w: StmtId) -> Result<Facts, PhaseFa
     let at = place_of(t, w);
     let clauses = head.clauses.as_slice();
     let mut facts = Facts::new(alloc)?;
-    or_refused(add_promises(&mut facts, t, clauses, Moment::Leave, at))?;
+    add_promises(&mut facts, t, clauses, Moment::Leave, at)?;
     if !head.has_break {
-        or_refused(add(&mut facts, t, head.cond, false, at))?;
+        add(&mut facts, t, head.cond, false, at)?;
     }
     Ok(facts)
-}
-
-/// A refusal as the answer of a call that takes memory.
-pub(crate) fn or_refused(answer: Result<(), Refusal>) -> Result<(), PhaseFault>
-    ensures { result ≡ phase_answer answer }
-{
-    match answer {
-        Ok(()) => Ok(()),
-        Err(refusal) => Err(PhaseFault::Refused(refusal)),
-    }
 }
 
 // The facts of the promises of a moment, in order. L8 comes exactly where the list would have more than 512.

@@ -9,7 +9,7 @@ ghost use Rattle.wf_loops.specs.LoopNodes.{is_loop, head_at, place_at, are_condi
 use wf_ast::{Expr, ExprId, LoopHead, Stmt, StmtId, Typed};
 use wf_text::Place;
 
-/// What stands in front of a loop's body.
+/// What stands before a loop's body.
 pub fn head_of(t: &Typed, w: StmtId) -> &LoopHead
     requires { is_loop t.now w ≡ true }
     ensures cond { (head_at t.now w).cond ≡ node_cond t.now result.now.cond }

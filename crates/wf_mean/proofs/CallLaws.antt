@@ -104,7 +104,7 @@ holds-filled nodes frames level m at old new o t count there frame same h e = λ
 pub holds-none : (nodes : TypedNodes) (frames : List Frame) (m : ℕ) (args : List Value) → frame_of nodes (length frames) m ≡ None → HoldArgs nodes frames m args
 holds-none nodes frames m args none = λ at f. absurd (cc (none, f))
 
--- The methods in front of all frames are all methods.
+-- The methods before all frames are all methods.
 take-all : {X : Type 0} (xs : List X) (n : ℕ) → n ≡ length xs → take n xs ≡ xs
 take-all xs n e = take_all n xs (omega (arith, e))
 

@@ -40,18 +40,16 @@ impl<'a> Model for SourceEngine<'a> {
 
 // A stage on which nothing stands.
 fn empty_stage(alloc: Global) -> Result<Stage, NoMemory> {
-    match empty_frame(alloc) {
-        Ok(frame) => Ok(Stage {
-            frame,
-            objects: Vec::new(alloc),
-            host: Bufs {
-                bufs: BufList::new(alloc),
-                arrays: ByteArrays::new(alloc),
-            },
-            turns: 0,
-        }),
-        Err(fault) => Err(fault),
-    }
+    let frame = empty_frame(alloc)?;
+    Ok(Stage {
+        frame,
+        objects: Vec::new(alloc),
+        host: Bufs {
+            bufs: BufList::new(alloc),
+            arrays: ByteArrays::new(alloc),
+        },
+        turns: 0,
+    })
 }
 
 // A machine for a package, with these receivers, none of which is ready.
@@ -61,21 +59,13 @@ fn new_machine(alloc: Global, t: &Typed, receivers: &[ReceiverDecl]) -> Result<M
     ensures fresh { IfOk result (λ it. receivers_seen (package_of t.now) it.receivers.items ≡ fresh_state (package_of t.now) (map receiver_of receivers.now)) }
     ensures ready { IfOk result (IsReady t.now) }
 {
-    let stage = match empty_stage(alloc) {
-        Ok(stage) => stage,
-        Err(fault) => return Err(fault),
-    };
-    let frames = match new_frames(alloc, t) {
-        Ok(frames) => frames,
-        Err(fault) => return Err(fault),
-    };
-    match new_receivers(alloc, t, receivers) {
-        Ok(receivers) => Ok(Machine {
-            room: Room { stage, frames },
-            receivers,
-        }),
-        Err(fault) => Err(fault),
-    }
+    let stage = empty_stage(alloc)?;
+    let frames = new_frames(alloc, t)?;
+    let receivers = new_receivers(alloc, t, receivers)?;
+    Ok(Machine {
+        room: Room { stage, frames },
+        receivers,
+    })
 }
 
 impl<'a> SourceEngine<'a> {
@@ -89,14 +79,12 @@ impl<'a> SourceEngine<'a> {
         ensures { IfOk result (λ it. state_seen it ≡ first_state (package_of a.now.nodes) (map receiver_of receivers.now)) }
     {
         let t = a.typed();
-        match new_machine(alloc, t, receivers) {
-            Ok(machine) => Ok(SourceEngine {
-                t,
-                machine,
-                stopped: false,
-            }),
-            Err(fault) => Err(fault),
-        }
+        let machine = new_machine(alloc, t, receivers)?;
+        Ok(SourceEngine {
+            t,
+            machine,
+            stopped: false,
+        })
     }
 }
 

@@ -24,10 +24,8 @@ const NUMBERS: usize = 4294967295;
 fn slots(alloc: Global, count: usize) -> Result<Vec<Slot>, NoMemory>
     ensures { IfOk result (λ slots. length slots.items ≡ count) }
 {
-    match vec![in alloc; Slot::Num(0); count] {
-        Ok(slots) => Ok(slots),
-        Err(_) => Err(NoMemory),
-    }
+    let slots = vec![in alloc; Slot::Num(0); count]?;
+    Ok(slots)
 }
 
 // What is kept of a method with so many locals, of which nothing remains.
@@ -35,14 +33,12 @@ fn fresh_body(alloc: Global, locals: usize) -> Result<KeptBody, NoMemory>
     ensures none { IfOk result (λ kept. kept.point ≡ None) }
     ensures locals { IfOk result (λ kept. length kept.locals.items ≡ locals) }
 {
-    match slots(alloc, locals) {
-        Ok(locals) => Ok(KeptBody {
-            point: None,
-            done: Progress::Untouched,
-            locals,
-        }),
-        Err(fault) => Err(fault),
-    }
+    let locals = slots(alloc, locals)?;
+    Ok(KeptBody {
+        point: None,
+        done: Progress::Untouched,
+        locals,
+    })
 }
 
 // What is kept of each method at first.
@@ -53,13 +49,8 @@ fn fresh_bodies(alloc: Global, t: &Typed) -> Result<Vec<KeptBody>, NoMemory>
     let mut kept = Vec::new(alloc);
     for m in 0..t.methods() {
         let locals = t.method(MethodId(m)).locals.as_slice().len();
-        match fresh_body(alloc, locals) {
-            Ok(body) => match kept.push(body) {
-                Ok(()) => {}
-                Err(_) => return Err(NoMemory),
-            },
-            Err(fault) => return Err(fault),
-        }
+        let body = fresh_body(alloc, locals)?;
+        kept.push(body)?;
     }
     Ok(kept)
 }
@@ -70,15 +61,13 @@ fn raw_object(alloc: Global, t: &Typed) -> Result<ObjectState, NoMemory>
     ensures raw { IfOk result (λ o. object_seen (package_of t.now) o ≡ record { life = raw; fields = []; active = None; remaining = replicate (length (package_of t.now).methods) None }) }
     ensures kept { IfOk result (λ o. kept_lengths o ≡ local_counts t.now) }
 {
-    match fresh_bodies(alloc, t) {
-        Ok(kept) => Ok(ObjectState {
-            life: LifeState::Raw,
-            fields: Vec::new(alloc),
-            active: None,
-            kept,
-        }),
-        Err(fault) => Err(fault),
-    }
+    let kept = fresh_bodies(alloc, t)?;
+    Ok(ObjectState {
+        life: LifeState::Raw,
+        fields: Vec::new(alloc),
+        active: None,
+        kept,
+    })
 }
 
 // What stands in a field of this type at first. The struct state in a field of struct type has the number `next`.
@@ -89,10 +78,10 @@ fn new_field(alloc: Global, next: u32, ty: Ty) -> Result<FieldState, NoMemory>
         Ty::Num { .. } => Ok(FieldState::Num(0)),
         Ty::Flag => Ok(FieldState::Truth(false)),
         Ty::Status => Ok(FieldState::Status(0)),
-        Ty::Array { len, .. } => match vec![in alloc; 0; len as usize] {
-            Ok(cells) => Ok(FieldState::Cells(cells)),
-            Err(_) => Err(NoMemory),
-        },
+        Ty::Array { len, .. } => {
+            let cells = vec![in alloc; 0; len as usize]?;
+            Ok(FieldState::Cells(cells))
+        }
         Ty::Part(_) => Ok(FieldState::Part(next)),
         Ty::Reader => Ok(FieldState::Num(0)),
         Ty::Writer => Ok(FieldState::Num(0)),
@@ -140,18 +129,10 @@ pub(crate) fn add_object(
         return Ok(());
     }
     let number = objects.len();
-    match raw_object(alloc, t) {
-        Ok(own) => match objects.push(own) {
-            Ok(()) => {}
-            Err(_) => return Err(NoMemory),
-        },
-        Err(fault) => return Err(fault),
-    }
+    let own = raw_object(alloc, t)?;
+    objects.push(own)?;
     let mut fields = Vec::new(alloc);
-    match add_fields(alloc, t, fields_of(t, s), levels - 1, &mut fields, objects) {
-        Ok(()) => {}
-        Err(fault) => return Err(fault),
-    }
+    add_fields(alloc, t, fields_of(t, s), levels - 1, &mut fields, objects)?;
     objects[number].fields = fields;
     Ok(())
 }
@@ -173,10 +154,7 @@ fn add_fields(
     ensures kept { KeepAll t.now objects.new.items }
 {
     for i in 0..declared.len() {
-        match add_field(alloc, t, declared[i].ty, levels, fields, objects) {
-            Ok(()) => {}
-            Err(fault) => return Err(fault),
-        }
+        add_field(alloc, t, declared[i].ty, levels, fields, objects)?;
     }
     Ok(())
 }
@@ -197,17 +175,9 @@ fn add_field(
     ensures objects { OnOk result (map (object_seen (package_of t.now)) objects.new.items ≡ map (object_seen (package_of t.now)) objects.old.items ++ inside_field (raw_objects (package_of t.now) levels) (length objects.old.items) ty) }
     ensures kept { KeepAll t.now objects.new.items }
 {
-    let next = match next_number(objects.as_slice()) {
-        Ok(next) => next,
-        Err(fault) => return Err(fault),
-    };
-    match new_field(alloc, next, ty) {
-        Ok(field) => match fields.push(field) {
-            Ok(()) => {}
-            Err(_) => return Err(NoMemory),
-        },
-        Err(fault) => return Err(fault),
-    }
+    let next = next_number(objects.as_slice())?;
+    let field = new_field(alloc, next, ty)?;
+    fields.push(field)?;
     match ty {
         Ty::Part(s) => add_object(alloc, t, s.0, levels, objects),
         Ty::Num { .. } | Ty::Flag | Ty::Status | Ty::Reader => Ok(()),
@@ -229,10 +199,8 @@ fn new_receiver(alloc: Global, t: &Typed, decl: ReceiverDecl) -> Result<Receiver
     if t.structs() > 4294967294 {
         return Err(NoMemory);
     }
-    match add_object(alloc, t, decl.of.0, t.structs() + 1, &mut objects) {
-        Ok(()) => Ok(ReceiverState { decl, objects }),
-        Err(fault) => Err(fault),
-    }
+    add_object(alloc, t, decl.of.0, t.structs() + 1, &mut objects)?;
+    Ok(ReceiverState { decl, objects })
 }
 
 /// New receivers, as they are declared.
@@ -248,13 +216,8 @@ pub(crate) fn new_receivers(
 {
     let mut all = Vec::new(alloc);
     for i in 0..declared.len() {
-        match new_receiver(alloc, t, declared[i]) {
-            Ok(receiver) => match all.push(receiver) {
-                Ok(()) => {}
-                Err(_) => return Err(NoMemory),
-            },
-            Err(fault) => return Err(fault),
-        }
+        let receiver = new_receiver(alloc, t, declared[i])?;
+        all.push(receiver)?;
     }
     Ok(all)
 }
@@ -279,19 +242,14 @@ fn new_frame(alloc: Global, t: &Typed, m: u32) -> Result<Frame, NoMemory>
 fn frame_of(alloc: Global, method: MethodId, locals: usize, args: usize) -> Result<Frame, NoMemory>
     ensures { IfOk result (λ frame. sizes_of frame ≡ record { locals = locals; args = args }) }
 {
-    let locals = match slots(alloc, locals) {
-        Ok(locals) => locals,
-        Err(fault) => return Err(fault),
-    };
-    match slots(alloc, args) {
-        Ok(args) => Ok(Frame {
-            method,
-            object: 0,
-            locals,
-            args,
-        }),
-        Err(fault) => Err(fault),
-    }
+    let locals = slots(alloc, locals)?;
+    let args = slots(alloc, args)?;
+    Ok(Frame {
+        method,
+        object: 0,
+        locals,
+        args,
+    })
 }
 
 /// A frame without locals and arguments.
@@ -308,13 +266,8 @@ pub(crate) fn new_frames(alloc: Global, t: &Typed) -> Result<Vec<Frame>, NoMemor
     let order = t.order();
     let mut frames = Vec::new(alloc);
     for i in 0..order.len() {
-        match new_frame(alloc, t, order[i]) {
-            Ok(frame) => match frames.push(frame) {
-                Ok(()) => {}
-                Err(_) => return Err(NoMemory),
-            },
-            Err(fault) => return Err(fault),
-        }
+        let frame = new_frame(alloc, t, order[i])?;
+        frames.push(frame)?;
     }
     Ok(frames)
 }

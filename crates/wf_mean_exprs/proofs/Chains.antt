@@ -17,7 +17,7 @@ use Rattle.wf_ast.specs.Value.{State, applied, value}
 use Rattle.wf_ast.proofs.Arena.{both_true}
 use Rattle.wf_mean_exprs.specs.Operands.{node_number, is_number_at, is_arithmetic, arith_in, chain_value}
 
--- A chain that gives a number is arithmetic, and its operands are numbers that stand in front of it.
+-- A chain that gives a number is arithmetic, and its operands are numbers that stand before it.
 pub record IsOfNumbers (nodes : TypedNodes) (sort : Sort) (es : List ExprId) : Type 0 where
   pub arithmetic_sort : is_arithmetic sort ≡ true
   pub numbers : list_all (is_number_at nodes) es ≡ true

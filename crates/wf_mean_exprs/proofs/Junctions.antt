@@ -16,7 +16,7 @@ use Rattle.wf_mean_exprs.specs.Operands.{order_in, is_ordering}
 use Rattle.wf_mean_exprs.specs.Conditions.{node_cond, is_condition_at, is_joining, joins_both, chain_truth, numbers_compare, statuses_same, is_equal}
 use Rattle.wf_mean_exprs.proofs.Chains.{lt_more, not_both}
 
--- A chain of conditions has conditions in front of it as its operands.
+-- A chain of conditions has conditions before it as its operands.
 pub record IsOfConditions (nodes : TypedNodes) (es : List ExprId) : Type 0 where
   pub conditions : list_all (is_condition_at nodes) es ≡ true
   pub some : 0 < length es

@@ -76,7 +76,7 @@ abbrev pub cells_in : Option FieldState → List ℕ
 cells_in None = []
 cells_in (Some held) = cells_held held
 
--- The end of a part stands in front of it, and is a number.
+-- The end of a part stands before it, and is a number.
 abbrev pub end_fits : TypedNodes → (e : ExprId) → Option ExprId → Bool
 end_fits nodes e None = true
 end_fits nodes e (Some i) = nat_lt i.0 e.0 && is_number_at nodes i

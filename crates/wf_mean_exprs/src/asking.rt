@@ -11,7 +11,7 @@ ghost use Rattle.wf_mean_exprs.specs.Operands.{node_number};
 ghost use Rattle.wf_mean_exprs.specs.Questions.{question_of};
 
 use crate::reading::Scene;
-use wf_ast::{ArgId, Expr, ExprId, Ty, Typed};
+use wf_ast::{ArgId, Expr, ExprId, Ty, Typed, io_arg};
 use wf_base::PeekForm;
 use wf_bufs::Buf;
 
@@ -33,39 +33,6 @@ pub(crate) fn ask(scene: &Scene, e: ExprId, on: ExprId, what: Asked) -> Option<u
     ensures { result ≡ value (seen_from scene.now) (node_number scene.now.package.now e) }
 {
     told_by(scene.buffer(io_arg(scene.package, on)), what)
-}
-
-/// The argument that a reader or a writer is.
-pub fn io_arg(t: &Typed, on: ExprId) -> ArgId
-    requires on { IsTrue (is_expr t.now on) }
-    requires kind { IsTrue (is_io (type_of_node t.now on.0)) }
-    ensures { result.0 ≡ io_in (tree_of t.now on) }
-{
-    let expr = t.expr(on);
-    match t.constant(on) {
-        Some(_) => unreachable!(),
-        None => match expr {
-            Expr::Arg(x) => named_io(t, on, *x),
-            Expr::Number(_) | Expr::Const(_) | Expr::Status(_) => unreachable!(),
-            Expr::Truth(_) | Expr::Local(_) | Expr::Field(_) => unreachable!(),
-            Expr::Index { .. } | Expr::Cut { .. } | Expr::Chain { .. } => unreachable!(),
-            Expr::Convert { .. } | Expr::Not(_) | Expr::Base { .. } => unreachable!(),
-        },
-    }
-}
-
-fn named_io(t: &Typed, on: ExprId, x: ArgId) -> ArgId
-    requires on { IsTrue (is_expr t.now on) }
-    requires kind { IsTrue (is_io (type_of_node t.now on.0)) }
-    requires tree { tree_of t.now on ≡ named (place_of_node t.now on.0) (type_of_node t.now on.0) (arg x.0) }
-    ensures { result.0 ≡ io_in (tree_of t.now on) }
-{
-    match t.type_of(on) {
-        Ty::Reader => x,
-        Ty::Writer => x,
-        Ty::Num { .. } | Ty::Flag | Ty::Status => unreachable!(),
-        Ty::Slice(_) | Ty::Array { .. } | Ty::Part(_) => unreachable!(),
-    }
 }
 
 fn told_by(buf: Option<&Buf>, what: Asked) -> Option<u64>

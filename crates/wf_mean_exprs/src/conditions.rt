@@ -14,10 +14,9 @@ ghost use Rattle.wf_mean_exprs.specs.Operands.{order_in, is_ordering};
 ghost use Rattle.wf_mean_exprs.specs.Conditions.{node_cond, node_status, is_condition_at, is_status_at, is_joining, joins_both, junction_of, numbers_compare, statuses_same, is_equal, gives_truth};
 
 use crate::arithmetic::compare;
-use crate::asking::io_arg;
 use crate::numbers::number;
 use crate::reading::Scene;
-use wf_ast::{ArgId, Expr, ExprId, FieldId, LocalId, Op, Ty};
+use wf_ast::{ArgId, Expr, ExprId, FieldId, LocalId, Op, Ty, io_arg};
 use wf_base::BaseSig;
 use wf_bufs::Buf;
 use wf_text::Category;

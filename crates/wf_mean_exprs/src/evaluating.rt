@@ -7,12 +7,11 @@ ghost use Rattle.wf_ast.specs.Value.{value_of};
 ghost use Rattle.wf_ast.specs.Value as values;
 ghost use Rattle.wf_mean_exprs.specs.MachineState.{seen_from, slot_seen, span_seen};
 
-use crate::asking::io_arg;
 use crate::conditions::{status, truth};
 use crate::numbers::{number, slice};
 use crate::reading::Scene;
 use crate::values::{SliceSpan, Slot};
-use wf_ast::{ExprId, Ty};
+use wf_ast::{ExprId, Ty, io_arg};
 
 /// The value of an expression, whose tree is of the kind of its type, as every one of a typed package is; None where it is stuck.
 pub fn evaluate(scene: &Scene, e: ExprId) -> Option<Slot>

@@ -25,7 +25,7 @@ pub struct Scene<'a> {
     pub host: &'a Bufs,
 }
 
-/// What stands at a number; None behind the end.
+/// What stands at a number; None after the end.
 pub(crate) fn slot_at(slots: &[Slot], n: u32) -> Option<Slot>
     ensures { result ≡ slice_get slots.now n }
 {

@@ -31,7 +31,7 @@ goes b calls n x = run (step b calls) weight n x
 abbrev pub went : Body → Callees → (n : ℕ) → Steps → Outcome (Ending × World)
 went b calls n steps = on_next steps (goes b calls n) (goes b calls)
 
--- What runs the bodies that a body may call: those of the methods in front of its own, `level` of them, in the package's
+-- What runs the bodies that a body may call: those of the methods before its own, `level` of them, in the package's
 -- order.
 unfoldable pub calls_below : TypedNodes → (level : ℕ) → Callees
 calls_below nodes level = bodies (package_of nodes) (reverse (take level nodes.order))
@@ -123,7 +123,7 @@ abbrev pub RunsRounds : TypedNodes → (level : ℕ) → Site → Head → (body
 RunsRounds nodes level site head body old new flow =
     (rest : Block) (behind : Behind) → Flows nodes level (loop site head body rest) rest behind flow new (run_on nodes level old untouched body (again site head body rest behind))
 
--- The arms of an `if` from one on, `chained` to those in front of them.
+-- The arms of an `if` from one on, `chained` to those before them.
 abbrev pub chain_of_arms : TypedNodes → Site → (chained : Bool) → List Arm → Option resolved.Block → Block → Block
 chain_of_arms nodes site chained [] other rest = rest
 chain_of_arms nodes site chained (arm ∷ arms) other rest =

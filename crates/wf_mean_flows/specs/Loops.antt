@@ -26,7 +26,7 @@ required head clause = if head then at_head clause else at_exit clause
 abbrev pub clauses_of : TypedNodes → List (Clause × ExprId) → List (Clause × CondTree)
 clauses_of nodes clauses = map (λ c. (c.0, cond_in (tree_of nodes c.1))) clauses
 
--- Where a loop's run then stands: in its body, or behind it.
+-- Where a loop's run then stands: in its body, or after it.
 abbrev pub turned_on : TypedNodes → (level : ℕ) → Stage → Site → Head → (body rest : Block) → Behind → Turned → Outcome (Ending × World)
 turned_on nodes level stage site head body rest behind Into =
     goes (body_on nodes stage) (calls_below nodes level) stage.turns (at_block body (again site head body rest behind) (vars_on nodes stage))

@@ -27,7 +27,7 @@ use wf_mean_stmts::stage::Stage;
 pub enum Turned {
     /// The body follows.
     Into,
-    /// What stands behind the loop follows.
+    /// What stands after the loop follows.
     Past,
     /// A way back needs a turn, and none is left.
     Out,
@@ -86,7 +86,7 @@ fn is_required(clause: Clause, head: bool) -> bool
     }
 }
 
-// The test of a loop's condition, at its entry or behind a way back.
+// The test of a loop's condition, at its entry or after a way back.
 fn test_loop(t: &Typed, stage: &Stage, head: &LoopHead) -> Turned
     requires typed { IsTyped t.now }
     requires cond { IsTrue (is_expr t.now head.now.cond) }

@@ -28,7 +28,7 @@ pub fn a_package_that_keeps_the_rules_shows_its_source()
     ensures { KeptPackagesAreSeen }
 {}
 
-/// And of a package that is read from files and keeps those rules, in each order in which every method stands behind those that
+/// And of a package that is read from files and keeps those rules, in each order in which every method stands after those that
 /// it calls.
 pub fn a_read_package_that_keeps_the_rules_shows_its_source()
     ensures { ReadPackagesAreSeen }

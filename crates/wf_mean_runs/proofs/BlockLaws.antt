@@ -31,7 +31,7 @@ stmt_there [] s h = absurd (omega (arith, h))
 stmt_there (n ∷ ns) zero h = (n, refl)
 stmt_there (n ∷ ns) (suc s) h = stmt_there ns s (omega (arith, h))
 
--- A point behind a statement is one of the statement with what follows it.
+-- A point after a statement is one of the statement with what follows it.
 module _ (nodes : TypedNodes) (look : ExprId → ValueTree) (inner : StmtId → Block → Block) (at : Place) (items : Items) (rest : Block) (behind : Behind) (h : StandsIn at items rest behind) where
   by_stmt : (n : ℕ) (own close : Place) (st : Stmt) → StandsIn at items (stmt_made nodes look inner n (record { stmt = st; at = own; inner = close }) rest) behind
   by_stmt n own close (stmts.Assign target op value) = inr h

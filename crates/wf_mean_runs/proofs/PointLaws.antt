@@ -76,7 +76,7 @@ module _ (at : Place) where
   before x (z ∷ zs) h (inl k) = ap (stands_before x) (sym k) ∙ h.0
   before x (z ∷ zs) h (inr k) = before x zs h.1 k
 
-  -- What stands there behind others isn't among these.
+  -- What stands there after others isn't among these.
   apart : (xs ys : List Site) → Ascend (xs ++ ys) → Present ys → Absent xs
   apart [] ys h k = tt
   apart (x ∷ xs) ys h k = (not_same x.at at (before x.at (xs ++ ys) h.0 (present_back xs ys k)), apart xs ys h.1 k)

@@ -70,7 +70,7 @@ module _ (nodes : TypedNodes) (level : ℕ) (at : Place) (done : Done) (old : St
         subst P (made rest) (runs rest behind),
       )
 
-  -- Blocks. The statements in front of `s` hold no such point.
+  -- Blocks. The statements before `s` hold no such point.
   module _ (ss : List StmtId) (i : ℕ) (s : StmtId) (first_is : block_made_of nodes (drop i ss) ≡ made_of nodes s (block_made_of nodes (drop (i + 1) ss)))
       (so_far : (behind : Behind) → standing_at at (block_made_of nodes ss) behind ≡ standing_at at (block_made_of nodes (drop i ss)) behind) where
     abbrev pub rest : Block

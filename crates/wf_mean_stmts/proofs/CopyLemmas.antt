@@ -209,7 +209,7 @@ all_get test [] i v h e = absurd (cc (e))
 all_get test (x ∷ xs) zero v h e = let q : x ≡ v = cc in let P : ℕ → Type 0 = λ y. test y ≡ true in subst P q (and_parts (test x) _ h).0
 all_get test (x ∷ xs) (suc i) v h e = all_get test xs i v (and_parts (test x) _ h).1 e
 
--- A copy from one slice to another, element after element; `w0` is the world in front of it.
+-- A copy from one slice to another, element after element; `w0` is the world before it.
 module _ (t s : Store) (tf sf c n : ℕ) (w0 : World) where
   abbrev pub whole : List ℕ
   whole = elements sf c (cells_at w0 s)

@@ -14,6 +14,6 @@ Fills filled values slots = ⊥
 abbrev pub fitting_value : Ty → Option Value → Option Value
 fitting_value ty v = option_and_then (λ v. only_if (fits_argument ty v) (Some v)) v
 
--- Values in front of others, where there are all.
+-- Values before others, where there are all.
 abbrev pub in_front : List Value → Option (List Value) → Option (List Value)
 in_front front values = option_map (λ more. front ++ more) values

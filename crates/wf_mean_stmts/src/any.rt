@@ -13,8 +13,7 @@ ghost use Rattle.wf_mean_stmts.specs.Entries.{itself};
 ghost use Rattle.wf_mean_stmts.specs.Stages.{sight_on};
 
 use crate::stage::Stage;
-use wf_ast::{ArgId, ExprId, LocalId, Ty, Typed};
-use wf_mean_exprs::asking::io_arg;
+use wf_ast::{ArgId, ExprId, LocalId, Ty, Typed, io_arg};
 use wf_mean_exprs::conditions::truth;
 use wf_mean_exprs::evaluating::evaluate;
 use wf_mean_exprs::numbers::{number, slice};

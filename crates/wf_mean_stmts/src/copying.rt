@@ -1,5 +1,5 @@
 // Copies of elements to slices and to writers. Elements are copied one after the other, from the end where the target stands
-// behind the source, so that all are copied as they were before.
+// after the source, so that all are copied as they were before.
 
 ghost use Rattle.std.specs.Prelude.{◌≡◌, ◌≤◌, ◌<◌, ◌+◌, ◌^◌, ℕ, [], ◌∷◌, IsTrue, nat_lt, Some, true, length, nat_le, option_and_then, slice_get, slice_set, take, unwrap_or};
 ghost use Rattle.std.specs.List.{list_all};
@@ -135,7 +135,7 @@ fn copy_one(t: &Typed, stage: &mut Stage, to: SliceSpan, from: SliceSpan, i: u64
     }
 }
 
-// Elements are copied upwards: each before those behind it.
+// Elements are copied upwards: each before those after it.
 fn copy_up(t: &Typed, stage: &mut Stage, to: SliceSpan, from: SliceSpan, n: u64)
     requires up { to.from ≤ from.from }
     requires to { n ≤ (span_seen to).count }
@@ -150,7 +150,7 @@ fn copy_up(t: &Typed, stage: &mut Stage, to: SliceSpan, from: SliceSpan, n: u64)
     }
 }
 
-// Elements are copied downwards: each before those in front of it.
+// Elements are copied downwards: each after those that stand after it.
 fn copy_down(t: &Typed, stage: &mut Stage, to: SliceSpan, from: SliceSpan, n: u64)
     requires down { from.from < to.from }
     requires to { n ≤ (span_seen to).count }

@@ -139,7 +139,7 @@ module _ (num : Site → ℕ) where
     found_end : (behind : Behind) → Found end behind
     found_end behind = record { found = λ k items e. absurd (cc (e)); apart = tt }
 
-    -- Behind a statement.
+    -- After a statement.
     after_point : (site : Site) (s : Simple) (r : Block) (behind : Behind) (test : Bool) → is_point s ≡ test
         → Differ (if test then site ∷ points_in r else points_in r) → Found (plain site s r) behind → Found r behind
     after_point site s r behind true p differ h =
@@ -162,7 +162,7 @@ module _ (num : Site → ℕ) where
     after : (site : Site) (s : Simple) (r : Block) (behind : Behind) → Found (plain site s r) behind → Found r behind
     after site s r behind h = after_point site s r behind (is_point s) refl h.apart h
 
-    -- Inside and behind an `if`.
+    -- Inside and after an `if`.
     to_then : (site : Site) (chained : Bool) (c : CondTree) (a d r : Block) (behind : Behind) → Found (choose site chained c a d r) behind → Found a (behind_if r behind)
     to_then site chained c a d r behind h =
         let s = split (points_in a) (points_in d ++ points_in r) h.apart in
@@ -193,7 +193,7 @@ module _ (num : Site → ℕ) where
           apart = t.back;
         }
 
-    -- Inside and behind a loop.
+    -- Inside and after a loop.
     into : (site : Site) (head : Head) (body r : Block) (behind : Behind) → Found (loop site head body r) behind → Found body (again site head body r behind)
     into site head body r behind h =
         let s = split (points_in body) (points_in r) h.apart in

@@ -109,7 +109,7 @@ zero_of status (Some ty) = Some (status_number status)
 abbrev pub refusal_of : MethodTree → (status : ℕ) → Answered
 refusal_of m status = returned (if is_coroutine m.mark then Some (status_number status) else zero_of status m.gives)
 
--- The struct state behind a coroutine's body: a suspension makes it active, and every other end leaves none active; an
+-- The struct state after a coroutine's body: a suspension makes it active, and every other end leaves none active; an
 -- error disables. [Entry; note coroutines]
 abbrev pub coroutine_ended : PackageTree → (number : ℕ) → Answered → Object → Object
 coroutine_ended p number (suspended status) o = record o { active = Some number }
@@ -117,6 +117,6 @@ coroutine_ended p number (returned (Some (status_number status))) o =
     if has_kind p Fault status then record o { life = disabled; active = None } else record o { active = None }
 coroutine_ended p number (returned value) o = record o { active = None }
 
--- The struct state behind any body that was entered. [Entry]
+-- The struct state after any body that was entered. [Entry]
 abbrev pub ended : PackageTree → Mark → (number : ℕ) → Answered → Object → Object
 ended p mark number answered o = if is_coroutine mark then coroutine_ended p number answered o else o

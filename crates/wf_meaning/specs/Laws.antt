@@ -20,7 +20,7 @@ pub record BeginsWithPoint (body : Block) (k : ℕ) (items : Items) : Type 0 whe
   pub point : is_point statement ≡ true
   pub numbered : number_of body site ≡ k
 
--- Each place stands in front of those that follow it.
+-- Each place stands before those that follow it.
 abbrev pub Ascend : List Site → Type 0
 Ascend [] = Unit {0}
 Ascend (s ∷ ss) = AllByRecursion (λ t. stands_before s.at t.at ≡ true) ss × Ascend ss

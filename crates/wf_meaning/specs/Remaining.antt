@@ -1,4 +1,4 @@
--- Suspension points, their numbers, and what remains behind each.
+-- Suspension points, their numbers, and what remains after each.
 -- In brackets stands the section of docs/SEMANTICS.md that a definition states, and with `note` the Wuffs document
 -- wuffs/doc/note/NAME.md that it follows.
 use Rattle.std.specs.Prelude.{ℕ, ◌+◌, Bool, true, false, not, ◌&&◌, ◌||◌, List, [], ◌∷◌, ◌++◌, Option, None, Some, nat_eq, nat_lt, count_by, if◌then◌else◌}
@@ -28,7 +28,7 @@ points_in (plain site s rest) = if is_point s then site ∷ points_in rest else 
 points_in (choose site chained c a b rest) = points_in a ++ (points_in b ++ points_in rest)
 points_in (loop site head body rest) = points_in body ++ points_in rest
 
--- The number of the point at a place: one more than the number of those that stand in front of it.
+-- The number of the point at a place: one more than the number of those that stand before it.
 -- [What remains; note coroutines]
 abbrev pub number_among : List Site → Place → ℕ
 number_among points at = 1 + count_by (λ point. stands_before point.at at) points
@@ -63,7 +63,7 @@ number_of body site = number_among (points_in body) site.at
 unfoldable pub rest : (body : Block) → (k : ℕ) → Option Items
 rest body k = rest_in (number_of body) k body stop
 
--- A `break` of the loop with the number `w` leaves its marker and what stands in front of it; a `continue` keeps the
+-- A `break` of the loop with the number `w` leaves its marker and what stands before it; a `continue` keeps the
 -- marker. [What remains; note coroutines]
 pub record Marker : Type 0 where
   pub site : Site

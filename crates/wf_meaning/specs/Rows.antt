@@ -12,7 +12,7 @@ receiver_of s = record { struct_number = s; null = false }
 abbrev pub null_receiver_of : ℕ → Receiver
 null_receiver_of s = record { struct_number = s; null = true }
 
--- What a host sees of a buffer: the bytes in front of `wi`, and where reading and writing stand.
+-- What a host sees of a buffer: the bytes before `wi`, and where reading and writing stand.
 abbrev pub open_buffer : (written : List ℕ) → (ri wi pos : ℕ) → SeenBuffer
 open_buffer written ri wi pos = record { written = written; ri = ri; wi = wi; pos = pos; closed = false }
 

@@ -43,7 +43,7 @@ remaining_of w call = option_and_then (λ o. unwrap_or (slice_get o.remaining ca
 abbrev pub taken_up : Call → World → World
 taken_up call w = with_object call.object (set_remaining call.method None) w
 
--- Behind a body: what it leaves remains of it. [What remains; note coroutines]
+-- After a body: what it leaves remains of it. [What remains; note coroutines]
 abbrev pub left_over : Call → Outcome (Ending × World) → Outcome (Answered × World)
 left_over call (Got left (gives v, w)) = Got left (returned v, w)
 left_over call (Got left (suspends status items, w)) = Got left (suspended status, with_object call.object (set_remaining call.method (Some items)) w)
@@ -84,7 +84,7 @@ host_value arrays (types.Slice width) (host.bytes None) = Some (span empty_span)
 host_value arrays (types.Slice width) (host.bytes (Some a)) = Some (span (record { store = host_array a; from = 0; count = length (unwrap_or (slice_get arrays a) []) }))
 host_value arrays ty arg = None
 
--- A value in front of others, where there are all. [Entry]
+-- A value before others, where there are all. [Entry]
 abbrev pub cons_value : Option Value → Option (List Value) → Option (List Value)
 cons_value v vs = option_and_then (λ x. option_map (λ xs. x ∷ xs) vs) v
 
@@ -107,7 +107,7 @@ abbrev pub seen_answer : PackageTree → Answered → Answer
 seen_answer p (returned v) = seen_value p v
 seen_answer p (suspended status) = seen.status (text_of_status p status)
 
--- Behind the call of a receiver. [Entry]
+-- After the call of a receiver. [Entry]
 abbrev pub called : PackageTree → SourceState → (receiver : ℕ) → Outcome (Answered × World) → Response (SourceState × Host)
 called p state receiver (Got left done) = answers (seen_answer p done.0) (updated (λ _. Some done.1.objects) receiver state, done.1.host)
 called p state receiver More = needs_more
@@ -130,7 +130,7 @@ call_method p state call h n None receiver = not_defined
 call_method p state call h n m None = not_defined
 call_method p state call h n (Some m) (Some receiver) = call_receiver p m state call h n receiver
 
--- A public call within `n` turns: its answer, the receivers behind it and the host's buffers and byte arrays; or that it
+-- A public call within `n` turns: its answer, the receivers after it and the host's buffers and byte arrays; or that it
 -- needs more turns; or that it is stuck. [Turns]
 unfoldable pub source_call : PackageTree → SourceState → HostCall → Host → (n : ℕ) → Response (SourceState × Host)
 source_call p state call h n = call_method p state call h n (slice_get p.methods call.method) (slice_get state call.receiver)

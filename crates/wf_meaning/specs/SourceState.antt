@@ -69,7 +69,7 @@ cleared (held_status n) = held_status 0
 cleared (held_cells cells) = held_cells (replicate (length cells) 0)
 cleared (held_part object) = held_part object
 
--- A struct state behind an init, whatever it was. [Entry; note initialization]
+-- A struct state after an init, whatever it was. [Entry; note initialization]
 abbrev pub cleared_object : Object → Object
 cleared_object o = record { life = ready; fields = map cleared o.fields; active = None; remaining = replicate (length o.remaining) None }
 
@@ -101,7 +101,7 @@ inside_fields inside next (x ∷ xs) = inside_field inside next x.ty ++ inside_f
 abbrev pub fields_of : PackageTree → (s : ℕ) → List Variable
 fields_of p s = unwrap_or (option_map (λ it. it.fields) (slice_get p.structs s)) []
 
--- A struct state with the number `n` and those inside it, which are numbered behind it: raw, with all fields zero.
+-- A struct state with the number `n` and those inside it, which are numbered after it: raw, with all fields zero.
 -- [State; note initialization]
 abbrev pub raw_object : PackageTree → (inside : ℕ → ℕ → List Object) → (n : ℕ) → List Variable → List Object
 raw_object p inside n xs =

@@ -96,7 +96,7 @@ is_true truth = false
 abbrev pub all_hold : State → (Clause → Bool) → List (Clause × CondTree) → Bool
 all_hold s required clauses = list_all (λ c. not (required c.0) || is_true (truth_of s c.1)) clauses
 
--- The test of a loop's condition: into the body, or behind the loop. A loop whose condition is the word `true` has no
+-- The test of a loop's condition: into the body, or after the loop. A loop whose condition is the word `true` has no
 -- such exit. [Steps]
 abbrev pub tested : Body → Site → Head → (body rest : Block) → Behind → Vars → Option Bool → Steps
 tested b site head body rest behind vars None = Fail
@@ -115,7 +115,7 @@ taking_turn zero steps = Out
 taking_turn (suc left) (Go x) = Turn left x
 taking_turn (suc left) steps = steps
 
--- The way back to a loop's head is a turn, and the loop tests its condition behind it. [Turns]
+-- The way back to a loop's head is a turn, and the loop tests its condition after it. [Turns]
 abbrev pub went_back : Body → ℕ → Site → Head → (body rest : Block) → Behind → Vars → Steps
 went_back b n site head body rest behind vars =
     where_true (all_hold (state_of b vars) at_head head.clauses) (taking_turn n (tested b site head body rest behind vars (truth_of (state_of b vars) head.cond)))
@@ -274,7 +274,7 @@ fits_argument (types.Num width lo hi) (num n) = nat_le lo n && nat_le n hi
 fits_argument (types.Num width lo hi) v = false
 fits_argument ty v = true
 
--- A value in front of others, where there are all. [Steps]
+-- A value before others, where there are all. [Steps]
 abbrev pub cons_some : Option Value → Option (List Value) → Option (List Value)
 cons_some v vs = option_and_then (λ x. option_map (λ xs. x ∷ xs) vs) v
 
@@ -294,7 +294,7 @@ abbrev pub receiver_of : Body → Called → Vars → Option ℕ
 receiver_of b (own m) vars = Some b.object
 receiver_of b (sub x m) vars = option_and_then part_in (held_at vars.world b.object x)
 
--- What stands behind a body that was entered through the entry table. [Entry]
+-- What stands after a body that was entered through the entry table. [Entry]
 abbrev pub settled : PackageTree → MethodTree → Call → Outcome (Answered × World) → Outcome (Answered × World)
 settled p callee call (Got left done) = Got left (done.0, with_object call.object (ended p callee.mark call.method done.0) done.1)
 settled p callee call More = More
@@ -315,7 +315,7 @@ abbrev pub through : PackageTree → Callees → MethodTree → Called → Call 
 through p calls callee (own m) call n w = calls call n w
 through p calls callee (sub x m) call n w = entered p calls callee call true n w (slice_get w.objects call.object)
 
--- What an answer is to the caller. `=?` keeps whatever status comes. `f?()` goes on behind ok; it hands a suspension on by
+-- What an answer is to the caller. `=?` keeps whatever status comes. `f?()` goes on after ok; it hands a suspension on by
 -- suspending itself, and a note or an error by returning it. Every other call's value goes to its target. [Steps]
 abbrev pub put_answer : Body → Target → Option Value → Vars → Option Vars
 put_answer b to_nothing v vars = Some vars
@@ -339,7 +339,7 @@ abbrev pub plain_answer : Answered → Option (Option Value)
 plain_answer (suspended status) = None
 plain_answer (returned value) = Some value
 
--- Behind the call of a method. [Steps]
+-- After the call of a method. [Steps]
 abbrev pub after_call : Body → (n : ℕ) → (keep : Bool) → Mark → Target → (here rest : Block) → Behind → List Value → ℕ → Answered × World → Steps
 after_call b n keep mark target here rest behind locals left done =
     either (hands_on keep mark) (handed_on b n left done.0 here rest behind vars)
@@ -365,12 +365,12 @@ abbrev pub yielded : ℕ → (status : ℕ) → Done → (here rest : Block) →
 yielded n status has_yielded here rest behind vars = Go (at_block rest behind vars)
 yielded n status done here rest behind vars = suspending n status has_yielded here behind vars
 
--- Behind a `continue` stands the loop's marker, and behind a `break` what follows the loop. [Steps]
+-- After a `continue` stands the loop's marker, and after a `break` what follows the loop. [Steps]
 abbrev pub continued : Option Marker → Vars → Steps
 continued None vars = Fail
 continued (Some m) vars = Go (at_block end (again m.site m.head m.body m.rest m.behind) vars)
 
--- A `break` goes on behind the marker of its loop. [Steps]
+-- A `break` goes on after the marker of its loop. [Steps]
 abbrev pub broken : Body → Option Marker → Vars → Steps
 broken b None vars = Fail
 broken b (Some m) vars = where_true (all_hold (state_of b vars) at_exit m.head.clauses) (Go (at_block m.rest m.behind vars))

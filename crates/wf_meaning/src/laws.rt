@@ -78,7 +78,7 @@ pub fn refused_calls()
 {}
 
 /// A call leaves every other receiver as it was, and every buffer and byte array that its arguments don't name. The
-/// premise, that what remains of coroutines keeps no elements of slices, holds at first, and behind each init and
+/// premise, that what remains of coroutines keeps no elements of slices, holds at first, and after each init and
 /// each call.
 pub fn a_call_changes_only_what_it_names()
     ensures changes { (p : PackageTree) (state : SourceState) (call : HostCall) (h : Host) (n : ℕ) (a : Answer) (after : SourceState × Host)
@@ -91,7 +91,7 @@ pub fn a_call_changes_only_what_it_names()
 {}
 
 /// In every state of a typed package that a host reaches, what remains of each suspended coroutine is what stands at
-/// one of its points: so it is at first, and behind each init and each call.
+/// one of its points: so it is at first, and after each init and each call.
 pub fn what_remains_stands_at_a_point()
     ensures first { (p : PackageTree) (receivers : List Receiver) → IsSettled (IsRest p) (fresh_state p receivers) }
     ensures init { (p : PackageTree) (state : SourceState) (r turns : ℕ) (a : Answer) (after : SourceState)

@@ -51,7 +51,7 @@ module _ (p : PackageTree) where
   record CalleesOk (calls : Callees) : Type 0 where
     by : (call : Call) (n : ℕ) (w : World) (m : MethodTree) → slice_get p.methods call.method ≡ Some m → AnswersWith (Runs call m.mark w) (calls call n w)
 
-  -- A struct state behind a body that came by the entry table.
+  -- A struct state after a body that came by the entry table.
   either-active : (test : Bool) (a c : Object) → ActiveRemains p a → ActiveRemains p c → ActiveRemains p (if test then a else c)
   either-active true a c h k = h
   either-active false a c h k = k

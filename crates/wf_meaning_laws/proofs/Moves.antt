@@ -1,4 +1,4 @@
--- What a body's run keeps of the struct states: those in front of its own, what is active in its own, and that all after its own
+-- What a body's run keeps of the struct states: those before its own, what is active in its own, and that all after its own
 -- are steady.
 use Rattle.std.proofs.Common.{◌≡◌, ℕ, zero, suc, ◌<◌, ◌≤◌, Bool, true, false, List, [], ◌∷◌, length, Option, Some, ◌⊎◌, inl, inr, refl, sym, ap, ◌∙◌, subst, arith}
 use Rattle.std.specs.Prelude.{slice_get, nat_lt}

@@ -30,7 +30,7 @@ pub fn disabled_receivers()
 {}
 
 /// In every state that a host reaches, the first of the statements that remain of a suspended coroutine is one that can have
-/// done what is kept of it: so it is at first, and behind each init and each call.
+/// done what is kept of it: so it is at first, and after each init and each call.
 pub fn what_remains_was_started()
     ensures first { (p : PackageTree) (receivers : List Receiver) → IsStarted (fresh_state p receivers) }
     ensures init { (p : PackageTree) (state : SourceState) (r turns : ℕ) (a : Answer) (after : SourceState)
@@ -40,7 +40,7 @@ pub fn what_remains_was_started()
 {}
 
 /// In every state of a typed package that a host reaches, what is active in a struct state, whether a host holds it or it stands
-/// inside another, is a coroutine of the package, and something remains of it. `IsSteady` says so, and is so at first, and behind
+/// inside another, is a coroutine of the package, and something remains of it. `IsSteady` says so, and is so at first, and after
 /// each init and each call.
 pub fn an_active_coroutine_has_something_remaining()
     ensures remains { (p : PackageTree) (state : SourceState) (r number k : ℕ) (objects : List Object) (o : Object)

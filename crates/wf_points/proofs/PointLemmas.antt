@@ -75,7 +75,7 @@ call_points nodes at target keep (callees.Sub x m) args = refl
 call_points nodes at target keep (callees.Base on sig) args =
     base_points at target (tree_of nodes on) sig (map (tree_of nodes) args) ∙ ap (base_suspends sig) (length-map args (tree_of nodes))
 
--- A list in front of others.
+-- A list before others.
 front : (test : Bool) (site : Site) (ps : List Site) → (if test then site ∷ ps else ps) ≡ (if test then site ∷ [] else []) ++ ps
 front true site ps = refl
 front false site ps = refl
@@ -101,7 +101,7 @@ node_there (n ∷ ns) zero h = (n, refl)
 node_there (n ∷ ns) (suc s) h = node_there ns s (omega (arith, h))
 
 module _ (nodes : TypedNodes) (ordered : each_numbered (λ s node. stmt_below nodes s node.stmt) 0 nodes.stmts ≡ true) where
-  -- The points of a statement stand in front of those of the block behind it.
+  -- The points of a statement stand before those of the block after it.
   made_in_front : (look : ExprId → ValueTree) (inner : StmtId → Block → Block) (n : ℕ) (at close : Place) (st : Stmt) (rest : Block)
       → points_in (stmt_made nodes look inner n (record { stmt = st; at = at; inner = close }) rest) ≡ points_in (stmt_made nodes look inner n (record { stmt = st; at = at; inner = close }) end) ++ points_in rest
   made_in_front look inner n at close (stmts.Assign target op value) rest = refl

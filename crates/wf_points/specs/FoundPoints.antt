@@ -76,7 +76,7 @@ points_of nodes look site (stmts.Return value) = []
 points_of nodes look site (stmts.Yield s) = site ∷ []
 points_of nodes look site (stmts.Assert goal axiom_ref) = []
 
--- The refusal at the point behind the last one that a method may have.
+-- The refusal at the point after the last one that a method may have.
 abbrev pub refused_at : Site → Refusal
 refused_at site = record { rule = L9; at = site.at }
 

@@ -71,7 +71,7 @@ pub record PointTable : Type 0 where
   pub numbers : List (Option ℕ)
   pub saved : List (List LocalId)
 
--- The number of a statement; None behind the table's end.
+-- The number of a statement; None after the table's end.
 abbrev pub number_at : List (Option ℕ) → (s : ℕ) → Option ℕ
 number_at numbers s = unwrap_or (slice_get numbers s) None
 

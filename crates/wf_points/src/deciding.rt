@@ -29,13 +29,12 @@ pub fn points(alloc: Global, t: &Typed) -> Result<Points, PhaseFault>
     ensures refused { IfErr result (IsRefusedFor (package_of t.now)) }
 {
     let mut numbers = Vec::new(alloc);
-    match number_methods(alloc, t, &mut numbers) {
-        Ok(None) => match saved_by_method(alloc, t) {
-            Ok(saved) => Ok(Points { numbers, saved }),
-            Err(_) => Err(PhaseFault::Memory),
-        },
-        Ok(Some(refusal)) => Err(PhaseFault::Refused(refusal)),
-        Err(_) => Err(PhaseFault::Memory),
+    match number_methods(alloc, t, &mut numbers)? {
+        None => {
+            let saved = saved_by_method(alloc, t)?;
+            Ok(Points { numbers, saved })
+        }
+        Some(refusal) => Err(PhaseFault::Refused(refusal)),
     }
 }
 
@@ -76,7 +75,7 @@ fn number_method(
     }
 }
 
-// The refusal at the point behind the last one that a method may have.
+// The refusal at the point after the last one that a method may have.
 fn too_many(points: &[FoundPoint]) -> Option<Refusal>
     ensures { result ≡ limit_of points.now }
 {

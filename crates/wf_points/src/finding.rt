@@ -1,5 +1,5 @@
 // The suspension points of a method in the order in which they stand: base coroutine calls, calls of coroutines with `?`
-// and `yield?`, also behind statements that never go on.
+// and `yield?`, also after statements that never go on.
 
 ghost use Rattle.std.specs.Prelude.{◌≡◌, ◌++◌, ◌∷◌, [], ◌&&◌, ◌<◌, IsTrue, OnOk, IfOk, map, length};
 ghost use Rattle.std.specs.List.{list_all};

@@ -40,10 +40,7 @@ fn make_room(numbers: &mut Vec<Option<u32>>, s: usize) -> Result<(), AllocError>
     ensures room { OnOk result (s < vec_len numbers.new) }
 {
     while numbers.len() <= s {
-        match numbers.push(None) {
-            Ok(()) => {}
-            Err(_) => return Err(AllocError),
-        }
+        numbers.push(None)?;
     }
     Ok(())
 }

@@ -28,7 +28,7 @@ use Rattle.wf_types_rules.specs.declared.meanings.Meaning.{Meaning}
 use Rattle.wf_types_rules.specs.Meanings.{variable, is_value}
 use Rattle.wf_types_rules.specs.Parts.{argument, expr_parts, args_parts, whole_call_parts, value_parts, target_parts, condition_parts, clauses_parts, stmt_parts, block_parts, arms_parts}
 use Rattle.wf_types_rules.specs.Judgements.{fails, both_fail, takes, wanted, may_be_handed, wrong_operand, wrong_argument, block_leaves}
-use Rattle.wf_types_rules.specs.TypeRules as rules
+use Rattle.wf_types_rules.proofs.TypeRows as rows
 use Rattle.wf_types_rules.specs.FirstBreak.{deciding}
 use Rattle.wf_typed_tree.specs.ElaboratedExprs.{variable_tree, path_tree, expr_tree, arg_trees}
 use Rattle.wf_typed_tree.specs.ElaboratedStmts.{target_tree, update_tree, call_tree, assigned_call, assign_tree, simple_tree, count_stmt, count_block, count_arms, site, clause_trees, stmt_tree, block_tree, arms_tree}
@@ -62,13 +62,13 @@ module _ (p : NamedPackageTree) (n : ℕ) (m : NamedMethodTree) (is : MethodIs p
   -- A path that is a value, or an argument, is no whole array.
   value-stands : (e : NamedExprTree) → AllFine p (around p n m is) (expr_parts e) → MayStand (around p n m is) e
   value-stands (path q) h =
-      value-meant (variable (around p n m is) q.of) (at-none (fails is_value (variable (around p n m is) q.of)) q.at (h.0 T1 wrong_operand (λ at w. rules.operand at w)))
+      value-meant (variable (around p n m is) q.of) (at-none (fails is_value (variable (around p n m is) q.of)) q.at (h.0 T1 wrong_operand rows.wrong_operand))
   value-stands e h = tt
 
   argument-stands : (callee : NamedCallee) (j : ℕ) (e : NamedExprTree) → Fine p (around p n m is) (argument callee j e) → MayStand (around p n m is) e
   argument-stands callee j (path q) fine =
       let meant : Option Meaning = variable (around p n m is) q.of in
-      let wrong = either-false (fails may_be_handed meant) (both_fail takes (wanted (around p n m is) callee j) meant) (at-none _ q.at (fine T1 wrong_argument (λ at w. rules.argument at w))) in
+      let wrong = either-false (fails may_be_handed meant) (both_fail takes (wanted (around p n m is) callee j) meant) (at-none _ q.at (fine T1 wrong_argument rows.wrong_argument)) in
       handed-meant meant wrong.0
   argument-stands callee j e fine = tt
 

@@ -22,7 +22,7 @@ pub fn typed_nodes_without_a_refusal_are_accepted()
 {}
 
 /// A package that is read from files and keeps those rules is never stuck, with its methods in any order in which each
-/// stands behind those that it calls.
+/// stands after those that it calls.
 pub fn a_read_package_that_keeps_the_rules_is_never_stuck()
     ensures { ReadPackagesAreNeverStuck }
 {}

@@ -90,7 +90,7 @@ module _ (c : Context) where
       let q = and_parts (well_block c (Numbers behind) block) _ p.0 in
       record { block_well = q.0; marks = q.1; behind_well = p.1 }
 
-  -- Behind a statement.
+  -- After a statement.
   pub placed-rest : (site : Site) (s : Simple) (rest : Block) (behind : Behind) → Placed (plain site s rest) behind → Placed rest behind
   placed-rest site s rest behind h =
       let x : Parts (plain site s rest) behind = parts (plain site s rest) behind h.well in

@@ -16,10 +16,8 @@ use wf_text::{MethodId, NoMemory, StatusId, StructId};
 fn copied(alloc: Global, bytes: &[u8]) -> Result<Vec<u8>, NoMemory>
     ensures { IfOk result (λ copy. copy.items ≡ bytes.now) }
 {
-    match Vec::from_slice(alloc, bytes) {
-        Ok(copy) => Ok(copy),
-        Err(_) => Err(NoMemory),
-    }
+    let copy = Vec::from_slice(alloc, bytes)?;
+    Ok(copy)
 }
 
 // A name of the package.
@@ -35,13 +33,11 @@ fn arg(alloc: Global, t: &Typed, x: Var) -> Result<ArgDecl, NoMemory>
     requires { x.name.0 < length t.now.texts }
     ensures { IfOk result (λ it. it ≡ record { name = text_of t.now x.name; kind = kind_of x.ty }) }
 {
-    match name(alloc, t, x.name) {
-        Ok(name) => Ok(ArgDecl {
-            name,
-            kind: arg_kind(x.ty),
-        }),
-        Err(fault) => Err(fault),
-    }
+    let name = name(alloc, t, x.name)?;
+    Ok(ArgDecl {
+        name,
+        kind: arg_kind(x.ty),
+    })
 }
 
 // Arguments in declared order.
@@ -51,13 +47,8 @@ fn args(alloc: Global, t: &Typed, declared: &[Var]) -> Result<Vec<ArgDecl>, NoMe
 {
     let mut all = Vec::new(alloc);
     for i in 0..declared.len() {
-        match arg(alloc, t, declared[i]) {
-            Ok(it) => match all.push(it) {
-                Ok(()) => {}
-                Err(_) => return Err(NoMemory),
-            },
-            Err(fault) => return Err(fault),
-        }
+        let it = arg(alloc, t, declared[i])?;
+        all.push(it)?;
     }
     Ok(all)
 }
@@ -67,19 +58,14 @@ fn method(alloc: Global, t: &Typed, number: u32, m: &Method) -> Result<MethodDec
     requires { IsNamed (length t.now.texts) m.now }
     ensures { (body : Block) → IfOk result (λ it. it ≡ public_method number (method_of t.now m.now body)) }
 {
-    let args = match args(alloc, t, m.args.as_slice()) {
-        Ok(args) => args,
-        Err(fault) => return Err(fault),
-    };
-    match name(alloc, t, m.name) {
-        Ok(name) => Ok(MethodDecl {
-            number: MethodId(number),
-            name,
-            args,
-            answers: answer_kind(m.mark, m.gives),
-        }),
-        Err(fault) => Err(fault),
-    }
+    let args = args(alloc, t, m.args.as_slice())?;
+    let name = name(alloc, t, m.name)?;
+    Ok(MethodDecl {
+        number: MethodId(number),
+        name,
+        args,
+        answers: answer_kind(m.mark, m.gives),
+    })
 }
 
 // Whether a method is a public one of the struct with this number.
@@ -99,13 +85,8 @@ fn methods(alloc: Global, t: &Typed, s: u32) -> Result<Vec<MethodDecl>, NoMemory
     for m in 0..t.methods() {
         let declared = t.method(MethodId(m));
         if is_public_in(declared, s) {
-            match method(alloc, t, m, declared) {
-                Ok(it) => match all.push(it) {
-                    Ok(()) => {}
-                    Err(_) => return Err(NoMemory),
-                },
-                Err(fault) => return Err(fault),
-            }
+            let it = method(alloc, t, m, declared)?;
+            all.push(it)?;
         }
     }
     Ok(all)
@@ -118,18 +99,13 @@ fn structure(alloc: Global, t: &Typed, s: u32, called: TextId) -> Result<StructD
     requires name { called.0 < length t.now.texts }
     ensures { IfOk result (λ it. it ≡ record { number = s; name = text_of t.now called; methods = public_methods s 0 (package_of t.now).methods }) }
 {
-    let methods = match methods(alloc, t, s) {
-        Ok(methods) => methods,
-        Err(fault) => return Err(fault),
-    };
-    match name(alloc, t, called) {
-        Ok(name) => Ok(StructDecl {
-            number: StructId(s),
-            name,
-            methods,
-        }),
-        Err(fault) => Err(fault),
-    }
+    let methods = methods(alloc, t, s)?;
+    let name = name(alloc, t, called)?;
+    Ok(StructDecl {
+        number: StructId(s),
+        name,
+        methods,
+    })
 }
 
 // The public structs, in order.
@@ -142,13 +118,8 @@ fn structs(alloc: Global, t: &Typed) -> Result<Vec<StructDecl>, NoMemory>
     for s in 0..t.structs() {
         let declared = t.structure(StructId(s));
         if declared.public {
-            match structure(alloc, t, s, declared.name) {
-                Ok(it) => match all.push(it) {
-                    Ok(()) => {}
-                    Err(_) => return Err(NoMemory),
-                },
-                Err(fault) => return Err(fault),
-            }
+            let it = structure(alloc, t, s, declared.name)?;
+            all.push(it)?;
         }
     }
     Ok(all)
@@ -160,13 +131,8 @@ fn statuses(alloc: Global, t: &Typed) -> Result<Vec<Vec<u8>>, NoMemory>
 {
     let mut all = Vec::new(alloc);
     for n in 0..t.statuses() {
-        match copied(alloc, t.status_text(StatusId(n))) {
-            Ok(text) => match all.push(text) {
-                Ok(()) => {}
-                Err(_) => return Err(NoMemory),
-            },
-            Err(fault) => return Err(fault),
-        }
+        let text = copied(alloc, t.status_text(StatusId(n)))?;
+        all.push(text)?;
     }
     Ok(all)
 }
@@ -179,20 +145,12 @@ pub fn public_surface(alloc: Global, t: &Typed) -> Result<PublicSurface, NoMemor
     requires typed { IsTyped t.now }
     ensures { IfOk result (λ surface. surface ≡ surface_of (package_of t.now)) }
 {
-    let package_name = match copied(alloc, t.package()) {
-        Ok(package_name) => package_name,
-        Err(fault) => return Err(fault),
-    };
-    let statuses = match statuses(alloc, t) {
-        Ok(statuses) => statuses,
-        Err(fault) => return Err(fault),
-    };
-    match structs(alloc, t) {
-        Ok(structs) => Ok(PublicSurface {
-            package_name,
-            statuses,
-            structs,
-        }),
-        Err(fault) => Err(fault),
-    }
+    let package_name = copied(alloc, t.package())?;
+    let statuses = statuses(alloc, t)?;
+    let structs = structs(alloc, t)?;
+    Ok(PublicSurface {
+        package_name,
+        statuses,
+        structs,
+    })
 }

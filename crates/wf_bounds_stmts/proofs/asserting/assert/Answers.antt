@@ -1,5 +1,6 @@
 use Rattle.std.proofs.Common.{◌≡◌, ◌<◌, ◌≤◌, true, length, None, Some, ap, sym, ◌∙◌, arith}
 use Rattle.std.proofs.lemmas.List.{length-map}
+use Rattle.std.proofs.lemmas.Result.{err_from_is_err_and}
 use Rattle.wf_ast.specs.TypedTrees.{axiom_made, tree_of}
 use Rattle.wf_facts_exprs.specs.Claims.{claim_in, claims_in, facts_of}
 use Rattle.wf_facts_exprs.specs.Demands.{or_else}
@@ -11,32 +12,33 @@ use Rattle.wf_bounds_stmts.specs.Assertions.{claim_refusal}
 use Rattle.wf_bounds_stmts.proofs.OutcomeLemmas.{is-refused, is-fine, limit-kept, limit-passed}
 use Rattle.wf_bounds_stmts.proofs.asserting.assert.Goals as goal
 
-pub returns-in-Err-clause-answers : goal.returns-in-Err-clause-answers
-returns-in-Err-clause-answers c =
+pub returns-in_err-check_assertion-clause-answers : goal.returns-in_err-check_assertion-clause-answers
+returns-in_err-check_assertion-clause-answers c =
+    let r = err_from_is_err_and c.from_residual.result c.from_residual.ensures.1 in
     let t = c.args.t.now in
     let fs = claims_in t c.args.facts.now.list in
     let p = claim_refusal fs c.args.at (node_cond t c.args.goal) (axiom_made t (tree_of t) c.args.by.now) in
-    let found : p ≡ Some c.in-Err.refusal = is-refused p c.in-Err.refusal (rw c.as_slice.ensures at (sym c.check_assertion.ensures ∙ c.in-Err.is)) in
-    ap (λ q. or_else q (limit c.args.at (with_condition fs (node_cond t c.args.goal) true))) found
+    let found : p ≡ Some c.in_err-check_assertion.field-0.0 = is-refused p c.in_err-check_assertion.field-0.0 (rw c.as_slice.ensures at (sym c.check_assertion.ensures ∙ c.in_err-check_assertion.was)) in
+    rw (r.1, r.2) (ap (λ q. or_else q (limit c.args.at (with_condition fs (node_cond t c.args.goal) true))) found)
 
-pub returns-in-Ok-add_condition-clause-answers : goal.returns-in-Ok-add_condition-clause-answers
-returns-in-Ok-add_condition-clause-answers c =
+pub returns-in-Ok-clause-answers : goal.returns-in-Ok-clause-answers
+returns-in-Ok-clause-answers c =
     let t = c.args.t.now in
     let fs = claims_in t c.args.facts.now.list in
     let p = claim_refusal fs c.args.at (node_cond t c.args.goal) (axiom_made t (tree_of t) c.args.by.now) in
     let list = c.add_condition.new.self.list in
     let known = with_condition fs (node_cond t c.args.goal) true in
-    let made : claims_in t list ≡ known = c.in-Ok-add_condition.ensures.ok in
+    let made : claims_in t list ≡ known = c.in-Ok.ensures.ok in
     let small : length known ≤ 512 = omega (arith, ap length made, length-map list (claim_in t), c.len-few.ensures.value, c.len-few.ensures.few) in
-    (is-fine p (rw c.as_slice.ensures at (sym c.check_assertion.ensures ∙ c.in-Ok.is)), limit-kept c.args.at known small, made)
+    (is-fine p (rw c.as_slice.ensures at (sym c.check_assertion.ensures ∙ c.in_ok-check_assertion.was)), limit-kept c.args.at known small, made)
 
-pub returns-in-Err-add_condition-clause-answers : goal.returns-in-Err-add_condition-clause-answers
-returns-in-Err-add_condition-clause-answers c =
+pub returns-in-Err-clause-answers : goal.returns-in-Err-clause-answers
+returns-in-Err-clause-answers c =
     let t = c.args.t.now in
     let fs = claims_in t c.args.facts.now.list in
     let p = claim_refusal fs c.args.at (node_cond t c.args.goal) (axiom_made t (tree_of t) c.args.by.now) in
     let known = with_condition fs (node_cond t c.args.goal) true in
-    let stop = c.in-Err-add_condition.ensures.full in
+    let stop = c.in-Err.ensures.full in
     let large : 512 < length known = too_many (facts_of (node_cond t c.args.goal) true) fs stop.count stop.next _ stop.is stop.so_far stop.many stop.other in
-    let fine : p ≡ None = is-fine p (rw c.as_slice.ensures at (sym c.check_assertion.ensures ∙ c.in-Ok.is)) in
+    let fine : p ≡ None = is-fine p (rw c.as_slice.ensures at (sym c.check_assertion.ensures ∙ c.in_ok-check_assertion.was)) in
     ap (λ q. or_else q (limit c.args.at known)) fine ∙ limit-passed c.args.at known large

@@ -1,4 +1,5 @@
 use Rattle.std.proofs.Common.{◌≡◌, length, take, map, ap, sym, ◌∙◌, arith, rules}
+use Rattle.std.proofs.lemmas.Result.{err_from_is_err_and}
 use Rattle.wf_facts_exprs.specs.Claims.{claims_in}
 use Rattle.wf_facts_exprs.specs.Demands.{unless_refused}
 use Rattle.wf_axioms.specs.Items.{claim_of_item, claims_of_items, IsFine}
@@ -27,18 +28,19 @@ loop-i-preserved c =
     let three : length c.args.p.items ≡ 3 = search rules in
     let also : length offsets ≡ 3 = search rules in
     let next = premises-next c.args.t.now fs c.args.text_at offsets c.args.p.items c.args.p.count c.loop-i.i _ _ (omega (arith, c.loop-i-test.true)) (omega (arith, also, c.requires.few)) (omega (arith, three, c.requires.few)) in
-    let here = rw c.inside_text.ensures at (sym c.check_premise.ensures ∙ c.in-Ok.is) in
+    let here = rw c.inside_text.ensures at (sym c.check_premise.ensures ∙ c.in_ok-check_premise.was) in
     goes-on _ _ _ _ (is-fine _ here) next c.loop-i.invariant
 
-pub returns-in-Err : goal.returns-in-Err
-returns-in-Err c =
+pub returns-in_err-check_premise : goal.returns-in_err-check_premise
+returns-in_err-check_premise c =
+    let r = err_from_is_err_and c.from_residual.result c.from_residual.ensures.1 in
     let fs = claims_in c.args.t.now c.args.facts.now in
     let offsets = c.premise_offsets-offsets.result in
     let three : length c.args.p.items ≡ 3 = search rules in
     let also : length offsets ≡ 3 = search rules in
     let next = premises-next c.args.t.now fs c.args.text_at offsets c.args.p.items c.args.p.count c.loop-i.i _ _ (omega (arith, c.loop-i-test.true)) (omega (arith, also, c.requires.few)) (omega (arith, three, c.requires.few)) in
-    let here = rw c.inside_text.ensures at (sym c.check_premise.ensures ∙ c.in-Err.is) in
-    stops _ _ _ _ c.in-Err.refusal (is-refused _ c.in-Err.refusal here) next c.loop-i.invariant
+    let here = rw c.inside_text.ensures at (sym c.check_premise.ensures ∙ c.in_err-check_premise.was) in
+    rw (r.1, r.2) (stops _ _ _ _ c.in_err-check_premise.field-0.0 (is-refused _ c.in_err-check_premise.field-0.0 here) next c.loop-i.invariant)
 
 pub returns : goal.returns
 returns c =

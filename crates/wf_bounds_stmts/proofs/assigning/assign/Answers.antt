@@ -1,5 +1,6 @@
 use Rattle.std.proofs.Common.{◌≡◌, ◌<◌, ◌≤◌, length, None, Some, ap, sym, ◌∙◌, arith}
 use Rattle.std.proofs.lemmas.List.{length-map}
+use Rattle.std.proofs.lemmas.Result.{err_from_is_err_and}
 use Rattle.wf_ast.specs.TypedTrees.{target_of, tree_of, type_of_node}
 use Rattle.wf_facts_exprs.specs.Claims.{claim_in, claims_in}
 use Rattle.wf_facts_exprs.specs.Demands.{or_else}
@@ -10,17 +11,18 @@ use Rattle.wf_bounds_stmts.proofs.OutcomeLemmas.{is-refused, is-fine, limit-kept
 use Rattle.wf_bounds_stmts.proofs.AssignLemmas.{assigned-seen}
 use Rattle.wf_bounds_stmts.proofs.assigning.assign.Goals as goal
 
-pub returns-in-Err-clause-answers : goal.returns-in-Err-clause-answers
-returns-in-Err-clause-answers c =
+pub returns-in_err-check_assigned-clause-answers : goal.returns-in_err-check_assigned-clause-answers
+returns-in_err-check_assigned-clause-answers c =
+    let r = err_from_is_err_and c.from_residual.result c.from_residual.ensures.1 in
     let fs = claims_in c.args.t.now c.args.facts.now.list in
     let w = tree_of c.args.t.now c.args.target in
     let v = tree_of c.args.t.now c.args.value in
     let p = assign_refusal fs (target_of w) v in
-    let found : p ≡ Some c.in-Err.refusal = is-refused p c.in-Err.refusal (rw c.as_slice.ensures at (sym c.check_assigned.ensures ∙ c.in-Err.is)) in
-    ap (λ q. or_else q (limit c.args.at (assigned fs (target_of w) None v))) found
+    let found : p ≡ Some c.in_err-check_assigned.field-0.0 = is-refused p c.in_err-check_assigned.field-0.0 (rw c.as_slice.ensures at (sym c.check_assigned.ensures ∙ c.in_err-check_assigned.was)) in
+    rw (r.1, r.2) (ap (λ q. or_else q (limit c.args.at (assigned fs (target_of w) None v))) found)
 
-pub returns-in-Ok-know_written-clause-answers : goal.returns-in-Ok-know_written-clause-answers
-returns-in-Ok-know_written-clause-answers c =
+pub returns-in-Ok-clause-answers : goal.returns-in-Ok-clause-answers
+returns-in-Ok-clause-answers c =
     let fs = claims_in c.args.t.now c.args.facts.now.list in
     let w = tree_of c.args.t.now c.args.target in
     let v = tree_of c.args.t.now c.args.value in
@@ -28,12 +30,12 @@ returns-in-Ok-know_written-clause-answers c =
     let x = c.written-x.result in
     let list = c.know_written.new.facts.list in
     let made : claims_in c.args.t.now list ≡ assigned fs (target_of w) None v =
-    c.in-Ok-know_written.ensures.makes ∙ ap (known_variable (number_variable ty x) w v) c.drop_written.ensures.claims ∙ sym (assigned-seen fs w v ty x c.written-x.ensures.seen) in
+    c.in-Ok.ensures.makes ∙ ap (known_variable (number_variable ty x) w v) c.drop_written.ensures.claims ∙ sym (assigned-seen fs w v ty x c.written-x.ensures.seen) in
     let small : length (assigned fs (target_of w) None v) ≤ 512 = omega (arith, ap length made, length-map list (claim_in c.args.t.now), c.len-few.ensures.value, c.len-few.ensures.few) in
-    (is-fine (assign_refusal fs (target_of w) v) (rw c.as_slice.ensures at (sym c.check_assigned.ensures ∙ c.in-Ok.is)), limit-kept c.args.at (assigned fs (target_of w) None v) small, made)
+    (is-fine (assign_refusal fs (target_of w) v) (rw c.as_slice.ensures at (sym c.check_assigned.ensures ∙ c.in_ok-check_assigned.was)), limit-kept c.args.at (assigned fs (target_of w) None v) small, made)
 
-pub returns-in-Err-know_written-clause-answers : goal.returns-in-Err-know_written-clause-answers
-returns-in-Err-know_written-clause-answers c =
+pub returns-in-Err-clause-answers : goal.returns-in-Err-clause-answers
+returns-in-Err-clause-answers c =
     let fs = claims_in c.args.t.now c.args.facts.now.list in
     let w = tree_of c.args.t.now c.args.target in
     let v = tree_of c.args.t.now c.args.value in
@@ -41,6 +43,6 @@ returns-in-Err-know_written-clause-answers c =
     let x = c.written-x.result in
     let made : known_variable (number_variable ty x) w v (claims_in c.args.t.now c.drop_written.new.facts.list) ≡ assigned fs (target_of w) None v =
     ap (known_variable (number_variable ty x) w v) c.drop_written.ensures.claims ∙ sym (assigned-seen fs w v ty x c.written-x.ensures.seen) in
-    let large : 512 < length (assigned fs (target_of w) None v) = rw made at c.in-Err-know_written.ensures.makes in
-    let fine : assign_refusal fs (target_of w) v ≡ None = is-fine (assign_refusal fs (target_of w) v) (rw c.as_slice.ensures at (sym c.check_assigned.ensures ∙ c.in-Ok.is)) in
+    let large : 512 < length (assigned fs (target_of w) None v) = rw made at c.in-Err.ensures.makes in
+    let fine : assign_refusal fs (target_of w) v ≡ None = is-fine (assign_refusal fs (target_of w) v) (rw c.as_slice.ensures at (sym c.check_assigned.ensures ∙ c.in_ok-check_assigned.was)) in
     ap (λ q. or_else q (limit c.args.at (assigned fs (target_of w) None v))) fine ∙ limit-passed c.args.at (assigned fs (target_of w) None v) large

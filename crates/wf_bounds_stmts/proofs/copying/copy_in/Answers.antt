@@ -1,4 +1,5 @@
 use Rattle.std.proofs.Common.{◌≡◌, [], ◌∷◌, None, Some, ap, sym, ◌∙◌}
+use Rattle.std.proofs.lemmas.Result.{err_from_is_err_and}
 use Rattle.wf_text.specs.declared.rules.Rule.TheVariants.{B8}
 use Rattle.wf_base.specs.declared.widths.Width.TheVariants.{W64}
 use Rattle.wf_ast.specs.declared.things.Thing.TheVariants as things
@@ -14,8 +15,9 @@ use Rattle.wf_bounds_stmts.specs.Calls.{all_of}
 use Rattle.wf_bounds_stmts.proofs.OutcomeLemmas.{is-fine, is-refused, or-again}
 use Rattle.wf_bounds_stmts.proofs.copying.copy_in.Goals as goal
 
-pub returns-in-Err-check_answer-clause-settles : goal.returns-in-Err-check_answer-clause-settles
-returns-in-Err-check_answer-clause-settles c =
+pub returns-in_err-check_answer-clause-settles : goal.returns-in_err-check_answer-clause-settles
+returns-in_err-check_answer-clause-settles c =
+    let r = err_from_is_err_and c.from_residual-in_err-check_answer.result c.from_residual-in_err-check_answer.ensures.1 in
     let fs = claims_in c.args.t.now c.args.facts.now.list in
     let w = tree_of c.args.t.now c.args.on in
     let v = tree_of c.args.t.now c.args.source in
@@ -26,7 +28,7 @@ returns-in-Err-check_answer-clause-settles c =
     let q = answer_refusal (without things.Element fs) c.args.at (optional_target (tree_of c.args.t.now) c.args.target) (all_of W64) in
     let fine : or_else p a ≡ None =
     ap (λ it. or_else (value_refusal fs it) a) (sym c.requires.on) ∙ ap (λ it. or_else (value_refusal fs w) (all_handed B8 fs ((None, it) ∷ []))) (sym c.requires.source)
-    ∙ is-fine (or_else (value_refusal fs w) (all_handed B8 fs ((None, v) ∷ []))) (rw c.as_slice.ensures at (sym c.check_copied.ensures ∙ c.in-Ok.is)) in
-    let found : q ≡ Some c.in-Err-check_answer.refusal =
-    is-refused q c.in-Err-check_answer.refusal (rw (c.as_slice-2.ensures, c.drop_mentions.ensures.claims) at (sym c.check_answer.ensures ∙ c.in-Err-check_answer.is)) in
-    or-again p a q ∙ ap (λ r. or_else r q) fine ∙ found
+    ∙ is-fine (or_else (value_refusal fs w) (all_handed B8 fs ((None, v) ∷ []))) (rw c.as_slice.ensures at (sym c.check_copied.ensures ∙ c.in_ok-check_copied.was)) in
+    let found : q ≡ Some c.in_err-check_answer.field-0.0 =
+    is-refused q c.in_err-check_answer.field-0.0 (rw (c.as_slice-2.ensures, c.drop_mentions.ensures.claims) at (sym c.check_answer.ensures ∙ c.in_err-check_answer.was)) in
+    rw (r.1, r.2) (or-again p a q ∙ ap (λ r. or_else r q) fine ∙ found)

@@ -1,4 +1,5 @@
 use Rattle.std.proofs.Common.{◌≡◌, List, None, Some, ap, sym, ◌∙◌, subst}
+use Rattle.std.proofs.lemmas.Result.{err_from_is_err_and}
 use Rattle.wf_text.specs.declared.rules.Rule.TheVariants.{B8}
 use Rattle.wf_ast.specs.declared.things.Thing.TheVariants as things
 use Rattle.wf_ast.specs.TypedTree.{write_fast}
@@ -16,15 +17,16 @@ use Rattle.wf_bounds_stmts.proofs.OutcomeLemmas.{is-fine, is-refused, or-again}
 use Rattle.wf_bounds_stmts.proofs.FastLemmas.{answered-after, still-refused}
 use Rattle.wf_bounds_stmts.proofs.fast_calls.write_fast.Goals as goal
 
-pub returns-in-Err-clause-settles : goal.returns-in-Err-clause-settles
-returns-in-Err-clause-settles c =
+pub returns-in_err-check_write-clause-settles : goal.returns-in_err-check_write-clause-settles
+returns-in_err-check_write-clause-settles c =
+    let r = err_from_is_err_and c.from_residual.result c.from_residual.ensures.1 in
     let t = c.args.t.now in
     let fs = claims_in t c.args.facts.now.list in
     let call = write_fast (io_in (tree_of t c.args.on)) (node_number t c.args.byte) in
     let p = all_handed B8 fs (handed_to_written call) in
     let q = premise_refusal fs c.args.at call in
     let d = answer_refusal (left_by_written call fs) c.args.at (optional_target (tree_of t) c.args.target) None in
-    or-again p q d ∙ still-refused (or_else p q) d c.in-Err.refusal (is-refused (or_else p q) c.in-Err.refusal (rw c.as_slice.ensures at (sym c.check_write.ensures ∙ c.in-Err.is)))
+    rw (r.1, r.2) (or-again p q d ∙ still-refused (or_else p q) d c.in_err-check_write.field-0.0 (is-refused (or_else p q) c.in_err-check_write.field-0.0 (rw c.as_slice.ensures at (sym c.check_write.ensures ∙ c.in_err-check_write.was))))
 
 pub returns-clause-settles : goal.returns-clause-settles
 returns-clause-settles c =
@@ -34,7 +36,7 @@ returns-clause-settles c =
     let target = optional_target (tree_of t) c.args.target in
     let p = all_handed B8 fs (handed_to_written call) in
     let q = premise_refusal fs c.args.at call in
-    let fine : or_else p q ≡ None = is-fine (or_else p q) (rw c.as_slice.ensures at (sym c.check_write.ensures ∙ c.in-Ok.is)) in
+    let fine : or_else p q ≡ None = is-fine (or_else p q) (rw c.as_slice.ensures at (sym c.check_write.ensures ∙ c.in_ok-check_write.was)) in
     let list : claims_in t c.lower_length.new.self.list ≡ left_by_written call fs =
     c.lower_length.ensures.claims ∙ ap (λ n. changed (things.Arg (record { 0 = n })) (Shortened (Some 1)) fs) c.io_of.ensures in
     let P : List Claim → Type 0 = λ gs. Settles t (answer_refusal gs c.args.at target None) (unwritten target gs) c.take_answer.result c.take_answer.new.facts in

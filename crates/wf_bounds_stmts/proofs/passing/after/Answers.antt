@@ -2,7 +2,7 @@ use Rattle.std.proofs.Common.{◌≤◌, length, arith}
 use Rattle.wf_bounds_stmts.proofs.PassLemmas.{told-passes}
 use Rattle.wf_bounds_stmts.proofs.passing.after.Goals as goal
 
-pub returns-in-Ok : goal.returns-in-Ok
-returns-in-Ok c = λ nodes at refusal known told.
+pub returns : goal.returns
+returns c = λ nodes at refusal known told.
     let few : length c.args.facts.now.list ≤ 512 = omega (arith, c.len-few.ensures.value, c.len-few.ensures.few) in
-    told-passes nodes at refusal c.args.facts.now known few (rw c.in-Ok.is at told)
+    told-passes nodes at refusal c.args.facts.now known few (rw c.in_ok-answer.was at told)

@@ -12,7 +12,7 @@ use Rattle.wf_facts.proofs.marking.+mark_expr.Goals as goal
 pub mark_expr-requires : goal.mark_expr-requires
 mark_expr-requires t c =
     let p = part_below (parts_of c.expr-expr.result.now) c.args.e.0 c.loop-i.i c.part.result c.expr-expr.ensures.below c.part.ensures in
-    (search (rules, p), (omega (arith, p, c.requires.node), (c.requires.place, omega (arith, c.loop-i.auto.sets, c.requires.whole))))
+    (search (rules, p), (omega (arith, p, c.requires.node), c.requires.place))
 
 pub loop-i-preserved : goal.loop-i-preserved
 loop-i-preserved t c =

@@ -3,4 +3,4 @@ use Rattle.wf_surfaces.proofs.SurfaceLemmas.{pushed}
 use Rattle.wf_surfaces.proofs.surface.statuses.Goals as goal
 
 pub loop-n-preserved : goal.loop-n-preserved
-loop-n-preserved c = ap (map (λ text. text.items)) c.in-Ok-push.ensures.items ∙ pushed (λ text. text.items) c.loop-n.all.items c.in-Ok.text c.args.t.now.statuses c.loop-n.n _ c.loop-n.invariant c.status_text.ensures c.in-Ok.ensures
+loop-n-preserved c = ap (map (λ text. text.items)) c.in_ok-push.ensures.items ∙ pushed (λ text. text.items) c.loop-n.all.items c.in_ok-text.text c.args.t.now.statuses c.loop-n.n _ c.loop-n.invariant c.status_text.ensures c.in_ok-text.ensures

@@ -1,5 +1,6 @@
 use Rattle.std.proofs.Common.{◌≡◌, ◌+◌, ◌<◌, [], ◌∷◌, List, length, take, drop, suc, sym, ap, ◌∙◌, subst, arith, rules}
 use Rattle.std.specs.Prelude.{OnOk, OnErr, slice_index_or}
+use Rattle.std.proofs.lemmas.Result.{err_from_is_err_and}
 use Rattle.wf_ast.specs.declared.numbers.ExprId.{ExprId}
 use Rattle.wf_ast.specs.TypedTree.{ValueTree}
 use Rattle.wf_ast.specs.TypedTrees.{cond_in, sort_of, type_of_node, place_of_node, signs_of_node}
@@ -13,8 +14,9 @@ use Rattle.wf_facts.specs.Conditions.{StopsAt, facts_of_all}
 use Rattle.wf_facts.proofs.ConditionLemmas.{chain-all, chain-whole, all-split, all-more, added-after, stops-among}
 use Rattle.wf_facts.proofs.list.Facts.+adding_conditions.Goals as goal
 
-pub add_all-returns-in-Err-clause-full : goal.add_all-returns-in-Err-clause-full
-add_all-returns-in-Err-clause-full t c =
+pub add_all-returns-in_err-add_condition-clause-full : goal.add_all-returns-in_err-add_condition-clause-full
+add_all-returns-in_err-add_condition-clause-full t c =
+    let r = err_from_is_err_and c.from_residual.result c.from_residual.ensures.1 in
     let none : ExprId = record { 0 = 0 } in
     let part = facts_of (node_cond c.args.t.now (slice_index_or c.args.parts.now c.loop-i.i none)) c.args.answer in
     let before = claims_in c.args.t.now c.args.self.now.list in
@@ -23,7 +25,7 @@ add_all-returns-in-Err-clause-full t c =
     let rest = facts_of_all c.args.t.now c.args.answer (drop (suc c.loop-i.i) c.args.parts.now) in
     let P : List Claim → Type 0 = λ fs. StopsAt fs part after in
     let Q : List Claim → Type 0 = λ fs. StopsAt before fs after in
-    subst Q (sym (all-split c.args.t.now c.args.answer c.args.parts.now c.loop-i.i none c.loop-i-test.true)) (stops-among before done part rest after (subst P c.loop-i.invariant.1 c.in-Err.ensures.full))
+    rw r.1 (subst Q (sym (all-split c.args.t.now c.args.answer c.args.parts.now c.loop-i.i none c.loop-i-test.true)) (stops-among before done part rest after (subst P c.loop-i.invariant.1 c.in_err-add_condition.ensures.full)))
 
 pub add_all-loop-i-preserved : goal.add_all-loop-i-preserved
 add_all-loop-i-preserved t c =
@@ -32,8 +34,8 @@ add_all-loop-i-preserved t c =
     let before = claims_in c.args.t.now c.args.self.now.list in
     let done = facts_of_all c.args.t.now c.args.answer (take c.loop-i.i c.args.parts.now) in
     let next : suc c.loop-i.i ≡ c.loop-i.i + 1 = omega arith in (
-      c.in-Ok.ensures.over,
-      c.in-Ok.ensures.ok ∙ ap (λ fs. all_added fs part) c.loop-i.invariant.1 ∙ sym (added-after before done part)
+      c.in_ok-add_condition.ensures.over,
+      c.in_ok-add_condition.ensures.ok ∙ ap (λ fs. all_added fs part) c.loop-i.invariant.1 ∙ sym (added-after before done part)
           ∙ ap (all_added before) (sym (all-more c.args.t.now c.args.answer c.args.parts.now c.loop-i.i none c.loop-i-test.true))
           ∙ ap (λ n. all_added before (facts_of_all c.args.t.now c.args.answer (take n c.args.parts.now))) next,
     )

@@ -1,7 +1,5 @@
-use Rattle.std.proofs.Common.{◌≡◌, length, sym, ap, ◌∙◌, arith}
-use Rattle.std.specs.Vec.{with_items}
+use Rattle.std.proofs.Common.{◌≡◌, length, sym, ap, arith}
 use Rattle.std.proofs.lemmas.Grind.{common_steps}
-use Rattle.std.proofs.lemmas.List.{take_at}
 use Rattle.wf_facts.specs.Sets.{members, unmarked}
 use Rattle.wf_facts.proofs.SetLemmas.{all_stay}
 use Rattle.wf_facts.proofs.DropLemmas.{IsOver-left}
@@ -10,12 +8,10 @@ use Rattle.wf_facts.proofs.list.Facts.drop_set.Goals as goal
 pub returns-clause-over : goal.returns-clause-over
 returns-clause-over c nodes over =
     let p : c.self.inside.list.items ≡ c.args.self.now.list = ap (λ f. f.list) c.self.view_is in
-    let q : c.self.inside.sets.items ≡ c.args.self.now.sets = ap (λ f. f.sets) c.self.view_is in
     let left : c.truncate.new.self.items ≡ unmarked (members c.args.dropped.now.words (length c.args.self.now.list)) c.args.self.now.list = grind (arith, common_steps, p) in
     let count : c.len-n.result ≡ length c.args.self.now.list = grind (arith, common_steps, p) in
-    let long : length c.move_sets.new.sets ≡ c.self.inside.sets.len = omega (arith, c.move_sets.auto.sets, c.as_mut_slice-2.ensures.len) in
-    IsOver-left nodes c.args.self.now c.args.dropped.now.words c.truncate.new.self.items c.as_mut_slice-2.result.now c.move_sets.new.sets (with_items c.self.inside.sets c.move_sets.new.sets).items c.len-n.result
-    count (c.as_mut_slice-2.ensures.value ∙ q) (take_at c.move_sets.new.sets _ _ long) (omega (arith, ap length p, c.self.invariant.few)) (omega (arith, ap length q, c.self.invariant.whole)) left c.move_sets.ensures over
+    IsOver-left nodes c.args.self.now c.args.dropped.now.words c.truncate.new.self.items c.self.inside.sets c.move_places.new.self c.len-n.result
+    count (ap (λ f. f.sets) c.self.view_is) left c.move_places.ensures over
 
 pub returns-then-first-n-clause-list : goal.returns-then-first-n-clause-list
 returns-then-first-n-clause-list c =

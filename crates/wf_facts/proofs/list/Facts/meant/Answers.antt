@@ -4,8 +4,8 @@ use Rattle.wf_facts.proofs.list.Facts.meant.Goals as goal
 
 pub returns-then-has_set : goal.returns-then-has_set
 returns-then-has_set c =
-    set_known c.args.t.now c.args.self.now c.self.inside.list.items c.self.inside.sets.items c.self.view_is c.self.invariant.whole c.args.x (sym c.if-has_set.ensures)
-    c.requires.over c.set_number.result c.set_number.ensures c.index.result.now c.index.ensures
+    set_known c.args.t.now c.args.self.now c.self.inside.list.items c.self.inside.sets c.self.view_is c.args.x (sym c.if-has_set.ensures)
+    c.requires.over c.set_number.result c.set_number.ensures c.at.result.now.words c.at.ensures
 
 pub loop-i-preserved : goal.loop-i-preserved
 loop-i-preserved c =

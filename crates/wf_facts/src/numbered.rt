@@ -1,0 +1,106 @@
+// Sets of facts by number.
+
+ghost use Rattle.std.specs.Prelude.{◌≡◌, ◌≤◌, ◌<◌, ℕ, Bool, List, [], length, vec_capacity, nat_eq, false, IfOk};
+ghost use Rattle.wf_facts.specs.IndexedFacts.{Marks, words_at};
+ghost use Rattle.wf_facts.specs.Sets.{member, members, IsSetOf, unmarked};
+ghost use Rattle.wf_facts.specs.declared.sets.FactSet.{FactSet};
+
+use crate::dropping::move_sets;
+use crate::sets::FactSet;
+use std::alloc::Global;
+use std::marker::Model;
+use wf_text::NoMemory;
+
+/// Sets by number, up to the last one in use: those after it are empty. There is room for all 260, one for each local that
+/// a method may have and four more.
+#[derive(Drop)]
+pub(crate) struct Sets {
+    list: Vec<FactSet>,
+    none: FactSet,
+}
+
+impl Model for Sets {
+    ghost use Rattle.std.specs.Prelude.{List, vec_capacity, length};
+    ghost use Rattle.wf_facts.specs.declared.sets.FactSet.{FactSet};
+    ghost use Rattle.wf_facts.specs.IndexedFacts.{HasSets};
+
+    ghost Value = { List FactSet };
+
+    ghost view = { λ s. s.list.items };
+
+    ghost invariant = { λ s. HasSets (length s.list.items) (vec_capacity s.list) s.none.words };
+}
+
+/// How many sets there may be.
+const SETS: usize = 260;
+
+impl Sets {
+    /// None is in use.
+    pub(crate) fn new(alloc: Global) -> Result<Sets, NoMemory>
+        ensures { IfOk result (λ sets. sets ≡ []) }
+    {
+        let list = Vec::with_capacity(alloc, SETS)?;
+        Ok(Sets {
+            list,
+            none: FactSet::new(),
+        })
+    }
+
+    /// The set of a number.
+    pub(crate) fn at(&self, k: usize) -> &FactSet
+        ensures { result.now.words ≡ words_at self.now k }
+    {
+        if k < self.list.len() {
+            &self.list[k]
+        } else {
+            &self.none
+        }
+    }
+
+    /// Puts a place into one set.
+    pub(crate) fn insert(&mut self, at: usize, n: usize)
+        requires set { at < 260 }
+        requires place { n < 512 }
+        ensures { Marks n (λ k. nat_eq k at) self.old self.new }
+    {
+        use_up_to(&mut self.list, at + 1);
+        self.list[at].insert(n);
+    }
+
+    /// Moves the places in each set once those of `dropped`, none of them before `first`, leave a list of `n`.
+    pub(crate) fn move_places(&mut self, dropped: &FactSet, first: usize, n: usize)
+        requires few { n ≤ 512 }
+        requires first { first ≤ n }
+        requires before { (k : ℕ) → k < first → member dropped.now.words k ≡ false }
+        ensures { (k : ℕ) → (marks : List Bool) → length marks ≡ n → IsSetOf (words_at self.old k) marks → IsSetOf (words_at self.new k) (unmarked (members dropped.now.words n) marks) }
+    {
+        move_sets(self.list.as_mut_slice(), dropped, first, n);
+    }
+
+    /// The same sets once more.
+    pub(crate) fn copy(&self, alloc: Global) -> Result<Sets, NoMemory>
+        ensures { IfOk result (λ copy. copy ≡ self.now) }
+    {
+        let mut list = Vec::with_capacity(alloc, SETS)?;
+        list.extend_from_slice(self.list.as_slice())?;
+        Ok(Sets {
+            list,
+            none: self.none,
+        })
+    }
+}
+
+// Takes empty sets into use until so many are.
+fn use_up_to(list: &mut Vec<FactSet>, many: usize)
+    requires many { many ≤ 260 }
+    requires few { length list.old.items ≤ 260 }
+    requires room { 260 ≤ vec_capacity list.old }
+    ensures same { (k : ℕ) → words_at list.new.items k ≡ words_at list.old.items k }
+    ensures many { many ≤ length list.new.items }
+    ensures few { length list.new.items ≤ 260 }
+    ensures room { vec_capacity list.new ≡ vec_capacity list.old }
+{
+    while list.len() < many {
+        list.push_reserved(FactSet::new());
+    }
+}
