@@ -25,7 +25,7 @@ abbrev pub first_is : ParamTree → List ParamTree → Bool
 first_is p [] = false
 first_is p (q ∷ qs) = same_type p.kind q.kind && bytes_eq p.name q.name
 
--- The parameters of an argument stand from `at` on, and others behind them.
+-- The parameters of an argument stand from `at` on, and others after them.
 abbrev pub TakesArg : Nodes → List CParam → (at : ℕ) → PublicArg → Option ℕ → Type 0
 TakesArg nodes params at arg None = (more : List ParamTree) → same_params (arg_params arg ++ more) (map (param_tree nodes.names) (drop at params)) ≡ false
 TakesArg nodes params at arg (Some next) = (next ≤ length params) × ((more : List ParamTree) → same_params (arg_params arg ++ more) (map (param_tree nodes.names) (drop at params)) ≡ same_params more (map (param_tree nodes.names) (drop next params)))

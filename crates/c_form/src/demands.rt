@@ -60,19 +60,10 @@ impl<'n, 'u> Demands<'n, 'u> {
         requires { (q : List ℕ) → named names.now q ≡ item_at 0 (unit_tree unit.now) q }
         ensures { IfOk result (λ it. it ≡ ask_structs surface.now (none_asked unit.now) surface.now.structs) }
     {
-        let mut demands = match Demands::new(alloc, unit, names) {
-            Ok(demands) => demands,
-            Err(fault) => return Err(fault),
-        };
+        let mut demands = Demands::new(alloc, unit, names)?;
         for it in surface.structs.as_slice() {
-            let of = match type_name(alloc, surface.package_name.as_slice(), it.name.as_slice()) {
-                Ok(name) => name,
-                Err(fault) => return Err(fault),
-            };
-            match demands.ask(alloc, of.as_slice(), it.methods.as_slice()) {
-                Ok(()) => {}
-                Err(fault) => return Err(fault),
-            }
+            let of = type_name(alloc, surface.package_name.as_slice(), it.name.as_slice())?;
+            demands.ask(alloc, of.as_slice(), it.methods.as_slice())?;
         }
         Ok(demands)
     }
@@ -86,15 +77,13 @@ impl<'n, 'u> Demands<'n, 'u> {
         requires { (q : List ℕ) → named names.now q ≡ item_at 0 (unit_tree unit.now) q }
         ensures { IfOk result (λ it. it ≡ none_asked unit.now) }
     {
-        match vec![in alloc; true; unit.items()] {
-            Ok(met) => Ok(Demands {
-                unit,
-                names,
-                met,
-                complete: true,
-            }),
-            Err(_) => Err(NoMemory),
-        }
+        let met = vec![in alloc; true; unit.items()]?;
+        Ok(Demands {
+            unit,
+            names,
+            met,
+            complete: true,
+        })
     }
 
     /// Asks for a function of this name.
@@ -135,10 +124,7 @@ impl<'n, 'u> Demands<'n, 'u> {
         ensures { OnOk result (self.new ≡ ask_functions self.old (map (method_by of.now) methods.now)) }
     {
         for method in methods {
-            let name = match function_name(alloc, of, method.name.as_slice()) {
-                Ok(name) => name,
-                Err(fault) => return Err(fault),
-            };
+            let name = function_name(alloc, of, method.name.as_slice())?;
             let asked = Asked {
                 of,
                 args: method.args.as_slice(),
@@ -154,10 +140,7 @@ impl<'n, 'u> Demands<'n, 'u> {
         ensures { OnOk result (self.new ≡ ask_all self.old of.now methods.now) }
     {
         self.ask_struct(of);
-        let initialize = match function_name(alloc, of, b"initialize") {
-            Ok(name) => name,
-            Err(fault) => return Err(fault),
-        };
+        let initialize = function_name(alloc, of, b"initialize")?;
         let asked = Asked {
             of,
             args: &[],
@@ -186,10 +169,8 @@ impl<'n, 'u> Demands<'n, 'u> {
 fn append(text: &mut Vec<u8>, more: &[u8]) -> Result<(), NoMemory>
     ensures { OnOk result (text.new.items ≡ text.old.items ++ more.now) }
 {
-    match text.extend_from_slice(more) {
-        Ok(()) => Ok(()),
-        Err(_) => Err(NoMemory),
-    }
+    text.extend_from_slice(more)?;
+    Ok(())
 }
 
 /// The name of a struct's type.
@@ -197,38 +178,19 @@ fn type_name(alloc: Global, of_package: &[u8], name: &[u8]) -> Result<Vec<u8>, N
     ensures { IfOk result (λ it. it.items ≡ codes "wuffs_" ++ (of_package.now ++ (codes "__" ++ name.now))) }
 {
     let mut text = Vec::new(alloc);
-    match append(&mut text, b"wuffs_") {
-        Ok(()) => {}
-        Err(fault) => return Err(fault),
-    }
-    match append(&mut text, of_package) {
-        Ok(()) => {}
-        Err(fault) => return Err(fault),
-    }
-    match append(&mut text, b"__") {
-        Ok(()) => {}
-        Err(fault) => return Err(fault),
-    }
-    match append(&mut text, name) {
-        Ok(()) => Ok(text),
-        Err(fault) => Err(fault),
-    }
+    append(&mut text, b"wuffs_")?;
+    append(&mut text, of_package)?;
+    append(&mut text, b"__")?;
+    append(&mut text, name)?;
+    Ok(text)
 }
 
 /// The name of a function of a struct with this type.
 fn function_name(alloc: Global, of: &[u8], name: &[u8]) -> Result<Vec<u8>, NoMemory>
     ensures { IfOk result (λ it. it.items ≡ of.now ++ (codes "__" ++ name.now)) }
 {
-    let mut text = match Vec::from_slice(alloc, of) {
-        Ok(text) => text,
-        Err(_) => return Err(NoMemory),
-    };
-    match append(&mut text, b"__") {
-        Ok(()) => {}
-        Err(fault) => return Err(fault),
-    }
-    match append(&mut text, name) {
-        Ok(()) => Ok(text),
-        Err(fault) => Err(fault),
-    }
+    let mut text = Vec::from_slice(alloc, of)?;
+    append(&mut text, b"__")?;
+    append(&mut text, name)?;
+    Ok(text)
 }

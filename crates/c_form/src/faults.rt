@@ -1,6 +1,10 @@
 // Why a C text isn't loaded.
 
+ghost use Rattle.std.specs.Prelude.{◌≡◌};
+ghost use Rattle.c_form.specs.declared.faults.LoadFault.TheVariants as faults;
+
 use thiserror::Error;
+use wf_text::NoMemory;
 
 /// Why a unit isn't taken.
 #[derive(Debug, Drop, Error)]
@@ -15,4 +19,12 @@ pub enum LoadFault {
     /// Memory was refused; nothing is said of the unit.
     #[error("out of memory")]
     Memory,
+}
+
+impl From<NoMemory> for LoadFault {
+    ghost from_gives = { λ _ fault. fault ≡ faults.Memory };
+
+    fn from(_refused: NoMemory) -> LoadFault {
+        LoadFault::Memory
+    }
 }

@@ -24,29 +24,18 @@ fn first_break(
 ) -> Result<Option<usize>, NoMemory>
     ensures { IfOk result (λ found. found ≡ first_break_of surface.now (unit_tree unit.now)) }
 {
-    let names = match item_names(alloc, unit) {
-        Ok(names) => names,
-        Err(fault) => return Err(fault),
-    };
-    let demands = match Demands::of(alloc, unit, &names, surface) {
-        Ok(demands) => demands,
-        Err(fault) => return Err(fault),
-    };
+    let names = item_names(alloc, unit)?;
+    let demands = Demands::of(alloc, unit, &names, surface)?;
     let mut front = Front::new(alloc, unit);
     let mut i = 0;
     while i < unit.items() {
-        match is_formed_item(alloc, &front, &names, i) {
-            Ok(true) => {}
-            Ok(false) => return Ok(Some(i)),
-            Err(fault) => return Err(fault),
+        if !is_formed_item(alloc, &front, &names, i)? {
+            return Ok(Some(i));
         }
         if !demands.are_met(i) {
             return Ok(Some(i));
         }
-        match front.declare() {
-            Ok(()) => {}
-            Err(fault) => return Err(fault),
-        }
+        front.declare()?;
         i += 1;
     }
     if i == 0 {
@@ -67,9 +56,8 @@ pub fn formed(alloc: Global, u: Unit, surface: &PublicSurface) -> Result<Formed,
     ensures has { IfOk result (λ it. HasUnitForm surface.now (unit_tree it)) }
     ensures refused { IfErr result (Refuses surface.now (unit_tree u)) }
 {
-    match first_break(alloc, &u, surface) {
-        Ok(None) => Ok(Formed::new(u)),
-        Ok(Some(item)) => Err(LoadFault::NoSuchForm { item }),
-        Err(_) => Err(LoadFault::Memory),
+    match first_break(alloc, &u, surface)? {
+        None => Ok(Formed::new(u)),
+        Some(item) => Err(LoadFault::NoSuchForm { item }),
     }
 }

@@ -40,10 +40,7 @@ pub(crate) fn item_names<'u>(
     let mut table = NameTable::new(alloc);
     let mut i = 0;
     while i < unit.items() {
-        match table.add(name_of(unit, i), i) {
-            Ok(_) => {}
-            Err(fault) => return Err(fault),
-        }
+        table.add(name_of(unit, i), i)?;
         i += 1;
     }
     Ok(table)
@@ -138,10 +135,8 @@ fn are_formed_fields(alloc: Global, front: &Front<'_>, fields: &[CField]) -> Res
         if !is_formed_field(front, *field) {
             return Ok(false);
         }
-        match seen.add(unit.name(field.name), ()) {
-            Ok(true) => {}
-            Ok(false) => return Ok(false),
-            Err(fault) => return Err(fault),
+        if !seen.add(unit.name(field.name), ())? {
+            return Ok(false);
         }
     }
     Ok(true)

@@ -18,7 +18,7 @@ operands_go op nodes scope others i found next ty whole within so_far is of =
     let step : operations_type op found (operand_types scope (operands_in (expr_of nodes) (drop i others))) ≡ operations_type op (joined op found (type_of scope (expr_of nodes (get_or others i no_expr).0))) (operand_types scope (operands_in (expr_of nodes) (drop (i + 1) others))) = ap (λ es. operations_type op found (operand_types scope (operands_in (expr_of nodes) es))) (unroll others i no_expr within) in
     ap (λ t. operations_type op t (operand_types scope (operands_in (expr_of nodes) (drop (i + 1) others)))) (is ∙ ap (joined op found) of) ∙ (sym step ∙ so_far)
 
--- The arguments behind `i` fit the parameters behind it.
+-- The arguments after `i` fit the parameters after it.
 abbrev pub takes_from : Nodes → Scope → List CParam → List CArg → ℕ → Bool
 takes_from nodes scope params given i = passable (map (param_tree nodes.names) (drop i params)) (arg_types scope (args_in nodes.names (expr_of nodes) (drop i given)))
 

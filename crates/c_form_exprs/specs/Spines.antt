@@ -1,4 +1,4 @@
--- The links of `a->b[i]->c`: from an expression to the part that stands in front of it.
+-- The links of `a->b[i]->c`: from an expression to the part that stands before it.
 use Rattle.std.specs.Prelude.{◌≡◌, ◌<◌, Bool, false, List, [], ◌∷◌, Option, Some, None}
 use Rattle.std.specs.Option.{option_and_then}
 use Rattle.c_text.specs.declared.kinds.COp.{COp}
@@ -12,7 +12,7 @@ use Rattle.c_meaning.specs.CTypes.{Scope, type_of, assignable}
 use Rattle.c_form_exprs.specs.declared.types.ExprType.{ExprType}
 use Rattle.c_form_exprs.specs.TypeViews.{TellsType}
 
--- The part that stands in front of `->` or `[`.
+-- The part that stands before `->` or `[`.
 abbrev pub link_of : ExprTree → Option ExprTree
 link_of (member of field) = Some of
 link_of (element of index) = Some of
@@ -25,7 +25,7 @@ link_of (cast to of) = None
 link_of (choice test met unmet) = None
 link_of (called function given) = None
 
--- This part stands in front of that expression.
+-- This part stands before that expression.
 pub record IsLink (nodes : Nodes) (e of : CExprId) : Type 0 where
   pub below : of.0 < e.0
   pub is : link_of (expr_of nodes e.0) ≡ Some (expr_of nodes of.0)

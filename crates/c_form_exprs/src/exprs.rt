@@ -23,14 +23,9 @@ impl<'k, 'u> Scope<'k, 'u> {
         requires { e.0 < length self.now.front.nodes.exprs }
         ensures { IfOk result (λ ty. TellsType self.now.front.nodes ty (expr_type (scope_in self.now) (expr_of self.now.front.nodes e.0))) }
     {
-        let (links, base) = match self.spine(e) {
-            Ok(it) => it,
-            Err(fault) => return Err(fault),
-        };
-        match self.base_type(base) {
-            Ok(found) => self.climb(e, links, found),
-            Err(fault) => Err(fault),
-        }
+        let (links, base) = self.spine(e)?;
+        let found = self.base_type(base)?;
+        self.climb(e, links, found)
     }
 
     /// The type of an expression whose links are left, by the type of what they lead to.
@@ -48,10 +43,8 @@ impl<'k, 'u> Scope<'k, 'u> {
         let mut links = links;
         let mut found = base;
         while let Some(link) = links.pop() {
-            match self.linked(link, found) {
-                Ok(held) => found = self.held_value(held),
-                Err(fault) => return Err(fault),
-            }
+            let held = self.linked(link, found)?;
+            found = self.held_value(held);
         }
         Ok(found)
     }
@@ -65,15 +58,15 @@ impl<'k, 'u> Scope<'k, 'u> {
     {
         match self.expr(e) {
             CExpr::Member { field, .. } => Ok(self.member(of, *field)),
-            CExpr::Index { at, .. } => match self.type_of(*at) {
-                Ok(index) => Ok(self.element(of, index)),
-                Err(fault) => Err(fault),
-            },
+            CExpr::Index { at, .. } => {
+                let index = self.type_of(*at)?;
+                Ok(self.element(of, index))
+            }
             _ => Ok(None),
         }
     }
 
-    /// The type of an expression in front of which no other stands.
+    /// The type of an expression before which no other stands.
     #[cycle(expr_types)]
     fn base_type(&self, e: CExprId) -> Result<Option<ExprType>, NoMemory>
         requires within { e.0 < length self.now.front.nodes.exprs }
@@ -84,10 +77,10 @@ impl<'k, 'u> Scope<'k, 'u> {
             CExpr::Number(n) => Ok(Some(self.literal_type(*n))),
             CExpr::Name(name) => Ok(self.held_value(self.variable(*name))),
             CExpr::Member { .. } | CExpr::Index { .. } => unreachable!(),
-            CExpr::Deref(of) => match self.type_of(*of) {
-                Ok(pointer) => Ok(self.held_value(self.pointed(pointer))),
-                Err(fault) => Err(fault),
-            },
+            CExpr::Deref(of) => {
+                let pointer = self.type_of(*of)?;
+                Ok(self.held_value(self.pointed(pointer)))
+            }
             CExpr::Operation {
                 op,
                 first,
@@ -95,10 +88,9 @@ impl<'k, 'u> Scope<'k, 'u> {
                 others,
             } => self.operation(e.0, *op, (*first, *second), others.as_slice()),
             CExpr::Unary { op, of } => self.unary(*op, *of),
-            CExpr::Cast { to, of } => match self.type_of(*of) {
-                Ok(Some(ty)) => Ok(self.cast(*to, ty)),
-                Ok(None) => Ok(None),
-                Err(fault) => Err(fault),
+            CExpr::Cast { to, of } => match self.type_of(*of)? {
+                Some(ty) => Ok(self.cast(*to, ty)),
+                None => Ok(None),
             },
             CExpr::Choice { test, met, unmet } => self.choice(e.0, (*test, *met, *unmet)),
             CExpr::Call(call) => self.call(e.0, call),
@@ -113,18 +105,18 @@ impl<'k, 'u> Scope<'k, 'u> {
     {
         match self.expr(e) {
             CExpr::Name(name) => Ok(self.variable(*name)),
-            CExpr::Deref(of) => match self.type_of(*of) {
-                Ok(pointer) => Ok(self.pointed(pointer)),
-                Err(fault) => Err(fault),
-            },
-            CExpr::Member { of, .. } => match self.type_of(*of) {
-                Ok(ty) => self.linked(e, ty),
-                Err(fault) => Err(fault),
-            },
-            CExpr::Index { of, .. } => match self.type_of(*of) {
-                Ok(ty) => self.linked(e, ty),
-                Err(fault) => Err(fault),
-            },
+            CExpr::Deref(of) => {
+                let pointer = self.type_of(*of)?;
+                Ok(self.pointed(pointer))
+            }
+            CExpr::Member { of, .. } => {
+                let ty = self.type_of(*of)?;
+                self.linked(e, ty)
+            }
+            CExpr::Index { of, .. } => {
+                let ty = self.type_of(*of)?;
+                self.linked(e, ty)
+            }
             CExpr::Number(_) => Ok(None),
             CExpr::Operation { .. } => Ok(None),
             CExpr::Unary { .. } => Ok(None),
@@ -141,19 +133,17 @@ impl<'k, 'u> Scope<'k, 'u> {
         ensures { IfOk result (λ ty. TellsType self.now.front.nodes ty (unary_type op (expr_type (scope_in self.now) (expr_of self.now.front.nodes of.0)) (expr_held (scope_in self.now) (expr_of self.now.front.nodes of.0)))) }
     {
         match op {
-            CUnary::Not => match self.type_of(of) {
-                Ok(Some(_)) => Ok(Some(ExprType::Numbers(CTy::Int))),
-                Ok(None) => Ok(None),
-                Err(fault) => Err(fault),
+            CUnary::Not => match self.type_of(of)? {
+                Some(_) => Ok(Some(ExprType::Numbers(CTy::Int))),
+                None => Ok(None),
             },
-            CUnary::Complement => match self.type_of(of) {
-                Ok(ty) => Ok(self.complement(ty)),
-                Err(fault) => Err(fault),
-            },
-            CUnary::Address => match self.held_of(of) {
-                Ok(Some(held)) => Ok(self.address_of(held)),
-                Ok(None) => Ok(None),
-                Err(fault) => Err(fault),
+            CUnary::Complement => {
+                let ty = self.type_of(of)?;
+                Ok(self.complement(ty))
+            }
+            CUnary::Address => match self.held_of(of)? {
+                Some(held) => Ok(self.address_of(held)),
+                None => Ok(None),
             },
         }
     }
@@ -171,18 +161,9 @@ impl<'k, 'u> Scope<'k, 'u> {
         requires unmet { parts.2.0 < below }
         ensures { IfOk result (λ ty. TellsType self.now.front.nodes ty (expr_type (scope_in self.now) (choice_tree (expr_of self.now.front.nodes parts.0.0) (expr_of self.now.front.nodes parts.1.0) (expr_of self.now.front.nodes parts.2.0)))) }
     {
-        let test = match self.type_of(parts.0) {
-            Ok(ty) => ty,
-            Err(fault) => return Err(fault),
-        };
-        let met = match self.type_of(parts.1) {
-            Ok(ty) => ty,
-            Err(fault) => return Err(fault),
-        };
-        let unmet = match self.type_of(parts.2) {
-            Ok(ty) => ty,
-            Err(fault) => return Err(fault),
-        };
+        let test = self.type_of(parts.0)?;
+        let met = self.type_of(parts.1)?;
+        let unmet = self.type_of(parts.2)?;
         Ok(self.chosen(test, met, unmet))
     }
 
@@ -201,18 +182,12 @@ impl<'k, 'u> Scope<'k, 'u> {
         requires others { HasExprs below others.now }
         ensures { IfOk result (λ ty. TellsType self.now.front.nodes ty (expr_type (scope_in self.now) (operation_tree op (expr_of self.now.front.nodes two.0.0) (expr_of self.now.front.nodes two.1.0) (operands_in (expr_of self.now.front.nodes) others.now)))) }
     {
-        let first = match self.type_of(two.0) {
-            Ok(ty) => ty,
-            Err(fault) => return Err(fault),
-        };
-        let second = match self.type_of(two.1) {
-            Ok(ty) => ty,
-            Err(fault) => return Err(fault),
-        };
+        let first = self.type_of(two.0)?;
+        let second = self.type_of(two.1)?;
         self.operands(below, op, self.join(op, first, second), others)
     }
 
-    /// The type of an operation with further operands, by the type of what stands in front of them.
+    /// The type of an operation with further operands, by the type of what stands before them.
     #[cycle(expr_types)]
     fn operands(
         &self,
@@ -228,10 +203,8 @@ impl<'k, 'u> Scope<'k, 'u> {
     {
         let mut found = front;
         for other in others {
-            match self.type_of(*other) {
-                Ok(ty) => found = self.join(op, found, ty),
-                Err(fault) => return Err(fault),
-            }
+            let ty = self.type_of(*other)?;
+            found = self.join(op, found, ty);
         }
         Ok(found)
     }
@@ -248,10 +221,10 @@ impl<'k, 'u> Scope<'k, 'u> {
                 if !head.in_expressions {
                     return Ok(None);
                 }
-                match self.takes(below, head.params, call.args.as_slice()) {
-                    Ok(true) => Ok(self.result_type(head.result)),
-                    Ok(false) => Ok(None),
-                    Err(fault) => Err(fault),
+                if self.takes(below, head.params, call.args.as_slice())? {
+                    Ok(self.result_type(head.result))
+                } else {
+                    Ok(None)
                 }
             }
             None => Ok(None),
@@ -271,11 +244,10 @@ impl<'k, 'u> Scope<'k, 'u> {
         }
         let mut i = 0;
         while i < given.len() {
-            match self.fits(below, params[i], given[i]) {
-                Ok(true) => i += 1,
-                Ok(false) => return Ok(false),
-                Err(fault) => return Err(fault),
+            if !self.fits(below, params[i], given[i])? {
+                return Ok(false);
             }
+            i += 1;
         }
         Ok(true)
     }
@@ -289,10 +261,9 @@ impl<'k, 'u> Scope<'k, 'u> {
         ensures { IfOk result (λ fits. fits ≡ fits_type (param_tree self.now.front.nodes.names param) (arg_type self.now.front.nodes (scope_in self.now) given)) }
     {
         match given {
-            CArg::Expr(e) => match self.type_of(e) {
-                Ok(Some(ty)) => Ok(self.is_assignable(param.kind, ty)),
-                Ok(None) => Ok(false),
-                Err(fault) => Err(fault),
+            CArg::Expr(e) => match self.type_of(e)? {
+                Some(ty) => Ok(self.is_assignable(param.kind, ty)),
+                None => Ok(false),
             },
             CArg::SizeOf(_) => Ok(false),
         }

@@ -195,17 +195,9 @@ impl<'u> Front<'u> {
     {
         let next = self.next();
         let k = self.fields.len();
-        match field_table(self.alloc, self.unit, fields) {
-            Ok(table) => match self.fields.push(table) {
-                Ok(()) => {}
-                Err(_) => return Err(NoMemory),
-            },
-            Err(fault) => return Err(fault),
-        }
-        match self.structs.add(self.unit.name(name), k) {
-            Ok(_) => {}
-            Err(fault) => return Err(fault),
-        }
+        let table = field_table(self.alloc, self.unit, fields)?;
+        self.fields.push(table)?;
+        self.structs.add(self.unit.name(name), k)?;
         self.count = next;
         Ok(())
     }
@@ -218,10 +210,7 @@ impl<'u> Front<'u> {
         ensures { OnOk result (self.new ≡ record self.old { count = self.old.count + 1 }) }
     {
         let next = self.next();
-        match self.texts.add(self.unit.name(name), ()) {
-            Ok(_) => {}
-            Err(fault) => return Err(fault),
-        }
+        self.texts.add(self.unit.name(name), ())?;
         self.count = next;
         Ok(())
     }
@@ -234,10 +223,7 @@ impl<'u> Front<'u> {
         ensures { OnOk result (self.new ≡ record self.old { count = self.old.count + 1 }) }
     {
         let next = self.next();
-        match self.functions.add(self.unit.name(name), head) {
-            Ok(_) => {}
-            Err(fault) => return Err(fault),
-        }
+        self.functions.add(self.unit.name(name), head)?;
         self.count = next;
         Ok(())
     }
@@ -254,10 +240,7 @@ fn field_table<'u>(
 {
     let mut table = NameTable::new(alloc);
     for field in fields {
-        match table.add(unit.name(field.name), *field) {
-            Ok(_) => {}
-            Err(fault) => return Err(fault),
-        }
+        table.add(unit.name(field.name), *field)?;
     }
     Ok(table)
 }

@@ -27,7 +27,7 @@ impl<'k, 'u> Scope<'k, 'u> {
         }
     }
 
-    /// The expressions from this one down to the one in front of which no other stands, that one apart.
+    /// The expressions from this one down to the one before which no other stands, that one apart.
     #[tactic(auto, using(crate::proofs::SpineLemmas::spine_push))]
     pub fn spine(&self, e: CExprId) -> Result<(Vec<CExprId>, CExprId), NoMemory>
         requires { e.0 < length self.now.front.nodes.exprs }
@@ -38,10 +38,7 @@ impl<'k, 'u> Scope<'k, 'u> {
         let mut links = Vec::new(self.alloc());
         let mut at = e;
         while let Some(of) = self.link(at) {
-            match links.push(at) {
-                Ok(()) => {}
-                Err(_) => return Err(NoMemory),
-            }
+            links.push(at)?;
             at = of;
         }
         Ok((links, at))

@@ -64,10 +64,7 @@ impl<'u, V: Copy + Drop> NameTable<'u, V> {
         if self.entries.contains_key(name) {
             return Ok(false);
         }
-        match self.entries.insert(name, value) {
-            Ok(_) => {}
-            Err(_) => return Err(NoMemory),
-        }
+        self.entries.insert(name, value)?;
         Ok(true)
     }
 }

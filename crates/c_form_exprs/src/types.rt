@@ -25,7 +25,7 @@ pub enum Target {
 /// The type of an expression's value.
 #[derive(Clone, Copy)]
 pub enum ExprType {
-    /// A number behind its promotion.
+    /// A number after its promotion.
     Numbers(CTy),
     /// A pointer.
     PointsTo(Target),
@@ -50,7 +50,7 @@ pub enum Held {
     Characters,
 }
 
-/// The type of a number behind its promotion (6.3.1.1p2).
+/// The type of a number after its promotion (6.3.1.1p2).
 fn promoted(width: CUint) -> CTy
     ensures { result ≡ promotes width }
 {
@@ -73,7 +73,7 @@ fn is_same_uint(a: CUint, b: CUint) -> bool
     }
 }
 
-/// The type of two operands behind the usual conversions (6.3.1.8).
+/// The type of two operands after the usual conversions (6.3.1.8).
 pub(crate) fn common_type(a: CTy, b: CTy) -> CTy
     ensures { result ≡ common_of a b }
 {

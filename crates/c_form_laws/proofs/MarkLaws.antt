@@ -58,7 +58,7 @@ module _ {K : Type 0} (f : Code → Option K) where
   rest_differs None ks h = h
   rest_differs (Some m) ks h = differ_rest m ks h
 
-  -- What the first one is, none behind is.
+  -- What the first one is, none after it is.
   first_alone : (x : LineTree) (ls : List LineTree) (k : K) (l : LineTree) → x ≡ l → f l.code ≡ Some k → AllDiffer (picked f (x ∷ ls)) → Has (picked f ls) k → ⊥
   first_alone x ls k l it h differ has =
       let here : f x.code ≡ Some k = ap (λ (y : LineTree). f y.code) it ∙ h in

@@ -1,12 +1,10 @@
 -- The statements of a block and of the blocks in it, in the order of the text (ISO/IEC 9899:1999, 6.8).
-use Rattle.std.specs.Prelude.{◌≡◌, ◌+◌, ◌*◌, ◌<◌, ℕ, Bool, true, if◌then◌else◌, List, [], ◌∷◌, ◌++◌, length, ⊤}
-use Rattle.c_text.specs.declared.ids.CStmtId.{CStmtId}
+use Rattle.std.specs.Prelude.{◌+◌, ◌*◌, ◌<◌, ℕ, Bool, true, if◌then◌else◌, List, [], ◌∷◌, ◌++◌, length, ⊤}
 use Rattle.c_text.specs.CTree.{Code, finish, nested, empty, assign, call, jump, branch, repeat, select, leave, case_label, default_label, name_label}
 use Rattle.c_text.specs.CNodes.{Nodes, code_of}
+use Rattle.c_text.specs.CBlocks.{BlockTrees, no_block, one_block, switch_block, two_blocks}
 use Rattle.c_meaning.specs.CStep.{code_weight}
 use Rattle.c_form_stmts.specs.declared.lines.Line.{Line}
-use Rattle.c_form_stmts.specs.declared.lines.Inner.{Inner}
-use Rattle.c_form_stmts.specs.declared.lines.Inner.TheVariants as inner
 
 -- A statement with what follows it in its block, and whether a `switch` stands round it.
 pub record LineTree : Type 0 where
@@ -56,28 +54,15 @@ abbrev pub size_of : Nodes → List Line → ℕ
 size_of nodes [] = 0
 size_of nodes (l ∷ ls) = line_size nodes l + size_of nodes ls
 
--- The blocks in a statement, by their statements, before `behind`.
-abbrev pub inner_lines : Nodes → (e s : Bool) → Inner → (behind : List LineTree) → List LineTree
-inner_lines nodes e s inner.None behind = behind
-inner_lines nodes e s (inner.Block b) behind = lines_of e s (code_of nodes b.0) ++ behind
-inner_lines nodes e s (inner.Switch b) behind = (if e then lines_of e true (code_of nodes b.0) else []) ++ behind
-inner_lines nodes e s (inner.Branch b o) behind = lines_of e s (code_of nodes b.0) ++ (lines_of e s (code_of nodes o.0) ++ behind)
+-- The statements in blocks, before those that stand after them.
+abbrev pub inner_lines : (e s : Bool) → BlockTrees → (after : List LineTree) → List LineTree
+inner_lines e s no_block after = after
+inner_lines e s (one_block b) after = lines_of e s b ++ after
+inner_lines e s (switch_block b) after = (if e then lines_of e true b else []) ++ after
+inner_lines e s (two_blocks b o) after = lines_of e s b ++ (lines_of e s o ++ after)
 
-abbrev pub inner_size : Nodes → Inner → ℕ
-inner_size nodes inner.None = 0
-inner_size nodes (inner.Block b) = 2 * code_weight (code_of nodes b.0) + 1
-inner_size nodes (inner.Switch b) = 2 * code_weight (code_of nodes b.0) + 1
-inner_size nodes (inner.Branch b o) = (2 * code_weight (code_of nodes b.0) + 1) + (2 * code_weight (code_of nodes o.0) + 1)
-
-abbrev pub HasInner : Nodes → Inner → Type 0
-HasInner nodes inner.None = ⊤
-HasInner nodes (inner.Block b) = b.0 < length nodes.stmts
-HasInner nodes (inner.Switch b) = b.0 < length nodes.stmts
-HasInner nodes (inner.Branch b o) = (b.0 < length nodes.stmts) × (o.0 < length nodes.stmts)
-
--- The parts of a statement: the blocks in it, and the rest of its block.
-pub record IsApart (nodes : Nodes) (code : Code) (inner : Inner) (rest : CStmtId) : Type 0 where
-  pub lists : (e s : Bool) → lines_of e s code ≡ line s code ∷ inner_lines nodes e s inner (lines_of e s (code_of nodes rest.0))
-  pub has_inner : HasInner nodes inner
-  pub has_rest : rest.0 < length nodes.stmts
-  pub less : inner_size nodes inner + (2 * code_weight (code_of nodes rest.0) + 1) < 2 * code_weight code + 1
+abbrev pub inner_size : BlockTrees → ℕ
+inner_size no_block = 0
+inner_size (one_block b) = 2 * code_weight b + 1
+inner_size (switch_block b) = 2 * code_weight b + 1
+inner_size (two_blocks b o) = (2 * code_weight b + 1) + (2 * code_weight o + 1)

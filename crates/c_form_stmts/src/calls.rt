@@ -75,18 +75,10 @@ impl<'c, 'k, 'u> Frame<'c, 'k, 'u> {
     {
         match given {
             [to, from, count] => {
-                let to = match self.arg_type(*to) {
-                    Ok(ty) => ty,
-                    Err(fault) => return Err(fault),
-                };
-                let from = match self.arg_type(*from) {
-                    Ok(ty) => ty,
-                    Err(fault) => return Err(fault),
-                };
-                match self.arg_type(*count) {
-                    Ok(count) => Ok(self.moves(to, from, count)),
-                    Err(fault) => Err(fault),
-                }
+                let to = self.arg_type(*to)?;
+                let from = self.arg_type(*from)?;
+                let count = self.arg_type(*count)?;
+                Ok(self.moves(to, from, count))
             }
             _ => Ok(false),
         }
@@ -166,13 +158,12 @@ impl<'c, 'k, 'u> Frame<'c, 'k, 'u> {
     {
         match target {
             None => Ok(true),
-            Some(e) => match self.cell_type(e) {
-                Ok(Some(to)) => match result_type {
+            Some(e) => match self.cell_type(e)? {
+                Some(to) => match result_type {
                     Some(ty) => Ok(self.scope.is_assignable(to, self.scope.value_type(ty))),
                     None => Ok(false),
                 },
-                Ok(None) => Ok(false),
-                Err(fault) => Err(fault),
+                None => Ok(false),
             },
         }
     }
@@ -190,14 +181,16 @@ impl<'c, 'k, 'u> Frame<'c, 'k, 'u> {
         ensures { IfOk result (λ formed. formed ≡ is_called (checked_in self.now) (value_in (expr_of self.now.within.front.nodes) target) (arg_types (scope_in self.now.within) (args_in self.now.within.front.nodes.names (expr_of self.now.within.front.nodes) given.now)) (function_named (scope_in self.now.within).functions (bytes_at self.now.within.front.nodes.names name.0))) }
     {
         match self.scope.function(name) {
-            Some(head) => match self
-                .scope
-                .takes(self.scope.unit().exprs(), head.params, given)
-            {
-                Ok(true) => self.is_kept(target, head.result),
-                Ok(false) => Ok(false),
-                Err(fault) => Err(fault),
-            },
+            Some(head) => {
+                if self
+                    .scope
+                    .takes(self.scope.unit().exprs(), head.params, given)?
+                {
+                    self.is_kept(target, head.result)
+                } else {
+                    Ok(false)
+                }
+            }
             None => Ok(false),
         }
     }

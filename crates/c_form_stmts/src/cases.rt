@@ -43,11 +43,11 @@ fn are_formed_cases(alloc: Global, unit: &Unit, lines: &[Line]) -> Result<bool, 
     let mut has_default = false;
     for line in lines {
         match mark_at(unit, line.stmt) {
-            Mark::Case(CNumber::Int(n)) => match seen.insert(n) {
-                Ok(true) => {}
-                Ok(false) => return Ok(false),
-                Err(_) => return Err(NoMemory),
-            },
+            Mark::Case(CNumber::Int(n)) => {
+                if !seen.insert(n)? {
+                    return Ok(false);
+                }
+            }
             Mark::Case(CNumber::Unsigned(_)) => return Ok(false),
             Mark::Case(CNumber::Long(_)) => return Ok(false),
             Mark::Default => {
@@ -67,8 +67,6 @@ pub(crate) fn has_formed_cases(alloc: Global, unit: &Unit, body: CStmtId) -> Res
     requires { body.0 < length unit.now.stmts }
     ensures { IfOk result (λ formed. formed ≡ formed_cases (cases_of (code_of unit.now body.0))) }
 {
-    match lines(alloc, unit, body, false) {
-        Ok(listed) => are_formed_cases(alloc, unit, listed.as_slice()),
-        Err(fault) => Err(fault),
-    }
+    let listed = lines(alloc, unit, body, false)?;
+    are_formed_cases(alloc, unit, listed.as_slice())
 }

@@ -87,10 +87,8 @@ fn add_params<'k, 'u>(
     ensures added { IfOk result (λ fits. fits ≡ true → scope_in scope.new ≡ with_names (scope_in scope.old) (map (param_tree scope.old.front.nodes.names) params.now)) }
 {
     for param in params {
-        match add(scope, items, param.name, param.kind) {
-            Ok(true) => {}
-            Ok(false) => return Ok(false),
-            Err(fault) => return Err(fault),
+        if !add(scope, items, param.name, param.kind)? {
+            return Ok(false);
         }
     }
     Ok(true)
@@ -108,10 +106,9 @@ fn is_initial(
 {
     match initial {
         None => Ok(true),
-        Some(e) => match scope.type_of(e) {
-            Ok(Some(ty)) => Ok(scope.is_assignable(kind, ty)),
-            Ok(None) => Ok(false),
-            Err(fault) => Err(fault),
+        Some(e) => match scope.type_of(e)? {
+            Some(ty) => Ok(scope.is_assignable(kind, ty)),
+            None => Ok(false),
         },
     }
 }
@@ -127,10 +124,10 @@ fn add_local<'k, 'u>(
     ensures front { IfOk result (λ fits. fits ≡ true → scope.new.front ≡ scope.old.front) }
     ensures added { IfOk result (λ fits. fits ≡ true → scope_in scope.new ≡ with_name (scope_in scope.old) (local_name (local_tree scope.old.front.nodes.names (expr_of scope.old.front.nodes) local))) }
 {
-    match is_initial(scope, local.kind, local.initial) {
-        Ok(true) => add(scope, items, local.name, local.kind),
-        Ok(false) => Ok(false),
-        Err(fault) => Err(fault),
+    if is_initial(scope, local.kind, local.initial)? {
+        add(scope, items, local.name, local.kind)
+    } else {
+        Ok(false)
     }
 }
 
@@ -146,10 +143,8 @@ fn add_locals<'k, 'u>(
     ensures added { IfOk result (λ fits. fits ≡ true → scope_in scope.new ≡ with_names (scope_in scope.old) (map local_name (map (local_tree scope.old.front.nodes.names (expr_of scope.old.front.nodes)) locals.now))) }
 {
     for local in locals {
-        match add_local(scope, items, *local) {
-            Ok(true) => {}
-            Ok(false) => return Ok(false),
-            Err(fault) => return Err(fault),
+        if !add_local(scope, items, *local)? {
+            return Ok(false);
         }
     }
     Ok(true)
@@ -168,12 +163,9 @@ fn is_formed_body(
     ensures { IfOk result (λ formed. formed ≡ formed_body (record { scope = scope_in scope.now; linkage = linkage; result_type = option_map (type_in scope.now.front.nodes.names) result_type; body = code_of scope.now.front.nodes body.0 })) }
 {
     let unit = scope.unit();
-    let listed = match lines(alloc, unit, body, true) {
-        Ok(listed) => listed,
-        Err(fault) => return Err(fault),
-    };
-    match labels(alloc, unit, listed.as_slice()) {
-        Ok(Some(labels)) => {
+    let listed = lines(alloc, unit, body, true)?;
+    match labels(alloc, unit, listed.as_slice())? {
+        Some(labels) => {
             let frame = Frame {
                 scope,
                 linkage,
@@ -182,8 +174,7 @@ fn is_formed_body(
             };
             frame.are_formed(listed.as_slice())
         }
-        Ok(None) => Ok(false),
-        Err(fault) => Err(fault),
+        None => Ok(false),
     }
 }
 
@@ -202,15 +193,11 @@ pub fn is_formed_function<'u>(
         return Ok(false);
     }
     let mut scope = Scope::new(alloc, front);
-    match add_params(&mut scope, items, parts.params) {
-        Ok(true) => {}
-        Ok(false) => return Ok(false),
-        Err(fault) => return Err(fault),
+    if !add_params(&mut scope, items, parts.params)? {
+        return Ok(false);
     }
-    match add_locals(&mut scope, items, parts.locals) {
-        Ok(true) => {}
-        Ok(false) => return Ok(false),
-        Err(fault) => return Err(fault),
+    if !add_locals(&mut scope, items, parts.locals)? {
+        return Ok(false);
     }
     is_formed_body(alloc, &scope, parts.linkage, parts.result_type, parts.body)
 }

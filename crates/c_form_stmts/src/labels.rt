@@ -55,10 +55,8 @@ pub(crate) fn labels<'u>(
     let mut table = NameTable::new(alloc);
     let mut i = 0;
     while i < lines.len() {
-        match add_label(&mut table, unit, lines[i], i) {
-            Ok(true) => {}
-            Ok(false) => return Ok(None),
-            Err(fault) => return Err(fault),
+        if !add_label(&mut table, unit, lines[i], i)? {
+            return Ok(None);
         }
         i += 1;
     }

@@ -1,12 +1,12 @@
 // The statements of a body in the order of the text: blocks are gone through by a list of what is left, whatever the
 // depth of their nesting and the length of a chain of `else if`.
 
-ghost use Rattle.std.specs.Prelude.{◌≡◌, ◌<◌, ◌≤◌, ◌+◌, ◌*◌, ◌++◌, ◌∷◌, [], ℕ, Bool, false, length, map, IfOk, IfSome, IfNone, OnOk, if◌then◌else◌};
+ghost use Rattle.std.specs.Prelude.{◌≡◌, ◌<◌, ◌≤◌, ◌+◌, ◌*◌, ◌++◌, ◌∷◌, [], ℕ, Bool, false, length, map, IfOk, OnOk, if◌then◌else◌};
 ghost use Rattle.c_text.specs.CNodes.{code_of};
-ghost use Rattle.c_text.specs.CTree.{finish};
-ghost use Rattle.c_form_stmts.specs.Lines.{lines_of, line_in, HasLine, HasLines, HasInner, left_of, line_size, size_of, inner_lines, inner_size, IsApart};
+ghost use Rattle.c_text.specs.CBlocks.{HasBlocks, blocks_in};
+ghost use Rattle.c_form_stmts.specs.Lines.{lines_of, line_in, HasLine, HasLines, left_of, line_size, size_of, inner_lines, inner_size};
 
-use c_text::{CStmt, CStmtId, Unit};
+use c_text::{Blocks, CStmtId, Unit};
 use std::alloc::Global;
 use wf_text::NoMemory;
 
@@ -19,47 +19,6 @@ pub(crate) struct Line {
     pub switched: bool,
 }
 
-/// The blocks in a statement.
-#[derive(Clone, Copy)]
-pub(crate) enum Inner {
-    /// None.
-    None,
-    /// One, in braces or of a `while`.
-    Block(CStmtId),
-    /// That of a `switch`.
-    Switch(CStmtId),
-    /// That of an `if`, and the statements of its `else`.
-    Branch(CStmtId, CStmtId),
-}
-
-/// The blocks in a statement and the rest of its block; None at the end of a block.
-fn apart(unit: &Unit, s: CStmtId) -> Option<(Inner, CStmtId)>
-    requires { s.0 < length unit.now.stmts }
-    ensures some { IfSome result (λ it. IsApart unit.now (code_of unit.now s.0) it.0 it.1) }
-    ensures none { IfNone result (code_of unit.now s.0 ≡ finish) }
-{
-    match unit.stmt(s) {
-        CStmt::End => None,
-        CStmt::Block { inner, rest } => Some((Inner::Block(*inner), *rest)),
-        CStmt::Empty { rest } => Some((Inner::None, *rest)),
-        CStmt::Assign { rest, .. } => Some((Inner::None, *rest)),
-        CStmt::Call { rest, .. } => Some((Inner::None, *rest)),
-        CStmt::Goto { rest, .. } => Some((Inner::None, *rest)),
-        CStmt::If {
-            body,
-            other,
-            rest,
-            ..
-        } => Some((Inner::Branch(*body, *other), *rest)),
-        CStmt::While { body, rest, .. } => Some((Inner::Block(*body), *rest)),
-        CStmt::Switch { body, rest, .. } => Some((Inner::Switch(*body), *rest)),
-        CStmt::Return { rest, .. } => Some((Inner::None, *rest)),
-        CStmt::Case { rest, .. } => Some((Inner::None, *rest)),
-        CStmt::Default { rest } => Some((Inner::None, *rest)),
-        CStmt::Label { rest, .. } => Some((Inner::None, *rest)),
-    }
-}
-
 /// Adds statements to those that are left: they come next.
 fn put(unit: &Unit, left: &mut Vec<Line>, stmt: CStmtId, switched: bool) -> Result<(), NoMemory>
     requires stmt { stmt.0 < length unit.now.stmts }
@@ -69,40 +28,38 @@ fn put(unit: &Unit, left: &mut Vec<Line>, stmt: CStmtId, switched: bool) -> Resu
     ensures size { OnOk result (size_of unit.now left.new.items ≡ size_of unit.now left.old.items + line_size unit.now (record { stmt = stmt; switched = switched })) }
 {
     let _ = unit.stmts();
-    match left.push(Line { stmt, switched }) {
-        Ok(()) => Ok(()),
-        Err(_) => Err(NoMemory),
-    }
+    left.push(Line { stmt, switched })?;
+    Ok(())
 }
 
 /// Adds the blocks in a statement to those that are left.
 fn put_inner(
     unit: &Unit,
     left: &mut Vec<Line>,
-    inner: Inner,
+    inner: Blocks,
     switched: bool,
     enters: bool,
 ) -> Result<(), NoMemory>
-    requires inner { HasInner unit.now inner }
+    requires inner { HasBlocks unit.now inner }
     requires has { HasLines unit.now left.old.items }
     ensures has { OnOk result (HasLines unit.now left.new.items) }
-    ensures lines { OnOk result (left_of unit.now enters left.new.items ≡ inner_lines unit.now enters switched inner (left_of unit.now enters left.old.items)) }
-    ensures size { OnOk result (size_of unit.now left.new.items ≤ size_of unit.now left.old.items + inner_size unit.now inner) }
+    ensures lines { OnOk result (left_of unit.now enters left.new.items ≡ inner_lines enters switched (blocks_in unit.now inner) (left_of unit.now enters left.old.items)) }
+    ensures size { OnOk result (size_of unit.now left.new.items ≤ size_of unit.now left.old.items + inner_size (blocks_in unit.now inner)) }
 {
     match inner {
-        Inner::None => Ok(()),
-        Inner::Block(body) => put(unit, left, body, switched),
-        Inner::Switch(body) => {
+        Blocks::None => Ok(()),
+        Blocks::One(body) => put(unit, left, body, switched),
+        Blocks::Switch(body) => {
             if enters {
                 put(unit, left, body, true)
             } else {
                 Ok(())
             }
         }
-        Inner::Branch(body, other) => match put(unit, left, other, switched) {
-            Ok(()) => put(unit, left, body, switched),
-            Err(fault) => Err(fault),
-        },
+        Blocks::Branch(body, other) => {
+            put(unit, left, other, switched)?;
+            put(unit, left, body, switched)
+        }
     }
 }
 
@@ -122,16 +79,11 @@ fn list(
     ensures lines { OnOk result (map (line_in unit.now) listed.new.items ++ left_of unit.now enters left.new.items ≡ map (line_in unit.now) listed.old.items ++ (lines_of enters at.switched (code_of unit.now at.stmt.0) ++ left_of unit.now enters left.old.items)) }
     ensures falls { OnOk result (size_of unit.now left.new.items < size_of unit.now left.old.items + line_size unit.now at) }
 {
-    match apart(unit, at.stmt) {
+    match unit.apart(at.stmt) {
         Some((inner, rest)) => {
-            match listed.push(at) {
-                Ok(()) => {}
-                Err(_) => return Err(NoMemory),
-            }
-            match put(unit, left, rest, at.switched) {
-                Ok(()) => put_inner(unit, left, inner, at.switched, enters),
-                Err(fault) => Err(fault),
-            }
+            listed.push(at)?;
+            put(unit, left, rest, at.switched)?;
+            put_inner(unit, left, inner, at.switched, enters)
         }
         None => Ok(()),
     }
@@ -151,15 +103,9 @@ pub(crate) fn lines(
 {
     let mut listed = Vec::new(alloc);
     let mut left = Vec::new(alloc);
-    match put(unit, &mut left, body, false) {
-        Ok(()) => {}
-        Err(fault) => return Err(fault),
-    }
+    put(unit, &mut left, body, false)?;
     while let Some(at) = left.pop() {
-        match list(unit, at, enters, &mut left, &mut listed) {
-            Ok(()) => {}
-            Err(fault) => return Err(fault),
-        }
+        list(unit, at, enters, &mut left, &mut listed)?;
     }
     Ok(listed)
 }

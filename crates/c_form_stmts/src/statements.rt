@@ -54,10 +54,9 @@ impl<'c, 'k, 'u> Frame<'c, 'k, 'u> {
         requires { e.0 < length self.now.within.front.nodes.exprs }
         ensures { IfOk result (λ has. has ≡ is_some (expr_type (scope_in self.now.within) (expr_of self.now.within.front.nodes e.0))) }
     {
-        match self.scope.type_of(e) {
-            Ok(Some(_)) => Ok(true),
-            Ok(None) => Ok(false),
-            Err(fault) => Err(fault),
+        match self.scope.type_of(e)? {
+            Some(_) => Ok(true),
+            None => Ok(false),
         }
     }
 
@@ -66,13 +65,12 @@ impl<'c, 'k, 'u> Frame<'c, 'k, 'u> {
         requires { e.0 < length self.now.within.front.nodes.exprs }
         ensures { IfOk result (λ is. is ≡ is_number_type (expr_type (scope_in self.now.within) (expr_of self.now.within.front.nodes e.0))) }
     {
-        match self.scope.type_of(e) {
-            Ok(Some(ty)) => match self.scope.as_number(ty) {
+        match self.scope.type_of(e)? {
+            Some(ty) => match self.scope.as_number(ty) {
                 Some(_) => Ok(true),
                 None => Ok(false),
             },
-            Ok(None) => Ok(false),
-            Err(fault) => Err(fault),
+            None => Ok(false),
         }
     }
 
@@ -82,10 +80,9 @@ impl<'c, 'k, 'u> Frame<'c, 'k, 'u> {
         requires has { e.0 < length self.now.within.front.nodes.exprs }
         ensures { IfOk result (λ may. may ≡ may_assign (Some (one (type_in self.now.within.front.nodes.names to))) (expr_type (scope_in self.now.within) (expr_of self.now.within.front.nodes e.0))) }
     {
-        match self.scope.type_of(e) {
-            Ok(Some(ty)) => Ok(self.scope.is_assignable(to, ty)),
-            Ok(None) => Ok(false),
-            Err(fault) => Err(fault),
+        match self.scope.type_of(e)? {
+            Some(ty) => Ok(self.scope.is_assignable(to, ty)),
+            None => Ok(false),
         }
     }
 
@@ -94,15 +91,14 @@ impl<'c, 'k, 'u> Frame<'c, 'k, 'u> {
         requires { target.0 < length self.now.within.front.nodes.exprs }
         ensures { IfOk result (λ cell. TellsCell self.now.within.front.nodes cell (expr_held (scope_in self.now.within) (expr_of self.now.within.front.nodes target.0))) }
     {
-        match self.scope.held_of(target) {
-            Ok(Some(Held::One(ty))) => Ok(Some(ty)),
-            Ok(Some(Held::Fixed(_))) => Ok(None),
-            Ok(Some(Held::Many(_))) => Ok(None),
-            Ok(Some(Held::Inner(_))) => Ok(None),
-            Ok(Some(Held::Character)) => Ok(None),
-            Ok(Some(Held::Characters)) => Ok(None),
-            Ok(None) => Ok(None),
-            Err(fault) => Err(fault),
+        match self.scope.held_of(target)? {
+            Some(Held::One(ty)) => Ok(Some(ty)),
+            Some(Held::Fixed(_)) => Ok(None),
+            Some(Held::Many(_)) => Ok(None),
+            Some(Held::Inner(_)) => Ok(None),
+            Some(Held::Character) => Ok(None),
+            Some(Held::Characters) => Ok(None),
+            None => Ok(None),
         }
     }
 
@@ -112,10 +108,9 @@ impl<'c, 'k, 'u> Frame<'c, 'k, 'u> {
         requires value { value.0 < length self.now.within.front.nodes.exprs }
         ensures { IfOk result (λ formed. formed ≡ may_assign (expr_held (scope_in self.now.within) (expr_of self.now.within.front.nodes target.0)) (expr_type (scope_in self.now.within) (expr_of self.now.within.front.nodes value.0))) }
     {
-        match self.cell_type(target) {
-            Ok(Some(ty)) => self.may_go(ty, value),
-            Ok(None) => Ok(false),
-            Err(fault) => Err(fault),
+        match self.cell_type(target)? {
+            Some(ty) => self.may_go(ty, value),
+            None => Ok(false),
         }
     }
 
@@ -176,11 +171,13 @@ impl<'c, 'k, 'u> Frame<'c, 'k, 'u> {
                     Ok(false)
                 }
             }
-            CStmt::Switch { on, body, .. } => match self.is_number(*on) {
-                Ok(true) => has_formed_cases(self.scope.alloc(), unit, *body),
-                Ok(false) => Ok(false),
-                Err(fault) => Err(fault),
-            },
+            CStmt::Switch { on, body, .. } => {
+                if self.is_number(*on)? {
+                    has_formed_cases(self.scope.alloc(), unit, *body)
+                } else {
+                    Ok(false)
+                }
+            }
             CStmt::Return { value, .. } => self.is_return(*value),
             CStmt::Case { .. } => Ok(at.switched),
             CStmt::Default { .. } => Ok(at.switched),
@@ -196,10 +193,8 @@ impl<'c, 'k, 'u> Frame<'c, 'k, 'u> {
     {
         let mut i = 0;
         while i < lines.len() {
-            match self.is_formed_line(i, lines[i]) {
-                Ok(true) => {}
-                Ok(false) => return Ok(false),
-                Err(fault) => return Err(fault),
+            if !self.is_formed_line(i, lines[i])? {
+                return Ok(false);
             }
             i += 1;
         }

@@ -9,7 +9,7 @@ use Rattle.c_meaning.proofs.Stores.{equal_or_not, object_other, object_same, obj
 use Rattle.c_meaning.proofs.ReachExprs.{CelsIn, OneIn, cells_at_in, cell_of_in}
 
 module _ (inside : ℕ → Bool) where
-  -- Memory behind a change, where that is defined.
+  -- Memory after a change, where that is defined.
   abbrev pub LeftIn : Memory → Option Memory → Type 0
   LeftIn before None = Unit {0}
   LeftIn before (Some now) = Keeps inside before now

@@ -32,7 +32,7 @@ by_equal i j false e same other = other (λ p. absurd (grind (arith, nat_tests, 
 pub equal_or_not : {P : Type 0} (i j : ℕ) → (i ≡ j → P) → ((i ≡ j → ⊥) → P) → P
 equal_or_not i j same other = by_equal i j (nat_eq i j) refl same other
 
--- An object behind a change of another one, and of itself.
+-- An object after a change of another one, and of itself.
 pub object_other : (memory : Memory) (o o' f : ℕ) (now : Field) → (o ≡ o' → ⊥) → slice_get (with_field o f now memory) o' ≡ slice_get memory o'
 object_other memory o o' f now h = get_set_other memory o o' _ h
 

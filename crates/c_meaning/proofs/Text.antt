@@ -34,7 +34,7 @@ below_append : (n : ℕ) (ps qs : List Place) → Below n ps → Below n qs → 
 below_append n [] qs h k = k
 below_append n (p ∷ ps) qs h k = (h.0, below_append n ps qs h.1 k)
 
--- what is between is in front of what has less
+-- what is between is before what has less
 in_order_append : (low high middle : ℕ) (ps qs : List Place) → Between middle high ps → Between low middle qs → InOrder ps → InOrder qs → InOrder (ps ++ qs)
 in_order_append low high middle [] qs h k p q = q
 in_order_append low high middle (x ∷ ps) qs h k p q =
@@ -64,7 +64,7 @@ between (name_label name rest) k = (omega arith, omega arith, between_more _ _ _
 rest_below : (n : ℕ) (c : Code) (k : Continuation) → code_weight c + continuation_weight k < n → Below n (statements c k)
 rest_below n c k h = below_between n _ _ (statements c k) h (between c k)
 
--- a block and what stands behind it
+-- a block and what stands after it
 in_order_behind : (c : Code) (k : Continuation) (low : ℕ) (qs : List Place) → Between low (continuation_weight k) qs → InOrder (statements c k) → InOrder qs → InOrder (statements c k ++ qs)
 in_order_behind c k low qs h p q = in_order_append low (code_weight c + continuation_weight k) (continuation_weight k) (statements c k) qs (between c k) h p q
 

@@ -40,7 +40,7 @@ more_named : (name : Option ℕ) (names : List ℕ) (k : ℕ) → is_named (cons
 more_named None names k e = e
 more_named (Some j) names k e = (both_false (nat_eq k j) (is_named names k) e).1
 
--- the arguments behind the first one
+-- the arguments after the first one
 behind : (arg : HostArg) (args : List HostArg) (a b : Host) → HostKeeps args a b → HostKeeps (arg ∷ args) a b
 behind (num n) args a b h = record { buffers = h.buffers; arrays = h.arrays; buffers_count = h.buffers_count; arrays_count = h.arrays_count }
 behind (flag t) args a b h = record { buffers = h.buffers; arrays = h.arrays; buffers_count = h.buffers_count; arrays_count = h.arrays_count }

@@ -11,7 +11,7 @@ use Rattle.c_meaning.specs.CMemory.{Memory}
 use Rattle.c_meaning.specs.CExprs.{value, place, all_some, arg_values}
 use Rattle.c_meaning.specs.CStep.{Continuation, stop, behind, again, Place, at, code_weight, continuation_weight, place_weight, Label, by_name, by_case, by_default, enters_switch, is_case, is_default, is_named, first_of, here, find, Returned, Meaning, Running, State, state, weight, surroundings, goes_on, by_test, takes_turn, tested_again, leaps, jumps, enters, switches, kept, goes_back, calls, Callee, memory_move, memory_set, own, callee_of, move_given, set_given, calls_function, returns, result_value, assigned, at_end, step_at, step}
 
--- A place that is found has at most so much text behind it.
+-- A place that is found has at most so much text after it.
 abbrev pub Within : ℕ → Option Place → Type 0
 Within n None = Unit {0}
 Within n (Some p) = place_weight p ≤ n

@@ -13,7 +13,7 @@ pub record Extent : Type 0 where
   pub first : ℕ
   pub count : ℕ
 
--- Those of a list of receivers, which are made one after the other behind what memory holds.
+-- Those of a list of receivers, which are made one after the other after what memory holds.
 abbrev pub extents : Program → Surface → List Receiver → Memory → List Extent
 extents p surface [] memory = []
 extents p surface (receiver ∷ receivers) memory =
@@ -26,7 +26,7 @@ abbrev pub is_own : Option Extent → ℕ → Bool
 is_own None n = false
 is_own (Some e) n = nat_le e.first n && nat_lt n (e.first + e.count)
 
--- What an action on a receiver may reach: the strings, the receiver's objects, and what a call makes behind all others.
+-- What an action on a receiver may reach: the strings, the receiver's objects, and what a call makes after all others.
 abbrev pub reached : (texts size : ℕ) → Option Extent → ℕ → Bool
 reached texts size extent n = nat_lt n texts || (is_own extent n || nat_le size n)
 

@@ -1,6 +1,6 @@
 -- The meaning of a call of a function within a number of turns (ISO/IEC 9899:1999, 6.5.2.2, 6.7.4, 6.9.1). A call makes
 -- an object of the function's parameters and locals, one field each, which is gone when the function returns. A function
--- calls only functions that stand in front of it, so the meaning goes by recursion on these.
+-- calls only functions that stand before it, so the meaning goes by recursion on these.
 use Rattle.std.specs.Prelude.{ℕ, zero, suc, ◌+◌, if◌then◌else◌, List, [], ◌∷◌, ◌++◌, map, length, take, reverse, Option, Some, None, option_map, option_and_then, bytes_eq}
 use Rattle.turns.specs.Run.{Outcome, Got, More, Lost, run}
 use Rattle.c_text.specs.declared.kinds.Linkage.{Linkage}
@@ -12,7 +12,7 @@ use Rattle.c_meaning.specs.CTypes.{StructDecl, TextDecl, Function, Scope, struct
 use Rattle.c_meaning.specs.CExprs.{value, cell_type}
 use Rattle.c_meaning.specs.CStep.{Returned, Meaning, Running, state, stop, step, weight, surroundings, result_value}
 
--- What a text means: its structs and functions, each behind those that it may use, and its strings in order (6.9).
+-- What a text means: its structs and functions, each after those that it may use, and its strings in order (6.9).
 pub record Program : Type 0 where
   pub structs : List StructDecl
   pub texts : List TextDecl

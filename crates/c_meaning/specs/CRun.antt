@@ -57,7 +57,7 @@ laid_out objects (f ∷ fs) from = laid_kind objects f.kind f.count from (laid_o
 abbrev pub whole_object : Laid → List Object
 whole_object it = it.fields ∷ it.inside
 
--- The objects of a struct of this name, from a number on. A struct holds only structs that stand behind it in the list;
+-- The objects of a struct of this name, from a number on. A struct holds only structs that stand after it in the list;
 -- one that isn't there would have no fields.
 abbrev pub no_fields : List Object
 no_fields = [] ∷ []
@@ -216,7 +216,7 @@ buffer_left memory buffer object was = if keeps_pointer (bytes_pointer was.cells
     read (Some them) (Some wi) (Some ri) (Some pos) (Some closed) = Some (record { cells = them; ri = ri; wi = wi; pos = pos; closed = not (nat_eq closed 0) })
     read them wi ri pos closed = None
 
--- The host's buffers and byte arrays behind a call: those that were passed have what C left.
+-- The host's buffers and byte arrays after a call: those that were passed have what C left.
 abbrev pub arg_left : Memory → (buffer object : ℕ) → HostArg → Host → Option Host
 arg_left memory buffer object (io (Some k)) host = option_and_then (λ was. option_map (λ b. record host { buffers = slice_set host.buffers k b }) (buffer_left memory buffer object was)) (slice_get host.buffers k)
 arg_left memory buffer object (bytes (Some k)) host = option_map (λ them. record host { arrays = slice_set host.arrays k them }) (bytes_in memory object)

@@ -11,7 +11,7 @@ use Rattle.c_meaning.specs.CTypes.{Scope}
 use Rattle.c_meaning.specs.CExprs.{Surroundings, value, place, pointed_place, as_type, arg_values, all_some}
 
 -- What follows a block. `passed` is the text between the block's end and `rest` that is passed over: the `else` side,
--- behind the block of an `if`. Behind the block of a `while` stands its test, which is a turn (6.8).
+-- after the block of an `if`. After the block of a `while` stands its test, which is a turn (6.8).
 pub data Continuation : Type 0 where
   stop : Continuation
   behind : (passed rest : Code) → Continuation → Continuation
@@ -42,7 +42,7 @@ code_weight (case_label n rest) = code_weight rest + 1
 code_weight (default_label rest) = code_weight rest + 1
 code_weight (name_label name rest) = code_weight rest + 1
 
--- The same behind a block (6.8).
+-- The same after a block (6.8).
 abbrev pub continuation_weight : Continuation → ℕ
 continuation_weight stop = 0
 continuation_weight (behind passed rest k) = code_weight passed + code_weight rest + continuation_weight k + 1
@@ -163,11 +163,11 @@ abbrev pub takes_turn : ℕ → (ℕ → Next State Returned) → Next State Ret
 takes_turn zero next = Out
 takes_turn (suc n) next = next n
 
--- The test behind a whole pass of a `while`: a turn, and then the test (6.8.5.1).
+-- The test after a whole pass of a `while`: a turn, and then the test (6.8.5.1).
 abbrev pub tested_again : Running → ExprTree → Code → Continuation → Memory → ℕ → Next State Returned
 tested_again r test body k memory n = by_test (value (surroundings r memory) test) (Turn n (state body (again test body k) memory)) (Turn n (state finish k memory))
 
--- A jump to a place: a turn where that doesn't stand behind the statement that jumps (6.8.6.1).
+-- A jump to a place: a turn where that doesn't stand after the statement that jumps (6.8.6.1).
 abbrev pub leaps : Bool → ℕ → Place → Memory → Next State Returned
 leaps true n target memory = Go (record { place = target; memory = memory })
 leaps false n target memory = takes_turn n (λ left. Turn left (record { place = target; memory = memory }))
@@ -177,7 +177,7 @@ abbrev pub jumps : ℕ → Place → Option Place → Memory → Next State Retu
 jumps n from None memory = Fail
 jumps n from (Some target) memory = leaps (nat_lt (place_weight target) (place_weight from)) n target memory
 
--- `switch`: its case, else its `default`, else behind it (6.8.4.2p4, p5).
+-- `switch`: its case, else its `default`, else after it (6.8.4.2p4, p5).
 abbrev pub enters : Option Place → Code → Continuation → Memory → Next State Returned
 enters None rest k memory = Go (state rest k memory)
 enters (Some p) rest k memory = Go (record { place = p; memory = memory })
@@ -199,7 +199,7 @@ abbrev pub kept : Running → (before : Memory) → Option ExprTree → Returned
 kept r before None done = Some done.memory
 kept r before (Some target) done = option_and_then (λ v. option_and_then (λ p. stored done.memory p v) (one_place (place (surroundings r before) target) (place (surroundings r done.memory) target))) done.value
 
--- Behind a call (6.5.2.2, 6.8.3).
+-- After a call (6.5.2.2, 6.8.3).
 abbrev pub goes_back : ℕ → ℕ → Code → Continuation → Option Memory → Next State Returned
 goes_back n left rest k None = Fail
 goes_back n left rest k (Some memory) = onward n left (state rest k memory)

@@ -92,7 +92,7 @@ pub data Target : Type 0 where
   object : (struct_name : List ℕ) → Target
   byte : Target
 
--- The type of an expression's value: a number behind its promotion, a pointer, or the literal 0, which is a number and
+-- The type of an expression's value: a number after its promotion, a pointer, or the literal 0, which is a number and
 -- a null pointer (6.3.2.3p3).
 pub data ExprType : Type 0 where
   numbers : CTy → ExprType
@@ -109,7 +109,7 @@ pub data Held : Type 0 where
   character : Held
   characters : Held
 
--- The type of a number behind its promotion (6.3.1.1p2).
+-- The type of a number after its promotion (6.3.1.1p2).
 abbrev pub promoted : CUint → CTy
 promoted width.U8 = Int
 promoted width.U16 = Int

@@ -35,7 +35,7 @@ literal_number (literal.Long n) = number U64 n
 abbrev pub converted : CTy → Number → Number
 converted type n = number type (modulo (whole n) (2 ^ c_width type))
 
--- The type of two operands behind the usual arithmetic conversions (6.3.1.8).
+-- The type of two operands after the usual arithmetic conversions (6.3.1.8).
 abbrev pub common : CTy → CTy → CTy
 common U64 b = U64
 common U32 U64 = U64

@@ -64,6 +64,6 @@ parts_surface = record { package_name = codes "sub"; statuses = base_statuses; s
 abbrev pub parts_receivers : List Receiver
 parts_receivers = record { struct_number = 0; null = false } ∷ []
 
--- 5 and the greatest number are added, which ends at the greatest number; behind an init 1 is added to 0.
+-- 5 and the greatest number are added, which ends at the greatest number; after an init 1 is added to 0.
 abbrev pub parts_actions : List (HostAction Buffer)
 parts_actions = init 0 9 ∷ calls 0 0 (a_number 5 ∷ []) 9 ∷ calls 0 0 (a_number 4294967295 ∷ []) 9 ∷ calls 0 1 [] 9 ∷ init 0 9 ∷ calls 0 0 (a_number 1 ∷ []) 9 ∷ calls 0 1 [] 9 ∷ []

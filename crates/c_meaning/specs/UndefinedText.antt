@@ -82,7 +82,7 @@ undefined_surface = record { package_name = codes "u"; statuses = base_statuses;
 abbrev pub undefined_receivers : List Receiver
 undefined_receivers = record { struct_number = 0; null = false } ∷ []
 
--- One call of a method, behind a buffer of two bytes.
+-- One call of a method, after a buffer of two bytes.
 abbrev pub one_call : (method : ℕ) → List HostArg → List (HostAction Buffer)
 one_call method args = replace (empty_buffer 2 ∷ []) [] ∷ calls 0 method args 9 ∷ []
 

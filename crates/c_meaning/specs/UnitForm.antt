@@ -135,7 +135,7 @@ formed_call memory_move c target name given = is_none target && is_moved (arg_ty
 formed_call memory_set c target name given = is_none target && is_set c.scope given
 formed_call own c target name given = is_called c target (arg_types c.scope given) (function_named c.scope.functions name)
 
--- Only `static` functions that aren't `inline` take turns, by `while` and by `goto` to a label in front of it.
+-- Only `static` functions that aren't `inline` take turns, by `while` and by `goto` to a label before it.
 abbrev pub may_loop : Linkage → Bool
 may_loop Static = true
 may_loop linkage = false
@@ -235,7 +235,7 @@ formed_code c s (case_label n rest) k = s && formed_code c s rest k
 formed_code c s (default_label rest) k = s && formed_code c s rest k
 formed_code c s (name_label name rest) k = formed_code c s rest k
 
--- The initial value of a local knows the parameters and the locals in front of it (6.7.8p11).
+-- The initial value of a local knows the parameters and the locals before it (6.7.8p11).
 abbrev pub formed_initial : Scope → TypeTree → Option ExprTree → Bool
 formed_initial scope t None = true
 formed_initial scope t (Some e) = may_assign (Some (one t)) (type_of scope e)
@@ -251,7 +251,7 @@ abbrev pub is_result : Option TypeTree → Bool
 is_result None = true
 is_result (Some t) = is_value t
 
--- A function, where `before` are the items in front of it and `all` the names of all items of the text.
+-- A function, where `before` are the items before it and `all` the names of all items of the text.
 abbrev pub checked : List ItemTree → Linkage → Option TypeTree → List ParamTree → Code → Checked
 checked before linkage result_type names body = record { scope = scope_of before names; linkage = linkage; result_type = result_type; body = body }
 
@@ -353,7 +353,7 @@ meets_struct p item it = if bytes_eq (struct_name p it) (item_name item) then is
 abbrev pub meets_surface : Surface → ItemTree → Bool
 meets_surface p item = list_all (meets_signature item) (signatures p) && list_all (meets_struct p item) p.structs
 
--- An item, where `before` are the items in front of it and `all` the names of all items (6.9p5, 7.1.3).
+-- An item, where `before` are the items before it and `all` the names of all items (6.9p5, 7.1.3).
 abbrev pub free_name : List ItemTree → ItemTree → Bool
 free_name before item = not (is_among (map item_name before) (item_name item)) && not (is_library (item_name item))
 

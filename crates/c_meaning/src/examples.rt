@@ -47,7 +47,7 @@ pub fn a_call_goes_on_inside_its_loop()
         ∷ seen_with (num 123) (49 ∷ 50 ∷ 51 ∷ 0 ∷ []) 4 4 0 ∷ [] }
 {}
 
-/// The same bytes one at a time, in a buffer of one byte that is compacted behind each call.
+/// The same bytes one at a time, in a buffer of one byte that is compacted after each call.
 #[tactic(auto, unfolding(turns::specs::Run::run, turns::specs::Run::runs, turns::specs::Run::holding, turns::specs::Run::onward))]
 pub fn bytes_come_one_at_a_time()
     ensures { c_run parser_text parser_surface parser_receivers byte_by_byte ≡
@@ -88,7 +88,7 @@ pub fn an_error_disables_until_an_init()
         ∷ seen_with (num 429496729) digits 10 11 0 ∷ seen_with ok digits 10 11 0 ∷ seen_with (num 0) digits 10 11 0 ∷ [] }
 {}
 
-/// Two digits take three turns: the entry of the body, and the test of the loop behind each digit. Two turns don't do.
+/// Two digits take three turns: the entry of the body, and the test of the loop after each digit. Two turns don't do.
 #[tactic(auto, unfolding(turns::specs::Run::run, turns::specs::Run::runs, turns::specs::Run::holding, turns::specs::Run::onward))]
 pub fn turns_are_entries_and_ways_back()
     ensures three { c_run parser_text parser_surface parser_receivers (few_turns 3) ≡

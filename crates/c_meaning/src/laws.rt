@@ -75,8 +75,8 @@ pub fn more_turns_change_no_action()
         → c_call it memory called host n ≡ not_defined → c_call it memory called host (n + more) ≡ not_defined }
 {}
 
-/// A `goto` to a label that stands behind it in the text takes no turn: the run goes on from the label with the same
-/// turns. A `goto` to a label in front of it takes one. A label that is found stands in the body.
+/// A `goto` to a label that stands after it in the text takes no turn: the run goes on from the label with the same
+/// turns. A `goto` to a label before it takes one. A label that is found stands in the body.
 pub fn a_goto_forward_takes_no_turn()
     ensures behind { (r : Running) (n i j : ℕ) (label : List ℕ) (rest : Code) (k : Continuation) (target : Place) (memory : Memory)
         → StandsAt r.body i (at (jump label rest) k) → find (by_name label) r.body stop ≡ Some target → StandsAt r.body j target → i < j
@@ -105,7 +105,7 @@ pub fn a_store_changes_the_one_cell()
     ensures parts { (memory now : Memory) (p : Pointer) (cell : Cell) (object field : ℕ) → store memory p cell ≡ Some now → part_at now object field ≡ part_at memory object field }
 {}
 
-/// Where every cell holds a value of its field's type, or nothing, it does so behind every call; and no object changes the
+/// Where every cell holds a value of its field's type, or nothing, it does so after every call; and no object changes the
 /// types and numbers of its cells, or which objects are inside it.
 pub fn memory_keeps_types_and_shapes()
     ensures { (p : Program) (name : List ℕ) (n left : ℕ) (given : List Value) (memory : Memory) (done : Returned)
@@ -134,7 +134,7 @@ pub fn what_a_call_does_not_name_stays()
         → c_init it memory receiver n ≡ answers answer after → Keeps inside memory after }
 {}
 
-/// Receivers stand apart as they are made, and behind every init and call. So an init or a call leaves every object of
+/// Receivers stand apart as they are made, and after every init and call. So an init or a call leaves every object of
 /// every other receiver as it was. The strings of the text hold bytes, and the host's buffers and arrays are lawful.
 pub fn receivers_stand_apart()
     ensures first { (p : Program) (surface : Surface) (receivers : List Receiver)

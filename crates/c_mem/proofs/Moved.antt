@@ -70,7 +70,7 @@ move_field object field to from bytes it now r e h =
     (ap (option_and_then (λ (x : Field). option_map (slice_set object field) (moved_field it to it from bytes))) e ∙ sym (ap (option_and_then (λ (x : Field). option_map (λ now. slice_set object field now) (moved_field x to x from bytes))) e))
     (leaves_at object field it now (moved_field it to it from bytes) r e h)
 
--- What stands in a list behind a write.
+-- What stands in a list after a write.
 set_there : {A : Type 0} (xs : List A) (i : ℕ) (x y : A) → slice_get xs i ≡ Some y → slice_get (slice_set xs i x) i ≡ Some x
 set_there [] i x y e = absurd (cc (e))
 set_there (z ∷ zs) zero x y e = refl

@@ -73,12 +73,10 @@ impl Field {
     fn zeros(alloc: Global, count: u32) -> Result<Field, NoMemory>
         ensures { IfOk result (λ field. field ≡ cells u8 (byte_cells (replicate count 0) (nat_lt 1 count))) }
     {
-        match vec![in alloc; 0; count as usize] {
-            Ok(them) => Ok(Field {
-                held: Held::Bytes(them, count > 1),
-            }),
-            Err(_) => Err(NoMemory),
-        }
+        let them = vec![in alloc; 0; count as usize]?;
+        Ok(Field {
+            held: Held::Bytes(them, count > 1),
+        })
     }
 
     /// A field of so many unset cells of a type that isn't `uint8_t`.

@@ -1,4 +1,4 @@
--- In front of a text's first token nothing is made.
+-- Before a text's first token nothing is made.
 use Rattle.std.proofs.Common.{◌≡◌, [], ◌∷◌, refl}
 use Rattle.c_text.specs.CNodes.{no_nodes, unit_tree}
 use Rattle.c_read_grammar.specs.Values.{a_unit}

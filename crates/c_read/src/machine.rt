@@ -36,7 +36,7 @@ pub enum Meeting {
 }
 
 impl Machine {
-    /// A machine in front of a text's first token.
+    /// A machine before a text's first token.
     #[tactic(auto, using(crate::proofs::Starting::nothing_made))]
     pub fn new(alloc: Global) -> Result<Machine, NoMemory>
         ensures start { IfOk result (λ m. state_of m ≡ start) }
@@ -56,7 +56,7 @@ impl Machine {
         })
     }
 
-    /// A token that is read, behind which `wants` are wanted first.
+    /// A token that is read, after which `wants` are wanted first.
     fn take(&mut self, wants: &Wants, kind: Kind, text: &[u8]) -> Result<(), NoMemory>
         requires fit { IsFit self.old.maker }
         requires token { IsToken (token_of kind text.now) }

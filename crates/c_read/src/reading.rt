@@ -31,7 +31,7 @@ pub enum Ending {
     NotC { at: usize },
 }
 
-/// Whether a text ends here, or how it goes on: what stands behind the token, and how many brackets are open there.
+/// Whether a text ends here, or how it goes on: what stands after the token, and how many brackets are open there.
 #[derive(Clone, Copy)]
 pub enum Step<'a> {
     /// It ends.
@@ -59,7 +59,7 @@ fn is_too_deep(depth: usize, kind: Kind) -> bool
     is_opening(kind) && depth == MOST_BRACKETS
 }
 
-/// How many brackets are open behind a token, where `depth` are open in front of it.
+/// How many brackets are open after a token, where `depth` are open before it.
 fn open_after(depth: usize, kind: Kind) -> usize
     requires { depth ≤ 512 }
     ensures { result ≡ open_after depth (bare kind) }
@@ -146,7 +146,7 @@ impl Machine {
         }
     }
 
-    /// Reads what stands behind the three lines of a text of `whole` bytes.
+    /// Reads what stands after the three lines of a text of `whole` bytes.
     fn read_body(&mut self, whole: usize, body: &[u8]) -> Result<Ending, NoMemory>
         requires fit { IsFit self.old.maker }
         requires start { state_of self.old ≡ start }
@@ -171,7 +171,7 @@ impl Machine {
 }
 
 /// Reads the bytes of a text: exactly the unit of its tree. `TooDeep` exactly where a bracket opens where 512 are
-/// open and what stands in front of it begins a text; `NotC` exactly where the bytes are no text otherwise, at the
+/// open and what stands before it begins a text; `NotC` exactly where the bytes are no text otherwise, at the
 /// first token that can't go on; at the end, `at` is the number of bytes. `Memory` where memory was refused.
 pub fn read(alloc: Global, bytes: &[u8]) -> Result<Unit, ReadFault>
     ensures { AnswersRead bytes.now result }
@@ -180,13 +180,10 @@ pub fn read(alloc: Global, bytes: &[u8]) -> Result<Unit, ReadFault>
         Ok(body) => body,
         Err(at) => return Err(ReadFault::NotC { at: at as u64 }),
     };
-    let Ok(mut machine) = Machine::new(alloc) else {
-        return Err(ReadFault::Memory);
-    };
-    match machine.read_body(bytes.len(), body) {
-        Ok(Ending::Whole) => Ok(machine.maker.unit),
-        Ok(Ending::TooDeep { at }) => Err(ReadFault::TooDeep { at: at as u64 }),
-        Ok(Ending::NotC { at }) => Err(ReadFault::NotC { at: at as u64 }),
-        Err(_) => Err(ReadFault::Memory),
+    let mut machine = Machine::new(alloc)?;
+    match machine.read_body(bytes.len(), body)? {
+        Ending::Whole => Ok(machine.maker.unit),
+        Ending::TooDeep { at } => Err(ReadFault::TooDeep { at: at as u64 }),
+        Ending::NotC { at } => Err(ReadFault::NotC { at: at as u64 }),
     }
 }

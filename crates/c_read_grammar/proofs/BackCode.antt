@@ -1,4 +1,4 @@
--- What a symbol's move wants completes the symbol behind the token that was read: statements and blocks.
+-- What a symbol's move wants completes the symbol after the token that was read: statements and blocks.
 use Rattle.std.proofs.Common.{◌≡◌, None, Some, List, [], ◌∷◌, ◌++◌, refl}
 use Rattle.c_text.specs.declared.kinds.COp.TheVariants as op
 use Rattle.c_text.specs.declared.kinds.Otherwise.TheVariants as else_is
@@ -22,7 +22,7 @@ use Rattle.c_read_grammar.proofs.ReadsCode.{open_brace, close_brace}
 use Rattle.c_read_grammar.proofs.Words.{ExprWord, StmtWord, MakesStmt, Words}
 use Rattle.c_read_grammar.proofs.BackExpr.{Back, back-followed, back-expr, back-paren}
 
--- A test in parentheses and a block, and what is wanted behind them.
+-- A test in parentheses and a block, and what is wanted after them.
 record Tested (ys : List Want) (ts rest : List CToken) : Type 0 where
   test : ExprTree
   test_is : IsExpr test

@@ -1,4 +1,4 @@
--- What a symbol's move wants completes the symbol behind the token that was read: single tokens, types, expressions.
+-- What a symbol's move wants completes the symbol after the token that was read: single tokens, types, expressions.
 use Rattle.std.proofs.Common.{◌≡◌, ◌∙◌, ap, sym, ℕ, Bool, true, false, ◌&&◌, List, [], ◌∷◌, ◌++◌, refl, nat_eq, zero, suc, arith, if◌then◌else◌}
 use Rattle.std.specs.Bool.{⊤}
 use Rattle.std.proofs.lemmas.Bool.Decides.{nat_tests}
@@ -30,7 +30,7 @@ OnMove (Take xs) P A = P xs
 OnMove Pass P A = A
 OnMove Stop P A = ⊤
 
--- The words of what is wanted behind the token, with it, are words of P; nothing passes.
+-- The words of what is wanted after the token, with it, are words of P; nothing passes.
 abbrev pub Back : (List CToken → List CToken → Type 0) → Move → CToken → Type 0
 Back P w t = OnMove w (λ xs. (ts rest : List CToken) → Words xs ts rest → P (t ∷ ts) rest) ⊥
 
@@ -40,7 +40,7 @@ cut-words [] ys ts rest d = (ts, refl, d)
 cut-words (Read x ∷ xs) ys ts rest d = let w = cut-words xs ys d.0 rest d.2 in (w.0, (d.0, d.1, w.1), w.2)
 cut-words (Perform a ∷ xs) ys ts rest d = cut-words xs ys ts rest d
 
--- a move with more behind it
+-- a move with more after it
 pub back-followed : (P Q : List CToken → List CToken → Type 0) (w : Move) (t : CToken) (ys : List Want)
     → Back P w t → ((ts mid rest : List CToken) → P (t ∷ ts) mid → Words ys mid rest → Q (t ∷ ts) rest) → Back Q (followed w ys) t
 back-followed P Q (Take xs) t ys b f = λ ts rest d. let w = cut-words xs ys ts rest d in f ts w.0 rest (b ts w.0 w.1) w.2
@@ -251,7 +251,7 @@ back-paren_name (marked mark.Question) = λ ts rest d. λ n ln. back-operator (m
 back-paren_name (operator o) = λ ts rest d. λ n ln. back-operator (operator o) ts rest d (variable n) ln
 back-paren_name _ = tt
 
--- behind an expression in parentheses that is the first operand of one more
+-- after an expression in parentheses that is the first operand of one more
 then-operator : (front : List CToken) (mid rest : List CToken) → PostWord front mid → Words (expr Tail ∷ expr Operator ∷ []) mid rest → PostWord (open_paren ∷ front) rest
 then-operator front mid rest w d =
     let v = d.1 w.0 w.1 in

@@ -1,4 +1,4 @@
--- What a symbol's move wants completes the symbol behind the token that was read: items.
+-- What a symbol's move wants completes the symbol after the token that was read: items.
 use Rattle.std.proofs.Common.{◌≡◌, ◌<◌, length, None, Some, List, [], ◌∷◌, refl, arith}
 use Rattle.c_text.specs.declared.kinds.COp.TheVariants as op
 use Rattle.c_text.specs.declared.kinds.Linkage.{Linkage}
@@ -21,7 +21,7 @@ use Rattle.c_read_grammar.proofs.Words.{TypeWord, StmtWord, ItemWord', BodyWord,
 use Rattle.c_read_grammar.proofs.BackExpr.{Back, back-followed, back-word_type, back-type}
 use Rattle.c_read_grammar.proofs.BackCode.{back-stmt, back-stmts, back-stmt_name, then-stmts}
 
--- A function behind its linkage and result type.
+-- A function after its linkage and result type.
 function-void : (l : Linkage) (ts rest : List CToken) → Words function_wants ts rest → ItemWord' (linkage_tokens l (keyword word.Void ∷ ts)) rest
 function-void l ts rest d =
     let ps = d.2.2.1 in
@@ -39,7 +39,7 @@ back-returns l (keyword word.Void) h = λ ts rest d. function-void l ts rest d
 back-returns l t h = back-followed TypeWord (ItemWord (Returns l)) (m.type_move t) t (do_item (MakeResult l) ∷ function_wants) (back-type t h)
     (λ ts mid rest w d. function-type l w.0 w.1 (t ∷ ts) mid rest w.2 d)
 
--- an item, and those behind it
+-- an item, and those after it
 then-items : (front mid rest : List CToken) → ItemWord' front mid → Words (item Unit ∷ []) mid rest → ItemWord Unit front rest
 then-items front mid rest w d = (w.0 ∷ d.1.0, (w.1, d.1.1), cc (w.2, d.1.2, d.2))
 
@@ -81,7 +81,7 @@ back-more_params (marked mark.Comma) = λ ts rest d. (d.1.0 ∷ d.2.1.0, (d.1.1.
 back-more_params (marked mark.CloseParen) = λ ts rest d. ([], tt, cc d)
 back-more_params _ = tt
 
--- a local, and the locals and statements behind it
+-- a local, and the locals and statements after it
 then-body : (t : TypeTree) → IsType t → (front ts rest : List CToken) → front ≡ type_tokens t ts → Words local_wants ts rest → BodyWord front rest
 then-body t lt front ts rest h d =
     let x = d.2.1 in

@@ -34,7 +34,7 @@ use Rattle.c_read_grammar.proofs.BackExpr.{OnMove, Back, cut-words, back-name, b
 use Rattle.c_read_grammar.proofs.BackCode.{back-stmt, back-stmts, back-stmt_name, back-stmt_paren, back-becomes, back-value, back-value_name, back-returned, back-else_tail}
 use Rattle.c_read_grammar.proofs.BackItems.{back-unit, back-returns, back-static_item, back-const_char, back-param, back-params, back-more_params, back-body, back-body_name, back-local_end, back-field, back-field_name, back-field_end, back-more_fields}
 
--- The words behind a move; a symbol that passes a token on may be absent.
+-- The words after a move; a symbol that passes a token on may be absent.
 abbrev BackOrAbsent : (List CToken → List CToken → Type 0) → Move → CToken → Type 0
 BackOrAbsent P w t = OnMove w (λ xs. (ts rest : List CToken) → Words xs ts rest → P (t ∷ ts) rest) ((ts : List CToken) → P ts ts)
 
@@ -161,7 +161,7 @@ zero_is = grind (arith)
 abbrev some_variable : ExprTree
 some_variable = variable some_name
 
--- what stands behind `(` in `(x + x)`
+-- what stands after `(` in `(x + x)`
 abbrev sum_rest : List CToken → List CToken
 sum_rest rest = operator op.Add ∷ named some_name ∷ close_paren ∷ rest
 
@@ -193,7 +193,7 @@ complete-stmt s.Returned rest = (semicolon ∷ rest, λ b lb z h. (leave None b,
 complete-stmt s.Else rest = (rest, (else_is.Nothing, finish, refl, tt, refl))
 complete-stmt s.ElseTail rest = (open_brace ∷ close_brace ∷ rest, (else_is.Block, finish, tt, tt, refl))
 
--- a function of no result, no parameter and no statement, behind its result
+-- a function of no result, no parameter and no statement, after its result
 abbrev function_rest : List CToken → List CToken
 function_rest rest = named some_name ∷ open_paren ∷ keyword word.Void ∷ close_paren ∷ open_brace ∷ close_brace ∷ rest
 

@@ -30,7 +30,7 @@ record Stops (bytes : List ℕ) (front : List CToken) (rest : List ℕ) : Type 0
   read : BeginsText bytes front rest
   none : NoMore front rest
 
--- Two lists of tokens at the front of the same bytes: they are the same, or one goes on behind the other.
+-- Two lists of tokens at the front of the same bytes: they are the same, or one goes on after the other.
 data Compared (f g : List CToken) (r q : List ℕ) : Type 0 where
   Same : f ≡ g → r ≡ q → Compared f g r q
   First : (t : CToken) → (more : List CToken) → (mid : List ℕ) → f ≡ g ++ t ∷ more → IsToken t → ReadsToken t q mid → Compared f g r q
@@ -104,7 +104,7 @@ whole-stop bytes unit x s =
       };
     }
 
--- What stands behind a gap is what a token is read from.
+-- What stands after a gap is what a token is read from.
 behind-token : (bytes rest behind : List ℕ) (place : ℕ) → StandsAt bytes rest behind place → (t : CToken) → IsToken t → (mid : List ℕ) → ReadsToken t rest mid → behind ≡ token_bytes t ++ mid
 behind-token bytes rest behind place s t l mid k =
     let c = same-front is_gap_byte s.gap behind k.gap (token_bytes t ++ mid) (sym s.cut ∙ k.cut) s.blank k.blank s.stops (token-no-gap t l mid) in

@@ -305,7 +305,7 @@ same-token (marked m) (operator o) lt lu r q h a b e = same-symbol (marked m) (o
 same-token (marked m) (marked x) lt lu r q h a b e = same-symbol (marked m) (marked x) r q h (symbol-mark m r a) (symbol-mark x q b)
 same-token _ _ lt lu r q h a b e = absurd (cc e)
 
--- The first token of bytes, and what stands behind it, is one.
+-- The first token of bytes, and what stands after it, is one.
 pub one-token : (t u : CToken) → IsToken t → IsToken u → (bytes r q : List ℕ) → ReadsToken t bytes r → ReadsToken u bytes q → Same t u r q
 one-token t u lt lu bytes r q x y =
     let s = same-front is_gap_byte x.gap (token_bytes t ++ r) y.gap (token_bytes u ++ q) (sym x.cut ∙ y.cut) x.blank y.blank (token-no-gap t lt r) (token-no-gap u lu q) in

@@ -29,7 +29,7 @@ close_brace = marked mark.CloseBrace
 abbrev pub semicolon : CToken
 semicolon = marked mark.Semicolon
 
--- What goes on behind a pointer.
+-- What goes on after a pointer.
 abbrev pub goes_on_tail : CToken → Bool
 goes_on_tail (marked mark.Arrow) = true
 goes_on_tail (marked mark.OpenBracket) = true
@@ -56,7 +56,7 @@ first-tail (marked mark.Arrow) h ts k vs = refl
 first-tail (marked mark.OpenBracket) h ts k vs = refl
 first-tail _ h ts k vs = absurd (cc h)
 
--- the first operand behind `(`, at the head of a statement
+-- the first operand after `(`, at the head of a statement
 spine-stmt_paren : (e : ExprTree) (ts : List CToken) (k : List Want) (vs : List Val)
     → run (expr_tokens e ts) (stmt StmtParen ∷ k) vs ≡ run (expr_tokens e ts) (expr Paren ∷ expr FirstTail ∷ stmt Becomes ∷ k) vs
 spine-stmt_paren (member p f) ts k vs = spine-stmt_paren p (marked mark.Arrow ∷ named f ∷ ts) k vs
@@ -308,7 +308,7 @@ reads-branch test body otherwise other rest ft frest ts k vs h =
     ∙ ap (λ x. run behind (stmt Stmts ∷ k) x) (chain-whole (branch test body otherwise other finish) vs h)
     ∙ frest ts k (a_statement (branch test body otherwise other finish) ∷ vs) refl
 
--- a label, and the statement behind it
+-- a label, and the statement after it
 reads-label : (s rest : Code) → is_label s ≡ true → is_finish rest ≡ false → IsCode rest → ReadsCode rest → (ts : List CToken) (k : List Want) (vs : List Val)
     → run (code_tokens rest (close_brace ∷ ts)) (stmt Stmt ∷ stmt Stmts ∷ k) (a_statement s ∷ vs) ≡ run ts k (collect rest (a_statement s ∷ vs))
 reads-label s rest h m l frest ts k vs = sym (first-stmt rest m l (close_brace ∷ ts) k (a_statement s ∷ vs)) ∙ frest ts k (a_statement s ∷ vs) refl

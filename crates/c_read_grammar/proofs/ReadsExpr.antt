@@ -33,7 +33,7 @@ close_bracket = marked mark.CloseBracket
 abbrev pub awaits : CMark → Want
 awaits m = token (Mark m)
 
--- What may still go on behind an expression, in front of what is wanted next.
+-- What may still go on after an expression, before what is wanted next.
 abbrev pub tail_wants : ExprTree → List Want → List Want
 tail_wants (number n) k = k
 tail_wants _ k = expr Tail ∷ k
@@ -64,7 +64,7 @@ kept-post e h made ts k vs = ap (λ b. run ts k (kept_if (not b) made vs)) h
 abbrev pub Reads : ExprTree → Type 0
 Reads e = (ts : List CToken) (k : List Want) (vs : List Val) → run (expr_tokens e ts) (expr Expr ∷ k) vs ≡ run ts (tail_wants e k) (an_expr e ∷ vs)
 
--- An expression in parentheses is read, behind its `(`.
+-- An expression in parentheses is read, after its `(`.
 abbrev pub ReadsInside : ExprTree → Type 0
 ReadsInside e = (ts : List CToken) (k : List Want) (vs : List Val) → run (inside e ts) (expr Paren ∷ k) vs ≡ run ts k (an_expr e ∷ vs)
 
@@ -239,7 +239,7 @@ abbrev pub ReadsMoreArgs : Args → Type 0
 ReadsMoreArgs args = (done : Args) (ts : List CToken) (k : List Want) (vs : List Val)
     → run (more_args_tokens args (close_paren ∷ ts)) (expr MoreArgs ∷ k) (some_args done ∷ vs) ≡ run ts k (some_args (args_then done args) ∷ vs)
 
--- an argument, and those behind it
+-- an argument, and those after it
 expr-then : (e : ExprTree) (args : Args) → Reads e → ReadsMoreArgs args → (done : Args) (ts : List CToken) (k : List Want) (vs : List Val)
     → run (expr_tokens e (more_args_tokens args (close_paren ∷ ts))) (expr Expr ∷ do_expr AddArg ∷ expr MoreArgs ∷ k) (some_args done ∷ vs) ≡ run ts k (some_args (args_then done (expr_arg e args)) ∷ vs)
 expr-then e args fe fargs done ts k vs =

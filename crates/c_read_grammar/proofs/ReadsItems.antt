@@ -132,7 +132,7 @@ reads-params (p ∷ ps) ts k vs =
     ∙ performs behind (acts.Item AddParam) (item MoreParams ∷ k) (a_name p.name ∷ a_type p.kind ∷ some_params [] ∷ vs)
     ∙ reads-more_params ps (p ∷ []) ts k vs
 
--- Locals, and the statements behind them.
+-- Locals, and the statements after them.
 local-type : (t : TypeTree) (n : List ℕ) (ts : List CToken) (k : List Want) (vs : List Val)
     → run (type_tokens t (named n ∷ ts)) (item Body ∷ k) vs ≡ run ts (item LocalEnd ∷ item Body ∷ k) (a_name n ∷ a_type t ∷ vs)
 local-type (uint U8) n ts k vs = refl

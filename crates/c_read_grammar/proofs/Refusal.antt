@@ -18,7 +18,7 @@ append-option : (o : Option State) (front back : List CToken) (last : State)
 append-option None front back last f h = absurd (cc h)
 append-option (Some next) front back last f h = f next h
 
--- Tokens behind others are read from where those end.
+-- Tokens after others are read from where those end.
 pub feeds-append : (front back : List CToken) (first last : State) → feeds front first ≡ Some last → feeds (front ++ back) first ≡ feeds back last
 feeds-append [] back first last h = ap (feeds back) (same-state first last h)
 feeds-append (t ∷ front) back first last h = append-option (feed first.wanted first.vals t) front back last (λ next q. feeds-append front back next last q) h

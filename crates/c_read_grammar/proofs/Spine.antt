@@ -1,4 +1,4 @@
--- An expression is read alike wherever it stands: what the machine has factored by first tokens meets again behind
+-- An expression is read alike wherever it stands: what the machine has factored by first tokens meets again after
 -- them.
 use Rattle.std.proofs.Common.{◌≡◌, ◌∙◌, sym, ℕ, Bool, true, false, Option, List, [], ◌∷◌, ◌++◌, refl}
 use Rattle.c_text.specs.declared.kinds.COp.{COp}
@@ -26,7 +26,7 @@ pub performs : (ts : List CToken) (a : Action) (k : List Want) (vs : List Val) �
 performs [] a k vs = refl
 performs (t ∷ ts) a k vs = refl
 
--- What may stand behind an operand in parentheses.
+-- What may stand after an operand in parentheses.
 abbrev pub goes_on_operand : List CToken → Bool
 goes_on_operand (operator o ∷ ts) = true
 goes_on_operand (marked mark.Question ∷ ts) = true
@@ -42,7 +42,7 @@ spine-post (member p f) h l ts k vs = spine-post p l.0 l.1 (marked mark.Arrow �
 spine-post (element p i) h l ts k vs = spine-post p l.0 l.1 (marked mark.OpenBracket ∷ expr_tokens i (marked mark.CloseBracket ∷ ts)) k vs
 spine-post _ h l ts k vs = refl
 
--- What stands behind the `(` of an expression that begins with one.
+-- What stands after the `(` of an expression that begins with one.
 abbrev pub inside : ExprTree → List CToken → List CToken
 inside (pointed pointer) rest = operator op.Mul ∷ expr_tokens pointer (marked mark.CloseParen ∷ rest)
 inside (operation o first second others) rest = expr_tokens first (operator o ∷ expr_tokens second (operands_tokens others o (marked mark.CloseParen ∷ rest)))
@@ -61,7 +61,7 @@ in_parens (choice test met unmet) = true
 in_parens (called function given) = true
 in_parens _ = false
 
--- The second operand of a product whose first one is a name, behind `( (`.
+-- The second operand of a product whose first one is a name, after `( (`.
 pub spine-star : (e : ExprTree) (ts : List CToken) (n : List ℕ) (k : List Want) (vs : List Val)
     → run (expr_tokens e ts) (expr ParenParenStar ∷ k) (a_name n ∷ vs) ≡ run (expr_tokens e ts) (expr Expr ∷ (product_rest ++ k)) (an_expr (variable n) ∷ vs)
 spine-star (number m) ts n k vs = performs ts (acts.Expr MakeVariableBelow) _ _
@@ -75,7 +75,7 @@ spine-star (cast t e) ts n k vs = performs (inside (cast t e) ts) (acts.Expr Mak
 spine-star (choice a b c) ts n k vs = performs (inside (choice a b c) ts) (acts.Expr MakeVariable) (expr Paren ∷ expr Tail ∷ (product_rest ++ k)) (a_name n ∷ vs)
 spine-star (called f given) ts n k vs = performs (inside (called f given) ts) (acts.Expr MakeVariable) (expr Paren ∷ expr Tail ∷ (product_rest ++ k)) (a_name n ∷ vs)
 
--- The first operand behind `( (`; `name` tells what follows it where it is a name.
+-- The first operand after `( (`; `name` tells what follows it where it is a name.
 abbrev Named : List CToken → Type 0
 Named ts = (n : List ℕ) (k : List Want) (vs : List Val) → run ts (expr ParenParenName ∷ k) (a_name n ∷ vs) ≡ run ts (expr ParenName ∷ expr Tail ∷ expr Operator ∷ k) (a_name n ∷ vs)
 
@@ -90,7 +90,7 @@ name-operator : (o : COp) (second : ExprTree) (ts : List CToken) → Named (oper
 name-operator op.Mul second ts n k vs = spine-star second ts n k vs ∙ sym (performs (expr_tokens second ts) (acts.Expr MakeVariable) _ _)
 name-operator _ second ts n k vs = refl
 
--- An expression in parentheses, behind one more `(`.
+-- An expression in parentheses, after one more `(`.
 pub spine-inner : (e : ExprTree) → in_parens e ≡ true → (ts : List CToken) (k : List Want) (vs : List Val)
     → run (inside e ts) (expr ParenParen ∷ k) vs ≡ run (inside e ts) (expr Paren ∷ expr Tail ∷ expr Operator ∷ k) vs
 spine-inner (pointed p) h ts k vs = refl
@@ -103,7 +103,7 @@ spine-inner (choice a b c) h ts k vs = spine-paren_paren a (marked mark.Question
 spine-inner (called f given) h ts k vs = refl
 spine-inner _ h ts k vs = absurd (cc h)
 
--- The first operand behind `(`.
+-- The first operand after `(`.
 name-paren : (ts : List CToken) → goes_on_operand ts ≡ true → (n : List ℕ) (k : List Want) (vs : List Val)
     → run ts (expr ParenName ∷ k) (a_name n ∷ vs) ≡ run ts (do_expr MakeVariable ∷ expr Tail ∷ expr Operator ∷ k) (a_name n ∷ vs)
 name-paren (operator o ∷ ts) h n k vs = performs ts (acts.Expr MakeVariable) _ _

@@ -52,7 +52,7 @@ ExprWord e.Args ts rest = (args : Args) × IsArgs args × (ts ≡ args_tokens ar
 ExprWord e.Arg ts rest = (args : Args) → IsArgs args → (z : List CToken) → rest ≡ more_args_tokens args z → (all : Args) × IsArgs all × (ts ≡ args_tokens all z) × (marked mark.Comma ∷ ts ≡ more_args_tokens all z)
 ExprWord e.MoreArgs ts rest = (args : Args) × IsArgs args × (ts ≡ more_args_tokens args (close_paren ∷ rest))
 
--- With whatever block stands behind, the tokens begin a block.
+-- With whatever block stands after them, the tokens begin a block.
 abbrev pub MakesStmt : List CToken → List CToken → Type 0
 MakesStmt ts rest = (b : Code) → IsCode b → (z : List CToken) → rest ≡ code_tokens b z → (c : Code) × IsCode c × (is_finish c ≡ false) × (ts ≡ code_tokens c z)
 
@@ -116,7 +116,7 @@ Word (syms.Stmt x) ts rest = StmtWord x ts rest
 Word (syms.Item x) ts rest = ItemWord x ts rest
 Word (syms.Token x) ts rest = TokenWord x ts rest
 
--- The tokens complete what is wanted, one behind the other; actions read none.
+-- The tokens complete what is wanted, one after the other; actions read none.
 abbrev pub Words : List Want → List CToken → List CToken → Type 0
 Words [] ts rest = ts ≡ rest
 Words (Read x ∷ xs) ts rest = (mid : List CToken) × Word x ts mid × Words xs mid rest

@@ -1,4 +1,4 @@
--- The machine at work: what is wanted and what was read, behind some tokens; none where one of them can't be read.
+-- The machine at work: what is wanted and what was read, after some tokens; none where one of them can't be read.
 use Rattle.std.specs.Prelude.{Option, None, Some, List, [], ◌∷◌, ◌++◌, if◌then◌else◌}
 use Rattle.c_text.specs.CSpelling.{CToken}
 use Rattle.c_read_grammar.specs.declared.actions.Want.{Want}
@@ -42,6 +42,6 @@ ends (Read s ∷ k) vs = if may_end s then ends k vs else None
 abbrev pub start : State
 start = record { wanted = item Unit ∷ []; vals = a_unit [] ∷ [] }
 
--- The values behind a whole text; none where it can't be read to its end.
+-- The values after a whole text; none where it can't be read to its end.
 abbrev pub reads : List CToken → State → Option (List Val)
 reads ts s = go_on (feeds ts s) (λ last. ends last.wanted last.vals)

@@ -78,7 +78,7 @@ literal_of run = if has_leading_zero (front is_digit run) then None else literal
 abbrev pub run_token : List ℕ → Option CToken
 run_token run = if begins is_digit run then option_map literal (literal_of run) else word_token run
 
--- A string of these bytes, with a quote behind them or not.
+-- A string of these bytes, with a quote after them or not.
 abbrev pub string_token : (inner : List ℕ) → (closed : Bool) → Option CToken
 string_token inner closed = if closed && not (has_double_question inner) then Some (quoted inner) else None
 
@@ -87,7 +87,7 @@ abbrev pub next_is : ℕ → List ℕ → Bool
 next_is c [] = false
 next_is c (b ∷ bs) = nat_eq b c
 
--- The symbol that a byte and those behind it begin with.
+-- The symbol that a byte and those after it begin with.
 abbrev pub symbol_token : ℕ → List ℕ → Option CToken
 symbol_token b bs =
     if nat_eq b 43 then Some (operator op.Add) else (
@@ -114,7 +114,7 @@ symbol_token b bs =
     if nat_eq b 63 then Some (marked mark.Question) else (
     if nat_eq b 126 then Some (marked mark.Complement) else None))))))))))))))))))))))
 
--- This token stands at the front of the bytes, and `tail` behind it.
+-- This token stands at the front of the bytes, and `tail` after it.
 pub record Stands (t : CToken) (bytes tail : List ℕ) : Type 0 where
   pub lawful : IsToken t
   pub cut : bytes ≡ token_bytes t ++ tail

@@ -44,13 +44,13 @@ pub data Move : Type 0 where
   -- no text goes on so
   Stop : Move
 
--- A move, where more is wanted behind it.
+-- A move, where more is wanted after it.
 abbrev pub followed : Move → List Want → Move
 followed (Take xs) ys = Take (xs ++ ys)
 followed Pass ys = Pass
 followed Stop ys = Stop
 
--- A move behind a name, which is a variable.
+-- A move after a name, which is a variable.
 abbrev pub behind_variable : Move → Move
 behind_variable (Take xs) = Take (Perform (acts.Expr MakeVariable) ∷ xs)
 behind_variable Pass = Pass
@@ -148,7 +148,7 @@ abbrev pub star_move : CToken → Move
 star_move (operator op.Mul) = Take []
 star_move _ = Stop
 
--- behind a type of exact width
+-- after a type of exact width
 abbrev pub maybe_star_move : CToken → Move
 maybe_star_move (operator op.Mul) = Take (do_type MakeUintPointer ∷ [])
 maybe_star_move _ = Pass
@@ -213,7 +213,7 @@ operands_move o (operator next) = if same_op o next && repeats o then Take (expr
 operands_move o (marked mark.CloseParen) = Take (do_expr (MakeOperation o) ∷ [])
 operands_move o _ = Stop
 
--- behind `(`: an operator in front of its operand
+-- after `(`: an operator before its operand
 abbrev pub paren_op_move : COp → Move
 paren_op_move op.Mul = Take (expr Post ∷ token (Mark mark.CloseParen) ∷ do_expr MakePointed ∷ [])
 paren_op_move op.BitAnd = Take (expr Expr ∷ token (Mark mark.CloseParen) ∷ do_expr (MakeUnary unary_op.Address) ∷ [])
@@ -409,7 +409,7 @@ more_params_move (marked mark.Comma) = Take (item Param ∷ item MoreParams ∷ 
 more_params_move (marked mark.CloseParen) = Take []
 more_params_move _ = Stop
 
--- a type begins a local, and so does a name with `*` behind it; all else begins a statement
+-- a type begins a local, and so does a name with `*` after it; all else begins a statement
 abbrev pub local_wants : List Want
 local_wants = token Name ∷ item LocalEnd ∷ item Body ∷ []
 

@@ -7,7 +7,7 @@ use Rattle.c_text.specs.CTree.{ItemTree}
 use Rattle.c_read_grammar.specs.FirstToken.{begins, Stands}
 use Rattle.c_read_grammar.specs.Texts.{IsText, IsLive, AreTokens, is_opening, open_after, open_behind}
 
--- The tokens stand at the front of the bytes, and `rest` behind them.
+-- The tokens stand at the front of the bytes, and `rest` after them.
 abbrev pub SpellsTo : List CToken → (bytes rest : List ℕ) → Type 0
 SpellsTo [] bytes rest = bytes ≡ rest
 SpellsTo (t ∷ ts) bytes rest = (mid : List ℕ) × ReadsToken t bytes mid × SpellsTo ts mid rest
@@ -26,7 +26,7 @@ pub record BeginsText (bytes : List ℕ) (front : List CToken) (rest : List ℕ)
   pub live : IsLive front
   pub shallow : IsShallow 0 front
 
--- Behind a gap, `behind` stands at this place of the bytes.
+-- After a gap, `behind` stands at this place of the bytes.
 pub record StandsAt (bytes rest behind : List ℕ) (place : ℕ) : Type 0 where
   pub gap : List ℕ
   pub blank : IsGap gap
@@ -34,7 +34,7 @@ pub record StandsAt (bytes rest behind : List ℕ) (place : ℕ) : Type 0 where
   pub stops : begins is_gap_byte behind ≡ false
   pub place_is : place + length behind ≡ length bytes
 
--- Behind these tokens nothing that stands here goes on, and no bracket is one too many.
+-- After these tokens nothing that stands here goes on, and no bracket is one too many.
 abbrev pub IsWrongHere : (front : List CToken) → (behind : List ℕ) → Type 0
 IsWrongHere front [] = IsText front → ⊥
 IsWrongHere front (b ∷ bs) = (t : CToken) (tail : List ℕ) → Stands t (b ∷ bs) tail
@@ -71,7 +71,7 @@ stdint_line = codes "#include <stdint.h>\n"
 abbrev pub string_line : List ℕ
 string_line = codes "#include <string.h>\n"
 
--- Behind `done` the bytes go on otherwise than by this line.
+-- After `done` the bytes go on otherwise than by this line.
 pub record IsBadLine (done line bytes : List ℕ) (place : ℕ) : Type 0 where
   pub rest : List ℕ
   pub begun : bytes ≡ done ++ rest

@@ -1,4 +1,4 @@
--- What lists of tokens are texts, which may still become one, and the brackets that are open behind them.
+-- What lists of tokens are texts, which may still become one, and the brackets that are open after them.
 use Rattle.std.specs.Prelude.{◌≡◌, ◌+◌, ◌-◌, ℕ, Bool, true, false, List, [], ◌∷◌, ◌++◌, ⊤, IsTrue}
 use Rattle.c_text.specs.declared.tokens.CMark.TheVariants as mark
 use Rattle.c_text.specs.CSpelling.{CToken, named, literal, quoted, marked, IsLiteral, is_string}
@@ -13,7 +13,7 @@ IsText tokens = (unit : List ItemTree) × IsUnit unit × (tokens ≡ unit_tokens
 abbrev pub IsLive : List CToken → Type 0
 IsLive tokens = (more : List CToken) × IsText (tokens ++ more)
 
--- Behind `front` the first token of `back` is the first that no text has there; at the end, the tokens are no text.
+-- After `front` the first token of `back` is the first that no text has there; at the end, the tokens are no text.
 abbrev pub IsFirstWrong : (front back : List CToken) → Type 0
 IsFirstWrong front [] = IsText front → ⊥
 IsFirstWrong front (t ∷ back) = IsLive (front ++ t ∷ []) → ⊥
@@ -42,7 +42,7 @@ is_closing (marked mark.CloseBracket) = true
 is_closing (marked mark.CloseBrace) = true
 is_closing _ = false
 
--- The number of open brackets behind a token and behind tokens, where n were open before.
+-- The number of open brackets after a token and after tokens, where n were open before.
 abbrev pub open_after : (n : ℕ) → CToken → ℕ
 open_after n (marked mark.OpenParen) = n + 1
 open_after n (marked mark.OpenBracket) = n + 1

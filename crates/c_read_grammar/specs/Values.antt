@@ -30,7 +30,7 @@ pub data Val : Type 0 where
   an_operation : (first second : ExprTree) → (others : Operands) → Val
   some_args : Args → Val
   a_type : TypeTree → Val
-  -- statements: a block begins, a whole block, one statement with nothing behind it, an arm of an `if`
+  -- statements: a block begins, a whole block, one statement with nothing after it, an arm of an `if`
   a_block : Val
   a_code : Code → Val
   a_statement : Code → Val
@@ -52,12 +52,12 @@ kept (keyword w) vs = vs
 kept (operator o) vs = vs
 kept (marked m) vs = vs
 
--- operands, and others behind them
+-- operands, and others after them
 abbrev pub operands_then : Operands → Operands → Operands
 operands_then no_operand more = more
 operands_then (operand e others) more = operand e (operands_then others more)
 
--- arguments, and others behind them
+-- arguments, and others after them
 abbrev pub args_then : Args → Args → Args
 args_then no_arg more = more
 args_then (expr_arg e others) more = expr_arg e (args_then others more)
@@ -101,7 +101,7 @@ perform_type MakeStructPointer (a_name n ∷ vs) = a_type (struct_pointer n) ∷
 perform_type MakeText vs = a_type text ∷ vs
 perform_type _ vs = []
 
--- A statement, in front of a block.
+-- A statement, before a block.
 abbrev pub in_front : Code → Code → Code
 in_front finish rest = rest
 in_front (nested inner _) rest = nested inner rest
@@ -117,14 +117,14 @@ in_front (case_label n _) rest = case_label n rest
 in_front (default_label _) rest = default_label rest
 in_front (name_label name _) rest = name_label name rest
 
--- whether a statement has to stand behind this one
+-- whether a statement has to stand after this one
 abbrev pub is_label : Code → Bool
 is_label (case_label n _) = true
 is_label (default_label _) = true
 is_label (name_label name _) = true
 is_label _ = false
 
--- A block of its statements, the last of which is met first. The block of a function began behind its locals.
+-- A block of its statements, the last of which is met first. The block of a function began after its locals.
 abbrev pub collect : Code → List Val → List Val
 collect code [] = []
 collect code (a_statement s ∷ vs) = if is_label s && is_finish code then [] else collect (in_front s code) vs
@@ -132,7 +132,7 @@ collect code (a_block ∷ vs) = a_code code ∷ vs
 collect code (some_locals ls ∷ vs) = a_code code ∷ some_locals ls ∷ vs
 collect code (_ ∷ vs) = []
 
--- An `if` of its arms, the last of which is met first; `later` is the `if` of the arms behind.
+-- An `if` of its arms, the last of which is met first; `later` is the `if` of the arms after it.
 abbrev pub chain : (later : Code) → List Val → List Val
 chain later [] = a_statement later ∷ []
 chain later (an_arm test body ∷ vs) = chain (branch test body else_is.If later finish) vs

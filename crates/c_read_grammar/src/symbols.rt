@@ -1,4 +1,4 @@
-// What the machine of the C grammar still wants: parts of the grammar, what is left of a part behind its first
+// What the machine of the C grammar still wants: parts of the grammar, what is left of a part after its first
 // tokens, and single tokens.
 
 use c_text::{CMark, COp, Linkage};
@@ -14,17 +14,17 @@ pub enum ExprSym {
     Tail,
     /// The same, at least one.
     FirstTail,
-    /// What is left of an expression behind its `(`.
+    /// What is left of an expression after its `(`.
     Paren,
-    /// What is left of an expression behind `(` NAME.
+    /// What is left of an expression after `(` NAME.
     ParenName,
-    /// What is left of an expression behind `( (`.
+    /// What is left of an expression after `( (`.
     ParenParen,
-    /// What is left of an expression behind `( (` NAME.
+    /// What is left of an expression after `( (` NAME.
     ParenParenName,
-    /// What is left of an expression behind `( (` NAME `*`.
+    /// What is left of an expression after `( (` NAME `*`.
     ParenParenStar,
-    /// What is left of an expression behind `(` and its first operand.
+    /// What is left of an expression after `(` and its first operand.
     Operator,
     /// More operands of this operator, where it repeats, and `)`.
     Operands(COp),
@@ -32,7 +32,7 @@ pub enum ExprSym {
     Args,
     /// An argument.
     Arg,
-    /// What is left of the arguments behind one, and `)`.
+    /// What is left of the arguments after one, and `)`.
     MoreArgs,
 }
 
@@ -43,21 +43,21 @@ pub enum StmtSym {
     Stmts,
     /// A statement.
     Stmt,
-    /// What is left of a statement behind a NAME.
+    /// What is left of a statement after a NAME.
     StmtName,
-    /// What is left of a statement behind a `(`.
+    /// What is left of a statement after a `(`.
     StmtParen,
     /// `=` and what is assigned.
     Becomes,
-    /// What is assigned, behind the `=`.
+    /// What is assigned, after the `=`.
     Value,
-    /// The same, behind its NAME.
+    /// The same, after its NAME.
     ValueName,
-    /// What is left of a `return` behind its word.
+    /// What is left of a `return` after its word.
     Returned,
     /// What may follow the block of an `if`.
     Else,
-    /// What is left of an `else` behind its word.
+    /// What is left of an `else` after its word.
     ElseTail,
 }
 
@@ -66,31 +66,31 @@ pub enum StmtSym {
 pub enum ItemSym {
     /// Any number of items.
     Unit,
-    /// What is left of an item behind `static`.
+    /// What is left of an item after `static`.
     StaticItem,
     /// A function, from its result type on.
     Returns(Linkage),
-    /// What is left of an item behind `static const char`.
+    /// What is left of an item after `static const char`.
     ConstChar,
     /// The parameters of a function and its `)`.
     Params,
     /// A parameter.
     Param,
-    /// What is left of the parameters behind one, and `)`.
+    /// What is left of the parameters after one, and `)`.
     MoreParams,
     /// The locals and the statements of a function and its `}`.
     Body,
-    /// The same, behind a NAME.
+    /// The same, after a NAME.
     BodyName,
-    /// What is left of a local behind its name.
+    /// What is left of a local after its name.
     LocalEnd,
     /// A field.
     Field,
-    /// What is left of a field behind the NAME that begins its type.
+    /// What is left of a field after the NAME that begins its type.
     FieldName,
-    /// What is left of a field behind its name.
+    /// What is left of a field after its name.
     FieldEnd,
-    /// What is left of the fields behind one, and `}`.
+    /// What is left of the fields after one, and `}`.
     MoreFields,
 }
 

@@ -6,7 +6,7 @@ use Rattle.c_text.specs.CSpelling.{CToken, is_word_byte, is_string_byte}
 use Rattle.c_read_grammar.specs.FirstToken.{Stands, begins, run_token, string_token, symbol_token}
 use Rattle.c_read_grammar.proofs.Stands.{is_quote, run-some, run-none, string-some, string-none, symbol-some, symbol-none}
 
--- The longest front of a class, and what is behind it.
+-- The longest front of a class, and what is after it.
 pub record Cut (test : ℕ → Bool) (bytes : List ℕ) : Type 0 where
   pub front : List ℕ
   pub back : List ℕ

@@ -23,7 +23,7 @@ use Rattle.c_read_laws.proofs.Fronts.{Cut, cut-front, HasToken, NoToken, token-o
 abbrev HasAnOutcome : List ℕ → Type 0
 HasAnOutcome bytes = (outcome : Outcome) × HasOutcome bytes outcome
 
--- Brackets behind a token.
+-- Brackets after a token.
 after-few : (n : ℕ) (t : CToken) → n ≤ 512 → (is_opening t ≡ true → n < 512) → open_after n t ≤ 512
 after-few n (keyword w) few o = few
 after-few n (named name) few o = few
@@ -50,7 +50,7 @@ deep-or-not n t few = by_tests (is_opening t) (nat_eq n 512) refl refl
     by_tests true false o e = inr (λ h. fewer e)
     by_tests false b o e = inr (λ h. absurd (cc (h, o)))
 
--- Less is left behind a token.
+-- Less is left after a token.
 tail-shorter : (gap behind tail rest : List ℕ) (t : CToken) → IsToken t → rest ≡ gap ++ behind → behind ≡ token_bytes t ++ tail → length tail < length rest
 tail-shorter gap behind tail rest t l cut more =
     let a = length-append gap behind in

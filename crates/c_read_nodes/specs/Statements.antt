@@ -1,4 +1,4 @@
--- Statements apart from their blocks: the nodes and the blocks that they make in front of others.
+-- Statements apart from their blocks: the nodes and the blocks that they make before others.
 use Rattle.std.specs.Prelude.{◌<◌, Bool, true, false, ⊤, length, IfSome}
 use Rattle.c_text.specs.declared.ids.CStmtId.{CStmtId}
 use Rattle.c_text.specs.declared.nodes.CStmt.{CStmt}
@@ -25,7 +25,7 @@ node_of (Case number) rest = stmts.Case number rest
 node_of Default rest = stmts.Default rest
 node_of (Label name) rest = stmts.Label name rest
 
--- a statement has to stand behind this one
+-- a statement has to stand after this one
 abbrev pub is_label : Statement → Bool
 is_label (Case number) = true
 is_label Default = true

@@ -23,7 +23,7 @@ use c_text::{CExpr, CStmt, CStmtId, Otherwise};
 use stacks::fits;
 use wf_text::NoMemory;
 
-/// Whether a label would have no statement behind it.
+/// Whether a label would have no statement after it.
 fn is_bare(is_empty: bool, s: &Statement) -> bool
     ensures { result ≡ (is_label s.now && is_empty) }
 {
@@ -45,7 +45,7 @@ impl Maker {
         Ok(code)
     }
 
-    /// A statement in front of a block.
+    /// A statement before a block.
     fn in_front(&mut self, s: Statement, code: CStmtId) -> Result<CStmtId, NoMemory>
         requires fit { IsFit self.old }
         requires parts { StatementFits self.old.unit s }
@@ -137,7 +137,7 @@ impl Maker {
         })
     }
 
-    /// The `if` of an arm, where the `if` of the arms behind it is `later`.
+    /// The `if` of an arm, where the `if` of the arms after it is `later`.
     fn with_arm(&mut self, later: Branch, arm: Arm) -> Result<Branch, NoMemory>
         requires fit { IsFit self.old }
         requires parts { StatementFits self.old.unit (says.If later) }
@@ -159,7 +159,7 @@ impl Maker {
         })
     }
 
-    /// The `if` of the arms on top of the stack, where `last` stands behind them.
+    /// The `if` of the arms on top of the stack, where `last` stands after them.
     fn chain(&mut self, last: Branch) -> Result<(), NoMemory>
         requires fit { IsFit self.old }
         requires parts { StatementFits self.old.unit (says.If last) }

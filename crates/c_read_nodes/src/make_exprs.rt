@@ -110,7 +110,7 @@ pub(crate) fn make_operation(op: COp, values: &mut Stack<Value>) -> Product
     })
 }
 
-/// An operator in front of its operand.
+/// An operator before its operand.
 pub(crate) fn make_unary(op: CUnary, values: &mut Stack<Value>) -> Product
     requires { fits (shapes.Expr ∷ []) values.old ≡ true }
     ensures { making (acts.Expr (does.MakeUnary op)) values.old ≡ record { product = result; vals = values.new } }

@@ -5,7 +5,7 @@ ghost use Rattle.c_read_nodes.specs.Statements.{node_of, is_label};
 
 use c_text::{CCall, CExprId, CNameId, CNumber, CStmt, CStmtId, Otherwise};
 
-/// An `if`, with what `otherwise` says behind it.
+/// An `if`, with what `otherwise` says after it.
 #[derive(Clone, Copy, PartialEq, Eq)]
 pub struct Branch {
     pub test: CExprId,
@@ -37,7 +37,7 @@ pub enum Statement {
     Goto {
         label: CNameId,
     },
-    /// `if (test) { body }`, with what `otherwise` says behind it.
+    /// `if (test) { body }`, with what `otherwise` says after it.
     If(Branch),
     /// `while (test) { body }`
     While {

@@ -15,7 +15,7 @@ pub struct OpenOperation {
     pub others: CList<CExprId>,
 }
 
-/// A test and the block behind it.
+/// A test and the block after it.
 #[derive(Clone, Copy, PartialEq, Eq)]
 pub struct Arm {
     pub test: CExprId,

@@ -35,7 +35,7 @@ impl Move {
         Move::Take(Wants::new(alloc))
     }
 
-    /// The same move, with `wants` wanted behind what it wants.
+    /// The same move, with `wants` wanted after what it wants.
     pub fn followed(self, wants: &[Want]) -> Result<Move, NoMemory>
         ensures { IfOk result (λ m. seen m ≡ machine.followed (seen self) wants.now) }
     {
@@ -46,7 +46,7 @@ impl Move {
         }
     }
 
-    /// The same move, behind a name, which is a variable.
+    /// The same move, after a name, which is a variable.
     pub(crate) fn behind_variable(self) -> Result<Move, NoMemory>
         ensures { IfOk result (λ m. seen m ≡ machine.behind_variable (seen self)) }
     {

@@ -99,7 +99,7 @@ pub(crate) fn tail(alloc: Global, kind: Kind) -> Result<Move, NoMemory>
     }
 }
 
-// What is left of an expression behind `(` and its first operand.
+// What is left of an expression after `(` and its first operand.
 pub(crate) fn operator(alloc: Global, kind: Kind) -> Result<Move, NoMemory>
     ensures { IfOk result (λ m. seen m ≡ operator_move (bare kind)) }
 {
@@ -147,7 +147,7 @@ pub(crate) fn operands(alloc: Global, op: COp, kind: Kind) -> Result<Move, NoMem
     }
 }
 
-// What is left of an expression behind its `(`, where an operator follows.
+// What is left of an expression after its `(`, where an operator follows.
 pub(crate) fn paren_op(alloc: Global, op: COp) -> Result<Move, NoMemory>
     ensures { IfOk result (λ m. seen m ≡ paren_op_move op) }
 {
@@ -198,7 +198,7 @@ pub(crate) fn paren_mark(alloc: Global, mark: CMark) -> Result<Move, NoMemory>
     }
 }
 
-// What is left of an expression behind its `(`.
+// What is left of an expression after its `(`.
 pub(crate) fn paren(alloc: Global, kind: Kind) -> Result<Move, NoMemory>
     ensures { IfOk result (λ m. seen m ≡ paren_move (bare kind)) }
 {
@@ -233,7 +233,7 @@ pub(crate) fn variable(alloc: Global, kind: Kind) -> Result<Move, NoMemory>
     }
 }
 
-// What is left of an expression behind `(` NAME.
+// What is left of an expression after `(` NAME.
 pub(crate) fn paren_name(alloc: Global, kind: Kind) -> Result<Move, NoMemory>
     ensures { IfOk result (λ m. seen m ≡ paren_name_move (bare kind)) }
 {
@@ -251,7 +251,7 @@ pub(crate) fn paren_name(alloc: Global, kind: Kind) -> Result<Move, NoMemory>
     }
 }
 
-// What is left of an expression behind `( (`.
+// What is left of an expression after `( (`.
 pub(crate) fn paren_paren(alloc: Global, kind: Kind) -> Result<Move, NoMemory>
     ensures { IfOk result (λ m. seen m ≡ paren_paren_move (bare kind)) }
 {
@@ -270,7 +270,7 @@ pub(crate) fn paren_paren(alloc: Global, kind: Kind) -> Result<Move, NoMemory>
     }
 }
 
-// What is left of an expression behind `( (` NAME.
+// What is left of an expression after `( (` NAME.
 pub(crate) fn paren_paren_name(alloc: Global, kind: Kind) -> Result<Move, NoMemory>
     ensures { IfOk result (λ m. seen m ≡ paren_paren_name_move (bare kind)) }
 {
@@ -283,7 +283,7 @@ pub(crate) fn paren_paren_name(alloc: Global, kind: Kind) -> Result<Move, NoMemo
     }
 }
 
-// What is left of an expression behind `( (` NAME `*`.
+// What is left of an expression after `( (` NAME `*`.
 pub(crate) fn paren_paren_star(alloc: Global, kind: Kind) -> Result<Move, NoMemory>
     ensures { IfOk result (λ m. seen m ≡ paren_paren_star_move (bare kind)) }
 {
@@ -365,7 +365,7 @@ pub(crate) fn args(alloc: Global, kind: Kind) -> Result<Move, NoMemory>
     }
 }
 
-// What is left of the arguments behind one, and `)`.
+// What is left of the arguments after one, and `)`.
 pub(crate) fn more_args(alloc: Global, kind: Kind) -> Result<Move, NoMemory>
     ensures { IfOk result (λ m. seen m ≡ more_args_move (bare kind)) }
 {

@@ -77,7 +77,7 @@ pub(crate) fn unit(alloc: Global, kind: Kind) -> Result<Move, NoMemory>
     }
 }
 
-// What is left of an item behind `static`.
+// What is left of an item after `static`.
 pub(crate) fn static_item(alloc: Global, kind: Kind) -> Result<Move, NoMemory>
     ensures { IfOk result (λ m. seen m ≡ static_item_move (bare kind)) }
 {
@@ -97,7 +97,7 @@ pub(crate) fn static_item(alloc: Global, kind: Kind) -> Result<Move, NoMemory>
     }
 }
 
-// What is left of an item behind `static const char`.
+// What is left of an item after `static const char`.
 pub(crate) fn const_char(alloc: Global, kind: Kind) -> Result<Move, NoMemory>
     ensures { IfOk result (λ m. seen m ≡ const_char_move (bare kind)) }
 {
@@ -155,7 +155,7 @@ pub(crate) fn params(alloc: Global, kind: Kind) -> Result<Move, NoMemory>
     }
 }
 
-// What is left of the parameters behind one, and `)`.
+// What is left of the parameters after one, and `)`.
 pub(crate) fn more_params(alloc: Global, kind: Kind) -> Result<Move, NoMemory>
     ensures { IfOk result (λ m. seen m ≡ more_params_move (bare kind)) }
 {
@@ -227,7 +227,7 @@ pub(crate) fn body(alloc: Global, kind: Kind) -> Result<Move, NoMemory>
     }
 }
 
-// The same, behind a NAME.
+// The same, after a NAME.
 pub(crate) fn body_name(alloc: Global, kind: Kind) -> Result<Move, NoMemory>
     ensures { IfOk result (λ m. seen m ≡ body_name_move (bare kind)) }
 {
@@ -245,7 +245,7 @@ pub(crate) fn body_name(alloc: Global, kind: Kind) -> Result<Move, NoMemory>
     }
 }
 
-// What is left of a local behind its name.
+// What is left of a local after its name.
 pub(crate) fn local_end(alloc: Global, kind: Kind) -> Result<Move, NoMemory>
     ensures { IfOk result (λ m. seen m ≡ local_end_move (bare kind)) }
 {
@@ -281,7 +281,7 @@ pub(crate) fn field(alloc: Global, kind: Kind) -> Result<Move, NoMemory>
     }
 }
 
-// What is left of a field behind the NAME that begins its type.
+// What is left of a field after the NAME that begins its type.
 pub(crate) fn field_name(alloc: Global, kind: Kind) -> Result<Move, NoMemory>
     ensures { IfOk result (λ m. seen m ≡ field_name_move (bare kind)) }
 {
@@ -306,7 +306,7 @@ pub(crate) fn field_name(alloc: Global, kind: Kind) -> Result<Move, NoMemory>
     }
 }
 
-// What is left of a field behind its name.
+// What is left of a field after its name.
 pub(crate) fn field_end(alloc: Global, kind: Kind) -> Result<Move, NoMemory>
     ensures { IfOk result (λ m. seen m ≡ field_end_move (bare kind)) }
 {
@@ -329,7 +329,7 @@ pub(crate) fn field_end(alloc: Global, kind: Kind) -> Result<Move, NoMemory>
     }
 }
 
-// What is left of the fields behind one, and `}`.
+// What is left of the fields after one, and `}`.
 pub(crate) fn more_fields(alloc: Global, kind: Kind) -> Result<Move, NoMemory>
     ensures { IfOk result (λ m. seen m ≡ more_fields_move (bare kind)) }
 {

@@ -131,7 +131,7 @@ pub(crate) fn stmts(alloc: Global, kind: Kind) -> Result<Move, NoMemory>
     }
 }
 
-// What is left of a statement behind a NAME.
+// What is left of a statement after a NAME.
 pub(crate) fn stmt_name(alloc: Global, kind: Kind) -> Result<Move, NoMemory>
     ensures { IfOk result (λ m. seen m ≡ stmt_name_move (bare kind)) }
 {
@@ -165,7 +165,7 @@ pub(crate) fn stmt_name(alloc: Global, kind: Kind) -> Result<Move, NoMemory>
     }
 }
 
-// What is left of a statement behind a `(`.
+// What is left of a statement after a `(`.
 pub(crate) fn stmt_paren(alloc: Global, kind: Kind) -> Result<Move, NoMemory>
     ensures { IfOk result (λ m. seen m ≡ stmt_paren_move (bare kind)) }
 {
@@ -197,7 +197,7 @@ pub(crate) fn becomes(alloc: Global, kind: Kind) -> Result<Move, NoMemory>
     }
 }
 
-// What is assigned, behind the `=`.
+// What is assigned, after the `=`.
 pub(crate) fn value(alloc: Global, kind: Kind) -> Result<Move, NoMemory>
     ensures { IfOk result (λ m. seen m ≡ value_move (bare kind)) }
 {
@@ -210,7 +210,7 @@ pub(crate) fn value(alloc: Global, kind: Kind) -> Result<Move, NoMemory>
     }
 }
 
-// The same, behind its NAME.
+// The same, after its NAME.
 pub(crate) fn value_name(alloc: Global, kind: Kind) -> Result<Move, NoMemory>
     ensures { IfOk result (λ m. seen m ≡ value_name_move (bare kind)) }
 {
@@ -240,7 +240,7 @@ pub(crate) fn value_name(alloc: Global, kind: Kind) -> Result<Move, NoMemory>
     }
 }
 
-// What is left of a `return` behind its word.
+// What is left of a `return` after its word.
 pub(crate) fn returned(alloc: Global, kind: Kind) -> Result<Move, NoMemory>
     ensures { IfOk result (λ m. seen m ≡ returned_move (bare kind)) }
 {
@@ -266,7 +266,7 @@ pub(crate) fn else_part(alloc: Global, kind: Kind) -> Result<Move, NoMemory>
     }
 }
 
-// What is left of an `else` behind its word.
+// What is left of an `else` after its word.
 pub(crate) fn else_tail(alloc: Global, kind: Kind) -> Result<Move, NoMemory>
     ensures { IfOk result (λ m. seen m ≡ else_tail_move (bare kind)) }
 {

@@ -40,32 +40,26 @@ impl Wants {
         let Ok(mut items) = Vec::with_capacity(alloc, LONGEST) else {
             return Err(NoMemory);
         };
-        match items.extend_from_slice(wants) {
-            Ok(()) => Ok(Wants { items }),
-            Err(_) => Err(NoMemory),
-        }
+        items.extend_from_slice(wants)?;
+        Ok(Wants { items })
     }
 
-    /// The same, and `wants` behind them.
+    /// The same, and `wants` after them.
     pub fn followed(self, wants: &[Want]) -> Result<Self, NoMemory>
         ensures { IfOk result (λ longer. longer ≡ self ++ wants.now) }
     {
         let mut items = self.items;
-        match items.extend_from_slice(wants) {
-            Ok(()) => Ok(Wants { items }),
-            Err(_) => Err(NoMemory),
-        }
+        items.extend_from_slice(wants)?;
+        Ok(Wants { items })
     }
 
-    /// The same, and `want` in front of them.
+    /// The same, and `want` before them.
     pub fn led(self, want: Want) -> Result<Self, NoMemory>
         ensures { IfOk result (λ longer. longer ≡ want ∷ self) }
     {
         let mut items = self.items;
-        match items.insert(0, want) {
-            Ok(()) => Ok(Wants { items }),
-            Err(_) => Err(NoMemory),
-        }
+        items.insert(0, want)?;
+        Ok(Wants { items })
     }
 
     /// The wanted things in order.

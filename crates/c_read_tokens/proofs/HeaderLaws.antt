@@ -1,4 +1,4 @@
--- The three lines in front of a text.
+-- The three lines before a text.
 use Rattle.std.proofs.Common.{◌≡◌, ◌∙◌, ap, sym, ℕ, Bool, true, false, nat_eq, List, ◌++◌, length, drop, refl, append_assoc, inl, inr}
 use Rattle.std.specs.List.{starts_with}
 use Rattle.std.proofs.lemmas.Slice.Eq.{starts_is}

@@ -1,4 +1,4 @@
--- A line in front of bytes.
+-- A line before bytes.
 use Rattle.std.specs.Prelude.{◌≡◌, ◌++◌, ℕ, List}
 
 -- The bytes begin otherwise than by this line.

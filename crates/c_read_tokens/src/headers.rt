@@ -26,7 +26,7 @@ fn string() -> &'static str
     "#include <string.h>\n"
 }
 
-/// What stands behind a line in front of the bytes; none where they begin otherwise.
+/// What stands after a line before the bytes; none where they begin otherwise.
 fn behind_line<'a>(line: &str, bytes: &'a [u8]) -> Option<&'a [u8]>
     ensures some { IfSome result (λ rest. bytes.now ≡ line.now ++ rest.now) }
     ensures none { IfNone result (LacksLine line.now bytes.now) }
@@ -39,7 +39,7 @@ fn behind_line<'a>(line: &str, bytes: &'a [u8]) -> Option<&'a [u8]>
     }
 }
 
-/// What stands behind the three lines. Where one isn't there, its place.
+/// What stands after the three lines. Where one isn't there, its place.
 #[tactic(auto, using(crate::proofs::HeaderLaws::all_there))]
 pub fn behind_lines(bytes: &[u8]) -> Result<&[u8], usize>
     ensures body { IfOk result (λ body. bytes.now ≡ includes ++ body.now) }

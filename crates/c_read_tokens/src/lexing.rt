@@ -13,7 +13,7 @@ use crate::runs::{is_digit, is_word_byte, string_len, word_len};
 use crate::symbols::{Symbol, symbol_of};
 use crate::words::{is_reserved, word_of};
 
-/// A token in front of bytes, and what stands behind it. `text` are the bytes of a name, or those between the quotes
+/// A token before bytes, and what stands after it. `text` are the bytes of a name, or those between the quotes
 /// of a string.
 #[derive(Clone, Copy)]
 pub struct Piece<'a> {
@@ -155,7 +155,7 @@ fn symbol_piece(bytes: &[u8]) -> Option<Piece<'_>>
     }
 }
 
-/// The token in front of bytes that begin with no gap; none where no token of the subset stands there.
+/// The token before bytes that begin with no gap; none where no token of the subset stands there.
 pub fn first_piece(bytes: &[u8]) -> Option<Piece<'_>>
     requires { 0 < length bytes.now }
     ensures some { IfSome result (λ p. Stands (token_of p.kind p.text.now) bytes.now p.rest.now) }

@@ -1,5 +1,5 @@
 // The tokens of a C text: the three lines that it begins with, and the token that stands at the front of bytes, with
-// what stands behind it.
+// what stands after it.
 #![tactic(auto)]
 
 pub mod headers;

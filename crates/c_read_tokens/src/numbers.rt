@@ -1,4 +1,4 @@
-// Literals: decimal digits that don't begin with 0, or `0` alone, with `u`, `ull` or nothing behind.
+// Literals: decimal digits that don't begin with 0, or `0` alone, with `u`, `ull` or nothing after them.
 
 ghost use Rattle.std.specs.Prelude.{◌≡◌, ◌≤◌, ◌<◌, ◌^◌, ◌+◌, ◌-◌, ◌*◌, [], length, take, drop, true, false, codes};
 ghost use Rattle.std.specs.List.{list_all};

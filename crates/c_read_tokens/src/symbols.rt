@@ -1,4 +1,4 @@
-// The symbols in front of bytes: operators with two operands, and other marks.
+// The symbols before bytes: operators with two operands, and other marks.
 
 ghost use Rattle.std.specs.Prelude.{◌≡◌, length};
 ghost use Rattle.std.specs.Option.{option_map};
@@ -51,7 +51,7 @@ fn next_is(byte: u8, rest: &[u8]) -> bool
     }
 }
 
-/// The symbol that a byte and those behind it begin with, the longest there is.
+/// The symbol that a byte and those after it begin with, the longest there is.
 pub(crate) fn symbol_of(first: u8, rest: &[u8]) -> Option<Symbol>
     ensures { option_map symbol_token_of result ≡ symbol_token first rest.now }
 {

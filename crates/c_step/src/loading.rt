@@ -26,10 +26,8 @@ pub(crate) fn copied(
     ensures { IfOk result (λ it. it.items ≡ receivers.now) }
 {
     let mut all = Vec::new(alloc);
-    match all.extend_from_slice(receivers) {
-        Ok(()) => Ok(all),
-        Err(_) => Err(NoMemory),
-    }
+    all.extend_from_slice(receivers)?;
+    Ok(all)
 }
 
 /// The public surface of a package.
@@ -39,10 +37,8 @@ pub(crate) fn surface_for(alloc: Global, t: &Typed) -> Result<PublicSurface, Loa
     ensures surface { IfOk result (λ it. it ≡ surface_of (package_of t.now)) }
     ensures refused { IfErr result (λ fault. fault ≡ LoadFault.Memory) }
 {
-    match public_surface(alloc, t) {
-        Ok(surface) => Ok(surface),
-        Err(_) => Err(LoadFault::Memory),
-    }
+    let surface = public_surface(alloc, t)?;
+    Ok(surface)
 }
 
 /// Tables of a text for a package's surface.

@@ -67,22 +67,11 @@ impl Machine {
         ensures state { IfOk result (λ it. state_of it ≡ first_state (unit_tree u) (surface_in (package_of t.now)) (map receiver_of receivers.now)) }
         ensures refused { IfErr result (Refuses (surface_in (package_of t.now)) (unit_tree u)) }
     {
-        let surface = match surface_for(alloc, t) {
-            Ok(surface) => surface,
-            Err(fault) => return Err(fault),
-        };
-        let receivers = match copied(alloc, receivers) {
-            Ok(receivers) => receivers,
-            Err(_) => return Err(LoadFault::Memory),
-        };
-        let formed = match formed(alloc, u, &surface) {
-            Ok(formed) => formed,
-            Err(fault) => return Err(fault),
-        };
-        match Machine::begin(alloc, formed, surface, receivers) {
-            Ok(it) => Ok(it),
-            Err(_) => Err(LoadFault::Memory),
-        }
+        let surface = surface_for(alloc, t)?;
+        let receivers = copied(alloc, receivers)?;
+        let formed = formed(alloc, u, &surface)?;
+        let it = Machine::begin(alloc, formed, surface, receivers)?;
+        Ok(it)
     }
 
     /// The machine of a text that has the unit form for the package with this surface, before anything has run.
@@ -97,18 +86,9 @@ impl Machine {
         requires declared { AreDeclared surface (map receiver_of receivers.items) }
         ensures { IfOk result (λ it. state_of it ≡ first_state (unit_tree formed) surface (map receiver_of receivers.items)) }
     {
-        let tables = match Tables::of(alloc, &formed, &surface) {
-            Ok(tables) => tables,
-            Err(fault) => return Err(fault),
-        };
-        let started = match start(alloc, &formed, &surface, receivers.as_slice()) {
-            Ok(started) => started,
-            Err(fault) => return Err(fault),
-        };
-        let cells = match frame_cells(alloc, &formed, &started.code) {
-            Ok(cells) => cells,
-            Err(fault) => return Err(fault),
-        };
+        let tables = Tables::of(alloc, &formed, &surface)?;
+        let started = start(alloc, &formed, &surface, receivers.as_slice())?;
+        let cells = frame_cells(alloc, &formed, &started.code)?;
         let Started {
             code,
             pointers,

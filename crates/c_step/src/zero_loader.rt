@@ -32,17 +32,9 @@ impl Loader for ZeroLoader {
         t: &Typed,
         receivers: &[ReceiverDecl],
     ) -> Result<ZeroEngine, LoadFault> {
-        let surface = match surface_for(alloc, t) {
-            Ok(surface) => surface,
-            Err(fault) => return Err(fault),
-        };
-        let receivers = match copied(alloc, receivers) {
-            Ok(receivers) => receivers,
-            Err(_) => return Err(LoadFault::Memory),
-        };
-        match formed(alloc, u, &surface) {
-            Ok(_) => Ok(ZeroEngine::new(surface, receivers)),
-            Err(fault) => Err(fault),
-        }
+        let surface = surface_for(alloc, t)?;
+        let receivers = copied(alloc, receivers)?;
+        formed(alloc, u, &surface)?;
+        Ok(ZeroEngine::new(surface, receivers))
     }
 }

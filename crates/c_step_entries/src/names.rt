@@ -8,10 +8,8 @@ use wf_text::NoMemory;
 fn append(text: &mut Vec<u8>, more: &[u8]) -> Result<(), NoMemory>
     ensures { OnOk result (text.new.items ≡ text.old.items ++ more.now) }
 {
-    match text.extend_from_slice(more) {
-        Ok(()) => Ok(()),
-        Err(_) => Err(NoMemory),
-    }
+    text.extend_from_slice(more)?;
+    Ok(())
 }
 
 /// The name of a struct's type.

@@ -17,7 +17,7 @@ past a skip [] stack h = refl
 past a zero (i ∷ is) stack h = absurd (omega (arith, h))
 past a (suc skip) (i ∷ is) stack h = past a skip is stack (omega (arith, h))
 
--- The run from an instruction is what it does, and then the run behind what it passes over.
+-- The run from an instruction is what it does, and then the run after what it passes over.
 first_step : (a : Around) (code : List Instr) (at : ℕ) (d : Instr) (stack : List Value) → at < length code
     → run_from a code at stack ≡ option_and_then (λ (next : ℕ × List Value). exec a next.0 (drop (at + 1) code) next.1) (step a (slice_index_or code at d) stack)
 first_step a code at d stack h = ap (λ (is : List Instr). exec a 0 is stack) (drop_more code at d h)

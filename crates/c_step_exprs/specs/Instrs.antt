@@ -133,7 +133,7 @@ step a (does.Skip count) stack = Some (count, stack)
 step a (does.Call function count) stack = goes_on (calls a function count stack)
 step a does.Stuck stack = None
 
--- The run of instructions behind the first `skip` of them.
+-- The run of instructions after the first `skip` of them.
 abbrev pub exec : Around → (skip : ℕ) → List Instr → List Value → Option (List Value)
 exec a skip [] stack = Some stack
 exec a (suc skip) (i ∷ is) stack = exec a skip is stack

@@ -1,4 +1,4 @@
--- The instructions of an expression, once its names are resolved. An operand's instructions stand in front of those of
+-- The instructions of an expression, once its names are resolved. An operand's instructions stand before those of
 -- the operator.
 use Rattle.std.specs.Prelude.{ℕ, suc, Bool, if◌then◌else◌, List, [], ◌∷◌, ◌++◌, length, position, Option, Some, None, bytes_eq}
 use Rattle.c_text.specs.declared.kinds.COp.{COp}

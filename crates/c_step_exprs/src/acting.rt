@@ -84,7 +84,7 @@ fn element_pointer(mem: &Mem, first: Value, second: Value) -> Option<Value>
     }
 }
 
-/// A pointer to an object of a struct moved by so many objects: by none, or to behind it (6.5.6p7).
+/// A pointer to an object of a struct moved by so many objects: by none, or to just past it (6.5.6p7).
 fn move_object(p: Pointer, by: i128) -> Option<Pointer>
     requires low { negsuc (2 ^ 64) ≤ℤ by }
     requires high { by <ℤ pos (2 ^ 64) }

@@ -80,7 +80,7 @@ abbrev pub ExpressionPasses : Program → List Function → List ℕ → Memory 
 ExpressionPasses p [] name memory given now = ⊥
 ExpressionPasses p (f ∷ fs) name memory given now = OneOrOther (bytes_eq f.name name) (InlinePasses p f (expression_call p fs) (ExpressionPasses p fs) memory given now) (ExpressionPasses p fs name memory given now)
 
--- The expressions of a statement, or of the test behind the block of a `while`.
+-- The expressions of a statement, or of the test after the block of a `while`.
 abbrev pub arg_exprs : Args → List ExprTree
 arg_exprs no_arg = []
 arg_exprs (expr_arg e others) = e ∷ arg_exprs others

@@ -43,10 +43,8 @@ fn declare<'k, 'u>(scope: &mut Scope<'k, 'u>, name: CNameId, kind: CType) -> Res
     ensures front { OnOk result (scope.new.front ≡ scope.old.front) }
     ensures names { OnOk result ((scope_in scope.new).names ≡ (scope_in scope.old).names ++ record { kind = type_in scope.old.front.nodes.names kind; name = bytes_at scope.old.front.nodes.names name.0 } ∷ []) }
 {
-    match scope.declare(name, kind) {
-        Ok(_) => Ok(()),
-        Err(fault) => Err(fault),
-    }
+    scope.declare(name, kind)?;
+    Ok(())
 }
 
 /// Adds parameters, whose names are new.

@@ -25,7 +25,7 @@ all_three ws xs ys zs a b c e f g = both ws xs zs a (b ++ c) e (both xs ys zs b 
 pub put_one : (xs ys zs a b : List Instr) (i : Instr) → zs ≡ xs ++ i ∷ [] → a ≡ i ∷ [] → zs ≡ xs ++ a
 put_one xs ys zs a b i e f = e ∙ ap (λ (us : List Instr). xs ++ us) (sym f)
 
--- A second operand behind its test.
+-- A second operand after its test.
 pub tested_put : (old first second third : List Instr) (v : List Instr) (test : Test) (at after : ℕ)
     → first ≡ old ++ does.Stuck ∷ [] → second ≡ first ++ (v ++ does.Turn turn.Truth ∷ []) → at ≡ length old → after ≡ length second - 1
     → ((front behind : List Instr) (x : Instr) → second ≡ front ++ x ∷ behind → at ≡ length front → third ≡ front ++ does.Test test (after - at) ∷ behind)

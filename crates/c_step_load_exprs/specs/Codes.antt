@@ -14,14 +14,14 @@ use Rattle.c_step_exprs.specs.declared.instrs.Turn.TheVariants as turn
 use Rattle.c_step_exprs.specs.Resolving.{value_code, field_code, held_code, as_type_code, arms_code}
 use Rattle.c_form_exprs.specs.Spines.{fits_type}
 
--- `->field`, by the type of what stands in front of it; `[index]`, by both types.
+-- `->field`, by the type of what stands before it; `[index]`, by both types.
 abbrev pub member_code : Scope → (field : List ℕ) → Option ExprType → List Instr
 member_code scope field type = field_code (field_number scope field type) ++ held_code (member_held scope field type)
 
 abbrev pub element_code : Scope → ExprTree → Option ExprType → List Instr
 element_code scope index type = value_code scope index ++ does.Join join.Element ∷ held_code (element_held type (type_of scope index))
 
--- What stands behind the first part of `of->field` and of `of[index]`.
+-- What stands after the first part of `of->field` and of `of[index]`.
 abbrev pub link_code : Scope → ExprTree → List Instr
 link_code scope (member of field) = member_code scope field (type_of scope of)
 link_code scope (element of index) = element_code scope index (type_of scope of)
@@ -39,7 +39,7 @@ abbrev pub arg_code : Nodes → Scope → CArg → List Instr
 arg_code nodes scope (arg.Expr e) = value_code scope (expr_of nodes e.0)
 arg_code nodes scope (arg.SizeOf n) = does.Stuck ∷ []
 
--- A second operand behind a test that may pass over it.
+-- A second operand after a test that may pass over it.
 abbrev pub tested_code : Test → List Instr → List Instr
 tested_code test second = does.Test test (suc (length second)) ∷ (second ++ does.Turn turn.Truth ∷ [])
 
@@ -47,7 +47,7 @@ tested_code test second = does.Test test (suc (length second)) ∷ (second ++ do
 abbrev pub open_arms : (met unmet : List Instr) → List Instr
 open_arms met unmet = does.Stuck ∷ (met ++ does.Stuck ∷ does.Stuck ∷ unmet)
 
--- The arms of `?:` stand behind what was there, where they have a common type; else something does.
+-- The arms of `?:` stand after what was there, where they have a common type; else something does.
 abbrev pub PutsArms : (old now met unmet : List Instr) → Option ExprType → Type 0
 PutsArms old now met unmet None = (more : List Instr) × (now ≡ old ++ more)
 PutsArms old now met unmet (Some t) = now ≡ old ++ arms_code (met ++ as_type_code t) (unmet ++ as_type_code t)

@@ -57,10 +57,8 @@ pub fn cell_type(ty: CType) -> CellType
 pub(crate) fn put(code: &mut Vec<Instr>, it: Instr) -> Result<(), NoMemory>
     ensures { OnOk result (code.new.items ≡ code.old.items ++ it ∷ []) }
 {
-    match code.push(it) {
-        Ok(()) => Ok(()),
-        Err(_) => Err(NoMemory),
-    }
+    code.push(it)?;
+    Ok(())
 }
 
 /// Puts another instruction in the place of one.

@@ -43,20 +43,11 @@ impl<'r, 'k, 'u> Names<'r, 'k, 'u> {
         ensures code { OnOk result (code.new.items ≡ code.old.items ++ value_code (program_scope self.now.scope.now) (expr_of self.now.scope.now.front.nodes e.0)) }
         ensures ty { IfOk result (λ ty. TellsType self.now.scope.now.front.nodes ty (type_of (program_scope self.now.scope.now) (expr_of self.now.scope.now.front.nodes e.0))) }
     {
-        let (links, base) = match self.scope.spine(e) {
-            Ok(it) => it,
-            Err(fault) => return Err(fault),
-        };
+        let (links, base) = self.scope.spine(e)?;
         let mut links = links;
-        let mut found = match self.base_value(base, code) {
-            Ok(ty) => ty,
-            Err(fault) => return Err(fault),
-        };
+        let mut found = self.base_value(base, code)?;
         while let Some(link) = links.pop() {
-            match self.linked(link, found, code) {
-                Ok(ty) => found = ty,
-                Err(fault) => return Err(fault),
-            }
+            found = self.linked(link, found, code)?;
         }
         Ok(found)
     }
@@ -82,7 +73,7 @@ impl<'r, 'k, 'u> Names<'r, 'k, 'u> {
         }
     }
 
-    /// Puts `[at]`, by the type of what stands in front of it; the type of the value.
+    /// Puts `[at]`, by the type of what stands before it; the type of the value.
     #[cycle(load_exprs)]
     fn put_element(
         &self,
@@ -96,17 +87,12 @@ impl<'r, 'k, 'u> Names<'r, 'k, 'u> {
         ensures code { OnOk result (code.new.items ≡ code.old.items ++ element_code (program_scope self.now.scope.now) (expr_of self.now.scope.now.front.nodes at.0) (option_map (value_in self.now.scope.now.front.nodes.names) of)) }
         ensures ty { IfOk result (λ ty. TellsType self.now.scope.now.front.nodes ty (option_and_then held_type (element_held (option_map (value_in self.now.scope.now.front.nodes.names) of) (type_of (program_scope self.now.scope.now) (expr_of self.now.scope.now.front.nodes at.0))))) }
     {
-        let index = match self.value(at, code) {
-            Ok(ty) => ty,
-            Err(fault) => return Err(fault),
-        };
-        match put(code, Instr::Join(Join::Element)) {
-            Ok(()) => self.put_held(self.scope.element(of, index), code),
-            Err(fault) => Err(fault),
-        }
+        let index = self.value(at, code)?;
+        put(code, Instr::Join(Join::Element))?;
+        self.put_held(self.scope.element(of, index), code)
     }
 
-    /// Puts an expression in front of which no other stands; its type.
+    /// Puts an expression before which no other stands; its type.
     #[cycle(load_exprs)]
     fn base_value(&self, e: CExprId, code: &mut Vec<Instr>) -> Result<Option<ExprType>, NoMemory>
         requires knows { Knows self.now.scope.now self.now.numbers.now }
@@ -116,10 +102,10 @@ impl<'r, 'k, 'u> Names<'r, 'k, 'u> {
         ensures ty { IfOk result (λ ty. TellsType self.now.scope.now.front.nodes ty (type_of (program_scope self.now.scope.now) (expr_of self.now.scope.now.front.nodes e.0))) }
     {
         match self.scope.expr(e) {
-            CExpr::Number(n) => match put(code, Instr::Put(Put::Number(literal(*n)))) {
-                Ok(()) => Ok(Some(self.scope.literal_type(*n))),
-                Err(fault) => Err(fault),
-            },
+            CExpr::Number(n) => {
+                put(code, Instr::Put(Put::Number(literal(*n))))?;
+                Ok(Some(self.scope.literal_type(*n)))
+            }
             CExpr::Name(name) => self.put_variable(*name, code),
             CExpr::Member { .. } | CExpr::Index { .. } => unreachable!(),
             CExpr::Deref(of) => self.put_pointed(*of, code),
@@ -144,14 +130,9 @@ impl<'r, 'k, 'u> Names<'r, 'k, 'u> {
         ensures code { OnOk result (code.new.items ≡ code.old.items ++ (value_code (program_scope self.now.scope.now) (expr_of self.now.scope.now.front.nodes of.0) ++ does.Turn turn.Place ∷ held_code (pointed_held (type_of (program_scope self.now.scope.now) (expr_of self.now.scope.now.front.nodes of.0))))) }
         ensures ty { IfOk result (λ ty. TellsType self.now.scope.now.front.nodes ty (option_and_then held_type (pointed_held (type_of (program_scope self.now.scope.now) (expr_of self.now.scope.now.front.nodes of.0))))) }
     {
-        let pointer = match self.value(of, code) {
-            Ok(ty) => ty,
-            Err(fault) => return Err(fault),
-        };
-        match put(code, Instr::Turn(Turn::Place)) {
-            Ok(()) => self.put_held(self.scope.pointed(pointer), code),
-            Err(fault) => Err(fault),
-        }
+        let pointer = self.value(of, code)?;
+        put(code, Instr::Turn(Turn::Place))?;
+        self.put_held(self.scope.pointed(pointer), code)
     }
 
     /// Puts a cast; its type.
@@ -168,16 +149,11 @@ impl<'r, 'k, 'u> Names<'r, 'k, 'u> {
         ensures code { OnOk result (code.new.items ≡ code.old.items ++ (value_code (program_scope self.now.scope.now) (expr_of self.now.scope.now.front.nodes of.0) ++ does.Turn (turn.Cast (cell_type_of (type_in self.now.scope.now.front.nodes.names to))) ∷ [])) }
         ensures ty { IfOk result (λ ty. TellsType self.now.scope.now.front.nodes ty (option_and_then (cast_from (program_scope self.now.scope.now).structs (type_in self.now.scope.now.front.nodes.names to)) (type_of (program_scope self.now.scope.now) (expr_of self.now.scope.now.front.nodes of.0)))) }
     {
-        let given = match self.value(of, code) {
-            Ok(ty) => ty,
-            Err(fault) => return Err(fault),
-        };
-        match put(code, Instr::Turn(Turn::Cast(cell_type(to)))) {
-            Ok(()) => match given {
-                Some(ty) => Ok(self.cast(to, ty)),
-                None => Ok(None),
-            },
-            Err(fault) => Err(fault),
+        let given = self.value(of, code)?;
+        put(code, Instr::Turn(Turn::Cast(cell_type(to))))?;
+        match given {
+            Some(ty) => Ok(self.cast(to, ty)),
+            None => Ok(None),
         }
     }
 
@@ -190,36 +166,32 @@ impl<'r, 'k, 'u> Names<'r, 'k, 'u> {
         ensures held { IfOk result (λ held. TellsHeld self.now.scope.now.front.nodes held (held_of (program_scope self.now.scope.now) (expr_of self.now.scope.now.front.nodes e.0))) }
     {
         match self.scope.expr(e) {
-            CExpr::Name(name) => match self.put_named(*name, code) {
-                Ok(()) => Ok(self.variable(*name)),
-                Err(fault) => Err(fault),
-            },
-            CExpr::Member { of, field: name } => match self.value(*of, code) {
-                Ok(ty) => match put(code, field(self.field(ty, *name))) {
-                    Ok(()) => Ok(self.member(ty, *name)),
-                    Err(fault) => Err(fault),
-                },
-                Err(fault) => Err(fault),
-            },
-            CExpr::Index { of, at } => match self.value(*of, code) {
-                Ok(ty) => self.element_place(ty, *at, code),
-                Err(fault) => Err(fault),
-            },
-            CExpr::Deref(of) => match self.value(*of, code) {
-                Ok(ty) => match put(code, Instr::Turn(Turn::Place)) {
-                    Ok(()) => Ok(self.scope.pointed(ty)),
-                    Err(fault) => Err(fault),
-                },
-                Err(fault) => Err(fault),
-            },
-            _ => match put(code, Instr::Stuck) {
-                Ok(()) => Ok(None),
-                Err(fault) => Err(fault),
-            },
+            CExpr::Name(name) => {
+                self.put_named(*name, code)?;
+                Ok(self.variable(*name))
+            }
+            CExpr::Member { of, field: name } => {
+                let ty = self.value(*of, code)?;
+                put(code, field(self.field(ty, *name)))?;
+                Ok(self.member(ty, *name))
+            }
+            CExpr::Index { of, at } => {
+                let ty = self.value(*of, code)?;
+                self.element_place(ty, *at, code)
+            }
+            CExpr::Deref(of) => {
+                let ty = self.value(*of, code)?;
+                put(code, Instr::Turn(Turn::Place))?;
+                Ok(self.scope.pointed(ty))
+            }
+            _ => {
+                put(code, Instr::Stuck)?;
+                Ok(None)
+            }
         }
     }
 
-    /// Puts `[at]` of an lvalue, by the type of what stands in front of it; what the whole stands for.
+    /// Puts `[at]` of an lvalue, by the type of what stands before it; what the whole stands for.
     #[cycle(load_exprs)]
     fn element_place(
         &self,
@@ -233,14 +205,9 @@ impl<'r, 'k, 'u> Names<'r, 'k, 'u> {
         ensures code { OnOk result (code.new.items ≡ code.old.items ++ (value_code (program_scope self.now.scope.now) (expr_of self.now.scope.now.front.nodes at.0) ++ does.Join join.Element ∷ [])) }
         ensures held { IfOk result (λ held. TellsHeld self.now.scope.now.front.nodes held (element_held (option_map (value_in self.now.scope.now.front.nodes.names) of) (type_of (program_scope self.now.scope.now) (expr_of self.now.scope.now.front.nodes at.0)))) }
     {
-        let index = match self.value(at, code) {
-            Ok(ty) => ty,
-            Err(fault) => return Err(fault),
-        };
-        match put(code, Instr::Join(Join::Element)) {
-            Ok(()) => Ok(self.scope.element(of, index)),
-            Err(fault) => Err(fault),
-        }
+        let index = self.value(at, code)?;
+        put(code, Instr::Join(Join::Element))?;
+        Ok(self.scope.element(of, index))
     }
 
     /// Puts `!of`, `~of` or `&of`; its type.
@@ -257,22 +224,19 @@ impl<'r, 'k, 'u> Names<'r, 'k, 'u> {
         ensures ty { IfOk result (λ ty. TellsType self.now.scope.now.front.nodes ty (unary_type op (type_of (program_scope self.now.scope.now) (expr_of self.now.scope.now.front.nodes of.0)) (held_of (program_scope self.now.scope.now) (expr_of self.now.scope.now.front.nodes of.0)))) }
     {
         match op {
-            CUnary::Not => match self.turned(of, Turn::Not, code) {
-                Ok(Some(_)) => Ok(Some(ExprType::Numbers(CTy::Int))),
-                Ok(None) => Ok(None),
-                Err(fault) => Err(fault),
+            CUnary::Not => match self.turned(of, Turn::Not, code)? {
+                Some(_) => Ok(Some(ExprType::Numbers(CTy::Int))),
+                None => Ok(None),
             },
-            CUnary::Complement => match self.turned(of, Turn::Complement, code) {
-                Ok(ty) => Ok(self.scope.complement(ty)),
-                Err(fault) => Err(fault),
-            },
-            CUnary::Address => match self.place(of, code) {
-                Ok(held) => match put(code, address(held)) {
-                    Ok(()) => Ok(self.address_type(held)),
-                    Err(fault) => Err(fault),
-                },
-                Err(fault) => Err(fault),
-            },
+            CUnary::Complement => {
+                let ty = self.turned(of, Turn::Complement, code)?;
+                Ok(self.scope.complement(ty))
+            }
+            CUnary::Address => {
+                let held = self.place(of, code)?;
+                put(code, address(held))?;
+                Ok(self.address_type(held))
+            }
         }
     }
 
@@ -289,13 +253,9 @@ impl<'r, 'k, 'u> Names<'r, 'k, 'u> {
         ensures code { OnOk result (code.new.items ≡ code.old.items ++ (value_code (program_scope self.now.scope.now) (expr_of self.now.scope.now.front.nodes e.0) ++ does.Turn into ∷ [])) }
         ensures ty { IfOk result (λ ty. TellsType self.now.scope.now.front.nodes ty (type_of (program_scope self.now.scope.now) (expr_of self.now.scope.now.front.nodes e.0))) }
     {
-        match self.value(e, code) {
-            Ok(ty) => match put(code, Instr::Turn(into)) {
-                Ok(()) => Ok(ty),
-                Err(fault) => Err(fault),
-            },
-            Err(fault) => Err(fault),
-        }
+        let ty = self.value(e, code)?;
+        put(code, Instr::Turn(into))?;
+        Ok(ty)
     }
 
     /// Puts `first op second op others`, whose operands have numbers below `below`; its type.
@@ -316,24 +276,17 @@ impl<'r, 'k, 'u> Names<'r, 'k, 'u> {
         ensures code { OnOk result (code.new.items ≡ code.old.items ++ value_code (program_scope self.now.scope.now) (operation_tree op (expr_of self.now.scope.now.front.nodes two.0.0) (expr_of self.now.scope.now.front.nodes two.1.0) (operands_in (expr_of self.now.scope.now.front.nodes) others.now))) }
         ensures ty { IfOk result (λ ty. TellsType self.now.scope.now.front.nodes ty (type_of (program_scope self.now.scope.now) (operation_tree op (expr_of self.now.scope.now.front.nodes two.0.0) (expr_of self.now.scope.now.front.nodes two.1.0) (operands_in (expr_of self.now.scope.now.front.nodes) others.now)))) }
     {
-        let first = match self.value(two.0, code) {
-            Ok(ty) => ty,
-            Err(fault) => return Err(fault),
-        };
+        let first = self.value(two.0, code)?;
         let by = Operator {
             op,
             object: is_object(first),
         };
-        match self.operand(by, two.1, code) {
-            Ok(second) => {
-                let front = self.scope.join(op, first, second);
-                self.operands(below, by, front, others, code)
-            }
-            Err(fault) => Err(fault),
-        }
+        let second = self.operand(by, two.1, code)?;
+        let front = self.scope.join(op, first, second);
+        self.operands(below, by, front, others, code)
     }
 
-    /// Puts further operands, each with the operator, by the type of what stands in front of them; the type of the whole.
+    /// Puts further operands, each with the operator, by the type of what stands before them; the type of the whole.
     #[cycle(load_exprs)]
     fn operands(
         &self,
@@ -352,10 +305,8 @@ impl<'r, 'k, 'u> Names<'r, 'k, 'u> {
     {
         let mut found = front;
         for other in others {
-            match self.operand(by, *other, code) {
-                Ok(ty) => found = self.scope.join(by.op, found, ty),
-                Err(fault) => return Err(fault),
-            }
+            let ty = self.operand(by, *other, code)?;
+            found = self.scope.join(by.op, found, ty);
         }
         Ok(found)
     }
@@ -403,18 +354,11 @@ impl<'r, 'k, 'u> Names<'r, 'k, 'u> {
         ensures ty { IfOk result (λ ty. TellsType self.now.scope.now.front.nodes ty (type_of (program_scope self.now.scope.now) (expr_of self.now.scope.now.front.nodes e.0))) }
     {
         let at = code.len();
-        match put(code, Instr::Stuck) {
-            Ok(()) => {}
-            Err(fault) => return Err(fault),
-        }
-        match self.turned(e, Turn::Truth, code) {
-            Ok(ty) => {
-                let after = code.len() - 1;
-                set(code, at, Instr::Test(test, after - at));
-                Ok(ty)
-            }
-            Err(fault) => Err(fault),
-        }
+        put(code, Instr::Stuck)?;
+        let ty = self.turned(e, Turn::Truth, code)?;
+        let after = code.len() - 1;
+        set(code, at, Instr::Test(test, after - at));
+        Ok(ty)
     }
 
     /// Puts a second operand and what joins it with the first one; its type.
@@ -430,13 +374,9 @@ impl<'r, 'k, 'u> Names<'r, 'k, 'u> {
         ensures code { OnOk result (code.new.items ≡ code.old.items ++ (value_code (program_scope self.now.scope.now) (expr_of self.now.scope.now.front.nodes e.0) ++ does.Join by ∷ [])) }
         ensures ty { IfOk result (λ ty. TellsType self.now.scope.now.front.nodes ty (type_of (program_scope self.now.scope.now) (expr_of self.now.scope.now.front.nodes e.0))) }
     {
-        match self.value(e, code) {
-            Ok(ty) => match put(code, Instr::Join(by)) {
-                Ok(()) => Ok(ty),
-                Err(fault) => Err(fault),
-            },
-            Err(fault) => Err(fault),
-        }
+        let ty = self.value(e, code)?;
+        put(code, Instr::Join(by))?;
+        Ok(ty)
     }
 
     /// Puts `test ? met : unmet`, whose parts have numbers below `below`; its type.
@@ -456,23 +396,17 @@ impl<'r, 'k, 'u> Names<'r, 'k, 'u> {
         ensures ty { IfOk result (λ ty. TellsType self.now.scope.now.front.nodes ty (type_of (program_scope self.now.scope.now) (choice_tree (expr_of self.now.scope.now.front.nodes parts.0.0) (expr_of self.now.scope.now.front.nodes parts.1.0) (expr_of self.now.scope.now.front.nodes parts.2.0)))) }
     {
         let start = code.len();
-        let test = match self.value(parts.0, code) {
-            Ok(ty) => ty,
-            Err(fault) => return Err(fault),
-        };
-        match self.arms(below, parts.1, parts.2, code) {
-            Ok(Some(ty)) => match test {
+        let test = self.value(parts.0, code)?;
+        match self.arms(below, parts.1, parts.2, code)? {
+            Some(ty) => match test {
                 Some(_) => Ok(Some(ty)),
                 None => Ok(None),
             },
-            Ok(None) => {
+            None => {
                 code.truncate(start);
-                match put(code, Instr::Stuck) {
-                    Ok(()) => Ok(None),
-                    Err(fault) => Err(fault),
-                }
+                put(code, Instr::Stuck)?;
+                Ok(None)
             }
-            Err(fault) => Err(fault),
         }
     }
 
@@ -493,24 +427,16 @@ impl<'r, 'k, 'u> Names<'r, 'k, 'u> {
         ensures ty { IfOk result (λ ty. TellsType self.now.scope.now.front.nodes ty (choice_type (type_of (program_scope self.now.scope.now) (expr_of self.now.scope.now.front.nodes met.0)) (type_of (program_scope self.now.scope.now) (expr_of self.now.scope.now.front.nodes unmet.0)))) }
     {
         let from = code.len();
-        match put(code, Instr::Stuck) {
-            Ok(()) => {}
-            Err(fault) => return Err(fault),
-        }
-        let first = match self.value(met, code) {
-            Ok(ty) => ty,
-            Err(fault) => return Err(fault),
-        };
+        put(code, Instr::Stuck)?;
+        let first = self.value(met, code)?;
         let middle = code.len();
-        match self.other_arm(unmet, code) {
-            Ok(second) => match self.common(first, second) {
-                Some(ty) => match close_arms(code, from, middle, ty) {
-                    Ok(()) => Ok(Some(ty)),
-                    Err(fault) => Err(fault),
-                },
-                None => Ok(None),
-            },
-            Err(fault) => Err(fault),
+        let second = self.other_arm(unmet, code)?;
+        match self.common(first, second) {
+            Some(ty) => {
+                close_arms(code, from, middle, ty)?;
+                Ok(Some(ty))
+            }
+            None => Ok(None),
         }
     }
 
@@ -522,14 +448,9 @@ impl<'r, 'k, 'u> Names<'r, 'k, 'u> {
         ensures code { OnOk result (code.new.items ≡ code.old.items ++ (does.Stuck ∷ does.Stuck ∷ value_code (program_scope self.now.scope.now) (expr_of self.now.scope.now.front.nodes unmet.0))) }
         ensures ty { IfOk result (λ ty. TellsType self.now.scope.now.front.nodes ty (type_of (program_scope self.now.scope.now) (expr_of self.now.scope.now.front.nodes unmet.0))) }
     {
-        match put(code, Instr::Stuck) {
-            Ok(()) => {}
-            Err(fault) => return Err(fault),
-        }
-        match put(code, Instr::Stuck) {
-            Ok(()) => self.value(unmet, code),
-            Err(fault) => Err(fault),
-        }
+        put(code, Instr::Stuck)?;
+        put(code, Instr::Stuck)?;
+        self.value(unmet, code)
     }
 
     /// Puts a call in an expression, whose arguments have numbers below `below`; its type.
@@ -551,16 +472,10 @@ impl<'r, 'k, 'u> Names<'r, 'k, 'u> {
             Some(known) => known.params,
             None => &[],
         };
-        match self.args(below, params, it.args.as_slice(), code) {
-            Ok(fits) => {
-                let function = self.function_number(it.function);
-                match put(code, call(function, it.args.as_slice().len())) {
-                    Ok(()) => Ok(self.called(head, fits)),
-                    Err(fault) => Err(fault),
-                }
-            }
-            Err(fault) => Err(fault),
-        }
+        let fits = self.args(below, params, it.args.as_slice(), code)?;
+        let function = self.function_number(it.function);
+        put(code, call(function, it.args.as_slice().len()))?;
+        Ok(self.called(head, fits))
     }
 
     /// Puts the arguments of a call, with numbers below `below`; whether they fit the parameters.
@@ -582,10 +497,8 @@ impl<'r, 'k, 'u> Names<'r, 'k, 'u> {
         let mut fits = true;
         let mut i = 0;
         while i < given.len() {
-            match self.arg(below, given[i], code) {
-                Ok(ty) => fits = fits & self.is_given(params, i, ty),
-                Err(fault) => return Err(fault),
-            }
+            let ty = self.arg(below, given[i], code)?;
+            fits = fits & self.is_given(params, i, ty);
             i += 1;
         }
         Ok(fits & (params.len() <= given.len()))
@@ -607,10 +520,10 @@ impl<'r, 'k, 'u> Names<'r, 'k, 'u> {
     {
         match given {
             CArg::Expr(e) => self.value(e, code),
-            CArg::SizeOf(_) => match put(code, Instr::Stuck) {
-                Ok(()) => Ok(None),
-                Err(fault) => Err(fault),
-            },
+            CArg::SizeOf(_) => {
+                put(code, Instr::Stuck)?;
+                Ok(None)
+            }
         }
     }
 }

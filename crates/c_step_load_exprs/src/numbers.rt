@@ -50,23 +50,15 @@ impl<'u> Numbers<'u> {
     pub fn new(alloc: Global, unit: &'u Unit) -> Result<Numbers<'u>, NoMemory>
         ensures { IfOk result (λ n. n ≡ unit.now) }
     {
-        let texts = match number_items(alloc, unit, Kind::Text) {
-            Ok(table) => table,
-            Err(fault) => return Err(fault),
-        };
-        let functions = match number_items(alloc, unit, Kind::Function) {
-            Ok(table) => table,
-            Err(fault) => return Err(fault),
-        };
-        match number_structs(alloc, unit) {
-            Ok(structs) => Ok(Numbers {
-                unit,
-                structs,
-                texts,
-                functions,
-            }),
-            Err(fault) => Err(fault),
-        }
+        let texts = number_items(alloc, unit, Kind::Text)?;
+        let functions = number_items(alloc, unit, Kind::Function)?;
+        let structs = number_structs(alloc, unit)?;
+        Ok(Numbers {
+            unit,
+            structs,
+            texts,
+            functions,
+        })
     }
 
     /// The number of a string among those of the text.
@@ -125,10 +117,8 @@ fn declared<'u>(unit: &'u Unit, i: usize, kind: Kind) -> Option<&'u [u8]>
 fn add<'u>(table: &mut NameTable<'u, usize>, name: &'u [u8], number: usize) -> Result<(), NoMemory>
     ensures { (names : List (List ℕ)) → number ≡ length names → HasPlaces table.old names → OnOk result (HasPlaces table.new (names ++ name.now ∷ [])) }
 {
-    match table.add(name, number) {
-        Ok(_) => Ok(()),
-        Err(fault) => Err(fault),
-    }
+    table.add(name, number)?;
+    Ok(())
 }
 
 /// Gives the name that an item declares the next number, where the item is of a kind; how many there are then.
@@ -144,10 +134,10 @@ fn add_item<'u>(
 {
     match declared(unit, i, kind) {
         Some(name) => match number.checked_add(1) {
-            Some(next) => match add(table, name, number) {
-                Ok(()) => Ok(next),
-                Err(fault) => Err(fault),
-            },
+            Some(next) => {
+                add(table, name, number)?;
+                Ok(next)
+            }
             None => Err(NoMemory),
         },
         None => Ok(number),
@@ -166,10 +156,7 @@ fn number_items<'u>(
     let mut number = 0;
     let mut i = 0;
     while i < unit.items() {
-        match add_item(&mut table, unit, i, kind, number) {
-            Ok(next) => number = next,
-            Err(fault) => return Err(fault),
-        }
+        number = add_item(&mut table, unit, i, kind, number)?;
         i += 1;
     }
     Ok(table)
@@ -187,10 +174,7 @@ fn number_fields<'u>(
     let mut table = NameTable::new(alloc);
     let mut i = 0;
     while i < fields.len() {
-        match add(&mut table, unit.name(fields[i].name), i) {
-            Ok(()) => {}
-            Err(fault) => return Err(fault),
-        }
+        add(&mut table, unit.name(fields[i].name), i)?;
         i += 1;
     }
     Ok(table)
@@ -240,17 +224,10 @@ impl<'u> Structs<'u> {
         ensures { (before : List StructDecl) → HasStructs self.old.fields.items self.old.by_name before → OnOk result (HasStructs self.new.fields.items self.new.by_name (before ++ record { fields = map (field_tree unit.now.names) fields.now; name = name.now } ∷ [])) }
     {
         let k = self.fields.len();
-        match number_fields(alloc, unit, fields) {
-            Ok(table) => match self.fields.push(table) {
-                Ok(()) => {}
-                Err(_) => return Err(NoMemory),
-            },
-            Err(fault) => return Err(fault),
-        }
-        match self.by_name.add(name, k) {
-            Ok(_) => Ok(()),
-            Err(fault) => Err(fault),
-        }
+        let table = number_fields(alloc, unit, fields)?;
+        self.fields.push(table)?;
+        self.by_name.add(name, k)?;
+        Ok(())
     }
 }
 
@@ -264,10 +241,7 @@ fn number_structs<'u>(alloc: Global, unit: &'u Unit) -> Result<Structs<'u>, NoMe
     };
     let mut i = 0;
     while i < unit.items() {
-        match structs.add_item(alloc, unit, i) {
-            Ok(()) => {}
-            Err(fault) => return Err(fault),
-        }
+        structs.add_item(alloc, unit, i)?;
         i += 1;
     }
     Ok(structs)

@@ -61,13 +61,11 @@ impl<'r, 'k, 'u> Names<'r, 'k, 'u> {
         ensures code { OnOk result (code.new.items ≡ code.old.items ++ held_code (option_map (held_in self.now.scope.now.front.nodes.names) held)) }
         ensures ty { IfOk result (λ ty. TellsType self.now.scope.now.front.nodes ty (option_and_then held_type (option_map (held_in self.now.scope.now.front.nodes.names) held))) }
     {
-        match put(code, loaded(held)) {
-            Ok(()) => Ok(self.scope.held_value(held)),
-            Err(fault) => Err(fault),
-        }
+        put(code, loaded(held))?;
+        Ok(self.scope.held_value(held))
     }
 
-    /// Puts `->field`, by the type of what stands in front of it; the type of the value.
+    /// Puts `->field`, by the type of what stands before it; the type of the value.
     pub(crate) fn put_member(
         &self,
         of: Option<ExprType>,
@@ -80,10 +78,8 @@ impl<'r, 'k, 'u> Names<'r, 'k, 'u> {
         ensures code { OnOk result (code.new.items ≡ code.old.items ++ member_code (program_scope self.now.scope.now) (bytes_at self.now.scope.now.front.nodes.names name.0) (option_map (value_in self.now.scope.now.front.nodes.names) of)) }
         ensures ty { IfOk result (λ ty. TellsType self.now.scope.now.front.nodes ty (option_and_then held_type (member_held (program_scope self.now.scope.now) (bytes_at self.now.scope.now.front.nodes.names name.0) (option_map (value_in self.now.scope.now.front.nodes.names) of)))) }
     {
-        match put(code, field(self.field(of, name))) {
-            Ok(()) => self.put_held(self.member(of, name), code),
-            Err(fault) => Err(fault),
-        }
+        put(code, field(self.field(of, name)))?;
+        self.put_held(self.member(of, name), code)
     }
 
     /// Puts the place of a name.
@@ -108,14 +104,14 @@ impl<'r, 'k, 'u> Names<'r, 'k, 'u> {
     {
         let held = self.variable(name);
         match self.local(name) {
-            Some(k) => match put(code, Instr::Put(Put::Fetch(k))) {
-                Ok(()) => Ok(self.scope.held_value(held)),
-                Err(fault) => Err(fault),
-            },
-            None => match self.put_named(name, code) {
-                Ok(()) => self.put_held(held, code),
-                Err(fault) => Err(fault),
-            },
+            Some(k) => {
+                put(code, Instr::Put(Put::Fetch(k)))?;
+                Ok(self.scope.held_value(held))
+            }
+            None => {
+                self.put_named(name, code)?;
+                self.put_held(held, code)
+            }
         }
     }
 

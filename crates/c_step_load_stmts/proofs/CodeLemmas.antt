@@ -102,7 +102,7 @@ module _ (names : Names) (t : FlatText) (i next : ℕ) (rest : Code) where
       ∙ block_more names (with_statement t (Goto (go (i + 1) (go (past i inner) next rest) inner))) (i + 1) (go (past i inner) next rest) inner Stuck (past i inner) next (length t.exprs + length (exprs_of names inner)) (length t.arms + length (arms_of (i + 1) inner)) rest
       (sym (length-append t.exprs (exprs_of names inner))) (sym (length-append t.arms (arms_of (i + 1) inner)))
 
-  -- A condition or a number in front of a block.
+  -- A condition or a number before a block.
   in_front : (x : StmtInstr) (v : List Instr) (cs : List Arm) (inner : Code) (after : ℕ) (y : StmtInstr) (j e e' m m' : ℕ) → e ≡ length (t.exprs ++ v) → e' ≡ e + length (exprs_of names inner) → m ≡ length (t.arms ++ cs) → m' ≡ m + length (arms_of (i + 1) inner)
       → flat_text (t.statements ++ x ∷ (statements_of names (i + 1) after e m inner ++ (y ∷ statements_of names j next e' m' rest))) (t.exprs ++ (v ++ (exprs_of names inner ++ exprs_of names rest))) (t.arms ++ (cs ++ (arms_of (i + 1) inner ++ arms_of j rest)))
       ≡ with_code names (with_statement (with_code names (with_statement (with_arms (with_exprs t v) cs) x) (i + 1) after inner) y) j next rest

@@ -96,13 +96,11 @@ impl<'r, 'k, 'u> Body<'r, 'k, 'u> {
         ensures span { IfOk result (λ span. span ≡ span_of (length text.old.exprs) (value_code (scope_of self.now) (expr_of (nodes_of self.now) e.0))) }
     {
         let from = text.exprs.len();
-        match self.names.value(e, &mut text.exprs) {
-            Ok(_) => Ok(Span {
-                from,
-                to: text.exprs.len(),
-            }),
-            Err(fault) => Err(fault),
-        }
+        self.names.value(e, &mut text.exprs)?;
+        Ok(Span {
+            from,
+            to: text.exprs.len(),
+        })
     }
 
     /// The same of an lvalue's place.
@@ -113,13 +111,11 @@ impl<'r, 'k, 'u> Body<'r, 'k, 'u> {
         ensures span { IfOk result (λ span. span ≡ span_of (length text.old.exprs) (place_code (scope_of self.now) (expr_of (nodes_of self.now) e.0))) }
     {
         let from = text.exprs.len();
-        match self.names.place(e, &mut text.exprs) {
-            Ok(_) => Ok(Span {
-                from,
-                to: text.exprs.len(),
-            }),
-            Err(fault) => Err(fault),
-        }
+        self.names.place(e, &mut text.exprs)?;
+        Ok(Span {
+            from,
+            to: text.exprs.len(),
+        })
     }
 
     /// The same of the arguments of a call.
@@ -131,12 +127,10 @@ impl<'r, 'k, 'u> Body<'r, 'k, 'u> {
     {
         let from = text.exprs.len();
         let below = self.names.scope.unit().exprs();
-        match self.names.args(below, &[], given, &mut text.exprs) {
-            Ok(_) => Ok(Span {
-                from,
-                to: text.exprs.len(),
-            }),
-            Err(fault) => Err(fault),
-        }
+        self.names.args(below, &[], given, &mut text.exprs)?;
+        Ok(Span {
+            from,
+            to: text.exprs.len(),
+        })
     }
 }

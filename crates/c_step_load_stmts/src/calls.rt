@@ -67,10 +67,10 @@ impl<'r, 'k, 'u> Body<'r, 'k, 'u> {
         ensures instr { (names : NamesOf) → Tells self.now names → IfOk result (λ it. it ≡ call_instr (callee_of (bytes_at (nodes_of self.now).names call.now.function.0)) names (length text.old.exprs) next (value_in (expr_of (nodes_of self.now)) target) (bytes_at (nodes_of self.now).names call.now.function.0) (args_in (nodes_of self.now).names (expr_of (nodes_of self.now)) call.now.args)) }
     {
         match called_by(self.names.scope.spelt(call.function)) {
-            Called::Move => match self.put_args(text, call.args.as_slice()) {
-                Ok(given) => Ok(StmtInstr::Move { given, next }),
-                Err(fault) => Err(fault),
-            },
+            Called::Move => {
+                let given = self.put_args(text, call.args.as_slice())?;
+                Ok(StmtInstr::Move { given, next })
+            }
             Called::Set => self.zero_instr(text, call.args.as_slice(), next),
             Called::Own => match self.callable(call.function) {
                 Some(function) => self.own_instr(
@@ -98,10 +98,10 @@ impl<'r, 'k, 'u> Body<'r, 'k, 'u> {
         ensures instr { (names : NamesOf) → Tells self.now names → IfOk result (λ it. it ≡ zero_instr names (length text.old.exprs) next (args_in (nodes_of self.now).names (expr_of (nodes_of self.now)) given.now)) }
     {
         match given.get(0) {
-            Some(CArg::Expr(e)) => match self.put_value(text, *e) {
-                Ok(pointer) => Ok(StmtInstr::Zero { pointer, next }),
-                Err(fault) => Err(fault),
-            },
+            Some(CArg::Expr(e)) => {
+                let pointer = self.put_value(text, *e)?;
+                Ok(StmtInstr::Zero { pointer, next })
+            }
             Some(CArg::SizeOf(_)) => Ok(StmtInstr::Stuck),
             None => Ok(StmtInstr::Stuck),
         }
@@ -122,19 +122,14 @@ impl<'r, 'k, 'u> Body<'r, 'k, 'u> {
         ensures text { (names : NamesOf) → Tells self.now names → OnOk result (text.new ≡ with_exprs text.old (own_exprs names (value_in (expr_of (nodes_of self.now)) target) (Some function) (args_in (nodes_of self.now).names (expr_of (nodes_of self.now)) given.now))) }
         ensures instr { (names : NamesOf) → Tells self.now names → IfOk result (λ it. it ≡ own_instr names (length text.old.exprs) next (value_in (expr_of (nodes_of self.now)) target) (Some function) (args_in (nodes_of self.now).names (expr_of (nodes_of self.now)) given.now)) }
     {
-        let target = match self.put_target(text, target) {
-            Ok(span) => span,
-            Err(fault) => return Err(fault),
-        };
-        match self.put_args(text, given) {
-            Ok(given) => Ok(StmtInstr::Call {
-                target,
-                function,
-                given,
-                next,
-            }),
-            Err(fault) => Err(fault),
-        }
+        let target = self.put_target(text, target)?;
+        let given = self.put_args(text, given)?;
+        Ok(StmtInstr::Call {
+            target,
+            function,
+            given,
+            next,
+        })
     }
 
     /// Puts down the place that the value of a call goes to.
@@ -145,10 +140,10 @@ impl<'r, 'k, 'u> Body<'r, 'k, 'u> {
         ensures span { (names : NamesOf) → Tells self.now names → IfOk result (λ span. span ≡ target_span names (length text.old.exprs) (value_in (expr_of (nodes_of self.now)) target)) }
     {
         match target {
-            Some(e) => match self.put_place(text, e) {
-                Ok(span) => Ok(Some(span)),
-                Err(fault) => Err(fault),
-            },
+            Some(e) => {
+                let span = self.put_place(text, e)?;
+                Ok(Some(span))
+            }
             None => Ok(None),
         }
     }

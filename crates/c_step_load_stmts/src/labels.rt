@@ -26,10 +26,10 @@ fn add_label<'u>(
 {
     let unit = it.unit;
     match unit.stmt(at.stmt) {
-        CStmt::Label { name, .. } => match table.add(unit.name(*name), at.number) {
-            Ok(_) => Ok(()),
-            Err(fault) => Err(fault),
-        },
+        CStmt::Label { name, .. } => {
+            table.add(unit.name(*name), at.number)?;
+            Ok(())
+        }
         _ => Ok(()),
     }
 }
@@ -45,17 +45,11 @@ pub fn label_numbers<'u>(
     requires body { body.0 < length it.now.unit.now.stmts }
     ensures { IfOk result (λ table. (name : List ℕ) → named table name ≡ seek (by_name name) start (code_of it.now.unit.now body.0)) }
 {
-    let listed = match list_places(alloc, it, body, start, true) {
-        Ok(listed) => listed,
-        Err(fault) => return Err(fault),
-    };
+    let listed = list_places(alloc, it, body, start, true)?;
     let mut table = NameTable::new(alloc);
     let mut i = 0;
     while i < listed.len() {
-        match add_label(&mut table, it, listed[i]) {
-            Ok(()) => {}
-            Err(fault) => return Err(fault),
-        }
+        add_label(&mut table, it, listed[i])?;
         i += 1;
     }
     Ok(table)

@@ -85,10 +85,8 @@ impl<'r, 'k, 'u> Body<'r, 'k, 'u> {
         requires rest { rest.0 < length (nodes_of self.now).stmts }
         ensures { IfOk result (λ n. n ≡ go (at.number + 1) at.next (code_of (nodes_of self.now) rest.0)) }
     {
-        match next_number(at.number) {
-            Ok(number) => Ok(self.go(number, at.next, rest)),
-            Err(fault) => Err(fault),
-        }
+        let number = next_number(at.number)?;
+        Ok(self.go(number, at.next, rest))
     }
 
     /// Puts down the instruction of a statement with no block in it, and leaves what follows.
@@ -105,21 +103,16 @@ impl<'r, 'k, 'u> Body<'r, 'k, 'u> {
         ensures size { OnOk result (size_of (nodes_of self.now) work.new.left.items ≡ size_of (nodes_of self.now) work.old.left.items + (2 * code_weight (code_of (nodes_of self.now) rest.0) + 1)) }
         ensures lays { (names : NamesOf) → OnOk result (finished (nodes_of self.now) names work.new.text work.new.left.items ≡ finished (nodes_of self.now) names (with_code names (with_statement work.old.text it) (at.number + 1) at.next (code_of (nodes_of self.now) rest.0)) work.old.left.items) }
     {
-        let number = match next_number(at.number) {
-            Ok(number) => number,
-            Err(fault) => return Err(fault),
-        };
-        match put(&mut work.text, it) {
-            Ok(()) => leave(
-                &mut work.left,
-                Task::Code {
-                    stmt: rest,
-                    number,
-                    next: at.next,
-                },
-            ),
-            Err(fault) => Err(fault),
-        }
+        let number = next_number(at.number)?;
+        put(&mut work.text, it)?;
+        leave(
+            &mut work.left,
+            Task::Code {
+                stmt: rest,
+                number,
+                next: at.next,
+            },
+        )
     }
 
     /// A statement that does nothing, or a label.
@@ -131,10 +124,8 @@ impl<'r, 'k, 'u> Body<'r, 'k, 'u> {
         ensures falls { OnOk result (size_of (nodes_of self.now) work.new.left.items < size_of (nodes_of self.now) work.old.left.items + (2 * code_weight (empty (code_of (nodes_of self.now) rest.0)) + 1)) }
         ensures lays { (names : NamesOf) → Tells self.now names → OnOk result (finished (nodes_of self.now) names work.new.text work.new.left.items ≡ finished (nodes_of self.now) names (with_code names work.old.text at.number at.next (empty (code_of (nodes_of self.now) rest.0))) work.old.left.items) }
     {
-        match self.follows(at, rest) {
-            Ok(next) => self.lay_one(work, at, StmtInstr::Goto(next), rest),
-            Err(fault) => Err(fault),
-        }
+        let next = self.follows(at, rest)?;
+        self.lay_one(work, at, StmtInstr::Goto(next), rest)
     }
 
     /// `target = value;`
@@ -154,25 +145,15 @@ impl<'r, 'k, 'u> Body<'r, 'k, 'u> {
         ensures falls { OnOk result (size_of (nodes_of self.now) work.new.left.items < size_of (nodes_of self.now) work.old.left.items + (2 * code_weight (assign (expr_of (nodes_of self.now) parts.0.0) (expr_of (nodes_of self.now) parts.1.0) (code_of (nodes_of self.now) rest.0)) + 1)) }
         ensures lays { (names : NamesOf) → Tells self.now names → OnOk result (finished (nodes_of self.now) names work.new.text work.new.left.items ≡ finished (nodes_of self.now) names (with_code names work.old.text at.number at.next (assign (expr_of (nodes_of self.now) parts.0.0) (expr_of (nodes_of self.now) parts.1.0) (code_of (nodes_of self.now) rest.0))) work.old.left.items) }
     {
-        let next = match self.follows(at, rest) {
-            Ok(next) => next,
-            Err(fault) => return Err(fault),
+        let next = self.follows(at, rest)?;
+        let target = self.put_place(&mut work.text, parts.0)?;
+        let value = self.put_value(&mut work.text, parts.1)?;
+        let it = StmtInstr::Assign {
+            target,
+            value,
+            next,
         };
-        let target = match self.put_place(&mut work.text, parts.0) {
-            Ok(span) => span,
-            Err(fault) => return Err(fault),
-        };
-        match self.put_value(&mut work.text, parts.1) {
-            Ok(value) => {
-                let it = StmtInstr::Assign {
-                    target,
-                    value,
-                    next,
-                };
-                self.lay_one(work, at, it, rest)
-            }
-            Err(fault) => Err(fault),
-        }
+        self.lay_one(work, at, it, rest)
     }
 
     /// A call.
@@ -193,13 +174,9 @@ impl<'r, 'k, 'u> Body<'r, 'k, 'u> {
         ensures falls { OnOk result (size_of (nodes_of self.now) work.new.left.items < size_of (nodes_of self.now) work.old.left.items + (2 * code_weight (call (value_in (expr_of (nodes_of self.now)) target) (bytes_at (nodes_of self.now).names it.now.function.0) (args_in (nodes_of self.now).names (expr_of (nodes_of self.now)) it.now.args) (code_of (nodes_of self.now) rest.0)) + 1)) }
         ensures lays { (names : NamesOf) → Tells self.now names → OnOk result (finished (nodes_of self.now) names work.new.text work.new.left.items ≡ finished (nodes_of self.now) names (with_code names work.old.text at.number at.next (call (value_in (expr_of (nodes_of self.now)) target) (bytes_at (nodes_of self.now).names it.now.function.0) (args_in (nodes_of self.now).names (expr_of (nodes_of self.now)) it.now.args) (code_of (nodes_of self.now) rest.0))) work.old.left.items) }
     {
-        match self.follows(at, rest) {
-            Ok(next) => match self.call_instr(&mut work.text, target, it, next) {
-                Ok(it) => self.lay_one(work, at, it, rest),
-                Err(fault) => Err(fault),
-            },
-            Err(fault) => Err(fault),
-        }
+        let next = self.follows(at, rest)?;
+        let it = self.call_instr(&mut work.text, target, it, next)?;
+        self.lay_one(work, at, it, rest)
     }
 
     /// `goto label;`
@@ -235,10 +212,8 @@ impl<'r, 'k, 'u> Body<'r, 'k, 'u> {
         ensures falls { OnOk result (size_of (nodes_of self.now) work.new.left.items < size_of (nodes_of self.now) work.old.left.items + (2 * code_weight (leave_tree (value_in (expr_of (nodes_of self.now)) value) (code_of (nodes_of self.now) rest.0)) + 1)) }
         ensures lays { (names : NamesOf) → Tells self.now names → OnOk result (finished (nodes_of self.now) names work.new.text work.new.left.items ≡ finished (nodes_of self.now) names (with_code names work.old.text at.number at.next (leave_tree (value_in (expr_of (nodes_of self.now)) value) (code_of (nodes_of self.now) rest.0))) work.old.left.items) }
     {
-        match self.give_instr(&mut work.text, value) {
-            Ok(it) => self.lay_one(work, at, it, rest),
-            Err(fault) => Err(fault),
-        }
+        let it = self.give_instr(&mut work.text, value)?;
+        self.lay_one(work, at, it, rest)
     }
 
     /// Puts down the value of a `return`; its instruction.
@@ -252,13 +227,13 @@ impl<'r, 'k, 'u> Body<'r, 'k, 'u> {
             None => Ok(StmtInstr::Finish),
             Some(e) => match self.result {
                 None => Ok(StmtInstr::Stuck),
-                Some(ty) => match self.put_value(text, e) {
-                    Ok(value) => Ok(StmtInstr::Return {
+                Some(ty) => {
+                    let value = self.put_value(text, e)?;
+                    Ok(StmtInstr::Return {
                         value,
                         ty: cell_type(ty),
-                    }),
-                    Err(fault) => Err(fault),
-                },
+                    })
+                }
             },
         }
     }
@@ -270,17 +245,13 @@ impl<'r, 'k, 'u> Body<'r, 'k, 'u> {
         requires rest { rest.0 < length (nodes_of self.now).stmts }
         ensures { IfOk result (λ b. b ≡ record { inside = at.number + 1; past = past at.number (code_of (nodes_of self.now) body.0); after = go (past at.number (code_of (nodes_of self.now) body.0)) at.next (code_of (nodes_of self.now) rest.0) }) }
     {
-        match next_number(at.number) {
-            Ok(inside) => match self.past(at.number, body) {
-                Ok(past) => Ok(Block {
-                    inside,
-                    past,
-                    after: self.go(past, at.next, rest),
-                }),
-                Err(fault) => Err(fault),
-            },
-            Err(fault) => Err(fault),
-        }
+        let inside = next_number(at.number)?;
+        let past = self.past(at.number, body)?;
+        Ok(Block {
+            inside,
+            past,
+            after: self.go(past, at.next, rest),
+        })
     }
 
     /// The same of an `if`, with that of what stands in its `else`.
@@ -297,27 +268,18 @@ impl<'r, 'k, 'u> Body<'r, 'k, 'u> {
         ensures block { IfOk result (λ b. b.0 ≡ record { inside = at.number + 1; past = past_both at.number (code_of (nodes_of self.now) two.0.0) (code_of (nodes_of self.now) two.1.0); after = go (past_both at.number (code_of (nodes_of self.now) two.0.0) (code_of (nodes_of self.now) two.1.0)) at.next (code_of (nodes_of self.now) rest.0) }) }
         ensures second { IfOk result (λ b. b.1 ≡ second at.number (code_of (nodes_of self.now) two.0.0)) }
     {
-        let inside = match next_number(at.number) {
-            Ok(inside) => inside,
-            Err(fault) => return Err(fault),
-        };
-        match self.past_both(at.number, two.0, two.1) {
-            Ok(past) => match self.second(at.number, two.0) {
-                Ok(second) => {
-                    let after = self.go(past, at.next, rest);
-                    Ok((
-                        Block {
-                            inside,
-                            past,
-                            after,
-                        },
-                        second,
-                    ))
-                }
-                Err(fault) => Err(fault),
+        let inside = next_number(at.number)?;
+        let past = self.past_both(at.number, two.0, two.1)?;
+        let second = self.second(at.number, two.0)?;
+        let after = self.go(past, at.next, rest);
+        Ok((
+            Block {
+                inside,
+                past,
+                after,
             },
-            Err(fault) => Err(fault),
-        }
+            second,
+        ))
     }
 
     /// `{ inner }`
@@ -336,15 +298,10 @@ impl<'r, 'k, 'u> Body<'r, 'k, 'u> {
         ensures falls { OnOk result (size_of (nodes_of self.now) work.new.left.items < size_of (nodes_of self.now) work.old.left.items + (2 * code_weight (nested (code_of (nodes_of self.now) inner.0) (code_of (nodes_of self.now) rest.0)) + 1)) }
         ensures lays { (names : NamesOf) → Tells self.now names → OnOk result (finished (nodes_of self.now) names work.new.text work.new.left.items ≡ finished (nodes_of self.now) names (with_code names work.old.text at.number at.next (nested (code_of (nodes_of self.now) inner.0) (code_of (nodes_of self.now) rest.0))) work.old.left.items) }
     {
-        let block = match self.block(at, inner, rest) {
-            Ok(block) => block,
-            Err(fault) => return Err(fault),
-        };
+        let block = self.block(at, inner, rest)?;
         let to = self.go(block.inside, block.after, inner);
-        match put(&mut work.text, StmtInstr::Goto(to)) {
-            Ok(()) => self.leave_inside(work, at, (inner, rest), block),
-            Err(fault) => Err(fault),
-        }
+        put(&mut work.text, StmtInstr::Goto(to))?;
+        self.leave_inside(work, at, (inner, rest), block)
     }
 
     /// Leaves a block, after which no instruction is needed, and what follows.
@@ -390,23 +347,15 @@ impl<'r, 'k, 'u> Body<'r, 'k, 'u> {
         ensures falls { (kind : Otherwise) → OnOk result (size_of (nodes_of self.now) work.new.left.items < size_of (nodes_of self.now) work.old.left.items + (2 * code_weight (branch (expr_of (nodes_of self.now) test.0) (code_of (nodes_of self.now) two.0.0) kind (code_of (nodes_of self.now) two.1.0) (code_of (nodes_of self.now) rest.0)) + 1)) }
         ensures lays { (kind : Otherwise) (names : NamesOf) → Tells self.now names → OnOk result (finished (nodes_of self.now) names work.new.text work.new.left.items ≡ finished (nodes_of self.now) names (with_code names work.old.text at.number at.next (branch (expr_of (nodes_of self.now) test.0) (code_of (nodes_of self.now) two.0.0) kind (code_of (nodes_of self.now) two.1.0) (code_of (nodes_of self.now) rest.0))) work.old.left.items) }
     {
-        let (block, second) = match self.blocks(at, two, rest) {
-            Ok(it) => it,
-            Err(fault) => return Err(fault),
-        };
-        let test = match self.put_value(&mut work.text, test) {
-            Ok(span) => span,
-            Err(fault) => return Err(fault),
-        };
+        let (block, second) = self.blocks(at, two, rest)?;
+        let test = self.put_value(&mut work.text, test)?;
         let it = StmtInstr::Test {
             test,
             met: self.go(block.inside, block.after, two.0),
             unmet: self.go(second, block.after, two.1),
         };
-        match put(&mut work.text, it) {
-            Ok(()) => self.leave_both(work, at, (two.0, two.1, rest), block, second),
-            Err(fault) => Err(fault),
-        }
+        put(&mut work.text, it)?;
+        self.leave_both(work, at, (two.0, two.1, rest), block, second)
     }
 
     /// Leaves both blocks of an `if`, and what follows.
@@ -426,17 +375,15 @@ impl<'r, 'k, 'u> Body<'r, 'k, 'u> {
             past: block.past,
             after: block.after,
         };
-        match self.leave_inside(work, at, (parts.1, parts.2), other) {
-            Ok(()) => leave(
-                &mut work.left,
-                Task::Code {
-                    stmt: parts.0,
-                    number: block.inside,
-                    next: block.after,
-                },
-            ),
-            Err(fault) => Err(fault),
-        }
+        self.leave_inside(work, at, (parts.1, parts.2), other)?;
+        leave(
+            &mut work.left,
+            Task::Code {
+                stmt: parts.0,
+                number: block.inside,
+                next: block.after,
+            },
+        )
     }
 
     /// `while (test) { body }`
@@ -457,35 +404,22 @@ impl<'r, 'k, 'u> Body<'r, 'k, 'u> {
         ensures falls { OnOk result (size_of (nodes_of self.now) work.new.left.items < size_of (nodes_of self.now) work.old.left.items + (2 * code_weight (repeat (expr_of (nodes_of self.now) test.0) (code_of (nodes_of self.now) body.0) (code_of (nodes_of self.now) rest.0)) + 1)) }
         ensures lays { (names : NamesOf) → Tells self.now names → OnOk result (finished (nodes_of self.now) names work.new.text work.new.left.items ≡ finished (nodes_of self.now) names (with_code names work.old.text at.number at.next (repeat (expr_of (nodes_of self.now) test.0) (code_of (nodes_of self.now) body.0) (code_of (nodes_of self.now) rest.0))) work.old.left.items) }
     {
-        let block = match self.block(at, body, rest) {
-            Ok(block) => block,
-            Err(fault) => return Err(fault),
-        };
-        let end = match self.second(at.number, body) {
-            Ok(number) => number,
-            Err(fault) => return Err(fault),
-        };
-        let test = match self.put_value(&mut work.text, test) {
-            Ok(span) => span,
-            Err(fault) => return Err(fault),
-        };
+        let block = self.block(at, body, rest)?;
+        let end = self.second(at.number, body)?;
+        let test = self.put_value(&mut work.text, test)?;
         let met = self.go(block.inside, end, body);
         let it = StmtInstr::Test {
             test,
             met,
             unmet: block.after,
         };
-        match put(&mut work.text, it) {
-            Ok(()) => {
-                let back = StmtInstr::Back {
-                    test,
-                    met,
-                    unmet: block.after,
-                };
-                self.leave_loop(work, at, (body, rest), (block, end), back)
-            }
-            Err(fault) => Err(fault),
-        }
+        put(&mut work.text, it)?;
+        let back = StmtInstr::Back {
+            test,
+            met,
+            unmet: block.after,
+        };
+        self.leave_loop(work, at, (body, rest), (block, end), back)
     }
 
     /// Leaves the block of a `while`, what stands after it, and what follows.
@@ -531,17 +465,10 @@ impl<'r, 'k, 'u> Body<'r, 'k, 'u> {
         ensures falls { OnOk result (size_of (nodes_of self.now) work.new.left.items < size_of (nodes_of self.now) work.old.left.items + (2 * code_weight (select (expr_of (nodes_of self.now) on.0) (code_of (nodes_of self.now) body.0) (code_of (nodes_of self.now) rest.0)) + 1)) }
         ensures lays { (names : NamesOf) → Tells self.now names → OnOk result (finished (nodes_of self.now) names work.new.text work.new.left.items ≡ finished (nodes_of self.now) names (with_code names work.old.text at.number at.next (select (expr_of (nodes_of self.now) on.0) (code_of (nodes_of self.now) body.0) (code_of (nodes_of self.now) rest.0))) work.old.left.items) }
     {
-        let block = match self.block(at, body, rest) {
-            Ok(block) => block,
-            Err(fault) => return Err(fault),
-        };
-        match self.switch_instr(&mut work.text, on, body, block) {
-            Ok(it) => match put(&mut work.text, it) {
-                Ok(()) => self.leave_inside(work, at, (body, rest), block),
-                Err(fault) => Err(fault),
-            },
-            Err(fault) => Err(fault),
-        }
+        let block = self.block(at, body, rest)?;
+        let it = self.switch_instr(&mut work.text, on, body, block)?;
+        put(&mut work.text, it)?;
+        self.leave_inside(work, at, (body, rest), block)
     }
 
     /// Puts down the number and the cases of a `switch`; its instruction.
@@ -558,31 +485,24 @@ impl<'r, 'k, 'u> Body<'r, 'k, 'u> {
         ensures text { OnOk result (text.new ≡ with_arms (with_exprs text.old (value_code (scope_of self.now) (expr_of (nodes_of self.now) on.0))) (cases_of block.inside (code_of (nodes_of self.now) body.0))) }
         ensures instr { IfOk result (λ it. it ≡ Switch (span_of (length text.old.exprs) (value_code (scope_of self.now) (expr_of (nodes_of self.now) on.0))) (span_of (length text.old.arms) (cases_of block.inside (code_of (nodes_of self.now) body.0))) (number_or (seek by_default block.inside (code_of (nodes_of self.now) body.0)) block.after)) }
     {
-        let on = match self.put_value(text, on) {
-            Ok(span) => span,
-            Err(fault) => return Err(fault),
-        };
+        let on = self.put_value(text, on)?;
         let from = text.arms.len();
-        match add_cases(
+        let default = add_cases(
             self.alloc,
             &self.weighed,
             body,
             block.inside,
             &mut text.arms,
-        ) {
-            Ok(default) => {
-                let arms = Span {
-                    from,
-                    to: text.arms.len(),
-                };
-                let other = match default {
-                    Some(number) => number,
-                    None => block.after,
-                };
-                Ok(StmtInstr::Switch { on, arms, other })
-            }
-            Err(fault) => Err(fault),
-        }
+        )?;
+        let arms = Span {
+            from,
+            to: text.arms.len(),
+        };
+        let other = match default {
+            Some(number) => number,
+            None => block.after,
+        };
+        Ok(StmtInstr::Switch { on, arms, other })
     }
 
     /// Puts down a body that begins at a number, whose end has a number too.
@@ -598,15 +518,9 @@ impl<'r, 'k, 'u> Body<'r, 'k, 'u> {
             number: at.number,
             next: at.next,
         };
-        match leave(&mut work.left, first) {
-            Ok(()) => {}
-            Err(fault) => return Err(fault),
-        }
+        leave(&mut work.left, first)?;
         while let Some(task) = work.left.pop() {
-            match self.work_on(work, task) {
-                Ok(()) => {}
-                Err(fault) => return Err(fault),
-            }
+            self.work_on(work, task)?;
         }
         Ok(())
     }

@@ -69,20 +69,16 @@ impl Work {
 pub fn put(text: &mut Text, it: StmtInstr) -> Result<(), NoMemory>
     ensures { OnOk result (text.new ≡ with_statement text.old it) }
 {
-    match text.statements.push(it) {
-        Ok(()) => Ok(()),
-        Err(_) => Err(NoMemory),
-    }
+    text.statements.push(it)?;
+    Ok(())
 }
 
 /// Leaves something to be put down next.
 pub(crate) fn leave(left: &mut Vec<Task>, it: Task) -> Result<(), NoMemory>
     ensures { OnOk result (left.new.items ≡ left.old.items ++ it ∷ []) }
 {
-    match left.push(it) {
-        Ok(()) => Ok(()),
-        Err(_) => Err(NoMemory),
-    }
+    left.push(it)?;
+    Ok(())
 }
 
 /// Leaves a block, an instruction after it, and what follows.
@@ -94,12 +90,7 @@ pub(crate) fn leave_block(
 ) -> Result<(), NoMemory>
     ensures { OnOk result (left.new.items ≡ left.old.items ++ rest ∷ task.Instr end ∷ block ∷ []) }
 {
-    match leave(left, rest) {
-        Ok(()) => {}
-        Err(fault) => return Err(fault),
-    }
-    match leave(left, Task::Instr(end)) {
-        Ok(()) => leave(left, block),
-        Err(fault) => Err(fault),
-    }
+    leave(left, rest)?;
+    leave(left, Task::Instr(end))?;
+    leave(left, block)
 }

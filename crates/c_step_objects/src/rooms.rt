@@ -128,11 +128,7 @@ pub(crate) fn stand(
     ensures room { IfOk result (λ mem. HasRoom mem (count + count + functions)) }
     ensures numbers { IfOk result (λ mem. length objects.items + (count + count + functions) < 2 ^ 64) }
 {
-    match sum(count, count) {
-        Ok(lent) => match sum(lent, functions) {
-            Ok(more) => reserved(alloc, objects, more),
-            Err(fault) => Err(fault),
-        },
-        Err(fault) => Err(fault),
-    }
+    let lent = sum(count, count)?;
+    let more = sum(lent, functions)?;
+    reserved(alloc, objects, more)
 }

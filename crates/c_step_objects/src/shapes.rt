@@ -96,13 +96,13 @@ fn field(unit: &Unit, numbers: &StructNumbers<'_>, it: CField) -> Result<FieldDe
     ensures { (structs : List StructDecl) → HasNumbers numbers.now structs → IfOk result (λ decl. decl ≡ field_of (struct_number structs) (field_tree unit.now.names it)) }
 {
     match it.kind {
-        CFieldType::Plain(ty) => match cells_in(it.count) {
-            Ok(count) => Ok(FieldDecl::Cells {
+        CFieldType::Plain(ty) => {
+            let count = cells_in(it.count)?;
+            Ok(FieldDecl::Cells {
                 ty: cell_type(ty),
                 count,
-            }),
-            Err(fault) => Err(fault),
-        },
+            })
+        }
         CFieldType::Struct(name) => Ok(FieldDecl::Part(numbers.number(unit.name(name)))),
     }
 }

@@ -1,12 +1,10 @@
 -- The statements of code with their numbers, in the order of the text.
-use Rattle.std.specs.Prelude.{◌≡◌, ◌+◌, ◌*◌, ◌<◌, ℕ, Bool, if◌then◌else◌, List, [], ◌∷◌, ◌++◌, length, ⊤}
-use Rattle.c_text.specs.declared.ids.CStmtId.{CStmtId}
+use Rattle.std.specs.Prelude.{◌+◌, ◌*◌, ◌<◌, ℕ, Bool, if◌then◌else◌, List, [], ◌∷◌, ◌++◌, length, ⊤}
 use Rattle.c_text.specs.CTree.{Code, finish, nested, empty, assign, call, jump, branch, repeat, select, leave, case_label, default_label, name_label}
 use Rattle.c_text.specs.CNodes.{Nodes, code_of}
+use Rattle.c_text.specs.CBlocks.{BlockTrees, no_block, one_block, switch_block, two_blocks}
 use Rattle.c_meaning.specs.CStep.{code_weight}
 use Rattle.c_step_places.specs.declared.listing.Place.{Place}
-use Rattle.c_step_places.specs.declared.listing.Inner.{Inner}
-use Rattle.c_step_places.specs.declared.listing.Inner.TheVariants as inner
 
 -- Numbers in a statement with a number: of what follows its block, or its two blocks, and of its second block.
 abbrev pub past : ℕ → Code → ℕ
@@ -66,36 +64,23 @@ abbrev pub size_of : Nodes → List Place → ℕ
 size_of nodes [] = 0
 size_of nodes (p ∷ ps) = place_size nodes p + size_of nodes ps
 
--- The blocks in a statement with a number, by their statements, before `behind`.
-abbrev pub inner_places : Nodes → (e : Bool) → (number : ℕ) → Inner → (behind : List PlaceTree) → List PlaceTree
-inner_places nodes e i inner.None behind = behind
-inner_places nodes e i (inner.Block b) behind = places_of e (i + 1) (code_of nodes b.0) ++ behind
-inner_places nodes e i (inner.Switch b) behind = (if e then places_of e (i + 1) (code_of nodes b.0) else []) ++ behind
-inner_places nodes e i (inner.Branch b o) behind = places_of e (i + 1) (code_of nodes b.0) ++ (places_of e (second i (code_of nodes b.0)) (code_of nodes o.0) ++ behind)
+-- The statements in the blocks of a statement with a number, before those that stand after them.
+abbrev pub inner_places : (e : Bool) → (number : ℕ) → BlockTrees → (after : List PlaceTree) → List PlaceTree
+inner_places e i no_block after = after
+inner_places e i (one_block b) after = places_of e (i + 1) b ++ after
+inner_places e i (switch_block b) after = (if e then places_of e (i + 1) b else []) ++ after
+inner_places e i (two_blocks b o) after = places_of e (i + 1) b ++ (places_of e (second i b) o ++ after)
 
 -- The number of the rest of its block.
-abbrev pub rest_number : Nodes → (number : ℕ) → Inner → ℕ
-rest_number nodes i inner.None = i + 1
-rest_number nodes i (inner.Block b) = past i (code_of nodes b.0)
-rest_number nodes i (inner.Switch b) = past i (code_of nodes b.0)
-rest_number nodes i (inner.Branch b o) = past_both i (code_of nodes b.0) (code_of nodes o.0)
+abbrev pub rest_number : (number : ℕ) → BlockTrees → ℕ
+rest_number i no_block = i + 1
+rest_number i (one_block b) = past i b
+rest_number i (switch_block b) = past i b
+rest_number i (two_blocks b o) = past_both i b o
 
 -- More than the number of steps that the blocks take.
-abbrev pub inner_size : Nodes → Inner → ℕ
-inner_size nodes inner.None = 0
-inner_size nodes (inner.Block b) = 2 * code_weight (code_of nodes b.0) + 1
-inner_size nodes (inner.Switch b) = 2 * code_weight (code_of nodes b.0) + 1
-inner_size nodes (inner.Branch b o) = (2 * code_weight (code_of nodes b.0) + 1) + (2 * code_weight (code_of nodes o.0) + 1)
-
-abbrev pub HasInner : Nodes → Inner → Type 0
-HasInner nodes inner.None = ⊤
-HasInner nodes (inner.Block b) = b.0 < length nodes.stmts
-HasInner nodes (inner.Switch b) = b.0 < length nodes.stmts
-HasInner nodes (inner.Branch b o) = (b.0 < length nodes.stmts) × (o.0 < length nodes.stmts)
-
--- The parts of a statement: the blocks in it, and the rest of its block.
-pub record IsApart (nodes : Nodes) (code : Code) (inner : Inner) (rest : CStmtId) : Type 0 where
-  pub lists : (e : Bool) (i : ℕ) → places_of e i code ≡ placed i code ∷ inner_places nodes e i inner (places_of e (rest_number nodes i inner) (code_of nodes rest.0))
-  pub has_inner : HasInner nodes inner
-  pub has_rest : rest.0 < length nodes.stmts
-  pub less : inner_size nodes inner + (2 * code_weight (code_of nodes rest.0) + 1) < 2 * code_weight code + 1
+abbrev pub inner_size : BlockTrees → ℕ
+inner_size no_block = 0
+inner_size (one_block b) = 2 * code_weight b + 1
+inner_size (switch_block b) = 2 * code_weight b + 1
+inner_size (two_blocks b o) = (2 * code_weight b + 1) + (2 * code_weight o + 1)

@@ -56,10 +56,8 @@ fn add_case(
                 number: literal(*number),
                 target: at.number,
             };
-            match arms.push(arm) {
-                Ok(()) => Ok(default),
-                Err(_) => Err(NoMemory),
-            }
+            arms.push(arm)?;
+            Ok(default)
         }
         CStmt::Default { .. } => match default {
             Some(first) => Ok(Some(first)),
@@ -82,10 +80,7 @@ fn add_listed(
 {
     let mut default = None;
     for at in listed {
-        match add_case(it, *at, default, arms) {
-            Ok(found) => default = found,
-            Err(fault) => return Err(fault),
-        }
+        default = add_case(it, *at, default, arms)?;
     }
     Ok(default)
 }
@@ -104,8 +99,6 @@ pub fn add_cases(
     ensures default { IfOk result (λ found. found ≡ seek by_default number (code_of it.now.unit.now body.0)) }
     ensures arms { OnOk result (arms.new.items ≡ arms.old.items ++ cases_of number (code_of it.now.unit.now body.0)) }
 {
-    match list_places(alloc, it, body, number, false) {
-        Ok(listed) => add_listed(it, listed.as_slice(), arms),
-        Err(fault) => Err(fault),
-    }
+    let listed = list_places(alloc, it, body, number, false)?;
+    add_listed(it, listed.as_slice(), arms)
 }

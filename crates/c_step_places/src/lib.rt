@@ -8,5 +8,5 @@ pub mod listing;
 pub mod weighing;
 
 pub use cases::{add_cases, literal};
-pub use listing::{Inner, Place, list_places};
+pub use listing::{Place, list_places};
 pub use weighing::{Weighed, next_number, number, weigh_all};

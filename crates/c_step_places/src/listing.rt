@@ -1,14 +1,14 @@
 // The statements of a body with their numbers, in the order of the text: blocks are gone through by a list of what is left,
 // whatever the depth of their nesting and the length of a chain of `else if`.
 
-ghost use Rattle.std.specs.Prelude.{◌≡◌, ◌<◌, ◌≤◌, ◌+◌, ◌++◌, Bool, length, map, IfOk, IfSome, IfNone, OnOk};
+ghost use Rattle.std.specs.Prelude.{◌≡◌, ◌<◌, ◌≤◌, ◌+◌, ◌++◌, Bool, length, map, IfOk, OnOk};
 ghost use Rattle.c_text.specs.CNodes.{code_of};
-ghost use Rattle.c_text.specs.CTree.{finish};
-ghost use Rattle.c_step_places.specs.Places.{places_of, place_in, HasPlace, HasPlaces, HasInner, left_of, place_size, size_of, inner_places, rest_number, inner_size, IsApart};
+ghost use Rattle.c_text.specs.CBlocks.{HasBlocks, blocks_in};
+ghost use Rattle.c_step_places.specs.Places.{places_of, place_in, HasPlace, HasPlaces, left_of, place_size, size_of, inner_places, rest_number, inner_size};
 ghost use Rattle.c_step_places.specs.Weights.{WeighsAll};
 
 use crate::weighing::{Weighed, next_number};
-use c_text::{CStmt, CStmtId, Unit};
+use c_text::{Blocks, CStmtId, Unit};
 use std::alloc::Global;
 use wf_text::NoMemory;
 
@@ -21,58 +21,17 @@ pub struct Place {
     pub number: usize,
 }
 
-/// The blocks in a statement.
-#[derive(Clone, Copy)]
-pub enum Inner {
-    /// None.
-    None,
-    /// One, in braces or of a `while`.
-    Block(CStmtId),
-    /// That of a `switch`.
-    Switch(CStmtId),
-    /// That of an `if`, and the statements of its `else`.
-    Branch(CStmtId, CStmtId),
-}
-
-/// The blocks in a statement and the rest of its block; None at the end of a block.
-fn apart(unit: &Unit, s: CStmtId) -> Option<(Inner, CStmtId)>
-    requires { s.0 < length unit.now.stmts }
-    ensures some { IfSome result (λ it. IsApart unit.now (code_of unit.now s.0) it.0 it.1) }
-    ensures none { IfNone result (code_of unit.now s.0 ≡ finish) }
-{
-    match unit.stmt(s) {
-        CStmt::End => None,
-        CStmt::Block { inner, rest } => Some((Inner::Block(*inner), *rest)),
-        CStmt::Empty { rest } => Some((Inner::None, *rest)),
-        CStmt::Assign { rest, .. } => Some((Inner::None, *rest)),
-        CStmt::Call { rest, .. } => Some((Inner::None, *rest)),
-        CStmt::Goto { rest, .. } => Some((Inner::None, *rest)),
-        CStmt::If {
-            body,
-            other,
-            rest,
-            ..
-        } => Some((Inner::Branch(*body, *other), *rest)),
-        CStmt::While { body, rest, .. } => Some((Inner::Block(*body), *rest)),
-        CStmt::Switch { body, rest, .. } => Some((Inner::Switch(*body), *rest)),
-        CStmt::Return { rest, .. } => Some((Inner::None, *rest)),
-        CStmt::Case { rest, .. } => Some((Inner::None, *rest)),
-        CStmt::Default { rest } => Some((Inner::None, *rest)),
-        CStmt::Label { rest, .. } => Some((Inner::None, *rest)),
-    }
-}
-
 /// The number of the rest of a block after a statement with blocks in it.
-fn number_after(it: &Weighed, inner: Inner, i: usize) -> Result<usize, NoMemory>
+fn number_after(it: &Weighed, inner: Blocks, i: usize) -> Result<usize, NoMemory>
     requires weights { WeighsAll it.now.unit.now it.now.weights.now }
-    requires inner { HasInner it.now.unit.now inner }
-    ensures { IfOk result (λ n. n ≡ rest_number it.now.unit.now i inner) }
+    requires inner { HasBlocks it.now.unit.now inner }
+    ensures { IfOk result (λ n. n ≡ rest_number i (blocks_in it.now.unit.now inner)) }
 {
     match inner {
-        Inner::None => next_number(i),
-        Inner::Block(body) => it.past(i, body),
-        Inner::Switch(body) => it.past(i, body),
-        Inner::Branch(body, other) => it.past_both(i, body, other),
+        Blocks::None => next_number(i),
+        Blocks::One(body) => it.past(i, body),
+        Blocks::Switch(body) => it.past(i, body),
+        Blocks::Branch(body, other) => it.past_both(i, body, other),
     }
 }
 
@@ -84,48 +43,41 @@ fn put(unit: &Unit, left: &mut Vec<Place>, stmt: CStmtId, number: usize) -> Resu
     ensures places { OnOk result ((e : Bool) → left_of unit.now e left.new.items ≡ places_of e number (code_of unit.now stmt.0) ++ left_of unit.now e left.old.items) }
     ensures size { OnOk result (size_of unit.now left.new.items ≡ size_of unit.now left.old.items + place_size unit.now (record { stmt = stmt; number = number })) }
 {
-    match left.push(Place { stmt, number }) {
-        Ok(()) => Ok(()),
-        Err(_) => Err(NoMemory),
-    }
+    left.push(Place { stmt, number })?;
+    Ok(())
 }
 
 /// Adds the blocks in a statement to those that are left.
 fn put_inner(
     it: &Weighed,
     left: &mut Vec<Place>,
-    inner: Inner,
+    inner: Blocks,
     i: usize,
     enters: bool,
 ) -> Result<(), NoMemory>
     requires weights { WeighsAll it.now.unit.now it.now.weights.now }
-    requires inner { HasInner it.now.unit.now inner }
+    requires inner { HasBlocks it.now.unit.now inner }
     requires has { HasPlaces it.now.unit.now left.old.items }
     ensures has { OnOk result (HasPlaces it.now.unit.now left.new.items) }
-    ensures places { OnOk result (left_of it.now.unit.now enters left.new.items ≡ inner_places it.now.unit.now enters i inner (left_of it.now.unit.now enters left.old.items)) }
-    ensures size { OnOk result (size_of it.now.unit.now left.new.items ≤ size_of it.now.unit.now left.old.items + inner_size it.now.unit.now inner) }
+    ensures places { OnOk result (left_of it.now.unit.now enters left.new.items ≡ inner_places enters i (blocks_in it.now.unit.now inner) (left_of it.now.unit.now enters left.old.items)) }
+    ensures size { OnOk result (size_of it.now.unit.now left.new.items ≤ size_of it.now.unit.now left.old.items + inner_size (blocks_in it.now.unit.now inner)) }
 {
-    let inside = match next_number(i) {
-        Ok(n) => n,
-        Err(fault) => return Err(fault),
-    };
+    let inside = next_number(i)?;
     match inner {
-        Inner::None => Ok(()),
-        Inner::Block(body) => put(it.unit, left, body, inside),
-        Inner::Switch(body) => {
+        Blocks::None => Ok(()),
+        Blocks::One(body) => put(it.unit, left, body, inside),
+        Blocks::Switch(body) => {
             if enters {
                 put(it.unit, left, body, inside)
             } else {
                 Ok(())
             }
         }
-        Inner::Branch(body, other) => match it.second(i, body) {
-            Ok(second) => match put(it.unit, left, other, second) {
-                Ok(()) => put(it.unit, left, body, inside),
-                Err(fault) => Err(fault),
-            },
-            Err(fault) => Err(fault),
-        },
+        Blocks::Branch(body, other) => {
+            let second = it.second(i, body)?;
+            put(it.unit, left, other, second)?;
+            put(it.unit, left, body, inside)
+        }
     }
 }
 
@@ -146,21 +98,13 @@ fn list(
     ensures places { OnOk result (map (place_in it.now.unit.now) listed.new.items ++ left_of it.now.unit.now enters left.new.items ≡ map (place_in it.now.unit.now) listed.old.items ++ (places_of enters at.number (code_of it.now.unit.now at.stmt.0) ++ left_of it.now.unit.now enters left.old.items)) }
     ensures falls { OnOk result (size_of it.now.unit.now left.new.items < size_of it.now.unit.now left.old.items + place_size it.now.unit.now at) }
 {
-    let Some((inner, rest)) = apart(it.unit, at.stmt) else {
+    let Some((inner, rest)) = it.unit.apart(at.stmt) else {
         return Ok(());
     };
-    match listed.push(at) {
-        Ok(()) => {}
-        Err(_) => return Err(NoMemory),
-    }
-    let after = match number_after(it, inner, at.number) {
-        Ok(n) => n,
-        Err(fault) => return Err(fault),
-    };
-    match put(it.unit, left, rest, after) {
-        Ok(()) => put_inner(it, left, inner, at.number, enters),
-        Err(fault) => Err(fault),
-    }
+    listed.push(at)?;
+    let after = number_after(it, inner, at.number)?;
+    put(it.unit, left, rest, after)?;
+    put_inner(it, left, inner, at.number, enters)
 }
 
 /// The statements from `body` on, which has a number, and those in their blocks, in the order of the text; `enters` tells
@@ -179,15 +123,9 @@ pub fn list_places(
 {
     let mut listed = Vec::new(alloc);
     let mut left = Vec::new(alloc);
-    match put(it.unit, &mut left, body, number) {
-        Ok(()) => {}
-        Err(fault) => return Err(fault),
-    }
+    put(it.unit, &mut left, body, number)?;
     while let Some(at) = left.pop() {
-        match list(it, at, enters, &mut left, &mut listed) {
-            Ok(()) => {}
-            Err(fault) => return Err(fault),
-        }
+        list(it, at, enters, &mut left, &mut listed)?;
     }
     Ok(listed)
 }

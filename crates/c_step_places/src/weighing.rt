@@ -77,10 +77,8 @@ impl<'u> Weighed<'u> {
         requires other { other.0 < length self.now.weights.now }
         ensures { IfOk result (λ n. n ≡ past_both i (code_of self.now.unit.now body.0) (code_of self.now.unit.now other.0)) }
     {
-        match number(i, self.weight(body), self.weight(other)) {
-            Ok(end) => number(end, 2, 0),
-            Err(fault) => Err(fault),
-        }
+        let end = number(i, self.weight(body), self.weight(other))?;
+        number(end, 2, 0)
     }
 
     /// In a statement with a number, the number after its first block.
@@ -137,10 +135,7 @@ pub fn weigh_all(alloc: Global, unit: &Unit) -> Result<Vec<usize>, NoMemory>
         let Some(it) = weighed.next_weight() else {
             return Err(NoMemory);
         };
-        match weights.push(it) {
-            Ok(()) => {}
-            Err(_) => return Err(NoMemory),
-        }
+        weights.push(it)?;
     }
     Ok(weights)
 }

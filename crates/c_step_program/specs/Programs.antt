@@ -20,7 +20,7 @@ use Rattle.c_step_run.specs.declared.code.Inline.{Inline}
 use Rattle.c_step_run.specs.declared.code.Func.{Func}
 use Rattle.c_step_run.specs.Coding.{CodeView, is_static, inline_length, frame_of, args_of}
 
--- No function has the name of one in front of it.
+-- No function has the name of one before it.
 abbrev pub AreApart : List Function → Type 0
 AreApart [] = Unit {0}
 AreApart (f ∷ fs) = (function_number fs f.name ≡ None) × AreApart fs
@@ -53,7 +53,7 @@ abbrev pub inline_lengths : List Func → ℕ
 inline_lengths [] = 0
 inline_lengths (f ∷ fs) = inline_length f.inline + inline_lengths fs
 
--- A function behind other code.
+-- A function after other code.
 abbrev pub own : Program → Function → (callable : List Function) → CodeView → Activation
 own p f callable c = activation_of p f callable 0 (length c.text.statements)
 

@@ -11,7 +11,7 @@ ghost use Rattle.c_step_program.specs.Programs.{AreApart, inline_lengths, code_o
 
 /// Where no function has another one's name, the code of a program has each function under its number, with its text, its
 /// locals and its value in an expression; and the frames are those of its functions. A function's rank is above that of
-/// each one in front of it by the instructions of that one's value in an expression; and all of these values together have at
+/// each one before it by the instructions of that one's value in an expression; and all of these values together have at
 /// most the instructions of the text.
 pub fn a_program_stands_in_its_code()
     ensures coded { (p : Program) → AreApart p.functions → AreCoded (code_of p p.functions) (frames_of p.functions) (all_args p.functions) p p.functions }

@@ -31,7 +31,7 @@ comes_back frames now k f left e h n l =
 pub taken_is : (frames now : List FrameView) (k : ℕ) (f : FrameView) → slice_get frames k ≡ Some f → now ≡ slice_set frames k (record f { rests = false }) → slice_get now k ≡ Some (record f { rests = false })
 taken_is frames now k f e n = ap (λ (fs : List FrameView). slice_get fs k) n ∙ get_set_same frames k (record f { rests = false }) (slice_get_within frames k f e)
 
--- The memory and the stack behind the entry of a call.
+-- The memory and the stack after the entry of a call.
 pub stack_below : (f : FrameView) (m now : Memory) (stack left : List Value) → Enters f m stack true now left → length left ≤ length stack
 stack_below f m now stack left h = omega (arith, ap length h.3, length-drop (length f.params) stack)
 

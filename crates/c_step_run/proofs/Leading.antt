@@ -68,7 +68,7 @@ module _ (t : FlatText) (a : Activation) (total : Outcome Returned) where
       by_value None g = g
       by_value (Some w) g = tests_by (holds w) pc met unmet left memory q.to_met q.to_unmet q.later_met q.later_unmet g
 
-  -- By a condition, behind a turn.
+  -- By a condition, after a turn.
   backs_by : (b : Bool) (met unmet left : ℕ) (memory : Memory) (to_met : Target t a met) (to_unmet : Target t a unmet)
       → total ≡ (if b then runs_on to_met left memory else runs_on to_unmet left memory) → LeadsOn t a (if b then moved.Goes met left else moved.Goes unmet left) memory total
   backs_by true met unmet left memory to_met to_unmet e = stands met left memory to_met e
@@ -99,7 +99,7 @@ module _ (t : FlatText) (a : Activation) (total : Outcome Returned) where
       by_value (Some (address p)) g = g
       by_value (Some null_pointer) g = g
 
-  -- Behind a call.
+  -- After a call.
   pub calls_on : (pc next : ℕ) (now : Memory) (target : Target t a next) (o : Ended) → pc < next → total ≡ after_kept o now (runs_on target) → LeadsOn t a (going_back o pc next) now total
   calls_on pc next now target (ended.Got value left) h e = leaps_later pc next left now target h e
   calls_on pc next now target ended.More h e = e

@@ -112,7 +112,7 @@ ends_there v m entered now stack left frames k h e at =
 pub leaves_front : (left : ℕ) (value : Option Value) (m entered now after : Memory) → take (length m) now ≡ after → without_frame (length m) (Got left (record { memory = now; value = value })) ≡ Got left (record { memory = after; value = value })
 leaves_front left value m entered now after e = ap (λ (x : Memory). Got left (record { memory = x; value = value })) e
 
--- Statements can be run behind the entry.
+-- Statements can be run after the entry.
 pub can_start : (c : CodeView) (at : Active) (old st : Store) (v : FrameView) → CanEnter c at old → slice_get old.frames.items at.own ≡ Some v → st.args.items ≡ old.args.items → st.frames.items ≡ slice_set old.frames.items at.own (record v { rests = false })
     → ((more : ℕ) → HasRoom old.mem (more + 1) → HasRoom st.mem more) → most st.stack ≡ most old.stack → length (on_stack old.stack) ≡ length v.params
     → Enters v (memory old.mem) (on_stack old.stack) true (memory st.mem) (on_stack st.stack) → CanRun c at st

@@ -1,5 +1,5 @@
 -- How the functions of a program stand in a machine's code. The number of a function is that of the functions that stand
--- in front of it in the text; the functions of a program are in the reverse order of the text.
+-- before it in the text; the functions of a program are in the reverse order of the text.
 use Rattle.std.specs.Prelude.{◌≡◌, ℕ, ◌+◌, ◌-◌, ◌<◌, ◌≤◌, Bool, true, false, List, [], ◌∷◌, length, map, slice_get, slice_range, Option, Some, None}
 use Rattle.std.specs.Option.{option_map_or}
 use Rattle.c_text.specs.declared.kinds.Linkage.{Linkage}
@@ -58,7 +58,7 @@ abbrev pub args_of : Function → FrameView
 args_of f = record { params = map param_type f.params; locals = []; rests = true }
 
 -- A function stands in the code under its number, with its text, its initial values and its frames. `callable` are the
--- functions in front of it.
+-- functions before it.
 pub record IsCoded (c : CodeView) (frames args : List FrameView) (p : Program) (f : Function) (callable : List Function) : Type 0 where
   pub func : Func
   pub is : slice_get c.functions (length callable) ≡ Some func
@@ -71,7 +71,7 @@ pub record IsCoded (c : CodeView) (frames args : List FrameView) (p : Program) (
   pub initials : InitialsOf c.text (scope_in p f) (length f.params) f.locals (slice_range c.initials func.initials.from func.initials.to)
   pub inline : InlineOf c.text (scope_in p f) (returned f.body) f.result_type func.inline
 
--- All of these functions stand in the code, each with those in front of it.
+-- All of these functions stand in the code, each with those before it.
 abbrev pub AreCoded : CodeView → (frames args : List FrameView) → Program → List Function → Type 0
 AreCoded c frames args p [] = Unit {0}
 AreCoded c frames args p (f ∷ fs) = IsCoded c frames args p f fs × AreCoded c frames args p fs
@@ -81,8 +81,8 @@ abbrev pub inline_length : Option Inline → ℕ
 inline_length None = 0
 inline_length (Some it) = it.value.to - it.value.from
 
--- A function's rank is at least the number of instructions that the values of the functions in front of it have together. A
--- function calls only those in front of it, each one at most once along a chain of calls in expressions, and a run of
+-- A function's rank is at least the number of instructions that the values of the functions before it have together. A
+-- function calls only those before it, each one at most once along a chain of calls in expressions, and a run of
 -- instructions puts at most one value for each. So the rank tells how many values the calls in its expressions can need.
 abbrev pub IsRanked : List Func → Type 0
 IsRanked fs = (i j : ℕ) (f g : Func) → i < j → slice_get fs i ≡ Some f → slice_get fs j ≡ Some g → f.rank + inline_length f.inline ≤ g.rank

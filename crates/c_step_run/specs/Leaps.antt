@@ -13,7 +13,7 @@ use Rattle.c_step_run.specs.declared.moved.Moved.TheVariants as moved
 use Rattle.c_step_run.specs.declared.moved.Ended.{Ended}
 use Rattle.c_step_run.specs.declared.moved.Ended.TheVariants as ended
 
--- The turns that are left behind the entry of a function, which may be a turn.
+-- The turns that are left after the entry of a function, which may be a turn.
 abbrev pub entering : (turn : Bool) → (left : ℕ) → Option ℕ
 entering false left = Some left
 entering true zero = None
@@ -32,7 +32,7 @@ abbrev pub moving : (defined : Bool) → (pc next left : ℕ) → Moved
 moving true pc next left = leaping pc next left
 moving false pc next left = moved.Undefined
 
--- To the next instruction behind a call.
+-- To the next instruction after a call.
 abbrev pub going_back : Ended → (pc next : ℕ) → Moved
 going_back (ended.Got value left) pc next = leaping pc next left
 going_back ended.More pc next = moved.Turns
@@ -43,7 +43,7 @@ abbrev pub testing : Option Value → (pc met unmet left : ℕ) → Moved
 testing None pc met unmet left = moved.Undefined
 testing (Some v) pc met unmet left = if holds v then leaping pc met left else leaping pc unmet left
 
--- By a condition, behind the turn of a loop.
+-- By a condition, after the turn of a loop.
 abbrev pub coming_back : Option Value → (met unmet left : ℕ) → Moved
 coming_back None met unmet left = moved.Undefined
 coming_back (Some v) met unmet left = if holds v then moved.Goes met left else moved.Goes unmet left

@@ -38,7 +38,7 @@ pub record CanCall (c : CodeView) (at : Active) (st : Store) : Type 0 where
   pub room : length (on_stack st.stack) < most st.stack
   pub last : at.frame + 1 ≡ length (memory st.mem)
 
--- The same of statements, in front of each of which the stack is empty.
+-- The same of statements, before each of which the stack is empty.
 pub record CanRun (c : CodeView) (at : Active) (st : Store) : Type 0 where
   pub evaluates : CanEval c at (length c.text.exprs) st
   pub frames : RestBelow at.own st.frames.items

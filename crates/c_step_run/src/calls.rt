@@ -54,7 +54,7 @@ impl Code {
         }
     }
 
-    /// The same behind the turn of its entry.
+    /// The same after the turn of its entry.
     #[cycle(call)]
     fn enter(&self, f: Func, at: Active, left: u64, st: &mut Store) -> Ended
         requires ready { CanEnter self.now at st.old }

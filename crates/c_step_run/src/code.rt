@@ -40,7 +40,7 @@ pub struct Func {
     pub initials: Span,
     /// Its value in an expression, where it may stand in one.
     pub inline: Option<Inline>,
-    /// How many instructions the values of the functions in front of it have together, in expressions.
+    /// How many instructions the values of the functions before it have together, in expressions.
     pub rank: usize,
 }
 

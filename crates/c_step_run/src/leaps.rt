@@ -10,7 +10,7 @@ use c_meaning::values::{Number, Value};
 use c_step_exprs::{cast, convert, value_holds};
 use c_step_text::Arm;
 
-/// The turns that are left behind the entry of a function (6.9.1p10).
+/// The turns that are left after the entry of a function (6.9.1p10).
 pub(crate) fn entry(turn: bool, left: u64) -> Option<u64>
     ensures { result ≡ entering turn left }
 {
@@ -59,7 +59,7 @@ pub(crate) fn moves(defined: bool, pc: usize, next: usize, left: u64) -> Moved
     }
 }
 
-/// To the next instruction behind a call.
+/// To the next instruction after a call.
 pub(crate) fn goes_back(ended: Ended, pc: usize, next: usize) -> Moved
     ensures { result ≡ going_back ended pc next }
 {
@@ -86,7 +86,7 @@ pub(crate) fn tests(v: Option<Value>, pc: usize, met: usize, unmet: usize, left:
     }
 }
 
-/// By a condition, behind the turn of a loop (6.8.5p4).
+/// By a condition, after the turn of a loop (6.8.5p4).
 pub(crate) fn comes_back(v: Option<Value>, met: usize, unmet: usize, left: u64) -> Moved
     ensures { result ≡ coming_back v met unmet left }
 {

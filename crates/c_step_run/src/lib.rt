@@ -1,6 +1,6 @@
 //! Functions of C as a machine runs them (ISO/IEC 9899:1999, 6.5.2.2, 6.8, 6.9.1): the flat text of all functions, memory, a
 //! stack of values, and for each function the object of its parameters and locals. A call takes no memory. Calls call
-//! themselves as deep as the functions of the text do, each of which calls only functions in front of it.
+//! themselves as deep as the functions of the text do, each of which calls only functions before it.
 #![tactic(auto)]
 
 mod calls;

@@ -366,7 +366,7 @@ module _ (t : FlatText) (a : Activation) (laid_all : IsLaid t a) (numbered : IsN
     abbrev IsDone : ℕ → Code → Type 0
     IsDone i code = i + code_weight code + continuation_weight k ≡ end_of a → Laid t (names_of a) i next code → Doing t a (go i next code) code k
 
-    -- the rest of a block, and what stands behind a block
+    -- the rest of a block, and what stands after a block
     rest_at : (i : ℕ) (rest : Code) → i + code_weight rest + continuation_weight k ≡ end_of a → Laid t (names_of a) i next rest → Stands t (names_of a) (end_of a) (go i next rest) rest k
     rest_at i rest e l = stands_at i next rest k e l f
 

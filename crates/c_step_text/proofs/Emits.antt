@@ -120,7 +120,7 @@ module _ (t : FlatText) (names : Names) where
   abbrev Exprs : ℕ → List Instr → Type 0
   Exprs n xs = StandAt t.exprs n xs
 
-  -- Behind a block and the one number that follows it.
+  -- After a block and the one number that follows it.
   after_block : (n k : ℕ) (body : Code) (xs ys : List StmtInstr) (b : StmtInstr) → length xs ≡ code_weight body → n + code_weight body + 1 ≡ k → Statements n (xs ++ b ∷ ys) → Statements k ys
   after_block n k body xs ys b l e h =
       at_tail t.statements (n + code_weight body) k b ys e (at_right t.statements n (n + code_weight body) xs (b ∷ ys) (ap (λ (w : ℕ). n + w) l) h)

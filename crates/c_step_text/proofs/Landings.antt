@@ -23,7 +23,7 @@ module _ (t : FlatText) (names : Names) (end : ℕ) where
   lands_if true o p h = h
   lands_if false o p h = tt
 
-  -- what stands behind a block
+  -- what stands after a block
   pub follows_behind : (i next : ℕ) (passed rest : Code) (k : Continuation) → i + code_weight rest + continuation_weight k ≡ end → Laid t names i next rest → Follows t names end next k → Follows t names end (go i next rest) (behind passed rest k)
   follows_behind i next passed rest k tied laid follows = (i, next, refl, tied, laid, follows)
 

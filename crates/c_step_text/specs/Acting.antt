@@ -122,7 +122,7 @@ after_call Lost on = Lost
 abbrev pub moved_by : Memory → Option (List Value) → Option Memory
 moved_by memory given = option_and_then (λ values. move_given memory (map Some values)) given
 
--- The memory behind a call that found `before`: its value is assigned to its target, which is one place before the call
+-- The memory after a call that found `before`: its value is assigned to its target, which is one place before the call
 -- and after it.
 abbrev pub kept_by : Activation → Option (List Instr) → (before : Memory) → Returned → Option Memory
 kept_by a None before done = Some done.memory
@@ -148,7 +148,7 @@ pub record Tests (t : FlatText) (a : Activation) (number : ℕ) (test : Span) (m
   pub later_unmet : number < unmet
   pub comes : (left : ℕ) (memory : Memory) → h left memory ≡ tested (evaluated (seen a memory) (code_in t test)) (runs_on to_met left memory) (runs_on to_unmet left memory)
 
--- By a condition, behind a turn.
+-- By a condition, after a turn.
 pub record Backs (t : FlatText) (a : Activation) (test : Span) (met unmet : ℕ) (h : ℕ → Memory → Outcome Returned) : Type 0 where
   pub to_met : Target t a met
   pub to_unmet : Target t a unmet

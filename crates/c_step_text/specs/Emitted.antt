@@ -38,7 +38,7 @@ cases_of i (case_label n rest) = record { number = literal_number n; target = i 
 cases_of i (default_label rest) = cases_of (i + 1) rest
 cases_of i (name_label name rest) = cases_of (i + 1) rest
 
--- The cases of every `switch` in code, an outer one's in front of those inside it.
+-- The cases of every `switch` in code, an outer one's before those inside it.
 abbrev pub arms_of : (number : ℕ) → Code → List Arm
 arms_of i finish = []
 arms_of i (nested inner rest) = arms_of (i + 1) inner ++ arms_of (past i inner) rest

@@ -144,7 +144,7 @@ Laid t names i next (case_label n rest) = Has t i (Goto (go (i + 1) next rest)) 
 Laid t names i next (default_label rest) = Has t i (Goto (go (i + 1) next rest)) × Laid t names (i + 1) next rest
 Laid t names i next (name_label name rest) = Has t i (Goto (go (i + 1) next rest)) × Laid t names (i + 1) next rest
 
--- What follows a block has this number, in the text of a function whose end is `end`. Behind the block of a `while`
+-- What follows a block has this number, in the text of a function whose end is `end`. After the block of a `while`
 -- stands its test, which leads to the block again.
 abbrev pub Follows : FlatText → Names → (end next : ℕ) → Continuation → Type 0
 Follows t names end next stop = (next ≡ end) × Has t next Finish

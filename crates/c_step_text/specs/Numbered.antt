@@ -1,4 +1,4 @@
--- Functions by number. The number of a function is that of the functions that stand in front of it in the text; the
+-- Functions by number. The number of a function is that of the functions that stand before it in the text; the
 -- functions of a program are in the reverse order of the text.
 use Rattle.std.specs.Prelude.{◌≡◌, ℕ, if◌then◌else◌, nat_eq, List, [], ◌∷◌, length, None}
 use Rattle.turns.specs.Run.{Lost}
@@ -18,7 +18,7 @@ abbrev pub expression_at : Program → List Function → ℕ → ExprMeaning
 expression_at p [] k = λ memory given. None
 expression_at p (f ∷ fs) k = if nat_eq k (length fs) then expression_meaning p f (expression_call p fs) else expression_at p fs k
 
--- A call of a function as it is run: `callable` are those that stand in front of it in the text, `frame` is the object of
+-- A call of a function as it is run: `callable` are those that stand before it in the text, `frame` is the object of
 -- the call, and `start` the number that its text begins at.
 abbrev pub activation_of : Program → Function → (callable : List Function) → (frame start : ℕ) → Activation
 activation_of p f callable frame start = record {

@@ -1,4 +1,4 @@
--- The text of an `if` by what stands behind its block.
+-- The text of an `if` by what stands after its block.
 use Rattle.std.proofs.Common.{◌≡◌, ℕ, true, ◌++◌, IsTrue, refl, sym, ◌∙◌, ap, subst, append_assoc, codes}
 use Rattle.c_text.specs.declared.ids.CExprId.{CExprId}
 use Rattle.c_text.specs.declared.ids.CStmtId.{CStmtId}

@@ -1,10 +1,12 @@
 -- Names are kept once each: two numbers of names are equal exactly where the names are.
-use Rattle.std.proofs.Common.{◌≡◌, ℕ, zero, suc, ◌<◌, Bool, true, false, ◌&&◌, nat_eq, if◌then◌else◌, List, [], ◌∷◌, ◌++◌, length, map, Some, refl, sym, ◌∙◌, ap, subst, arith, unwrap_or, IsTrue, inl, inr}
-use Rattle.std.specs.List.{slice_get, IsDistinct, AllByRecursion}
+use Rattle.std.proofs.Common.{◌≡◌, ℕ, zero, suc, ◌<◌, Bool, true, false, ◌&&◌, nat_eq, if◌then◌else◌, List, [], ◌∷◌, ◌++◌, length, map, Some, None, get_or, nat_lt, refl, sym, ◌∙◌, ap, subst, arith, unwrap_or, IsTrue, inl, inr}
+use Rattle.std.specs.List.{slice_get, position, position_or_len, IsDistinct, AllByRecursion}
 use Rattle.std.specs.Str.{bytes_eq}
 use Rattle.std.specs.Option.{option_map}
 use Rattle.std.proofs.lemmas.Option.{slice_get_within, slice_get-map}
 use Rattle.std.proofs.lemmas.Bool.{cases_order, eqb-true, eq-eqb}
+use Rattle.std.proofs.lemmas.Bool.Decides.{nat_tests}
+use Rattle.std.proofs.lemmas.List.Sums.{passes_at_first}
 use Rattle.c_text.specs.CNodes.{Nodes, bytes_at}
 use Rattle.c_text.specs.CUnit.{IsSound, AddsName}
 use Rattle.c_text.specs.CSpelling.{is_name}
@@ -67,7 +69,7 @@ same_names {X} f keys h i j within_i within_j =
       ]
     ]
 
--- the keys of a set behind an insertion
+-- the keys of a set after an insertion
 map-append : {A B : Type 0} (f : A → B) (xs ys : List A) → map f (xs ++ ys) ≡ map f xs ++ map f ys
 map-append f [] ys = refl
 map-append f (x ∷ xs) ys = ap (λ zs. f x ∷ zs) (map-append f xs ys)
@@ -99,4 +101,34 @@ adds_inserted {X} f old keys after x name held n is grown spelt stored =
       grown = ap (λ (names : List (List ℕ)). record old { names = names }) all;
       known = slice_get_within (map f after) n (f stored.0) at;
       spelt = ap (λ o. unwrap_or o []) at ∙ (sym (bytes_eq-true (f x) (f stored.0) stored.2) ∙ spelt);
+    }
+
+-- the key that a search finds
+key_at : {X : Type 0} (keys : List X) (n : ℕ) (y : X) → slice_get keys n ≡ Some y → get_or keys n y ≡ y
+key_at [] n y h = absurd (cc (h))
+key_at (x ∷ keys) zero y h = cc (h)
+key_at (x ∷ keys) (suc n) y h = key_at keys n y h
+
+key_found : {X : Type 0} (test : X → Bool) (keys : List X) (n : ℕ) → Some n ≡ position test keys → (y : X) × (slice_get keys n ≡ Some y) × (test y ≡ true)
+key_found {X} test keys n found = by (nat_lt (position_or_len test keys) (length keys)) refl
+  where
+    by : (b : Bool) → nat_lt (position_or_len test keys) (length keys) ≡ b → (y : X) × (slice_get keys n ≡ Some y) × (test y ≡ true)
+    by true less =
+        let is : position test keys ≡ Some (position_or_len test keys) = rw less refl in
+        let e : n ≡ position_or_len test keys = cc (found, is) in
+        let within : position_or_len test keys < length keys = grind (arith, nat_tests, less) in
+        let y = slice_get-some keys (position_or_len test keys) within in
+        let passes : test y.0 ≡ true = subst (λ (k : X). test k ≡ true) (key_at keys (position_or_len test keys) y.0 y.1) (passes_at_first test keys y.0 within) in
+        (y.0, ap (slice_get keys) e ∙ y.1, passes)
+    by false more = let none : position test keys ≡ None = rw more refl in absurd (cc (found, none))
+
+pub adds_found : {X : Type 0} (f : X → List ℕ) (old : Nodes) (keys : List X) (test : X → Bool) (name : List ℕ) (n : ℕ) → old.names ≡ map f keys → ((x : X) → test x ≡ true → name ≡ f x) → Some n ≡ position test keys → AddsName old old name n
+adds_found f old keys test name n is spells found =
+    let key = key_found test keys n found in
+    let at : slice_get old.names n ≡ Some (f key.0) = ap (λ names. slice_get names n) is ∙ (slice_get-map f keys n ∙ ap (option_map f) key.1) in
+    record {
+      added = [];
+      grown = ap (λ (names : List (List ℕ)). record old { names = names }) (sym (append_nil old.names));
+      known = slice_get_within old.names n (f key.0) at;
+      spelt = ap (λ o. unwrap_or o []) at ∙ sym (spells key.0 key.2);
     }

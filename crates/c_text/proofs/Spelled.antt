@@ -30,7 +30,7 @@ IsClear (b ∷ bs) = is_word_byte b ≡ false
 pub record Spelt (ts : List CToken) (bytes : List ℕ) : Type 0 where
   pub is : Spells ts bytes
 
--- A token in front of what it is whole in front of.
+-- A token before bytes that leave it whole.
 pub spell : (t : CToken) (ts : List CToken) (rest : List ℕ) → IsWhole t rest → Spelt ts rest → Spelt (t ∷ ts) (token_bytes t ++ rest)
 spell t ts rest whole s = record { is = (rest, record { gap = []; blank = refl; cut = refl; whole = whole }, s.is) }
 

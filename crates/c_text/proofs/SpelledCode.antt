@@ -41,7 +41,7 @@ whole_quoted text (b ∷ bs) = refl
 quoted_at : (text : List ℕ) (ts : List CToken) (bytes : List ℕ) → Spelt ts bytes → Spelt (quoted text ∷ ts) (34 ∷ (text ++ 34 ∷ bytes))
 quoted_at text ts bytes s = by_bytes _ (34 ∷ (text ++ 34 ∷ bytes)) ((34 ∷ (text ++ 34 ∷ [])) ++ bytes) (simp append_assoc) (spell (quoted text) ts bytes (whole_quoted text bytes) s)
 
--- Tokens with a text, in front of any others.
+-- Tokens with a text, before any others.
 abbrev Forms : (List CToken → List CToken) → List ℕ → Type 0
 Forms tokens text = (ts : List CToken) (bytes : List ℕ) → Spelt ts bytes → Spelt (tokens ts) (text ++ bytes)
 

@@ -1,5 +1,5 @@
 -- The grammar of the C subset: the tokens of a tree, one case for each alternative, and the conditions that an
--- alternative has beside its tokens. `rest` are the tokens behind.
+-- alternative has beside its tokens. `rest` are the tokens after them.
 use Rattle.std.specs.Prelude.{◌≡◌, ◌<◌, ℕ, length, Bool, true, false, List, [], ◌∷◌, ◌++◌, Option, Some, None, ⊤, IsTrue, IfSome}
 use Rattle.c_text.specs.declared.kinds.COp.{COp}
 use Rattle.c_text.specs.declared.kinds.COp.TheVariants.{Add, Mul, BitAnd, BitOr, BitXor, Both, Either}
@@ -53,7 +53,7 @@ abbrev mutual
   operands_tokens no_operand op rest = rest
   operands_tokens (operand e others) op rest = operator op ∷ expr_tokens e (operands_tokens others op rest)
 
-  -- the first argument, and those behind it, each behind a comma
+  -- the first argument, and those after it, each after a comma
   pub args_tokens : Args → List CToken → List CToken
   args_tokens no_arg rest = rest
   args_tokens (expr_arg e others) rest = expr_tokens e (more_args_tokens others rest)
@@ -72,7 +72,7 @@ abbrev pub target_tokens : Option ExprTree → List CToken → List CToken
 target_tokens None rest = rest
 target_tokens (Some e) rest = expr_tokens e (marked mark.Assign ∷ rest)
 
--- What stands behind the block of an `if`; `inner` are the tokens of the `else`'s statements.
+-- What stands after the block of an `if`; `inner` are the tokens of the `else`'s statements.
 abbrev pub else_tokens : Otherwise → (inner : List CToken → List CToken) → List CToken → List CToken
 else_tokens else_is.Nothing inner rest = rest
 else_tokens else_is.Block inner rest = keyword word.Else ∷ marked mark.OpenBrace ∷ inner (marked mark.CloseBrace ∷ rest)
@@ -143,8 +143,8 @@ unit_tokens [] = []
 unit_tokens (item ∷ items) = item_tokens item (unit_tokens items)
 
 -- What an alternative asks beside its tokens: names and strings are spelt as such, literals fit their types, only
--- some operators repeat, what stands in front of `->` and `[` or behind `*` is no literal, a target is an lvalue,
--- a label stands in front of a statement, and an `else` holds what its kind says.
+-- some operators repeat, what stands before `->` and `[` or after `*` is no literal, a target is an lvalue,
+-- a label stands before a statement, and an `else` holds what its kind says.
 abbrev pub IsName : List ℕ → Type 0
 IsName name = IsTrue (is_name name)
 

@@ -84,7 +84,7 @@ braced inner depth = codes "{\n" ++ inner false (depth + 1) ++ indented depth ++
 abbrev pub tested : List ℕ → ExprTree → Laid → ℕ → List ℕ
 tested word test body depth = word ++ expr_text test ++ codes ") " ++ braced body depth
 
--- What stands behind the closing brace of an `if`'s block; `other` lays out the statements of the `else`.
+-- What stands after the closing brace of an `if`'s block; `other` lays out the statements of the `else`.
 abbrev pub else_text : Otherwise → Laid → ℕ → List ℕ
 else_text else_is.Nothing other depth = []
 else_text else_is.Block other depth = codes " else " ++ braced other depth
@@ -158,7 +158,7 @@ abbrev pub result_text : Option TypeTree → List ℕ
 result_text None = codes "void"
 result_text (Some t) = type_text t
 
--- An item stands behind an empty line.
+-- An item stands after an empty line.
 abbrev pub item_text : ItemTree → List ℕ
 item_text (struct_item fields name) = codes "\ntypedef struct {\n" ++ fields_text fields ++ codes "} " ++ name ++ codes ";\n"
 item_text (text_item name bytes) = codes "\nstatic const char " ++ name ++ codes "[] = \"" ++ bytes ++ codes "\";\n"

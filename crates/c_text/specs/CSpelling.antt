@@ -165,12 +165,12 @@ goes_on (quoted bytes) b = false
 goes_on (operator op) b = op_goes_on op b
 goes_on (marked m) b = mark_goes_on m b
 
--- the token is the longest that can stand in front of these bytes
+-- the token is the longest that can stand before these bytes
 abbrev pub IsWhole : CToken → List ℕ → Type 0
 IsWhole t [] = ⊤
 IsWhole t (b ∷ bs) = goes_on t b ≡ false
 
--- The first token of `bytes` is `t`, and `rest` stands behind it.
+-- The first token of `bytes` is `t`, and `rest` stands after it.
 pub record ReadsToken (t : CToken) (bytes rest : List ℕ) : Type 0 where
   pub gap : List ℕ
   pub blank : IsGap gap

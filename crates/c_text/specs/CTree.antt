@@ -19,7 +19,7 @@ pub data TypeTree : Type 0 where
   struct_pointer : (name : List ℕ) → TypeTree
   text : TypeTree
 
--- An operation has two operands, and others behind them where its operator repeats.
+-- An operation has two operands, and others after them where its operator repeats.
 mutual
   pub data ExprTree : Type 0 where
     number : CNumber → ExprTree

@@ -15,7 +15,7 @@ pub record IsSound (nodes : Nodes) : Type 0 where
   pub stmts : (s : ℕ) (x : CStmt) → slice_get nodes.stmts s ≡ Some x → FitsStmt nodes s x
   pub items : (i : ℕ) (x : CItem) → slice_get nodes.items i ≡ Some x → FitsItem nodes x
 
--- Nodes were added behind those that there were.
+-- Nodes were added after those that there were.
 pub record Extends (old new : Nodes) : Type 0 where
   pub more : Nodes
   pub names : new.names ≡ old.names ++ more.names

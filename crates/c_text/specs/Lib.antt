@@ -1,3 +1,4 @@
+pub mod CBlocks
 pub mod CFits
 pub mod CGrammar
 pub mod CLayout

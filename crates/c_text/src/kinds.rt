@@ -65,7 +65,7 @@ pub enum COp {
     Either,
 }
 
-/// An operator in front of its operand (6.5.3.2, 6.5.3.3). `*` is a form of its own.
+/// An operator before its operand (6.5.3.2, 6.5.3.3). `*` is a form of its own.
 #[derive(Clone, Copy, PartialEq, Eq)]
 pub enum CUnary {
     /// `!`
@@ -87,7 +87,7 @@ pub enum Linkage {
     StaticInline,
 }
 
-/// What stands behind the block of an `if` (6.8.4.1).
+/// What stands after the block of an `if` (6.8.4.1).
 #[derive(Clone, Copy, PartialEq, Eq)]
 pub enum Otherwise {
     /// No `else`.

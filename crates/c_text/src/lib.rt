@@ -2,6 +2,7 @@
 // and the meaning of C stand in specs/; a unit is an arena of nodes, a part with a smaller number than its whole.
 #![tactic(auto)]
 
+pub mod blocks;
 pub mod ids;
 pub mod kinds;
 pub mod laws;
@@ -15,6 +16,7 @@ pub mod printing;
 pub mod tokens;
 pub mod unit;
 
+pub use blocks::Blocks;
 pub use ids::{CExprId, CItemId, CNameId, CStmtId, CStringId};
 pub use kinds::{CNumber, COp, CUint, CUnary, Linkage, Otherwise};
 pub use laws::printed_is_a_text;

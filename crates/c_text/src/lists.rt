@@ -36,10 +36,8 @@ impl<T: Drop> CList<T> {
         T: Copy,
         ensures { IfOk result (λ list. list ≡ parts.now) }
     {
-        match Vec::from_slice(alloc, parts) {
-            Ok(items) => Ok(CList { items }),
-            Err(_) => Err(NoMemory),
-        }
+        let items = Vec::from_slice(alloc, parts)?;
+        Ok(CList { items })
     }
 
     /// Adds a part at the end. After `NoMemory` the list is as before.
@@ -47,10 +45,8 @@ impl<T: Drop> CList<T> {
         ensures ok { OnOk result (self.new ≡ self.old ++ part ∷ []) }
         ensures err { OnErr result (self.new ≡ self.old) }
     {
-        match self.items.push(part) {
-            Ok(()) => Ok(()),
-            Err(_) => Err(NoMemory),
-        }
+        self.items.push(part)?;
+        Ok(())
     }
 
     /// The parts, in order.

@@ -70,7 +70,7 @@ pub enum CExpr {
         first: CExprId,
         /// The second operand.
         second: CExprId,
-        /// The operands behind the second one, in order.
+        /// The operands after the second one, in order.
         others: CList<CExprId>,
     },
     /// `(!of)`, `(~of)` or `(&of)`
@@ -143,7 +143,7 @@ pub enum CStmt {
         /// What follows.
         rest: CStmtId,
     },
-    /// `if (test) { body }`, with what `otherwise` says behind it.
+    /// `if (test) { body }`, with what `otherwise` says after it.
     If {
         /// The condition.
         test: CExprId,

@@ -38,7 +38,7 @@ fn returned<P: Pen>(u: &Unit, value: Option<CExprId>, pen: &mut P)
     }
 }
 
-/// Prints the target of a call, with a `=` behind it.
+/// Prints the target of a call, with a `=` after it.
 fn kept_in<P: Pen>(u: &Unit, target: Option<CExprId>, pen: &mut P)
     requires has { IfSome target (λ e. e.0 < length u.now.exprs) }
     requires ready { P.ready pen.old }
@@ -51,7 +51,7 @@ fn kept_in<P: Pen>(u: &Unit, target: Option<CExprId>, pen: &mut P)
     }
 }
 
-/// Answers the rest of a block behind its first statement; none at the block's end.
+/// Answers the rest of a block after its first statement; none at the block's end.
 fn rest_of(u: &Unit, s: CStmtId) -> Option<CStmtId>
     requires has { s.0 < length u.now.stmts }
     ensures { MatchOption result (code_of u.now s.0 ≡ finish) (λ rest. (rest.0 < s.0) × IsRest (code_of u.now s.0) (code_of u.now rest.0)) }
@@ -150,7 +150,7 @@ fn if_parts(u: &Unit, s: CStmtId) -> Option<(CExprId, CStmtId, Otherwise, CStmtI
     }
 }
 
-/// Prints an `if` with its block, and an `else` with what stands behind it but for a further `if`, which it
+/// Prints an `if` with its block, and an `else` with what stands after it but for a further `if`, which it
 /// answers.
 #[cycle(print_code)]
 fn branch_arm<P: Pen>(u: &Unit, s: CStmtId, depth: usize, pen: &mut P) -> Option<CStmtId>

@@ -317,7 +317,7 @@ fn operation<P: Pen>(u: &Unit, below: usize, front: FirstOperands, others: &[CEx
     pen.write(b")");
 }
 
-/// Prints further operands, each behind its operator.
+/// Prints further operands, each after its operator.
 #[cycle(print_exprs)]
 fn operands<P: Pen>(u: &Unit, below: usize, op: COp, others: &[CExprId], pen: &mut P)
     requires below { below ≤ length u.now.exprs }
@@ -365,7 +365,7 @@ fn args<P: Pen>(u: &Unit, below: usize, given: &[CArg], pen: &mut P)
     }
 }
 
-/// Prints arguments, each behind a comma.
+/// Prints arguments, each after a comma.
 #[cycle(print_exprs)]
 fn more_args<P: Pen>(u: &Unit, below: usize, others: &[CArg], pen: &mut P)
     requires below { below ≤ length u.now.exprs }

@@ -1,4 +1,4 @@
-// Prints the items of a unit, each behind an empty line.
+// Prints the items of a unit, each after an empty line.
 
 ghost use Rattle.std.specs.Prelude.{◌≡◌, ◌<◌, ◌++◌, length, map, false, codes, IfSome, slice_get};
 ghost use Rattle.std.specs.Option.{option_map};
@@ -76,7 +76,7 @@ fn param<P: Pen>(u: &Unit, param: CParam, pen: &mut P)
     pen.write(u.name(param.name));
 }
 
-/// Prints parameters, each behind a comma.
+/// Prints parameters, each after a comma.
 fn more_params<P: Pen>(u: &Unit, params: &[CParam], pen: &mut P)
     requires has { HasParams u.now params.now }
     requires ready { P.ready pen.old }
@@ -142,7 +142,7 @@ fn locals<P: Pen>(u: &Unit, locals: &[CLocal], pen: &mut P)
     }
 }
 
-/// Prints an empty line and the words in front of a function.
+/// Prints an empty line and the words before a function.
 fn linkage_words(linkage: Linkage) -> &'static [u8]
     ensures { result.now ≡ linkage_bytes linkage }
 {

@@ -165,6 +165,9 @@ impl Unit {
         ensures ok { IfOk result (λ n. AddsName self.old self.new name.now n.0) }
         ensures err { OnErr result (self.new ≡ self.old) }
     {
+        if let Some(n) = self.names.get_index_of(name) {
+            return Ok(CNameId(n));
+        }
         let Ok(owned) = Vec::from_slice(self.alloc, name) else {
             return Err(NoMemory);
         };

@@ -9,29 +9,29 @@ use Rattle.c_form.proofs.DemandLemmas.{met_length}
 use Rattle.c_form.proofs.FormLaws.{breaks_alone, breaks_asked, goes_on, no_item, all_formed, one_missing, above_zero}
 use Rattle.c_form.proofs.forming.first_break.Goals as goal
 
-pub returns-in-Ok-false : goal.returns-in-Ok-false
-returns-in-Ok-false c = breaks_alone c.args.surface.now c.args.unit.now c.loop-i.i (omega (arith, c.loop-i-test.true, c.items.ensures)) c.in-Ok-false.field-0 c.in-Ok-false.field-0-test (subst (λ (f : Front). Some c.in-Ok-false.field-0 ≡ option_map (formed_alone (front_items f) (map item_name (unit_tree f.nodes))) (slice_get (unit_tree f.nodes) c.loop-i.i)) c.loop-i.invariant.front c.in-Ok-false.ensures) c.loop-i.invariant.so_far
+pub returns-then-not-branch : goal.returns-then-not-branch
+returns-then-not-branch c = breaks_alone c.args.surface.now c.args.unit.now c.loop-i.i (omega (arith, c.loop-i-test.true, c.items.ensures)) c.in_ok-is_formed_item.field-0 c.if-not-branch.true (subst (λ (f : Front). Some c.in_ok-is_formed_item.field-0 ≡ option_map (formed_alone (front_items f) (map item_name (unit_tree f.nodes))) (slice_get (unit_tree f.nodes) c.loop-i.i)) c.loop-i.invariant.front c.in_ok-is_formed_item.ensures) c.loop-i.invariant.so_far
 
 pub are_met-requires : goal.are_met-requires
 are_met-requires c =
-    let long : length c.in-Ok-of.demands.met ≡ length c.args.unit.now.items = ap (λ (d : Tally). length d.met) c.in-Ok-of.ensures ∙ met_length c.args.surface.now c.args.unit.now in
+    let long : length c.in_ok-demands.demands.met ≡ length c.args.unit.now.items = ap (λ (d : Tally). length d.met) c.in_ok-demands.ensures ∙ met_length c.args.surface.now c.args.unit.now in
     omega (arith, long, c.loop-i-test.true, c.items.ensures)
 
 pub returns-then-not-are_met : goal.returns-then-not-are_met
-returns-then-not-are_met c = breaks_asked c.args.surface.now c.args.unit.now c.loop-i.i (omega (arith, c.loop-i-test.true, c.items.ensures)) c.in-Ok-true.field-0 c.are_met.result c.in-Ok-true.field-0-test (subst (λ (f : Front). Some c.in-Ok-true.field-0 ≡ option_map (formed_alone (front_items f) (map item_name (unit_tree f.nodes))) (slice_get (unit_tree f.nodes) c.loop-i.i)) c.loop-i.invariant.front c.in-Ok-true.ensures) (ap (λ (d : Tally). slice_get d.met c.loop-i.i) (sym c.in-Ok-of.ensures) ∙ c.are_met.ensures) c.if-not-are_met.true c.loop-i.invariant.so_far
+returns-then-not-are_met c = breaks_asked c.args.surface.now c.args.unit.now c.loop-i.i (omega (arith, c.loop-i-test.true, c.items.ensures)) c.in_ok-is_formed_item.field-0 c.are_met.result c.if-not-branch.false (subst (λ (f : Front). Some c.in_ok-is_formed_item.field-0 ≡ option_map (formed_alone (front_items f) (map item_name (unit_tree f.nodes))) (slice_get (unit_tree f.nodes) c.loop-i.i)) c.loop-i.invariant.front c.in_ok-is_formed_item.ensures) (ap (λ (d : Tally). slice_get d.met c.loop-i.i) (sym c.in_ok-demands.ensures) ∙ c.are_met.ensures) c.if-not-are_met.true c.loop-i.invariant.so_far
 
 pub loop-i-preserved : goal.loop-i-preserved
 loop-i-preserved c = record {
-  front = c.in-Ok-declare.ensures ∙ ap (λ (f : Front). record f { count = f.count + 1 }) c.loop-i.invariant.front;
+  front = c.in_ok-declare.ensures ∙ ap (λ (f : Front). record f { count = f.count + 1 }) c.loop-i.invariant.front;
   within = omega (arith, c.loop-i-test.true, c.items.ensures);
-  so_far = goes_on c.args.surface.now c.args.unit.now c.loop-i.i (omega (arith, c.loop-i-test.true, c.items.ensures)) c.in-Ok-true.field-0 c.are_met.result c.in-Ok-true.field-0-test (subst (λ (f : Front). Some c.in-Ok-true.field-0 ≡ option_map (formed_alone (front_items f) (map item_name (unit_tree f.nodes))) (slice_get (unit_tree f.nodes) c.loop-i.i)) c.loop-i.invariant.front c.in-Ok-true.ensures) (ap (λ (d : Tally). slice_get d.met c.loop-i.i) (sym c.in-Ok-of.ensures) ∙ c.are_met.ensures) c.if-not-are_met.false c.loop-i.invariant.so_far;
+  so_far = goes_on c.args.surface.now c.args.unit.now c.loop-i.i (omega (arith, c.loop-i-test.true, c.items.ensures)) c.in_ok-is_formed_item.field-0 c.are_met.result c.if-not-branch.false (subst (λ (f : Front). Some c.in_ok-is_formed_item.field-0 ≡ option_map (formed_alone (front_items f) (map item_name (unit_tree f.nodes))) (slice_get (unit_tree f.nodes) c.loop-i.i)) c.loop-i.invariant.front c.in_ok-is_formed_item.ensures) (ap (λ (d : Tally). slice_get d.met c.loop-i.i) (sym c.in_ok-demands.ensures) ∙ c.are_met.ensures) c.if-not-are_met.false c.loop-i.invariant.so_far;
 }
 
 pub returns-then-i-eq0 : goal.returns-then-i-eq0
 returns-then-i-eq0 c = no_item c.args.surface.now c.args.unit.now c.loop-i.i (omega (arith, c.loop-i-test.false, c.items.ensures)) c.loop-i.invariant.within c.if-i-eq0.true c.loop-i.invariant.so_far
 
 pub returns-then-are_complete : goal.returns-then-are_complete
-returns-then-are_complete c = all_formed c.args.surface.now c.args.unit.now c.loop-i.i (omega (arith, c.loop-i-test.false, c.items.ensures)) c.loop-i.invariant.within (above_zero c.loop-i.i c.if-i-eq0.false) (ap (λ (d : Tally). d.complete) (sym c.in-Ok-of.ensures) ∙ (sym c.are_complete.ensures ∙ c.if-are_complete.true)) c.loop-i.invariant.so_far
+returns-then-are_complete c = all_formed c.args.surface.now c.args.unit.now c.loop-i.i (omega (arith, c.loop-i-test.false, c.items.ensures)) c.loop-i.invariant.within (above_zero c.loop-i.i c.if-i-eq0.false) (ap (λ (d : Tally). d.complete) (sym c.in_ok-demands.ensures) ∙ (sym c.are_complete.ensures ∙ c.if-are_complete.true)) c.loop-i.invariant.so_far
 
 pub returns : goal.returns
-returns c = one_missing c.args.surface.now c.args.unit.now c.loop-i.i (omega (arith, c.loop-i-test.false, c.items.ensures)) c.loop-i.invariant.within (ap (λ (d : Tally). d.complete) (sym c.in-Ok-of.ensures) ∙ (sym c.are_complete.ensures ∙ c.if-are_complete.false)) c.loop-i.invariant.so_far
+returns c = one_missing c.args.surface.now c.args.unit.now c.loop-i.i (omega (arith, c.loop-i-test.false, c.items.ensures)) c.loop-i.invariant.within (ap (λ (d : Tally). d.complete) (sym c.in_ok-demands.ensures) ∙ (sym c.are_complete.ensures ∙ c.if-are_complete.false)) c.loop-i.invariant.so_far

@@ -7,11 +7,11 @@ use Rattle.c_form.specs.Items.{fields_fit}
 use Rattle.c_form.proofs.ItemLemmas.{twice_at, next_at}
 use Rattle.c_form.proofs.items.are_formed_fields.Goals as goal
 
-pub returns-in-Ok-false : goal.returns-in-Ok-false
-returns-in-Ok-false c = twice_at (structs_of (front_items c.args.front.now)) c.args.front.now.nodes c.unit-unit.result.now c.args.fields.now c.loop-field.field-index _ c.loop-field.seen (fields_fit (structs_of (front_items c.args.front.now)) [] (map (field_tree c.args.front.now.nodes.names) c.args.fields.now)) c.in-Ok-false.field-0 c.name.result.now c.loop-field-test.true c.unit-unit.ensures c.name.ensures c.in-Ok-false.ensures.fresh c.in-Ok-false.field-0-test c.loop-field.invariant.so_far
+pub returns-then-not-branch : goal.returns-then-not-branch
+returns-then-not-branch c = twice_at (structs_of (front_items c.args.front.now)) c.args.front.now.nodes c.unit-unit.result.now c.args.fields.now c.loop-field.field-index _ c.loop-field.seen (fields_fit (structs_of (front_items c.args.front.now)) [] (map (field_tree c.args.front.now.nodes.names) c.args.fields.now)) c.in_ok-add.field-0 c.name.result.now c.loop-field-test.true c.unit-unit.ensures c.name.ensures c.in_ok-add.ensures.fresh c.if-not-branch.true c.loop-field.invariant.so_far
 
 pub loop-field-preserved : goal.loop-field-preserved
 loop-field-preserved c = record {
   has = fields_rest c.args.front.now.nodes c.args.fields.now c.loop-field.field-index c.loop-field-test.true c.loop-field.invariant.has;
-  so_far = next_at (structs_of (front_items c.args.front.now)) c.args.front.now.nodes c.unit-unit.result.now c.args.fields.now c.loop-field.field-index _ c.loop-field.seen c.add.new.self (fields_fit (structs_of (front_items c.args.front.now)) [] (map (field_tree c.args.front.now.nodes.names) c.args.fields.now)) c.in-Ok-true.field-0 c.name.result.now c.loop-field-test.true c.if-not-is_formed_field.ensures c.unit-unit.ensures c.name.ensures c.in-Ok-true.ensures.fresh c.in-Ok-true.field-0-test c.in-Ok-true.ensures.added c.loop-field.invariant.so_far;
+  so_far = next_at (structs_of (front_items c.args.front.now)) c.args.front.now.nodes c.unit-unit.result.now c.args.fields.now c.loop-field.field-index _ c.loop-field.seen c.add.new.self (fields_fit (structs_of (front_items c.args.front.now)) [] (map (field_tree c.args.front.now.nodes.names) c.args.fields.now)) c.in_ok-add.field-0 c.name.result.now c.loop-field-test.true c.if-not-is_formed_field.ensures c.unit-unit.ensures c.name.ensures c.in_ok-add.ensures.fresh c.if-not-branch.false c.in_ok-add.ensures.added c.loop-field.invariant.so_far;
 }

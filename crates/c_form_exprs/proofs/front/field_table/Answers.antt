@@ -5,5 +5,5 @@ use Rattle.c_form_exprs.proofs.front.field_table.Goals as goal
 pub loop-field-preserved : goal.loop-field-preserved
 loop-field-preserved c = (
   fields_rest c.args.unit.now c.args.fields.now c.loop-field.field-index c.loop-field-test.true c.loop-field.invariant.0,
-  fields_grow c.args.unit.now c.args.fields.now c.loop-field.field-index c.loop-field.table c.add.new.self c.in-Ok.field-0 c.loop-field-test.true c.loop-field.invariant.0 c.loop-field.invariant.1 (rw (← c.name.ensures) c.in-Ok.ensures.fresh) (rw (← c.name.ensures) c.in-Ok.ensures.added),
+  fields_grow c.args.unit.now c.args.fields.now c.loop-field.field-index c.loop-field.table c.add.new.self c.in_ok-add.field-0 c.loop-field-test.true c.loop-field.invariant.0 c.loop-field.invariant.1 (rw (← c.name.ensures) c.in_ok-add.ensures.fresh) (rw (← c.name.ensures) c.in_ok-add.ensures.added),
 )

@@ -3,5 +3,5 @@ use Rattle.c_text.specs.CNodes.{code_of}
 use Rattle.c_form_stmts.proofs.CaseLemmas.{cases_formed}
 use Rattle.c_form_stmts.proofs.cases.has_formed_cases.Goals as goal
 
-pub returns-in-Ok : goal.returns-in-Ok
-returns-in-Ok c = rw (cases_formed false (code_of c.args.unit.now c.args.body.0), ← c.in-Ok.ensures.lines, ← c.as_slice.ensures.value) c.are_formed_cases.ensures
+pub returns : goal.returns
+returns c = rw (cases_formed false (code_of c.args.unit.now c.args.body.0), ← c.in_ok-listed.ensures.lines, ← c.as_slice.ensures.value) c.are_formed_cases.ensures

@@ -14,12 +14,12 @@ loop-i-init c = record {
   has = c.requires;
 }
 
-pub returns-in-Ok-false : goal.returns-in-Ok-false
-returns-in-Ok-false c = next_false (map (line_in c.args.unit.now) c.args.lines.now) (map (line_in c.args.unit.now) (drop (c.loop-i.i + 1) c.args.lines.now)) c.add_label.new.table c.loop-i.i (all_distinct (label_names (map (line_in c.args.unit.now) c.args.lines.now))) c.in-Ok-false.field-0 c.in-Ok-false.field-0-test (c.in-Ok-false.ensures (map (line_in c.args.unit.now) c.args.lines.now) (map (line_in c.args.unit.now) (drop (c.loop-i.i + 1) c.args.lines.now)) (all_distinct (label_names (map (line_in c.args.unit.now) c.args.lines.now))) (subst (λ (ls : List LineTree). Labelled (map (line_in c.args.unit.now) c.args.lines.now) ls c.loop-i.table c.loop-i.i (all_distinct (label_names (map (line_in c.args.unit.now) c.args.lines.now)))) (next_line c.args.unit.now c.args.lines.now c.loop-i.i _ c.loop-i-test.true) c.loop-i.invariant.labelled))
+pub returns-then-not-branch : goal.returns-then-not-branch
+returns-then-not-branch c = next_false (map (line_in c.args.unit.now) c.args.lines.now) (map (line_in c.args.unit.now) (drop (c.loop-i.i + 1) c.args.lines.now)) c.add_label.new.table c.loop-i.i (all_distinct (label_names (map (line_in c.args.unit.now) c.args.lines.now))) c.in_ok-add_label.field-0 c.if-not-branch.true (c.in_ok-add_label.ensures (map (line_in c.args.unit.now) c.args.lines.now) (map (line_in c.args.unit.now) (drop (c.loop-i.i + 1) c.args.lines.now)) (all_distinct (label_names (map (line_in c.args.unit.now) c.args.lines.now))) (subst (λ (ls : List LineTree). Labelled (map (line_in c.args.unit.now) c.args.lines.now) ls c.loop-i.table c.loop-i.i (all_distinct (label_names (map (line_in c.args.unit.now) c.args.lines.now)))) (next_line c.args.unit.now c.args.lines.now c.loop-i.i _ c.loop-i-test.true) c.loop-i.invariant.labelled))
 
 pub loop-i-preserved : goal.loop-i-preserved
 loop-i-preserved c = record {
-  labelled = next_true (map (line_in c.args.unit.now) c.args.lines.now) (map (line_in c.args.unit.now) (drop (c.loop-i.i + 1) c.args.lines.now)) c.add_label.new.table c.loop-i.i (all_distinct (label_names (map (line_in c.args.unit.now) c.args.lines.now))) c.in-Ok-true.field-0 c.in-Ok-true.field-0-test (c.in-Ok-true.ensures (map (line_in c.args.unit.now) c.args.lines.now) (map (line_in c.args.unit.now) (drop (c.loop-i.i + 1) c.args.lines.now)) (all_distinct (label_names (map (line_in c.args.unit.now) c.args.lines.now))) (subst (λ (ls : List LineTree). Labelled (map (line_in c.args.unit.now) c.args.lines.now) ls c.loop-i.table c.loop-i.i (all_distinct (label_names (map (line_in c.args.unit.now) c.args.lines.now)))) (next_line c.args.unit.now c.args.lines.now c.loop-i.i _ c.loop-i-test.true) c.loop-i.invariant.labelled));
+  labelled = next_true (map (line_in c.args.unit.now) c.args.lines.now) (map (line_in c.args.unit.now) (drop (c.loop-i.i + 1) c.args.lines.now)) c.add_label.new.table c.loop-i.i (all_distinct (label_names (map (line_in c.args.unit.now) c.args.lines.now))) c.in_ok-add_label.field-0 c.if-not-branch.false (c.in_ok-add_label.ensures (map (line_in c.args.unit.now) c.args.lines.now) (map (line_in c.args.unit.now) (drop (c.loop-i.i + 1) c.args.lines.now)) (all_distinct (label_names (map (line_in c.args.unit.now) c.args.lines.now))) (subst (λ (ls : List LineTree). Labelled (map (line_in c.args.unit.now) c.args.lines.now) ls c.loop-i.table c.loop-i.i (all_distinct (label_names (map (line_in c.args.unit.now) c.args.lines.now)))) (next_line c.args.unit.now c.args.lines.now c.loop-i.i _ c.loop-i-test.true) c.loop-i.invariant.labelled));
   within = omega (arith, c.loop-i-test.true);
   has = lines_rest c.args.unit.now c.args.lines.now c.loop-i.i c.loop-i-test.true c.loop-i.invariant.has;
 }

@@ -8,8 +8,8 @@ pub loop-at-init : goal.loop-at-init
 loop-at-init c =
     let first = ap (λ ls. lines_of c.args.enters false (code_of c.args.unit.now c.args.body.0) ++ left_of c.args.unit.now c.args.enters ls) c.new-left.ensures.items in
     record {
-      so_far = first_left c.args.unit.now c.args.enters c.new-listed.result.items c.put.new.left.items (lines_of c.args.enters false (code_of c.args.unit.now c.args.body.0)) c.new-listed.ensures.items (c.in-Ok.ensures.lines c.args.enters ∙ first);
-      has_left = c.in-Ok.ensures.has;
+      so_far = first_left c.args.unit.now c.args.enters c.new-listed.result.items c.put.new.left.items (lines_of c.args.enters false (code_of c.args.unit.now c.args.body.0)) c.new-listed.ensures.items (c.in_ok-put.ensures.lines c.args.enters ∙ first);
+      has_left = c.in_ok-put.ensures.has;
       has_listed = rw c.new-listed.ensures.items tt;
     }
 
@@ -22,15 +22,15 @@ list-requires-clause-left c = (popped_has c.args.unit.now c.loop-at.left.items c
 pub loop-at-smaller : goal.loop-at-smaller
 loop-at-smaller c =
     let whole : size_of c.args.unit.now c.loop-at.left.items ≡ size_of c.args.unit.now c.pop.new.self.items + line_size c.args.unit.now c.in-Some.at = put_size c.args.unit.now c.pop.new.self.items c.loop-at.left.items c.in-Some.at c.in-Some.ensures.items in
-    let falls : size_of c.args.unit.now c.list.new.left.items < size_of c.args.unit.now c.pop.new.self.items + line_size c.args.unit.now c.in-Some.at = c.in-Ok-list.ensures.falls in
+    let falls : size_of c.args.unit.now c.list.new.left.items < size_of c.args.unit.now c.pop.new.self.items + line_size c.args.unit.now c.in-Some.at = c.in_ok-list.ensures.falls in
     let less : size_of c.args.unit.now c.list.new.left.items < size_of c.args.unit.now c.loop-at.left.items = subst (λ (m : ℕ). size_of c.args.unit.now c.list.new.left.items < m) (sym whole) falls in
     less
 
 pub loop-at-preserved : goal.loop-at-preserved
 loop-at-preserved c = record {
-  so_far = listed_more c.args.unit.now c.args.enters c.loop-at.left.items c.pop.new.self.items c.list.new.left.items c.loop-at.listed.items c.list.new.listed.items c.in-Some.at (lines_of c.args.enters false (code_of c.args.unit.now c.args.body.0)) c.in-Some.ensures.items c.in-Ok-list.ensures.lines c.loop-at.invariant.so_far;
-  has_left = c.in-Ok-list.ensures.left;
-  has_listed = c.in-Ok-list.ensures.listed;
+  so_far = listed_more c.args.unit.now c.args.enters c.loop-at.left.items c.pop.new.self.items c.list.new.left.items c.loop-at.listed.items c.list.new.listed.items c.in-Some.at (lines_of c.args.enters false (code_of c.args.unit.now c.args.body.0)) c.in-Some.ensures.items c.in_ok-list.ensures.lines c.loop-at.invariant.so_far;
+  has_left = c.in_ok-list.ensures.left;
+  has_listed = c.in_ok-list.ensures.listed;
 }
 
 pub returns-clause-lines : goal.returns-clause-lines

@@ -10,7 +10,7 @@ loop-i-preserved c =
     let within : c.loop-i.i < length c.args.unit.now.items = omega (arith, c.loop-i-test.true, c.items.ensures) in
     let item : ItemTree = get_or (unit_tree c.args.unit.now) c.loop-i.i no_item in
     let is = item_here c.args.unit.now c.loop-i.i within in
-    let told = c.in-Ok.ensures (names_of c.args.kind (take c.loop-i.i (unit_tree c.args.unit.now))) (get_or (unit_tree c.args.unit.now) c.loop-i.i no_item) is c.loop-i.invariant.count c.loop-i.invariant.places in
+    let told = c.in_ok-number.ensures (names_of c.args.kind (take c.loop-i.i (unit_tree c.args.unit.now))) (get_or (unit_tree c.args.unit.now) c.loop-i.i no_item) is c.loop-i.invariant.count c.loop-i.invariant.places in
     let more = names_more c.args.kind (unit_tree c.args.unit.now) c.loop-i.i (get_or (unit_tree c.args.unit.now) c.loop-i.i no_item) is in
     record { within = omega (arith, within); count = told.0 ∙ ap length (sym more); places = subst (HasPlaces c.add_item.new.table) (sym more) told.1 }
 

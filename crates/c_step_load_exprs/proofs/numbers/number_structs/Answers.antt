@@ -9,7 +9,7 @@ pub loop-i-preserved : goal.loop-i-preserved
 loop-i-preserved c =
     let within : c.loop-i.i < length c.args.unit.now.items = omega (arith, c.loop-i-test.true, c.items.ensures) in
     let is = item_here c.args.unit.now c.loop-i.i within in
-    let told = c.in-Ok.ensures (structs_of (take c.loop-i.i (unit_tree c.args.unit.now))) (get_or (unit_tree c.args.unit.now) c.loop-i.i no_item) is c.loop-i.invariant.structs in
+    let told = c.in_ok-add_item.ensures (structs_of (take c.loop-i.i (unit_tree c.args.unit.now))) (get_or (unit_tree c.args.unit.now) c.loop-i.i no_item) is c.loop-i.invariant.structs in
     let more = structs_more (unit_tree c.args.unit.now) c.loop-i.i (get_or (unit_tree c.args.unit.now) c.loop-i.i no_item) is in
     record { within = omega (arith, within); structs = subst (HasStructs c.add_item.new.self.fields.items c.add_item.new.self.by_name) (sym more) told }
 

@@ -17,6 +17,6 @@ loop-at-preserved c =
     let here = ap (λ ps. map (place_in c.args.it.now.unit.now) ps) (unroll c.args.listed.now c.loop-at.at-index no_place within) in
     record {
       has = places_rest c.args.it.now.unit.now c.args.listed.now c.loop-at.at-index within c.loop-at.invariant.has;
-      default_so_far = default_step c.loop-at.default c.in-Ok.found (place_in c.args.it.now.unit.now (get_or c.args.listed.now c.loop-at.at-index no_place)) (map (place_in c.args.it.now.unit.now) (drop (c.loop-at.at-index + 1) c.args.listed.now)) c.in-Ok.ensures.default ∙ (ap (λ ps. first_number c.loop-at.default (first_marked by_default ps)) (sym here) ∙ c.loop-at.invariant.default_so_far);
-      arms_so_far = arms_step c.loop-at.arms.items c.add_case.new.arms.items (c.args.arms.now.items ++ cases_among (map (place_in c.args.it.now.unit.now) c.args.listed.now)) (place_in c.args.it.now.unit.now (get_or c.args.listed.now c.loop-at.at-index no_place)) (map (place_in c.args.it.now.unit.now) (drop (c.loop-at.at-index + 1) c.args.listed.now)) c.in-Ok.ensures.arms (ap (λ ps. c.loop-at.arms.items ++ cases_among ps) (sym here) ∙ c.loop-at.invariant.arms_so_far);
+      default_so_far = default_step c.loop-at.default c.in_ok-default.default (place_in c.args.it.now.unit.now (get_or c.args.listed.now c.loop-at.at-index no_place)) (map (place_in c.args.it.now.unit.now) (drop (c.loop-at.at-index + 1) c.args.listed.now)) c.in_ok-default.ensures.default ∙ (ap (λ ps. first_number c.loop-at.default (first_marked by_default ps)) (sym here) ∙ c.loop-at.invariant.default_so_far);
+      arms_so_far = arms_step c.loop-at.arms.items c.add_case.new.arms.items (c.args.arms.now.items ++ cases_among (map (place_in c.args.it.now.unit.now) c.args.listed.now)) (place_in c.args.it.now.unit.now (get_or c.args.listed.now c.loop-at.at-index no_place)) (map (place_in c.args.it.now.unit.now) (drop (c.loop-at.at-index + 1) c.args.listed.now)) c.in_ok-default.ensures.arms (ap (λ ps. c.loop-at.arms.items ++ cases_among ps) (sym here) ∙ c.loop-at.invariant.arms_so_far);
     }

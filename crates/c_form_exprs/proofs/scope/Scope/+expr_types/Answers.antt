@@ -13,10 +13,10 @@ climb-linked-requires t c =
     )
 
 pub climb-held_value-found-requires : goal.climb-held_value-found-requires
-climb-held_value-found-requires t c = climbs_held c.args.self.now.front.nodes (scope_in c.args.self.now) c.args.e c.loop-link.links.items c.pop.new.self.items c.in-Some.link c.loop-link.found c.in-Ok.held c.in-Some.ensures.items c.loop-link.invariant c.in-Ok.ensures
+climb-held_value-found-requires t c = climbs_held c.args.self.now.front.nodes (scope_in c.args.self.now) c.args.e c.loop-link.links.items c.pop.new.self.items c.in-Some.link c.loop-link.found c.in_ok-held.held c.in-Some.ensures.items c.loop-link.invariant c.in_ok-held.ensures
 
 pub climb-loop-link-preserved : goal.climb-loop-link-preserved
-climb-loop-link-preserved t c = climbs_next c.args.self.now.front.nodes (scope_in c.args.self.now) c.args.e c.loop-link.links.items c.pop.new.self.items c.in-Some.link c.loop-link.found c.held_value-found.result c.in-Ok.held c.in-Some.ensures.items c.loop-link.invariant c.in-Ok.ensures c.held_value-found.ensures
+climb-loop-link-preserved t c = climbs_next c.args.self.now.front.nodes (scope_in c.args.self.now) c.args.e c.loop-link.links.items c.pop.new.self.items c.in-Some.link c.loop-link.found c.held_value-found.result c.in_ok-held.held c.in-Some.ensures.items c.loop-link.invariant c.in_ok-held.ensures c.held_value-found.ensures
 
 pub takes-returns-then-params-given : goal.takes-returns-then-params-given
 takes-returns-then-params-given t c = takes_apart c.args.self.now.front.nodes (scope_in c.args.self.now) c.args.params.now c.args.given.now c.if-params-given.true

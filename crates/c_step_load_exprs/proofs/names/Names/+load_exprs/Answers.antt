@@ -23,55 +23,55 @@ value-linked-requires t c =
     (omega (arith, low, c.decreases), (c.requires.knows, (omega (arith, low, within), climbing_told c.args.self.now.scope.now.front.nodes (program_scope c.args.self.now.scope.now) c.args.e c.loop-link.links.items c.loop-link.found c.args.code.now.items c.loop-link.code.items c.loop-link.invariant)))
 
 pub value-loop-link-preserved : goal.value-loop-link-preserved
-value-loop-link-preserved t c = climbing_on c.args.self.now.scope.now.front.nodes (program_scope c.args.self.now.scope.now) c.args.e c.loop-link.links.items c.pop.new.self.items c.in-Some.link c.loop-link.found c.in-Ok-linked.ty c.args.code.now.items c.loop-link.code.items c.linked.new.code.items c.in-Some.ensures.items c.loop-link.invariant (λ front link told. c.in-Ok-linked.ensures.code front link told) (λ front link told. c.in-Ok-linked.ensures.ty front link told)
+value-loop-link-preserved t c = climbing_on c.args.self.now.scope.now.front.nodes (program_scope c.args.self.now.scope.now) c.args.e c.loop-link.links.items c.pop.new.self.items c.in-Some.link c.loop-link.found c.in_ok-found-2.found c.args.code.now.items c.loop-link.code.items c.linked.new.code.items c.in-Some.ensures.items c.loop-link.invariant (λ front link told. c.in_ok-found-2.ensures.code front link told) (λ front link told. c.in_ok-found-2.ensures.ty front link told)
 
 pub args-loop-i-preserved : goal.args-loop-i-preserved
 args-loop-i-preserved t c = record {
   within = omega (arith, c.loop-i-test.true);
   has = args_rest c.args.self.now.scope.now.front.nodes c.args.below c.args.given.now c.loop-i.i c.loop-i-test.true c.loop-i.invariant.has;
-  so_far = arg_passed c.args.self.now.scope.now.front.nodes (program_scope c.args.self.now.scope.now) c.args.params.now c.args.given.now c.loop-i.i c.loop-i.fits (c.loop-i.fits && c.is_given-fits.result) (passable (map (param_tree c.args.self.now.scope.now.front.nodes.names) c.args.params.now) (arg_types (program_scope c.args.self.now.scope.now) (args_in c.args.self.now.scope.now.front.nodes.names (expr_of c.args.self.now.scope.now.front.nodes) c.args.given.now))) (option_map (value_in c.args.self.now.scope.now.front.nodes.names) c.in-Ok.ty) c.is_given-fits.result c.loop-i-test.true c.in-Ok.ensures.ty.0 c.is_given-fits.ensures refl c.loop-i.invariant.so_far;
-  code_so_far = arg_put c.args.self.now.scope.now.front.nodes (program_scope c.args.self.now.scope.now) c.args.given.now c.loop-i.i c.loop-i.code.items c.arg.new.code.items (c.args.code.now.items ++ args_code (program_scope c.args.self.now.scope.now) (args_in c.args.self.now.scope.now.front.nodes.names (expr_of c.args.self.now.scope.now.front.nodes) c.args.given.now)) c.loop-i-test.true c.in-Ok.ensures.code c.loop-i.invariant.code_so_far;
+  so_far = arg_passed c.args.self.now.scope.now.front.nodes (program_scope c.args.self.now.scope.now) c.args.params.now c.args.given.now c.loop-i.i c.loop-i.fits (c.loop-i.fits && c.is_given-fits.result) (passable (map (param_tree c.args.self.now.scope.now.front.nodes.names) c.args.params.now) (arg_types (program_scope c.args.self.now.scope.now) (args_in c.args.self.now.scope.now.front.nodes.names (expr_of c.args.self.now.scope.now.front.nodes) c.args.given.now))) (option_map (value_in c.args.self.now.scope.now.front.nodes.names) c.in_ok-ty.ty) c.is_given-fits.result c.loop-i-test.true c.in_ok-ty.ensures.ty.0 c.is_given-fits.ensures refl c.loop-i.invariant.so_far;
+  code_so_far = arg_put c.args.self.now.scope.now.front.nodes (program_scope c.args.self.now.scope.now) c.args.given.now c.loop-i.i c.loop-i.code.items c.arg.new.code.items (c.args.code.now.items ++ args_code (program_scope c.args.self.now.scope.now) (args_in c.args.self.now.scope.now.front.nodes.names (expr_of c.args.self.now.scope.now.front.nodes) c.args.given.now)) c.loop-i-test.true c.in_ok-ty.ensures.code c.loop-i.invariant.code_so_far;
 }
 
 pub args-returns-clause-fits : goal.args-returns-clause-fits
 args-returns-clause-fits t c = args_passed c.args.self.now.scope.now.front.nodes (program_scope c.args.self.now.scope.now) c.args.params.now c.args.given.now c.loop-i.i c.loop-i.fits (passable (map (param_tree c.args.self.now.scope.now.front.nodes.names) c.args.params.now) (arg_types (program_scope c.args.self.now.scope.now) (args_in c.args.self.now.scope.now.front.nodes.names (expr_of c.args.self.now.scope.now.front.nodes) c.args.given.now))) (let w = c.loop-i.invariant.within in omega (arith, w, c.loop-i-test.false)) c.loop-i.invariant.so_far
 
-pub arms-returns-in-Ok-close_arms-clause-code : goal.arms-returns-in-Ok-close_arms-clause-code
-arms-returns-in-Ok-close_arms-clause-code t c =
+pub arms-returns-in_ok-close_arms-in-Some-clause-code : goal.arms-returns-in_ok-close_arms-in-Some-clause-code
+arms-returns-in_ok-close_arms-in-Some-clause-code t c =
     let told : option_map (value_in c.args.self.now.scope.now.front.nodes.names) c.common.result ≡ choice_type (type_of (program_scope c.args.self.now.scope.now) (expr_of c.args.self.now.scope.now.front.nodes c.args.met.0)) (type_of (program_scope c.args.self.now.scope.now) (expr_of c.args.self.now.scope.now.front.nodes c.args.unmet.0)) =
-    c.common.ensures.0 ∙ (ap (λ (o : Option by_name.ExprType). choice_type o (option_map (value_in c.args.self.now.scope.now.front.nodes.names) c.in-Ok-other_arm.second)) c.in-Ok-value.ensures.ty.0 ∙ ap (choice_type (type_of (program_scope c.args.self.now.scope.now) (expr_of c.args.self.now.scope.now.front.nodes c.args.met.0))) c.in-Ok-other_arm.ensures.ty.0) in
+    c.common.ensures.0 ∙ (ap (λ (o : Option by_name.ExprType). choice_type o (option_map (value_in c.args.self.now.scope.now.front.nodes.names) c.in_ok-second.second)) c.in_ok-first.ensures.ty.0 ∙ ap (choice_type (type_of (program_scope c.args.self.now.scope.now) (expr_of c.args.self.now.scope.now.front.nodes c.args.met.0))) c.in_ok-second.ensures.ty.0) in
     let type : choice_type (type_of (program_scope c.args.self.now.scope.now) (expr_of c.args.self.now.scope.now.front.nodes c.args.met.0)) (type_of (program_scope c.args.self.now.scope.now) (expr_of c.args.self.now.scope.now.front.nodes c.args.unmet.0)) ≡ Some (value_in c.args.self.now.scope.now.front.nodes.names c.in-Some.ty) = sym told ∙ ap (option_map (value_in c.args.self.now.scope.now.front.nodes.names)) c.in-Some.is in
     let from : c.len-from.result ≡ length c.args.code.now.items = omega (arith, c.len-from.ensures, c.args.code.now.ok) in
-    let size : length c.value.new.code.items ≡ length c.args.code.now.items + 1 + length (value_code (program_scope c.args.self.now.scope.now) (expr_of c.args.self.now.scope.now.front.nodes c.args.met.0)) = behind_one c.args.code.now.items c.put.new.code.items c.value.new.code.items (value_code (program_scope c.args.self.now.scope.now) (expr_of c.args.self.now.scope.now.front.nodes c.args.met.0)) does.Stuck c.in-Ok.ensures c.in-Ok-value.ensures.code in
+    let size : length c.value.new.code.items ≡ length c.args.code.now.items + 1 + length (value_code (program_scope c.args.self.now.scope.now) (expr_of c.args.self.now.scope.now.front.nodes c.args.met.0)) = behind_one c.args.code.now.items c.put.new.code.items c.value.new.code.items (value_code (program_scope c.args.self.now.scope.now) (expr_of c.args.self.now.scope.now.front.nodes c.args.met.0)) does.Stuck c.in_ok-put.ensures c.in_ok-first.ensures.code in
     let middle : c.len-middle.result ≡ length c.args.code.now.items + 1 + length (value_code (program_scope c.args.self.now.scope.now) (expr_of c.args.self.now.scope.now.front.nodes c.args.met.0)) = omega (arith, c.len-middle.ensures, c.value.new.code.ok, size) in
-    let opened = all_three c.args.code.now.items c.put.new.code.items c.value.new.code.items c.other_arm.new.code.items (does.Stuck ∷ []) (value_code (program_scope c.args.self.now.scope.now) (expr_of c.args.self.now.scope.now.front.nodes c.args.met.0)) (does.Stuck ∷ does.Stuck ∷ value_code (program_scope c.args.self.now.scope.now) (expr_of c.args.self.now.scope.now.front.nodes c.args.unmet.0)) c.in-Ok.ensures c.in-Ok-value.ensures.code c.in-Ok-other_arm.ensures.code in
+    let opened = all_three c.args.code.now.items c.put.new.code.items c.value.new.code.items c.other_arm.new.code.items (does.Stuck ∷ []) (value_code (program_scope c.args.self.now.scope.now) (expr_of c.args.self.now.scope.now.front.nodes c.args.met.0)) (does.Stuck ∷ does.Stuck ∷ value_code (program_scope c.args.self.now.scope.now) (expr_of c.args.self.now.scope.now.front.nodes c.args.unmet.0)) c.in_ok-put.ensures c.in_ok-first.ensures.code c.in_ok-second.ensures.code in
     subst (λ (o : Option by_name.ExprType). PutsArms c.args.code.now.items c.close_arms.new.code.items (value_code (program_scope c.args.self.now.scope.now) (expr_of c.args.self.now.scope.now.front.nodes c.args.met.0)) (value_code (program_scope c.args.self.now.scope.now) (expr_of c.args.self.now.scope.now.front.nodes c.args.unmet.0)) o) (sym type)
-    (c.in-Ok-close_arms.ensures c.args.self.now.scope.now.front.nodes.names (type_of (program_scope c.args.self.now.scope.now) (expr_of c.args.self.now.scope.now.front.nodes c.args.met.0)) (type_of (program_scope c.args.self.now.scope.now) (expr_of c.args.self.now.scope.now.front.nodes c.args.unmet.0)) c.args.code.now.items (value_code (program_scope c.args.self.now.scope.now) (expr_of c.args.self.now.scope.now.front.nodes c.args.met.0)) (value_code (program_scope c.args.self.now.scope.now) (expr_of c.args.self.now.scope.now.front.nodes c.args.unmet.0)) type opened from middle)
+    (c.in_ok-close_arms-in-Some.ensures c.args.self.now.scope.now.front.nodes.names (type_of (program_scope c.args.self.now.scope.now) (expr_of c.args.self.now.scope.now.front.nodes c.args.met.0)) (type_of (program_scope c.args.self.now.scope.now) (expr_of c.args.self.now.scope.now.front.nodes c.args.unmet.0)) c.args.code.now.items (value_code (program_scope c.args.self.now.scope.now) (expr_of c.args.self.now.scope.now.front.nodes c.args.met.0)) (value_code (program_scope c.args.self.now.scope.now) (expr_of c.args.self.now.scope.now.front.nodes c.args.unmet.0)) type opened from middle)
 
-pub call-returns-in-Ok-put-clause-code : goal.call-returns-in-Ok-put-clause-code
-call-returns-in-Ok-put-clause-code t c =
-    let given = rw c.as_slice.ensures at c.in-Ok.ensures.code in
+pub call-returns-clause-code : goal.call-returns-clause-code
+call-returns-clause-code t c =
+    let given = rw c.as_slice.ensures at c.in_ok-fits.ensures.code in
     let called : call_code (function_number (program_scope c.args.self.now.scope.now).functions (bytes_at c.args.self.now.scope.now.front.nodes.names c.args.it.now.function.0)) (arg_count (args_in c.args.self.now.scope.now.front.nodes.names (expr_of c.args.self.now.scope.now.front.nodes) c.args.it.now.args)) ≡ c.call.result ∷ [] =
     ap (λ (o : Option ℕ). call_code o (arg_count (args_in c.args.self.now.scope.now.front.nodes.names (expr_of c.args.self.now.scope.now.front.nodes) c.args.it.now.args))) (sym c.function_number-function.ensures)
-    ∙ (ap (call_code c.function_number-function.result) (args_counted c.args.self.now.scope.now.front.nodes c.args.it.now.args ∙ sym (ap length c.as_slice-in-Ok.ensures)) ∙ c.call.ensures) in
+    ∙ (ap (call_code c.function_number-function.result) (args_counted c.args.self.now.scope.now.front.nodes c.args.it.now.args ∙ sym (ap length c.as_slice-2.ensures)) ∙ c.call.ensures) in
     both c.args.code.now.items c.args-2.new.code.items c.put.new.code.items (args_code (program_scope c.args.self.now.scope.now) (args_in c.args.self.now.scope.now.front.nodes.names (expr_of c.args.self.now.scope.now.front.nodes) c.args.it.now.args)) (call_code (function_number (program_scope c.args.self.now.scope.now).functions (bytes_at c.args.self.now.scope.now.front.nodes.names c.args.it.now.function.0)) (arg_count (args_in c.args.self.now.scope.now.front.nodes.names (expr_of c.args.self.now.scope.now.front.nodes) c.args.it.now.args))) given
-    (c.in-Ok-put.ensures ∙ ap (λ (us : List Instr). c.args-2.new.code.items ++ us) (sym called))
+    (c.in_ok-put.ensures ∙ ap (λ (us : List Instr). c.args-2.new.code.items ++ us) (sym called))
 
-pub call-returns-in-Ok-put-clause-ty : goal.call-returns-in-Ok-put-clause-ty
-call-returns-in-Ok-put-clause-ty t c =
-    let whole : c.in-Ok.fits ≡ passable (map (param_tree c.args.self.now.scope.now.front.nodes.names) c.match-head.params.now) (arg_types (program_scope c.args.self.now.scope.now) (args_in c.args.self.now.scope.now.front.nodes.names (expr_of c.args.self.now.scope.now.front.nodes) c.args.it.now.args)) = rw c.as_slice.ensures at c.in-Ok.ensures.fits in
+pub call-returns-clause-ty : goal.call-returns-clause-ty
+call-returns-clause-ty t c =
+    let whole : c.in_ok-fits.fits ≡ passable (map (param_tree c.args.self.now.scope.now.front.nodes.names) c.match-head.params.now) (arg_types (program_scope c.args.self.now.scope.now) (args_in c.args.self.now.scope.now.front.nodes.names (expr_of c.args.self.now.scope.now.front.nodes) c.args.it.now.args)) = rw c.as_slice.ensures at c.in_ok-fits.ensures.fits in
     c.called.ensures (function_named (program_scope c.args.self.now.scope.now).functions (bytes_at c.args.self.now.scope.now.front.nodes.names c.args.it.now.function.0)) (arg_types (program_scope c.args.self.now.scope.now) (args_in c.args.self.now.scope.now.front.nodes.names (expr_of c.args.self.now.scope.now.front.nodes) c.args.it.now.args)) c.function-head.ensures
     (elim c.match-head.branch [ call-in-Some w ↦ rw w.in-Some.is (rw w.params-is at whole) | call-in-None w ↦ rw w.in-None.is tt ])
 
-pub operation-returns-in-Ok-operand-clause-code : goal.operation-returns-in-Ok-operand-clause-code
-operation-returns-in-Ok-operand-clause-code t c =
-    let object : c.is_object.result ≡ is_object_pointer (type_of (program_scope c.args.self.now.scope.now) (expr_of c.args.self.now.scope.now.front.nodes c.args.two.0.0)) = c.is_object.ensures c.args.self.now.scope.now.front.nodes.names ∙ ap is_object_pointer c.in-Ok.ensures.ty.0 in
-    rw (sym object) (on_ok c.operands.result _ _ (λ h. all_three c.args.code.now.items c.value.new.code.items c.operand.new.code.items c.operands.new.code.items (value_code (program_scope c.args.self.now.scope.now) (expr_of c.args.self.now.scope.now.front.nodes c.args.two.0.0)) (operator_code (combination_of c.args.op) c.is_object.result c.args.op (value_code (program_scope c.args.self.now.scope.now) (expr_of c.args.self.now.scope.now.front.nodes c.args.two.1.0))) (operands_code (program_scope c.args.self.now.scope.now) (combination_of c.args.op) c.is_object.result c.args.op (operands_in (expr_of c.args.self.now.scope.now.front.nodes) c.args.others.now)) c.in-Ok.ensures.code c.in-Ok-operand.ensures.code h) c.operands.ensures.code)
+pub operation-returns-clause-code : goal.operation-returns-clause-code
+operation-returns-clause-code t c =
+    let object : c.is_object.result ≡ is_object_pointer (type_of (program_scope c.args.self.now.scope.now) (expr_of c.args.self.now.scope.now.front.nodes c.args.two.0.0)) = c.is_object.ensures c.args.self.now.scope.now.front.nodes.names ∙ ap is_object_pointer c.in_ok-first.ensures.ty.0 in
+    rw (sym object) (on_ok c.operands.result _ _ (λ h. all_three c.args.code.now.items c.value.new.code.items c.operand.new.code.items c.operands.new.code.items (value_code (program_scope c.args.self.now.scope.now) (expr_of c.args.self.now.scope.now.front.nodes c.args.two.0.0)) (operator_code (combination_of c.args.op) c.is_object.result c.args.op (value_code (program_scope c.args.self.now.scope.now) (expr_of c.args.self.now.scope.now.front.nodes c.args.two.1.0))) (operands_code (program_scope c.args.self.now.scope.now) (combination_of c.args.op) c.is_object.result c.args.op (operands_in (expr_of c.args.self.now.scope.now.front.nodes) c.args.others.now)) c.in_ok-first.ensures.code c.in_ok-second.ensures.code h) c.operands.ensures.code)
 
-pub place-returns-in-Ok-value-2-clause-held : goal.place-returns-in-Ok-value-2-clause-held
-place-returns-in-Ok-value-2-clause-held t c = rw (c.expr.ensures.tree, c.in-Index.is) (rw c.in-Ok-value-2.ensures.ty.0 at c.element_place.ensures.held)
+pub place-returns-in_ok-ty-in-Index-clause-held : goal.place-returns-in_ok-ty-in-Index-clause-held
+place-returns-in_ok-ty-in-Index-clause-held t c = rw (c.expr.ensures.tree, c.in-Index.is) (rw c.in_ok-ty-in-Index.ensures.ty.0 at c.element_place.ensures.held)
 
-pub unary-returns-in-Ok-put-clause-code : goal.unary-returns-in-Ok-put-clause-code
-unary-returns-in-Ok-put-clause-code t c =
-    let at : address_code (held_of (program_scope c.args.self.now.scope.now) (expr_of c.args.self.now.scope.now.front.nodes c.args.of.0)) ≡ c.address.result ∷ [] = ap address_code (sym c.in-Ok-place.ensures.held.0) ∙ c.address.ensures c.args.self.now.scope.now.front.nodes.names in
-    rw c.in-Address.is (both c.args.code.now.items c.place.new.code.items c.put.new.code.items (place_code (program_scope c.args.self.now.scope.now) (expr_of c.args.self.now.scope.now.front.nodes c.args.of.0)) (address_code (held_of (program_scope c.args.self.now.scope.now) (expr_of c.args.self.now.scope.now.front.nodes c.args.of.0))) c.in-Ok-place.ensures.code (c.in-Ok-put.ensures ∙ ap (λ (us : List Instr). c.place.new.code.items ++ us) (sym at)))
+pub unary-returns-in_ok-put-in-Address-clause-code : goal.unary-returns-in_ok-put-in-Address-clause-code
+unary-returns-in_ok-put-in-Address-clause-code t c =
+    let at : address_code (held_of (program_scope c.args.self.now.scope.now) (expr_of c.args.self.now.scope.now.front.nodes c.args.of.0)) ≡ c.address.result ∷ [] = ap address_code (sym c.in_ok-held-in-Address.ensures.held.0) ∙ c.address.ensures c.args.self.now.scope.now.front.nodes.names in
+    rw c.in-Address.is (both c.args.code.now.items c.place.new.code.items c.put.new.code.items (place_code (program_scope c.args.self.now.scope.now) (expr_of c.args.self.now.scope.now.front.nodes c.args.of.0)) (address_code (held_of (program_scope c.args.self.now.scope.now) (expr_of c.args.self.now.scope.now.front.nodes c.args.of.0))) c.in_ok-held-in-Address.ensures.code (c.in_ok-put-in-Address.ensures ∙ ap (λ (us : List Instr). c.place.new.code.items ++ us) (sym at)))

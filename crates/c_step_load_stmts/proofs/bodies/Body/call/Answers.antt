@@ -8,5 +8,5 @@ use Rattle.c_step_load_stmts.specs.Tasks.{finished}
 use Rattle.c_step_load_stmts.proofs.StepLemmas.{call_step}
 use Rattle.c_step_load_stmts.proofs.bodies.Body.call.Goals as goal
 
-pub returns-in-Ok-call_instr-clause-lays : goal.returns-in-Ok-call_instr-clause-lays
-returns-in-Ok-call_instr-clause-lays c = λ names tells. on_ok c.lay_one.result _ (finished (nodes_of c.args.self.now) names c.lay_one.new.work.text c.lay_one.new.work.left.items ≡ finished (nodes_of c.args.self.now) names (with_code names c.args.work.now.text c.args.at.number c.args.at.next (call (value_in (expr_of (nodes_of c.args.self.now)) c.args.target) (bytes_at (nodes_of c.args.self.now).names c.args.it.now.function.0) (args_in (nodes_of c.args.self.now).names (expr_of (nodes_of c.args.self.now)) c.args.it.now.args) (code_of (nodes_of c.args.self.now) c.args.rest.0))) c.args.work.now.left.items) (λ h. h ∙ ap (λ (t : FlatText). finished (nodes_of c.args.self.now) names t c.args.work.now.left.items) (call_step names c.args.work.now.text c.call_instr.new.text c.in-Ok-call_instr.it c.in-Ok.next c.args.at.number c.args.at.next (code_of (nodes_of c.args.self.now) c.args.rest.0) (value_in (expr_of (nodes_of c.args.self.now)) c.args.target) (bytes_at (nodes_of c.args.self.now).names c.args.it.now.function.0) (args_in (nodes_of c.args.self.now).names (expr_of (nodes_of c.args.self.now)) c.args.it.now.args) (c.in-Ok-call_instr.ensures.text names tells) (c.in-Ok-call_instr.ensures.instr names tells) c.in-Ok.ensures)) (c.lay_one.ensures.lays names)
+pub returns-clause-lays : goal.returns-clause-lays
+returns-clause-lays c = λ names tells. on_ok c.lay_one.result _ (finished (nodes_of c.args.self.now) names c.lay_one.new.work.text c.lay_one.new.work.left.items ≡ finished (nodes_of c.args.self.now) names (with_code names c.args.work.now.text c.args.at.number c.args.at.next (call (value_in (expr_of (nodes_of c.args.self.now)) c.args.target) (bytes_at (nodes_of c.args.self.now).names c.args.it.now.function.0) (args_in (nodes_of c.args.self.now).names (expr_of (nodes_of c.args.self.now)) c.args.it.now.args) (code_of (nodes_of c.args.self.now) c.args.rest.0))) c.args.work.now.left.items) (λ h. h ∙ ap (λ (t : FlatText). finished (nodes_of c.args.self.now) names t c.args.work.now.left.items) (call_step names c.args.work.now.text c.call_instr.new.text c.in_ok-it.it c.in_ok-next.next c.args.at.number c.args.at.next (code_of (nodes_of c.args.self.now) c.args.rest.0) (value_in (expr_of (nodes_of c.args.self.now)) c.args.target) (bytes_at (nodes_of c.args.self.now).names c.args.it.now.function.0) (args_in (nodes_of c.args.self.now).names (expr_of (nodes_of c.args.self.now)) c.args.it.now.args) (c.in_ok-it.ensures.text names tells) (c.in_ok-it.ensures.instr names tells) c.in_ok-next.ensures)) (c.lay_one.ensures.lays names)

@@ -8,5 +8,5 @@ use Rattle.c_step_load_stmts.specs.Tasks.{finished}
 use Rattle.c_step_load_stmts.proofs.StepLemmas.{leave_step}
 use Rattle.c_step_load_stmts.proofs.bodies.Body.give.Goals as goal
 
-pub returns-in-Ok-clause-lays : goal.returns-in-Ok-clause-lays
-returns-in-Ok-clause-lays c = λ names tells. on_ok c.lay_one.result _ (finished (nodes_of c.args.self.now) names c.lay_one.new.work.text c.lay_one.new.work.left.items ≡ finished (nodes_of c.args.self.now) names (with_code names c.args.work.now.text c.args.at.number c.args.at.next (leave (value_in (expr_of (nodes_of c.args.self.now)) c.args.value) (code_of (nodes_of c.args.self.now) c.args.rest.0))) c.args.work.now.left.items) (λ h. h ∙ ap (λ (t : FlatText). finished (nodes_of c.args.self.now) names t c.args.work.now.left.items) (leave_step names c.args.work.now.text c.give_instr.new.text c.in-Ok.it c.args.at.number c.args.at.next (code_of (nodes_of c.args.self.now) c.args.rest.0) (value_in (expr_of (nodes_of c.args.self.now)) c.args.value) (c.in-Ok.ensures.text names tells) (c.in-Ok.ensures.instr names tells))) (c.lay_one.ensures.lays names)
+pub returns-clause-lays : goal.returns-clause-lays
+returns-clause-lays c = λ names tells. on_ok c.lay_one.result _ (finished (nodes_of c.args.self.now) names c.lay_one.new.work.text c.lay_one.new.work.left.items ≡ finished (nodes_of c.args.self.now) names (with_code names c.args.work.now.text c.args.at.number c.args.at.next (leave (value_in (expr_of (nodes_of c.args.self.now)) c.args.value) (code_of (nodes_of c.args.self.now) c.args.rest.0))) c.args.work.now.left.items) (λ h. h ∙ ap (λ (t : FlatText). finished (nodes_of c.args.self.now) names t c.args.work.now.left.items) (leave_step names c.args.work.now.text c.give_instr.new.text c.in_ok-it.it c.args.at.number c.args.at.next (code_of (nodes_of c.args.self.now) c.args.rest.0) (value_in (expr_of (nodes_of c.args.self.now)) c.args.value) (c.in_ok-it.ensures.text names tells) (c.in_ok-it.ensures.instr names tells))) (c.lay_one.ensures.lays names)

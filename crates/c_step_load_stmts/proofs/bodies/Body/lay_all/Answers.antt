@@ -13,6 +13,6 @@ work_on-requires-clause-it c = (has_last (nodes_of c.args.self.now) c.pop.new.se
 pub loop-task-smaller : goal.loop-task-smaller
 loop-task-smaller c =
     let whole : size_of (nodes_of c.args.self.now) c.loop-task.work.left.items ≡ size_of (nodes_of c.args.self.now) c.pop.new.self.items + task_size (nodes_of c.args.self.now) c.in-Some.task = one_size (nodes_of c.args.self.now) c.pop.new.self.items c.loop-task.work.left.items c.in-Some.task c.in-Some.ensures.items in
-    let falls : size_of (nodes_of c.args.self.now) c.work_on.new.work.left.items < size_of (nodes_of c.args.self.now) c.pop.new.self.items + task_size (nodes_of c.args.self.now) c.in-Some.task = c.in-Ok-work_on.ensures.falls in
+    let falls : size_of (nodes_of c.args.self.now) c.work_on.new.work.left.items < size_of (nodes_of c.args.self.now) c.pop.new.self.items + task_size (nodes_of c.args.self.now) c.in-Some.task = c.in_ok-work_on.ensures.falls in
     let less : size_of (nodes_of c.args.self.now) c.work_on.new.work.left.items < size_of (nodes_of c.args.self.now) c.loop-task.work.left.items = subst (λ (m : ℕ). size_of (nodes_of c.args.self.now) c.work_on.new.work.left.items < m) (sym whole) falls in
     less

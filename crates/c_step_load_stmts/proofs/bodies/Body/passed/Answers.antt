@@ -8,5 +8,5 @@ use Rattle.c_step_load_stmts.specs.Tasks.{finished}
 use Rattle.c_step_load_stmts.proofs.StepLemmas.{empty_step}
 use Rattle.c_step_load_stmts.proofs.bodies.Body.passed.Goals as goal
 
-pub returns-in-Ok-clause-lays : goal.returns-in-Ok-clause-lays
-returns-in-Ok-clause-lays c = λ names tells. on_ok c.lay_one.result _ (finished (nodes_of c.args.self.now) names c.lay_one.new.work.text c.lay_one.new.work.left.items ≡ finished (nodes_of c.args.self.now) names (with_code names c.args.work.now.text c.args.at.number c.args.at.next (empty (code_of (nodes_of c.args.self.now) c.args.rest.0))) c.args.work.now.left.items) (λ h. h ∙ ap (λ (t : FlatText). finished (nodes_of c.args.self.now) names t c.args.work.now.left.items) (empty_step names c.args.work.now.text c.in-Ok.next c.args.at.number c.args.at.next (code_of (nodes_of c.args.self.now) c.args.rest.0) c.in-Ok.ensures)) (c.lay_one.ensures.lays names)
+pub returns-clause-lays : goal.returns-clause-lays
+returns-clause-lays c = λ names tells. on_ok c.lay_one.result _ (finished (nodes_of c.args.self.now) names c.lay_one.new.work.text c.lay_one.new.work.left.items ≡ finished (nodes_of c.args.self.now) names (with_code names c.args.work.now.text c.args.at.number c.args.at.next (empty (code_of (nodes_of c.args.self.now) c.args.rest.0))) c.args.work.now.left.items) (λ h. h ∙ ap (λ (t : FlatText). finished (nodes_of c.args.self.now) names t c.args.work.now.left.items) (empty_step names c.args.work.now.text c.in_ok-next.next c.args.at.number c.args.at.next (code_of (nodes_of c.args.self.now) c.args.rest.0) c.in_ok-next.ensures)) (c.lay_one.ensures.lays names)

@@ -9,9 +9,9 @@ use Rattle.c_step_load_stmts.specs.Tasks.{HasTasks, size_of}
 use Rattle.c_step_load_stmts.proofs.TaskLemmas.{three_has, three_size}
 use Rattle.c_step_load_stmts.proofs.bodies.Body.repeat.Goals as goal
 
-pub returns-in-Ok-put-clause-has : goal.returns-in-Ok-put-clause-has
-returns-in-Ok-put-clause-has c = on_ok c.leave_loop.result (c.leave_loop.new.work.left.items ≡ c.args.work.now.left.items ++ task.Code c.args.rest c.in-Ok.block.past c.args.at.next ∷ task.Instr (Back c.in-Ok-put_value.span c.go-met.result c.in-Ok.block.after) ∷ task.Code c.args.body c.in-Ok.block.inside c.in-Ok-second.number ∷ []) (HasTasks (nodes_of c.args.self.now) c.leave_loop.new.work.left.items) (λ h. three_has (nodes_of c.args.self.now) c.args.work.now.left.items c.leave_loop.new.work.left.items (task.Code c.args.rest c.in-Ok.block.past c.args.at.next) (task.Instr (Back c.in-Ok-put_value.span c.go-met.result c.in-Ok.block.after)) (task.Code c.args.body c.in-Ok.block.inside c.in-Ok-second.number) h c.requires.left c.requires.rest tt c.requires.body) c.leave_loop.ensures.left
+pub returns-clause-has : goal.returns-clause-has
+returns-clause-has c = on_ok c.leave_loop.result (c.leave_loop.new.work.left.items ≡ c.args.work.now.left.items ++ task.Code c.args.rest c.in_ok-block.block.past c.args.at.next ∷ task.Instr (Back c.in_ok-test.test c.go-met.result c.in_ok-block.block.after) ∷ task.Code c.args.body c.in_ok-block.block.inside c.in_ok-end.end ∷ []) (HasTasks (nodes_of c.args.self.now) c.leave_loop.new.work.left.items) (λ h. three_has (nodes_of c.args.self.now) c.args.work.now.left.items c.leave_loop.new.work.left.items (task.Code c.args.rest c.in_ok-block.block.past c.args.at.next) (task.Instr (Back c.in_ok-test.test c.go-met.result c.in_ok-block.block.after)) (task.Code c.args.body c.in_ok-block.block.inside c.in_ok-end.end) h c.requires.left c.requires.rest tt c.requires.body) c.leave_loop.ensures.left
 
-pub returns-in-Ok-put-clause-falls : goal.returns-in-Ok-put-clause-falls
-returns-in-Ok-put-clause-falls c = on_ok c.leave_loop.result (c.leave_loop.new.work.left.items ≡ c.args.work.now.left.items ++ task.Code c.args.rest c.in-Ok.block.past c.args.at.next ∷ task.Instr (Back c.in-Ok-put_value.span c.go-met.result c.in-Ok.block.after) ∷ task.Code c.args.body c.in-Ok.block.inside c.in-Ok-second.number ∷ []) (size_of (nodes_of c.args.self.now) c.leave_loop.new.work.left.items < size_of (nodes_of c.args.self.now) c.args.work.now.left.items + (2 * (code_weight (code_of (nodes_of c.args.self.now) c.args.body.0) + code_weight (code_of (nodes_of c.args.self.now) c.args.rest.0) + 2) + 1))
-    (λ h. let s : size_of (nodes_of c.args.self.now) c.leave_loop.new.work.left.items ≡ size_of (nodes_of c.args.self.now) c.args.work.now.left.items + (2 * code_weight (code_of (nodes_of c.args.self.now) c.args.rest.0) + 1) + 1 + (2 * code_weight (code_of (nodes_of c.args.self.now) c.args.body.0) + 1) = three_size (nodes_of c.args.self.now) c.args.work.now.left.items c.leave_loop.new.work.left.items (task.Code c.args.rest c.in-Ok.block.past c.args.at.next) (task.Instr (Back c.in-Ok-put_value.span c.go-met.result c.in-Ok.block.after)) (task.Code c.args.body c.in-Ok.block.inside c.in-Ok-second.number) h in omega (arith, s)) c.leave_loop.ensures.left
+pub returns-clause-falls : goal.returns-clause-falls
+returns-clause-falls c = on_ok c.leave_loop.result (c.leave_loop.new.work.left.items ≡ c.args.work.now.left.items ++ task.Code c.args.rest c.in_ok-block.block.past c.args.at.next ∷ task.Instr (Back c.in_ok-test.test c.go-met.result c.in_ok-block.block.after) ∷ task.Code c.args.body c.in_ok-block.block.inside c.in_ok-end.end ∷ []) (size_of (nodes_of c.args.self.now) c.leave_loop.new.work.left.items < size_of (nodes_of c.args.self.now) c.args.work.now.left.items + (2 * (code_weight (code_of (nodes_of c.args.self.now) c.args.body.0) + code_weight (code_of (nodes_of c.args.self.now) c.args.rest.0) + 2) + 1))
+    (λ h. let s : size_of (nodes_of c.args.self.now) c.leave_loop.new.work.left.items ≡ size_of (nodes_of c.args.self.now) c.args.work.now.left.items + (2 * code_weight (code_of (nodes_of c.args.self.now) c.args.rest.0) + 1) + 1 + (2 * code_weight (code_of (nodes_of c.args.self.now) c.args.body.0) + 1) = three_size (nodes_of c.args.self.now) c.args.work.now.left.items c.leave_loop.new.work.left.items (task.Code c.args.rest c.in_ok-block.block.past c.args.at.next) (task.Instr (Back c.in_ok-test.test c.go-met.result c.in_ok-block.block.after)) (task.Code c.args.body c.in_ok-block.block.inside c.in_ok-end.end) h in omega (arith, s)) c.leave_loop.ensures.left
