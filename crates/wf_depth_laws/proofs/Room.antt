@@ -25,7 +25,7 @@ abbrev pub Fits : (r : ℕ) → List Token → Type 0
 Fits r [] = Unit {0}
 Fits r (t ∷ ts) = (is_opening t.kind ≡ true → 1 ≤ r) × Fits (behind_opening (is_opening t.kind) (behind_closing (is_closing t.kind) r)) ts
 
--- Behind a closing bracket there is the same room as before the opening one.
+-- After a closing bracket there is the same room as before the opening one.
 pub shut : (r : ℕ) (rest : List Token) → 1 ≤ r → Fits (suc (r - 1)) rest → Fits r rest
 shut r rest l h =
     let same : suc (r - 1) ≡ r = omega (arith, l) in

@@ -3,7 +3,7 @@ use Rattle.std.specs.Prelude.{◌-◌, ℕ, Bool, true, false, ◌&&◌, nat_le}
 use Rattle.wf_ast.specs.ParsedTree.{ExprTree, index, slice, answer, chain, convert, negation, PartTree, absent, present, LinkTrees, no_link, link, GivenTrees, no_given, more_given, CallTree, call}
 use Rattle.wf_ast.specs.ParsedTree.{TargetTree, to_path, to_element, StmtTree, assign, keep, do_call, branch, loop, back, BlockTree, close, more_stmts, ArmTrees, no_else, otherwise, arm, DeclTree, method}
 
--- Where an expression stands: by itself, beside the sign of an operator or in front of `as`, or behind `not`.
+-- Where an expression stands: by itself, beside the sign of an operator or before `as`, or after `not`.
 pub data Spot : Type 0 where
   alone : Spot
   beside_sign : Spot

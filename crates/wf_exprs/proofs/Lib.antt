@@ -1,3 +1,4 @@
 pub mod Growing
 pub mod Prefixes
 pub mod RatedLaws
+pub mod SpeltLaws

@@ -24,7 +24,16 @@ pub fn put_spelt(alloc: Global, u: &mut Unit, begin: &[u8], end: &[u8]) -> Resul
     ensures grows { Grows u.old u.new }
     ensures made { IfOk result (λ n. HasNamed u.new n.0 (begin.now ++ end.now)) }
 {
-    let mut text = Vec::new(alloc);
+    // A short name is put together without memory of its own.
+    let count = begin.len() + end.len();
+    let mut short = [0; 40];
+    if count <= 40 {
+        let (front, back) = short.split_at_mut(begin.len());
+        front.copy_from_slice(begin);
+        back[..end.len()].copy_from_slice(end);
+        return put_name(u, &short[..count]);
+    }
+    let mut text = Vec::with_capacity(alloc, count)?;
     text.extend_from_slice(begin)?;
     text.extend_from_slice(end)?;
     put_name(u, text.as_slice())

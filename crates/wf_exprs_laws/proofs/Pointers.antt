@@ -127,7 +127,7 @@ held-one : (memory : Memory) (t : tree.TypeTree) (o : Option Pointer) → held_v
 held-one memory t None = refl
 held-one memory t (Some p) = refl
 
--- `p[i]` is the cell that stands i cells behind p.
+-- `p[i]` is the cell that stands i cells after p.
 pub element-number : (x : Surroundings) (pointer index : ExprTree) (bits : ℕ) → is_width bits ≡ true → (v : Value) (ty : CTy) (k n : ℕ) → GivesPointer x pointer bits v → IsNumber x index ty k
     → cell_behind x.memory v k ≡ Some (numeric (number (calculated bits) n)) → n < 2 ^ bits → IsNumber x (tree.element pointer index) (calculated bits) n
 element-number x pointer index bits w (address p) ty k n h g e small =

@@ -63,7 +63,7 @@ pub record GivesStatus (x : Surroundings) (e : ExprTree) (n : ℕ) : Type 0 wher
   pub value : c.value x e ≡ Some at
   pub same : IsStatusValue x n at
 
--- The cell that stands so many cells behind a pointer.
+-- The cell that stands so many cells after a pointer.
 abbrev pub cell_behind : Memory → Value → (k : ℕ) → Option Value
 cell_behind memory (address p) k = option_and_then (loaded memory) (offset memory p (pos k))
 cell_behind memory v k = None

@@ -146,7 +146,7 @@ code_as a code other (Err refused) same h = h
 pub code_kept : {a b : Nodes} (s : ℕ) (code : Code) → Grows a b → HasCode a s code → HasCode b s code
 code_kept s code g h = record { there = g.more_stmts s h.there; is = g.stmts s h.there ∙ h.is }
 
--- A helper is put behind the items that there were.
+-- A helper is put after the items that there were.
 pub helper_put : (a b c : Nodes) (it other : ItemTree) (r : Result (Unit {0}) NoMemory) → IsSound a → Grows a b → it ≡ other → IfOk r (λ _. GrowsBy (it ∷ []) b c) → IfOk r (λ _. GrowsBy (other ∷ []) a c)
 helper_put a b c it other (Ok u) sound g same h = by_as a c it other same (by_after a b c (it ∷ []) sound g h)
 helper_put a b c it other (Err refused) sound g same h = h

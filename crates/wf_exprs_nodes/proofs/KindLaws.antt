@@ -20,13 +20,13 @@ use Rattle.wf_ast.proofs.Arena.{both_true}
 use Rattle.wf_exprs.specs.Making.{is_number_at, is_condition_at}
 use Rattle.wf_exprs_nodes.specs.Trees.{answers_number, answers_truth, gives_flag, is_arithmetic, is_joining, is_num, is_ordering}
 
--- A chain that gives a number is arithmetic, and has at least two operands, which are numbers that stand in front of it.
+-- A chain that gives a number is arithmetic, and has at least two operands, which are numbers that stand before it.
 pub record IsOfNumbers (nodes : TypedNodes) (sort : Sort) (es : List ExprId) : Type 0 where
   pub arithmetic_sort : is_arithmetic sort ≡ true
   pub numbers : list_all (is_number_at nodes) es ≡ true
   pub some : 1 < length es
 
--- And one of conditions has conditions in front of it.
+-- And one of conditions has conditions before it.
 pub record IsOfConditions (nodes : TypedNodes) (es : List ExprId) : Type 0 where
   pub conditions : list_all (is_condition_at nodes) es ≡ true
   pub some : 1 < length es

@@ -6,7 +6,7 @@ use Rattle.c_text.specs.declared.kinds.COp.TheVariants.{Add, Lt, Gt}
 use Rattle.c_text.specs.declared.kinds.Linkage.TheVariants.{StaticInline}
 use Rattle.wf_exprs.specs.Words.{num, two, uint_of}
 
--- Its text has these items behind those that it had, and what stood in it stays, under its numbers.
+-- Its text has these items after those that it had, and what stood in it stays, under its numbers.
 pub record GrowsBy (added : List ItemTree) (old new : Nodes) : Type 0 where
   pub more_names : (n : ℕ) → n < length old.names → n < length new.names
   pub more_exprs : (e : ℕ) → e < length old.exprs → e < length new.exprs

@@ -82,7 +82,7 @@ abbrev pub chain_on : Names → Sort → (bits : ℕ) → Rated → List NumTree
 chain_on names sort bits left [] = left
 chain_on names sort bits left (t ∷ ts) = chain_on names sort bits (rated (linked_by sort bits left (lowered names t)) (calculated bits)) ts
 
--- The operands of one operation behind the second.
+-- The operands of one operation after the second.
 abbrev pub numbers_behind : Names → List NumTree → Operands
 numbers_behind names [] = no_operand
 numbers_behind names (t ∷ ts) = operand (lowered_expr names t) (numbers_behind names ts)
@@ -98,7 +98,7 @@ HasOperands nodes (e ∷ es) (operand t ts) = HasExpr nodes e.0 t × HasOperands
 HasOperands nodes [] (operand t ts) = ⊥
 HasOperands nodes (e ∷ es) no_operand = ⊥
 
--- The end of a part stands in front of it, and is a number.
+-- The end of a part stands before it, and is a number.
 abbrev pub end_fits : TypedNodes → (e : ExprId) → Option ExprId → Bool
 end_fits nodes e None = true
 end_fits nodes e (Some i) = nat_lt i.0 e.0 && is_number_at nodes i

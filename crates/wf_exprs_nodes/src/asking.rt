@@ -23,39 +23,6 @@ use wf_exprs::{Rated, Scope};
 use wf_num::CTy;
 use wf_text::NoMemory;
 
-/// The argument that a reader or a writer is, by its number.
-pub fn io_arg(t: &Typed, on: ExprId) -> u32
-    requires on { IsTrue (is_expr t.now on) }
-    requires kind { IsTrue (is_io (type_of_node t.now on.0)) }
-    ensures { result ≡ io_in (tree_of t.now on) }
-{
-    let expr = t.expr(on);
-    match t.constant(on) {
-        Some(_) => unreachable!(),
-        None => match expr {
-            Expr::Arg(x) => named_io(t, on, *x),
-            Expr::Number(_) | Expr::Const(_) | Expr::Status(_) => unreachable!(),
-            Expr::Truth(_) | Expr::Local(_) | Expr::Field(_) => unreachable!(),
-            Expr::Index { .. } | Expr::Cut { .. } | Expr::Chain { .. } => unreachable!(),
-            Expr::Convert { .. } | Expr::Not(_) | Expr::Base { .. } => unreachable!(),
-        },
-    }
-}
-
-fn named_io(t: &Typed, on: ExprId, x: ArgId) -> u32
-    requires on { IsTrue (is_expr t.now on) }
-    requires kind { IsTrue (is_io (type_of_node t.now on.0)) }
-    requires tree { tree_of t.now on ≡ named (place_of_node t.now on.0) (type_of_node t.now on.0) (arg x.0) }
-    ensures { result ≡ io_in (tree_of t.now on) }
-{
-    match t.type_of(on) {
-        Ty::Reader => x.0,
-        Ty::Writer => x.0,
-        Ty::Num { .. } | Ty::Flag | Ty::Status => unreachable!(),
-        Ty::Slice(_) | Ty::Array { .. } | Ty::Part(_) => unreachable!(),
-    }
-}
-
 /// How many bytes of a reader are unread, or can still be written to a writer: `(e_src - p_src)`.
 pub fn there(scope: &Scope, u: &mut Unit, a: u32) -> Result<CExprId, NoMemory>
     ensures grows { Grows u.old u.new }

@@ -92,17 +92,12 @@ pub(crate) fn number_operation(
     ensures grows { Grows u.old u.new }
     ensures made { IfOk result (λ it. HasRated u.new it (rated (c.operation (c_op (sort_of op)) (balanced_code (bits_of width) (rated_in u.old first) (rated_in u.old second)) (expr_of u.old second.code.0) (operands_in (expr_of u.old) others)) (calculated_of (bits_of width)))) }
 {
-    let left = match balanced(u, width, first, second) {
-        Ok(left) => left,
-        Err(refused) => return Err(refused),
-    };
-    match operation(u, op, left, second.code, others) {
-        Ok(code) => Ok(Rated {
-            code,
-            ty: calculated(width),
-        }),
-        Err(refused) => Err(refused),
-    }
+    let left = balanced(u, width, first, second)?;
+    let code = operation(u, op, left, second.code, others)?;
+    Ok(Rated {
+        code,
+        ty: calculated(width),
+    })
 }
 
 /// Two numbers of this width with an operator between them.

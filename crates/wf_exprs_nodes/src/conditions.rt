@@ -17,13 +17,12 @@ ghost use Rattle.wf_exprs.specs.Scopes.{path_of};
 ghost use Rattle.wf_exprs.specs.Words.{num, two as two_trees};
 ghost use Rattle.wf_exprs_nodes.specs.Trees.{answers_truth, is_equal, is_joining, is_ordering, node_cond, node_number, node_status, order_in};
 
-use crate::asking::io_arg;
 use crate::chains::{joins, operation};
 use crate::numbers::number;
 use crate::statuses::{is_constant, is_of_category, status};
 use c_text::{CExprId, CList, COp, Unit};
 use std::alloc::Global;
-use wf_ast::{Expr, ExprId, Op, Ty, Typed};
+use wf_ast::{Expr, ExprId, Op, Ty, Typed, io_arg};
 use wf_base::BaseSig;
 use wf_exprs::nodes::{is_held, is_literal, negated, two};
 use wf_exprs::rated::op_of;
@@ -320,7 +319,9 @@ fn answer(
     ensures made { IfOk result (λ it. HasExpr u.new it.0 (lowered_cond scope.now.names (node_cond scope.now.nodes e))) }
 {
     match sig {
-        BaseSig::ReaderIsClosed => { scope.buffer_member(u, io_arg(scope.typed(), on), b"closed") }
+        BaseSig::ReaderIsClosed => {
+            scope.buffer_member(u, io_arg(scope.typed(), on).0, b"closed")
+        }
         BaseSig::IsOk => is_of(scope, u, on, Category::Fine),
         BaseSig::IsNote => is_of(scope, u, on, Category::Note),
         BaseSig::IsSuspension => is_of(scope, u, on, Category::Suspension),

@@ -180,8 +180,6 @@ pub fn put_item(u: &mut Unit, x: CItem) -> Result<(), NoMemory>
     ensures { IfOk result (λ _. GrowsBy (made_item u.old x ∷ []) u.old u.new) }
 {
     u.is_sound();
-    match u.add_item(x) {
-        Ok(_) => Ok(()),
-        Err(refused) => Err(refused),
-    }
+    u.add_item(x)?;
+    Ok(())
 }

@@ -15,11 +15,11 @@ ghost use Rattle.wf_exprs.specs.Words.{literal as literal_of, num};
 ghost use Rattle.wf_num.specs.declared.c_arithmetic.CTy.TheVariants.{Int};
 ghost use Rattle.wf_exprs_nodes.specs.Trees.{answers_number, end_fits, is_arithmetic, node_number, node_slice, repeats as repeats_sort};
 
-use crate::asking::{bytes_left, io_arg, peek, position};
+use crate::asking::{bytes_left, peek, position};
 use crate::chains::{link, number_operation, repeats};
 use crate::parts::{Cells, part};
 use c_text::{CExpr, CExprId, CList, Unit};
-use wf_ast::{Expr, ExprId, Op, Ty, Typed};
+use wf_ast::{Expr, ExprId, Op, Ty, Typed, io_arg};
 use wf_base::{BaseSig, Width};
 use wf_exprs::nodes::{element, literal, put};
 use wf_exprs::rated::{calculated, converted, literal_type};
@@ -239,11 +239,11 @@ fn answer(
     match sig {
         BaseSig::SliceLength(_) => length_of(scope, u, e, on),
         BaseSig::ArrayLength(_) => length_of(scope, u, e, on),
-        BaseSig::ReaderLength => bytes_left(scope, u, io_arg(scope.typed(), on)),
-        BaseSig::WriterLength => bytes_left(scope, u, io_arg(scope.typed(), on)),
-        BaseSig::ReaderPosition => position(scope, u, io_arg(scope.typed(), on)),
-        BaseSig::WriterPosition => position(scope, u, io_arg(scope.typed(), on)),
-        BaseSig::Peek(form) => peek(scope, u, io_arg(scope.typed(), on), form),
+        BaseSig::ReaderLength => bytes_left(scope, u, io_arg(scope.typed(), on).0),
+        BaseSig::WriterLength => bytes_left(scope, u, io_arg(scope.typed(), on).0),
+        BaseSig::ReaderPosition => position(scope, u, io_arg(scope.typed(), on).0),
+        BaseSig::WriterPosition => position(scope, u, io_arg(scope.typed(), on).0),
+        BaseSig::Peek(form) => peek(scope, u, io_arg(scope.typed(), on).0, form),
         BaseSig::ReaderIsClosed | BaseSig::Read(_) | BaseSig::Skip => unreachable!(),
         BaseSig::SkipFast | BaseSig::Write | BaseSig::WriteFast => unreachable!(),
         BaseSig::WriterCopy | BaseSig::SliceCopy(_) | BaseSig::IsOk => unreachable!(),

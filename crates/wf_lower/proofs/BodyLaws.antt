@@ -10,7 +10,7 @@ use Rattle.c_text.specs.declared.nodes.CLocal.{CLocal}
 use Rattle.c_text.specs.declared.nodes.CParam.{CParam}
 use Rattle.c_text.specs.CFits.{HasLocals, HasParams}
 use Rattle.c_text.specs.CGrammar.{is_finish}
-use Rattle.c_text.specs.CNodes.{Nodes, bytes_at, code_of, expr_of, local_tree, param_tree}
+use Rattle.c_text.specs.CNodes.{Nodes, bytes_at, code_of, expr_of, local_tree}
 use Rattle.c_text.specs.CTree.{ExprTree, variable, ParamTree, LocalTree, Code, finish, nested, empty, assign, call, jump, branch, repeat, select, leave, case_label, default_label, name_label}
 use Rattle.wf_exprs.specs.Exprs.{lowered_cond}
 use Rattle.wf_exprs.specs.Grown.{Grows, HasCode, HasExpr}

@@ -55,7 +55,7 @@ stands_there (x ∷ xs) (suc i) d h = stands_there xs i d (omega (arith, h))
 pub arg_named : (nodes : TypedNodes) (ys xs : List Var) (i : ℕ) (d : Var) → ys ≡ xs → are_named nodes xs ≡ true → i < length ys → is_named nodes (get_or ys i d) ≡ true
 arg_named nodes ys xs i d e h l = list_all-at (is_named nodes) ys i (get_or ys i d) (ap (are_named nodes) e ∙ h) (stands_there ys i d l)
 
--- Tests that a unit has, it has while it grows, and one more behind them.
+-- Tests that a unit has, it has while it grows, and one more after them.
 tests_there : (a b : Nodes) (es : List CExprId) → Grows a b → HasExprs (length a.exprs) es → HasExprs (length b.exprs) es
 tests_there a b [] g h = h
 tests_there a b (e ∷ es) g h = (g.more_exprs e.0 h.0, tests_there a b es g h.1)

@@ -21,7 +21,7 @@ use Rattle.wf_base.specs.BaseTable.{bits_of}
 use Rattle.c_text.specs.declared.ids.CNameId.{CNameId}
 use Rattle.c_text.specs.declared.kinds.CNumber.{CNumber}
 use Rattle.c_text.specs.declared.kinds.CUint.{CUint}
-use Rattle.c_text.specs.declared.kinds.CUint.TheVariants.{U8, U16, U64}
+use Rattle.c_text.specs.declared.kinds.CUint.TheVariants.{U16}
 use Rattle.c_text.specs.declared.nodes.CType.{CType}
 use Rattle.c_text.specs.declared.nodes.CType.TheVariants as type
 use Rattle.c_text.specs.declared.nodes.CFieldType.TheVariants as held
@@ -32,7 +32,7 @@ use Rattle.c_text.specs.CNodes.{Nodes, bytes_at, type_in, field_tree}
 use Rattle.c_text.specs.CSpelling.{IsLiteral}
 use Rattle.c_text.specs.CTree.{TypeTree, uint, plain, FieldTree, struct_item}
 use Rattle.wf_exprs.specs.Grown.{Grows, HasNamed}
-use Rattle.wf_exprs.specs.Names.{point_field, saved_field, held_field, count_field}
+use Rattle.wf_exprs.specs.Names.{point_field, saved_field}
 use Rattle.wf_exprs.specs.Words.{literal, width_of}
 use Rattle.wf_lower_stmts.specs.Forms.{is_kept}
 use Rattle.wf_lower.specs.Made.{AddsFields, HasFieldTree, HasFieldTrees, HasItemTree, IsPlain}

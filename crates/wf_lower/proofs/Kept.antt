@@ -14,7 +14,7 @@ use Rattle.c_text.specs.declared.nodes.CParam.{CParam}
 use Rattle.c_text.specs.declared.nodes.CLocal.{CLocal}
 use Rattle.c_text.specs.declared.nodes.CItem.{CItem}
 use Rattle.c_text.specs.declared.nodes.CItem.TheVariants as item
-use Rattle.c_text.specs.CFits.{HasArg, HasArgs, HasType, HasFieldType, HasField, HasFields, HasParam, HasParams, HasLocal, HasLocals, FitsItem}
+use Rattle.c_text.specs.CFits.{HasArg, HasArgs, HasType, HasFieldType, HasField, HasFields, HasParam, HasParams, HasLocal, HasLocals}
 use Rattle.c_text.specs.CNodes.{Nodes, args_in, bytes_at, type_in, expr_of, code_of, value_in, field_kind, field_tree, param_tree, local_tree, made_item}
 use Rattle.c_text.specs.CTree.{Args, expr_arg, sizeof_arg, TypeTree, struct_pointer, ExprTree, FieldKind, plain, inside, FieldTree, ParamTree, LocalTree, ItemTree, struct_item, text_item, function_item}
 use Rattle.wf_exprs.specs.Grown.{Grows}
@@ -234,7 +234,7 @@ module _ (nodes : Nodes) where
   pub functions_pushed : {ps : List CItem} {ts : List ItemTree} {p : CItem} {t : ItemTree} → HasFunctionTrees nodes ps ts → HasFunctionTree nodes p t → HasFunctionTrees nodes (ps ++ p ∷ []) (ts ++ t ∷ [])
   functions_pushed {ps} {ts} {p} {t} h k = record { there = functions_last ps p h.there k.there; are = map_last (made_item nodes) ps p ts t h.are k.is }
 
--- Whatever list the unit had, it has with these behind it.
+-- Whatever list the unit had, it has with these after it.
 nil : {A : Type 0} (xs : List A) → xs ≡ xs ++ []
 nil [] = refl
 nil (x ∷ xs) = ap (λ ys. x ∷ ys) (nil xs)

@@ -1,23 +1,22 @@
 -- What lowering makes of a list of the source is made item by item.
-use Rattle.std.proofs.Common.{◌≡◌, ◌∙◌, ap, sym, ℕ, zero, suc, Bool, true, false, ◌&&◌, if◌then◌else◌, List, [], ◌∷◌, ◌++◌, map, refl, codes}
+use Rattle.std.proofs.Common.{◌≡◌, ◌∙◌, ap, sym, ℕ, suc, Bool, true, false, ◌&&◌, if◌then◌else◌, List, [], ◌∷◌, ◌++◌, map, refl, codes}
 use Rattle.std.specs.Prelude.{nat_eq}
 use Rattle.wf_ast.specs.declared.declarations.Var.{Var}
 use Rattle.wf_ast.specs.declared.types.Ty.{Ty}
 use Rattle.wf_ast.specs.declared.types.Ty.TheVariants as types
 use Rattle.wf_ast.specs.declared.typed_nodes.TypedNodes.{TypedNodes}
-use Rattle.wf_ast.specs.TypedPackage.{Variable, MethodTree, PackageTree, kind_of, variable_of}
+use Rattle.wf_ast.specs.TypedPackage.{MethodTree, PackageTree, kind_of, variable_of}
 use Rattle.wf_ast.specs.WellTyped.{is_coroutine}
 use Rattle.c_text.proofs.Trees.{append_nil}
 use Rattle.c_text.specs.CTree.{Code, FieldTree, ParamTree, LocalTree, ItemTree, text_item}
 use Rattle.c_meaning.specs.UnitForm.{arg_params, args_params}
-use Rattle.wf_exprs.specs.Names.{status_name, saved_field}
+use Rattle.wf_exprs.specs.Names.{status_name}
 use Rattle.wf_exprs.specs.Reads.{code_reads}
 use Rattle.wf_lower_stmts.specs.Forms.{Form, is_io, is_kept}
 use Rattle.wf_lower.specs.Bodies.{bytes_locals, io_locals, local_of, locals_of, only_read, public_args}
-use Rattle.wf_lower.specs.Locals.{bytes_in, place_locals}
 use Rattle.wf_lower.specs.Made.{bytes_read}
 use Rattle.wf_lower.specs.Structs.{kept_of, method_fields, typed_field}
-use Rattle.wf_lower.specs.Unit.{coroutine_fields, field, is_used, kept_fields, kept_type, methods_fields, source_field, used_texts}
+use Rattle.wf_lower.specs.Unit.{coroutine_fields, is_used, kept_fields, methods_fields, source_field, used_texts}
 
 pub front_nil : {A : Type 0} (xs ys : List A) → xs ++ ys ≡ (xs ++ []) ++ ys
 front_nil xs ys = ap (λ l. l ++ ys) (sym (append_nil xs))

@@ -110,7 +110,7 @@ abbrev pub body_function : Form → ItemTree
 body_function f =
     function_item Static (result_of f.method) (body_name f.within f.method) (params_of f.within f.method) (body_locals f) (touched (own_names f) (body_code f) (body_code f))
 
--- The entry: the table's rows in order, and behind them the body. `life` is 0 for raw, 1 for ready, 2 for disabled, and
+-- The entry: the table's rows in order, and after them the body. `life` is 0 for raw, 1 for ready, 2 for disabled, and
 -- `active` is 0 where no coroutine is active, else one more than its method's number.
 abbrev pub refused_with : AnswerKind → (status : ℕ) → Option ExprTree
 refused_with surface.status n = Some (status_constant n)
@@ -169,7 +169,7 @@ when_other n m rest = if is_coroutine m.mark then when (two Both active (two Ne 
 abbrev pub table : (number : ℕ) → MethodTree → (rest : Code) → Code
 table n m rest = when (unary Not self) (refuse m bad_receiver) (when (two Eq (num 0) life) (refuse m not_initialized) (when_disabled m (when_wrong m (when_other n m rest))))
 
--- Behind the body of a coroutine: a suspension makes it active, every other end leaves none active, and an error disables.
+-- After the body of a coroutine: a suspension makes it active, every other end leaves none active, and an error disables.
 abbrev pub first_is : (byte : ℕ) → ExprTree
 first_is byte = two Eq (num byte) (element status_local (num 0))
 

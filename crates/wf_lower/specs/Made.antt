@@ -100,7 +100,7 @@ pub record HasFunctionTrees (nodes : Nodes) (functions : List CItem) (trees : Li
   pub there : FitFunctions nodes functions
   pub are : item_trees nodes functions ≡ trees
 
--- Whatever list the unit had, it has with these behind it.
+-- Whatever list the unit had, it has with these after it.
 abbrev pub AddsParams : (old new : Nodes) → (before after : List CParam) → List ParamTree → Type 0
 AddsParams old new before after added = (so_far : List ParamTree) → HasParamTrees old before so_far → HasParamTrees new after (so_far ++ added)
 

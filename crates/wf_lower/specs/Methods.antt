@@ -51,7 +51,7 @@ pub record HasTests (nodes : Nodes) (tests : List CExprId) (trees : List ExprTre
   pub there : HasExprs (length nodes.exprs) tests
   pub are : test_trees nodes tests ≡ trees
 
--- Whatever tests the unit had, it has with these behind them.
+-- Whatever tests the unit had, it has with these after them.
 abbrev pub AddsTests : (old new : Nodes) → (before after : List CExprId) → List ExprTree → Type 0
 AddsTests old new before after added = (so_far : List ExprTree) → HasTests old before so_far → HasTests new after (so_far ++ added)
 

@@ -1,5 +1,5 @@
 -- The whole text of a package: the io buffer, the structs, the statuses and helpers that are used, and the functions, each
--- behind those that it calls.
+-- after those that it calls.
 use Rattle.std.specs.Prelude.{ℕ, zero, suc, Bool, false, if◌then◌else◌, nat_eq, List, [], ◌∷◌, ◌++◌, length, None, Some, slice_get, codes}
 use Rattle.std.specs.List.{list_any}
 use Rattle.wf_base.specs.BaseTable.{bits_of}
@@ -70,7 +70,7 @@ methods_fields s (m ∷ ms) = if nat_eq m.of s then coroutine_fields m ++ method
 abbrev pub struct_fields : PackageTree → (s : ℕ) → List FieldTree
 struct_fields p s = field (uint U8) (codes "life") ∷ field (uint U32) (codes "active") ∷ source_fields p (fields_of p s) ++ methods_fields s p.methods
 
--- The structs in the order of the text: each behind those that its fields hold. No struct holds itself, so there are at
+-- The structs in the order of the text: each after those that its fields hold. No struct holds itself, so there are at
 -- most as many levels as structs.
 abbrev pub is_placed : List ℕ → ℕ → Bool
 is_placed placed s = list_any (nat_eq s) placed

@@ -95,10 +95,8 @@ fn add_initialize(
 fn put_into(items: &mut Vec<CItem>, item: CItem) -> Result<(), NoMemory>
     ensures { OnOk result (items.new.items ≡ items.old.items ++ item ∷ []) }
 {
-    match items.push(item) {
-        Ok(()) => Ok(()),
-        Err(_) => Err(NoMemory),
-    }
+    items.push(item)?;
+    Ok(())
 }
 
 fn add_all_initialize(

@@ -41,10 +41,8 @@ impl Walk {
         ensures placed { self.new.placed ≡ self.old.placed }
         ensures order { self.new.order ≡ self.old.order }
     {
-        match self.stack.push(o) {
-            Ok(()) => Ok(()),
-            Err(_) => Err(NoMemory),
-        }
+        self.stack.push(o)?;
+        Ok(())
     }
 
     /// A struct is opened, unless it is placed.
@@ -86,10 +84,8 @@ impl Walk {
         ensures order { OnOk result (self.new.order.items ≡ self.old.order.items ++ s ∷ []) }
     {
         self.placed[s as usize] = true;
-        match self.order.push(s) {
-            Ok(()) => Ok(()),
-            Err(_) => Err(NoMemory),
-        }
+        self.order.push(s)?;
+        Ok(())
     }
 
     /// The open struct's next field is looked at.

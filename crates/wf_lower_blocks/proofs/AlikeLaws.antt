@@ -1,14 +1,11 @@
 -- Statements that write to targets that are alike are alike.
-use Rattle.std.proofs.Common.{◌≡◌, ℕ, Bool, true, false, List, Option, Some, None, refl, sym, ap, ◌∙◌, if◌then◌else◌, codes}
-use Rattle.wf_text.specs.declared.place.Place.{Place}
-use Rattle.wf_base.specs.declared.marks.Mark.{Mark}
+use Rattle.std.proofs.Common.{◌≡◌, ℕ, List, Option, Some, None, refl}
 use Rattle.wf_base.specs.declared.base_methods.ReadForm.TheVariants as reads
-use Rattle.wf_base.specs.BaseTable.{bytes_of, read_width}
 use Rattle.wf_ast.specs.TypedPackage.{MethodTree}
 use Rattle.wf_ast.specs.TypedTree.{ValueTree, Target, Awaited, take_number, skip, write, Written, skip_fast, write_fast, copy_to_writer, copy_to_slice, Called}
 use Rattle.wf_lower_stmts.specs.BodyNodes.{AreAlike}
 use Rattle.wf_lower_stmts.specs.Forms.{Form, held_local, size_local}
-use Rattle.wf_lower_stmts.specs.Statements.{put_into, next_byte, step_on, is_wanted, answer_local, awoken_call, lower_written, lower_call, put_result}
+use Rattle.wf_lower_stmts.specs.Statements.{next_byte, step_on, answer_local, awoken_call, lower_written, lower_call, put_result}
 use Rattle.c_text.specs.CTree.{ExprTree, Code}
 use Rattle.wf_exprs.specs.Words.{num}
 use Rattle.wf_exprs.specs.Names.{Names}

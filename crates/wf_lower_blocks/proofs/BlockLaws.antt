@@ -43,7 +43,7 @@ drop_item [] i d h = absurd (omega (arith, h))
 drop_item (x ∷ xs) zero d h = refl
 drop_item (x ∷ xs) (suc i) d h = drop_item xs i d (omega (arith, h))
 
--- An `if` by its first arm, and what stands behind an arm by the next one.
+-- An `if` by its first arm, and what stands after an arm by the next one.
 pub if_first : (nodes : TypedNodes) (s : StmtId) (arms : List Arm) (other : Option resolved.Block) (after : Block) (d : Arm) → 0 < length arms
     → if_in nodes s arms other after ≡ choose (site_at nodes s) false (node_cond nodes (get_or arms 0 d).cond) (block_of nodes (get_or arms 0 d).body) (others_in nodes s (drop 1 arms) other) after
 if_first nodes s [] other after d h = absurd (omega (arith, h))
@@ -54,7 +54,7 @@ pub other_next : (nodes : TypedNodes) (s : StmtId) (arms : List Arm) (other : Op
 other_next nodes s arms other i d h = ap (λ l. others_in nodes s l other) (drop_item arms i d h)
 
 module _ (nodes : TypedNodes) (f : Form) (numbers : List (Option ℕ)) where
-  -- One more statement in front of those that are lowered.
+  -- One more statement before those that are lowered.
   pub block_step : {a b : Nodes} {code it : ℕ} (ss : List StmtId) (left i : ℕ) (d : StmtId) (tail : Code) → suc i ≡ left → left ≤ length ss
       → HasCode a code (lower f (points_by numbers) (block_made (onto (stmt_makers nodes)) (drop left ss)) tail)
       → ((after : Block) (t : Code) → code_of a code ≡ lower f (points_by numbers) after t → HasCode b it (lower f (points_by numbers) (onto (stmt_makers nodes) (get_or ss i d) after) t))
@@ -114,7 +114,7 @@ module _ (nodes : TypedNodes) (f : Form) (numbers : List (Option ℕ)) where
   block_none (s ∷ ss) zero h k = absurd (omega (arith, h))
   block_none (s ∷ ss) (suc left) h k = block_none ss left (omega (arith, h)) k
 
-  -- An arm in front of what stands behind it.
+  -- An arm before what stands after it.
   abbrev arm_code : Arm → Otherwise → (other rest : Code) → Code
   arm_code arm kind other rest = branch (lowered_cond f.names (node_cond nodes arm.cond)) (lower f (points_by numbers) (block_of nodes arm.body) finish) kind other rest
 
@@ -168,7 +168,7 @@ module _ (nodes : TypedNodes) (f : Form) (numbers : List (Option ℕ)) where
       let P : List Arm → Type 0 = λ l. HasCode u rest (lower f (points_by numbers) (if_in nodes s l other after) tail) in
       subst P (sym none) (record { there = known; is = is })
 
--- A block with a statement stands behind `else` as a block.
+-- A block with a statement stands after `else` as a block.
 kind_made : (nodes : TypedNodes) (look : StmtId → Block → Block) (n : ℕ) (at inner : Place) (st : Stmt) (rest : Block) → other_kind (stmt_made nodes (tree_of nodes) look n (record { stmt = st; at = at; inner = inner }) rest) ≡ else_is.Block
 kind_made nodes look n at inner (stmts.Assign target op value) rest = refl
 kind_made nodes look n at inner (stmts.Call target keep callee given) rest = refl

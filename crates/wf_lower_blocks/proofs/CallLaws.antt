@@ -1,5 +1,5 @@
 -- What a call is passed, what it is named and what takes its answer, while the unit grows.
-use Rattle.std.proofs.Common.{◌≡◌, ◌∙◌, ◌&&◌, ℕ, zero, suc, ◌<◌, ◌≤◌, ◌+◌, Bool, true, false, List, [], ◌∷◌, ◌++◌, length, map, take, Option, None, Some, Result, Ok, Err, IfOk, OnOk, get_or, if◌then◌else◌, refl, sym, ap, subst, arith, append_assoc, nat_lt}
+use Rattle.std.proofs.Common.{◌≡◌, ◌∙◌, ℕ, zero, suc, ◌<◌, ◌≤◌, ◌+◌, Bool, true, false, List, [], ◌∷◌, ◌++◌, length, map, take, Option, None, Some, Result, Ok, Err, IfOk, OnOk, get_or, if◌then◌else◌, refl, sym, ap, subst, arith, append_assoc}
 use Rattle.std.specs.Prelude.{slice_get, unwrap_or, IfSome}
 use Rattle.std.specs.List.{list_all}
 use Rattle.std.proofs.lemmas.Bool.Decides.{nat_tests}
@@ -15,7 +15,7 @@ use Rattle.wf_ast.specs.declared.types.Ty.{Ty}
 use Rattle.wf_ast.specs.declared.types.Ty.TheVariants as types
 use Rattle.wf_ast.specs.TypedInvariant.{IsTyped, is_expr, is_io, is_list, is_logical, is_numeric, is_state, is_tree_of}
 use Rattle.wf_ast.specs.TypedPackage.{MethodTree, package_of, method_of}
-use Rattle.wf_ast.specs.TypedTree.{ValueTree, numeric, logical, state, elements, io, lost, Called, Target}
+use Rattle.wf_ast.specs.TypedTree.{ValueTree, numeric, logical, state, elements, io, Called, Target}
 use Rattle.wf_ast.specs.TypedTrees.{num_in, cond_in, status_in, slice_in, io_in, tree_of, type_of_node}
 use Rattle.wf_ast.specs.WellTyped.{number_of}
 use Rattle.wf_ast.proofs.Accessors.{tree_kind}
@@ -25,10 +25,10 @@ use Rattle.c_text.specs.declared.ids.CExprId.{CExprId}
 use Rattle.c_text.specs.declared.ids.CNameId.{CNameId}
 use Rattle.c_text.specs.declared.nodes.CArg.{CArg}
 use Rattle.c_text.specs.declared.nodes.CArg.TheVariants as arg
-use Rattle.c_text.specs.CFits.{HasArg, HasArgs, HasTarget}
+use Rattle.c_text.specs.CFits.{HasArgs, HasTarget}
 use Rattle.c_text.specs.CGrammar.{is_lvalue}
 use Rattle.c_text.specs.CNodes.{Nodes, args_in, bytes_at, code_of, expr_of, value_in}
-use Rattle.c_text.specs.CTree.{ExprTree, Args, no_arg, expr_arg, sizeof_arg, Code}
+use Rattle.c_text.specs.CTree.{ExprTree, Args, no_arg, expr_arg, sizeof_arg}
 use Rattle.c_text.specs.CTree as c
 use Rattle.wf_exprs.specs.Exprs.{given, io_code, lowered_cond, lowered_slice, lowered_status}
 use Rattle.wf_exprs.specs.Grown.{Grows, HasCode, HasExpr, HasNamed}

@@ -1,20 +1,24 @@
 -- What a call comes to is lowered as its statement is.
-use Rattle.std.proofs.Common.{◌≡◌, ◌∙◌, ap, sym, subst, refl, ℕ, ◌<◌, true, false, Bool, Option, None, Some, Result, Ok, Err, IfOk, List, length, if◌then◌else◌, nat_lt, arith}
-use Rattle.std.specs.Prelude.{slice_get, unwrap_or}
+use Rattle.std.proofs.Common.{◌≡◌, ◌∙◌, ap, sym, subst, refl, ℕ, ◌<◌, ◌≤◌, true, Bool, Option, Some, Result, Ok, Err, IfOk, List, [], ◌∷◌, length, if◌then◌else◌, nat_lt, arith}
+use Rattle.std.specs.Prelude.{slice_get, slice_index_or, unwrap_or}
 use Rattle.std.proofs.lemmas.Bool.Decides.{nat_tests}
 use Rattle.wf_text.specs.declared.faults.NoMemory.{NoMemory}
 use Rattle.wf_text.specs.declared.place.Place.{Place}
+use Rattle.wf_base.specs.declared.base_methods.BaseSig.{BaseSig}
+use Rattle.wf_base.specs.declared.base_methods.BaseSig.TheVariants as sigs
 use Rattle.wf_ast.specs.declared.numbers.ExprId.{ExprId}
 use Rattle.wf_ast.specs.declared.typed_nodes.TypedNodes.{TypedNodes}
 use Rattle.wf_ast.specs.TypedInvariant.{IsTyped}
-use Rattle.wf_ast.specs.TypedTree.{lost, ValueTree, Target, Awaited, Written, Called, Simple, assign, await, perform, invoke, break_from, continue_in, give_back, yield, claim}
+use Rattle.wf_ast.specs.TypedTree.{lost, ValueTree, Target, Awaited, skip_fast, Called, Simple, await, perform, invoke, give_back}
 use Rattle.wf_ast.specs.TypedPackage.{MethodTree, package_of}
+use Rattle.wf_ast.specs.TypedTrees.{base_call, io_in}
 use Rattle.wf_ast.specs.WellTyped.{number_of}
 use Rattle.wf_ast.proofs.Accessors.{there}
 use Rattle.c_text.specs.declared.ids.CStmtId.{CStmtId}
 use Rattle.c_text.specs.CNodes.{Nodes}
 use Rattle.c_text.specs.CTree.{Code}
 use Rattle.wf_exprs.specs.Grown.{HasCode}
+use Rattle.wf_exprs_nodes.specs.Trees.{node_number}
 use Rattle.wf_lower_stmts.specs.BodyNodes.{AreAlike, target_in}
 use Rattle.wf_lower_stmts.specs.Forms.{Form, resume_here}
 use Rattle.wf_lower_stmts.specs.Statements.{awoken_call, begun_call, handed_call, lower_call, lower_plain, lower_point, lower_simple, lower_written, plain_call}
@@ -24,6 +28,7 @@ use Rattle.wf_lower_blocks.specs.declared.awaiting.Awaiting.{Awaiting}
 use Rattle.wf_lower_blocks.specs.declared.calling.Called.{Called as CalledNode}
 use Rattle.wf_lower_blocks.specs.declared.calling.Invoked.{Invoked}
 use Rattle.wf_lower_blocks.specs.declared.performing.Written.{Written as WrittenNode}
+use Rattle.wf_lower_blocks.specs.declared.performing.Written.TheVariants as writing
 use Rattle.wf_lower_blocks.specs.declared.statements.Comes.{Comes}
 use Rattle.wf_lower_blocks.specs.declared.statements.Comes.TheVariants as comes
 use Rattle.wf_lower_blocks.specs.Calls.{ComesTo, awaited_in, called_in, callee_in, given_in, is_called, no_method, written_in}
@@ -145,3 +150,14 @@ pub nothing_done : (nodes : TypedNodes) (f : Form) (rest : Code) (u : Nodes) (ma
 nothing_done nodes f rest u made n s is h =
     let P : Comes → Type 0 = λ m. (x : Simple) → ComesTo nodes m x → HasCode u s (lower_simple f n x rest) in
     subst P (sym is) (λ x c. nothing_made nodes f n rest u s h x c)
+
+-- A call of `skip_u32_fast` with both its arguments.
+pub skip_comes : (nodes : TypedNodes) (target : TargetNode) (on : ValueTree) (a : ℕ) (sig : BaseSig) (given : List ExprId) (d : ExprId)
+    → sig ≡ sigs.SkipFast → 2 ≤ length given → length given < 3 → a ≡ io_in on → (at : Place) (t : Target) → AreAlike t (target_in nodes target)
+    → ComesTo nodes (comes.Perform target (writing.SkipFast a (slice_index_or given 0 d) (slice_index_or given 1 d))) (base_call at t on sig (given_in nodes given))
+skip_comes nodes target on a sig (x ∷ y ∷ []) d is least most same at t alike =
+    let P : BaseSig → Type 0 = λ s. ComesTo nodes (comes.Perform target (writing.SkipFast a x y)) (base_call at t on s (given_in nodes (x ∷ y ∷ []))) in
+    subst P (sym is) (alike, ap (λ n. skip_fast n (node_number nodes x) (node_number nodes y)) same)
+skip_comes nodes target on a sig [] d is least most same at t alike = absurd (omega (arith, least))
+skip_comes nodes target on a sig (x ∷ []) d is least most same at t alike = absurd (omega (arith, least))
+skip_comes nodes target on a sig (x ∷ y ∷ z ∷ rest) d is least most same at t alike = absurd (omega (arith, most))

@@ -1,8 +1,7 @@
--- What a statement makes of the block behind it, by its node.
+-- What a statement makes of the block after it, by its node.
 use Rattle.std.proofs.Common.{◌≡◌, ℕ, ◌<◌, Bool, true, false, List, Option, None, Some, refl, sym, ap, ◌∙◌, subst}
 use Rattle.std.specs.Prelude.{slice_get, option_map, unwrap_or, length}
 use Rattle.wf_text.specs.declared.place.Place.{Place}
-use Rattle.wf_ast.specs.declared.numbers.ExprId.{ExprId}
 use Rattle.wf_ast.specs.declared.numbers.StmtId.{StmtId}
 use Rattle.wf_ast.specs.declared.resolved.Arm.{Arm}
 use Rattle.wf_ast.specs.declared.resolved.Block as resolved
@@ -12,7 +11,7 @@ use Rattle.wf_ast.specs.declared.resolved.Stmt.TheVariants as stmts
 use Rattle.wf_ast.specs.declared.resolved.StmtNode.{StmtNode}
 use Rattle.wf_ast.specs.declared.typed_nodes.TypedNodes.{TypedNodes}
 use Rattle.wf_ast.specs.TypedInvariant.{IsTyped}
-use Rattle.wf_ast.specs.TypedTree.{Simple, Site, Block, plain, loop}
+use Rattle.wf_ast.specs.TypedTree.{Block, plain, loop}
 use Rattle.wf_ast.specs.TypedTrees.{no_place, tree_of, head_made, block_of, stmt_made, onto, stmt_makers}
 use Rattle.wf_points.proofs.StatementArena.{stmt_is}
 use Rattle.wf_lower_stmts.proofs.StandLaws.{node_there}

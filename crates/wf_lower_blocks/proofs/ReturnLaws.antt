@@ -1,5 +1,5 @@
 -- What a return makes of a value of each kind.
-use Rattle.std.proofs.Common.{◌≡◌, ◌∙◌, ◌&&◌, ℕ, ◌<◌, Bool, true, false, List, [], length, Option, None, Some, if◌then◌else◌, refl, sym, ap, subst, arith, nat_lt}
+use Rattle.std.proofs.Common.{◌≡◌, ◌∙◌, ◌&&◌, ℕ, ◌<◌, true, false, List, [], length, Some, if◌then◌else◌, refl, sym, ap, subst, arith}
 use Rattle.std.specs.Prelude.{slice_get, unwrap_or}
 use Rattle.std.proofs.lemmas.Bool.Decides.{nat_tests}
 use Rattle.wf_text.specs.declared.place.Place.{Place}
@@ -10,9 +10,9 @@ use Rattle.wf_ast.specs.declared.numbers.ExprId.{ExprId}
 use Rattle.wf_ast.specs.declared.typed_nodes.TypedNodes.{TypedNodes}
 use Rattle.wf_ast.specs.declared.types.Ty.{Ty}
 use Rattle.wf_ast.specs.declared.types.Ty.TheVariants as types
-use Rattle.wf_ast.specs.TypedInvariant.{IsTyped, is_expr, is_list, is_io, is_logical, is_numeric, is_state, is_tree_of}
+use Rattle.wf_ast.specs.TypedInvariant.{IsTyped, is_expr, is_logical, is_numeric, is_state, is_tree_of}
 use Rattle.wf_ast.specs.TypedPackage.{package_of}
-use Rattle.wf_ast.specs.TypedTree.{StatusTree, status, held, no_status, ValueTree, numeric, logical, state, elements, io, lost}
+use Rattle.wf_ast.specs.TypedTree.{StatusTree, status, held, no_status, ValueTree, elements, io}
 use Rattle.wf_ast.specs.TypedTrees.{num_in, cond_in, status_in, tree_of, type_of_node}
 use Rattle.wf_ast.specs.Value.{same_category}
 use Rattle.wf_ast.specs.WellTyped.{is_coroutine}

@@ -1,5 +1,5 @@
 -- How wide the elements are of what a slice is cut from.
-use Rattle.std.proofs.Common.{◌≡◌, ◌∙◌, ◌&&◌, ℕ, ◌<◌, Bool, true, List, [], ◌∷◌, length, Option, None, Some, refl, sym, ap, subst, arith, nat_lt}
+use Rattle.std.proofs.Common.{◌≡◌, ◌∙◌, ◌&&◌, ℕ, ◌<◌, true, List, [], ◌∷◌, length, Option, None, Some, refl, sym, ap, subst, arith, nat_lt}
 use Rattle.std.specs.List.{list_all}
 use Rattle.std.proofs.lemmas.Bool.Decides.{nat_tests}
 use Rattle.wf_text.specs.declared.place.Place.{Place}
@@ -10,7 +10,7 @@ use Rattle.wf_ast.specs.declared.typed_nodes.TypedNodes.{TypedNodes}
 use Rattle.wf_ast.specs.declared.types.Ty.{Ty}
 use Rattle.wf_ast.specs.declared.types.Ty.TheVariants as types
 use Rattle.wf_ast.specs.TypedInvariant.{is_expr, is_list, kind_fits, node_fits, optional_numeric, parts_below}
-use Rattle.wf_ast.specs.TypedTree.{Path, ValueTree}
+use Rattle.wf_ast.specs.TypedTree.{Path}
 use Rattle.wf_ast.specs.TypedTrees.{made, made_or_number, named, slice_in, tree_of, type_of_node}
 use Rattle.wf_ast.proofs.Arena.{both_true}
 use Rattle.wf_exprs.specs.Making.{bits_at, is_slice_at}
@@ -32,7 +32,7 @@ module _ (t : TypedNodes) (e : ExprId) (at : Place) (signs : List Place) (ty : T
   pub cut_bits : (base : ExprId) (from to : Option ExprId) → x ≡ exprs.Cut base from to → slice_bits (slice_in (tree_of t e)) ≡ slice_bits (slice_in (tree_of t base))
   cut_bits base from to is = ap (λ v. slice_bits (slice_in v)) (node_made (exprs.Cut base from to) is)
 
--- What it is cut from stands in front of it, and is a slice too.
+-- What it is cut from stands before it, and is a slice too.
 base_first : (e : ℕ) (base : ExprId) (from to : Option ExprId) → parts_below e (exprs.Cut base from to) ≡ true → nat_lt base.0 e ≡ true
 base_first e base None None h = (both_true (nat_lt base.0 e) true h).0
 base_first e base None (Some g) h = (both_true (nat_lt base.0 e) (list_all (λ part. nat_lt part.0 e) (g ∷ [])) h).0

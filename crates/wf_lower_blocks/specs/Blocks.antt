@@ -1,4 +1,4 @@
--- Blocks of a package by their statements, and what stands behind the block of an `if`.
+-- Blocks of a package by their statements, and what stands after the block of an `if`.
 use Rattle.std.specs.Prelude.{◌≡◌, ◌<◌, ℕ, List, [], ◌∷◌, Option, None, Some, length, option_map, slice_get, unwrap_or}
 use Rattle.wf_ast.specs.declared.numbers.StmtId.{StmtId}
 use Rattle.wf_ast.specs.declared.resolved.Arm.{Arm}
@@ -18,7 +18,7 @@ use Rattle.wf_lower_stmts.specs.Lower.{other_kind}
 abbrev pub site_at : TypedNodes → StmtId → Site
 site_at nodes s = record { number = s.0; at = unwrap_or (option_map (λ (node : StmtNode). node.at) (slice_get nodes.stmts s.0)) no_place }
 
--- The block of an `else`, what the further arms of an `if` make, and a whole `if` in front of what follows it.
+-- The block of an `else`, what the further arms of an `if` make, and a whole `if` before what follows it.
 abbrev pub else_in : TypedNodes → Option resolved.Block → Block
 else_in nodes None = end
 else_in nodes (Some block) = block_of nodes block
@@ -29,7 +29,7 @@ others_in nodes s arms other = otherwise_made (tree_of nodes) (onto (stmt_makers
 abbrev pub if_in : TypedNodes → StmtId → List Arm → Option resolved.Block → (rest : Block) → Block
 if_in nodes s arms other rest = if_made (tree_of nodes) (onto (stmt_makers nodes)) (site_at nodes s) arms other rest
 
--- The unit has this code behind the block of an `if`, of this kind.
+-- The unit has this code after the block of an `if`, of this kind.
 pub record HasOther (nodes : Nodes) (kind : Otherwise) (s : ℕ) (block : Block) (code : Code) : Type 0 where
   pub same : kind ≡ other_kind block
   pub made : HasCode nodes s code

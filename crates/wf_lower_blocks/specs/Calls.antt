@@ -63,7 +63,7 @@ abbrev pub is_one_byte : ReadForm → Bool
 is_one_byte ReadU8 = true
 is_one_byte form = false
 
--- What stands behind the bytes that a read takes.
+-- What stands after the bytes that a read takes.
 abbrev pub read_all : Form → (k : ℕ) → Target → ReadForm → (rest : Code) → Code
 read_all f k target form rest =
     when (two Lt count_local (num (bytes_of (read_width form)))) (suspend f k (status_constant short_read) finish) (put_into f.names target held_local rest)
@@ -139,22 +139,6 @@ comes_fits nodes (comes.Perform target call) = is_target nodes target && is_writ
 comes_fits nodes (comes.HandOn what) = is_called nodes what.called && are_given nodes what.args.now
 comes_fits nodes (comes.Invoke target what) = is_target nodes target && (is_called nodes what.called && are_given nodes what.args.now)
 comes_fits nodes comes.Nothing = true
-
--- Kinds of base methods.
-abbrev pub is_waiting : BaseSig → Bool
-is_waiting (sigs.Read form) = true
-is_waiting sigs.Skip = true
-is_waiting sigs.Write = true
-is_waiting sig = false
-
-abbrev pub is_putting : BaseSig → Bool
-is_putting sigs.WriteFast = true
-is_putting sigs.WriterCopy = true
-is_putting sig = false
-
-abbrev pub is_copying : BaseSig → Bool
-is_copying (sigs.SliceCopy width) = true
-is_copying sig = false
 
 abbrev pub is_part : Ty → Bool
 is_part (types.Part s) = true

@@ -399,17 +399,6 @@ fn read_byte(
     wait(b, u, k, a, SHORT_READ, rest)
 }
 
-/// What a started statement has goes to the target.
-fn put_held(b: &Body, u: &mut Unit, target: Target, rest: CStmtId) -> Result<CStmtId, NoMemory>
-    requires target { is_target b.now.nodes target ≡ true }
-    requires rest { rest.0 < length u.old.stmts }
-    ensures grows { Grows u.old u.new }
-    ensures made { IfOk result (λ code. HasCode u.new code.0 (put_into_code (form_in b.now).names (target_in b.now.nodes target) held_local (code_of u.old rest.0))) }
-{
-    let value = held(u)?;
-    put_into(b, u, target, value, rest)
-}
-
 /// Where bytes lack, the coroutine suspends; else the number goes to the target.
 fn read_all(
     b: &Body,
@@ -424,7 +413,8 @@ fn read_all(
     ensures grows { Grows u.old u.new }
     ensures made { IfOk result (λ code. HasCode u.new code.0 (read_all_code (form_in b.now) k (target_in b.now.nodes target) form (code_of u.old rest.0))) }
 {
-    let rest = put_held(b, u, target, rest)?;
+    let value = held(u)?;
+    let rest = put_into(b, u, target, value, rest)?;
     let body = suspend_with(b, u, k, SHORT_READ)?;
     let test = lacks(b, u, form)?;
     when(u, test, body, rest)

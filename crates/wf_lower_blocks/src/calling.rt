@@ -22,11 +22,10 @@ ghost use Rattle.wf_lower_stmts.specs.Statements.{answer_local, call_into as cal
 ghost use Rattle.wf_lower_blocks.specs.Calls.{HasGiven, HasValue, are_given, call_with as call_with_code, called_in, callee_in, given_in, is_called, taken_by};
 
 use c_text::{CArg, CCall, CExprId, CList, CNameId, COp, CStmtId, Unit};
-use wf_ast::{ExprId, FieldId, Method, Ty};
+use wf_ast::{ExprId, FieldId, Method, Ty, io_arg};
 use wf_base::Mark;
 use wf_exprs::Pair;
 use wf_exprs::nodes::{address, element, number, two, variable};
-use wf_exprs_nodes::asking::io_arg;
 use wf_exprs_nodes::{condition, given, lower_slice, status};
 use wf_lower_stmts::Body;
 use wf_lower_stmts::code::{call, finish, when};
@@ -169,7 +168,7 @@ fn buffer_value(b: &Body, u: &mut Unit, e: ExprId) -> Result<CExprId, NoMemory>
     ensures grows { Grows u.old u.new }
     ensures made { IfOk result (λ it. HasExpr u.new it.0 (io_code (form_in b.now).names (io_in (tree_of b.now.nodes e)))) }
 {
-    b.scope().arg(u, io_arg(b.typed(), e))
+    b.scope().arg(u, io_arg(b.typed(), e).0)
 }
 
 /// A slice as its pointer and its length.

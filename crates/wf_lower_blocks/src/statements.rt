@@ -2,8 +2,6 @@
 
 ghost use Rattle.std.specs.Prelude.{◌≡◌, ◌<◌, ◌^◌, true, length, Some, IsTrue, IfOk};
 ghost use Rattle.wf_text.specs.declared.place.Place.{Place};
-ghost use Rattle.wf_base.specs.declared.base_methods.BaseSig.TheVariants as sigs;
-ghost use Rattle.wf_base.specs.declared.base_methods.Kind.TheVariants as kinds;
 ghost use Rattle.wf_base.specs.BaseTable.{row_of};
 ghost use Rattle.wf_ast.specs.TypedInvariant.{callee_exists, has_kind, is_expr};
 ghost use Rattle.wf_ast.specs.TypedTree.{Simple, Target as TargetTree, await, invoke, yield};
@@ -17,16 +15,15 @@ ghost use Rattle.wf_exprs.specs.Names.{again_label as again_name, behind_label a
 ghost use Rattle.wf_lower_stmts.specs.BodyNodes.{AreAlike, form_in, is_target, point_at, target_in};
 ghost use Rattle.wf_lower_stmts.specs.Forms.{resume_here as resumed_here};
 ghost use Rattle.wf_lower_stmts.specs.Statements.{handed_call as handed_code, lower_point as lower_point_code, lower_simple as lower_simple_code};
-ghost use Rattle.wf_lower_blocks.specs.Calls.{ComesTo, are_given, awaited_in, called_in, callee_in, comes_fits, given_in, is_awaited, is_called, is_copying, is_putting, is_waiting, simple_at};
+ghost use Rattle.wf_lower_blocks.specs.Calls.{ComesTo, are_given, awaited_in, called_in, callee_in, comes_fits, given_in, is_awaited, is_called, simple_at};
 
 use crate::awaiting::{Awaited, Awaiting, awoken_call, begun_call};
 use crate::calling::{Called, Invoked, handed_call, plain_call};
 use crate::performing::{Written, lower_written};
 use crate::returning::give_value;
 use c_text::{CStmtId, Unit};
-use wf_ast::{Callee, ExprId, Stmt, StmtId};
+use wf_ast::{Callee, ExprId, Stmt, StmtId, io_arg};
 use wf_base::{BaseSig, Mark};
-use wf_exprs_nodes::asking::io_arg;
 use wf_exprs_nodes::statuses::status_constant;
 use wf_lower_stmts::Body;
 use wf_lower_stmts::code::{jump, resume_here};
@@ -50,122 +47,6 @@ enum Comes<'a> {
     Nothing,
 }
 
-fn awaited_call<'a>(
-    b: &Body,
-    target: Target,
-    on: ExprId,
-    sig: BaseSig,
-    args: &'a [ExprId],
-) -> Comes<'a>
-    requires target { is_target b.now.nodes target ≡ true }
-    requires on { IsTrue (is_expr b.now.nodes on) }
-    requires kind { IsTrue (has_kind (row_of sig).on (type_of_node b.now.nodes on.0)) }
-    requires args { IsTrue (are_given b.now.nodes args.now) }
-    requires waits { is_waiting sig ≡ true }
-    ensures comes { (at : Place) (t : TargetTree) → AreAlike t (target_in b.now.nodes target) → ComesTo b.now.nodes result (base_call_tree at t (tree_of b.now.nodes on) sig (given_in b.now.nodes args.now)) }
-    ensures fits { comes_fits b.now.nodes result ≡ true }
-{
-    let a = io_arg(b.typed(), on);
-    match (sig, args) {
-        (BaseSig::Read(form), []) => Comes::Await(Awaiting {
-            target,
-            a,
-            call: Awaited::Read(form),
-        }),
-        (BaseSig::Skip, [count]) => Comes::Await(Awaiting {
-            target,
-            a,
-            call: Awaited::Skip(*count),
-        }),
-        (BaseSig::Write, [byte]) => Comes::Await(Awaiting {
-            target,
-            a,
-            call: Awaited::Write(*byte),
-        }),
-        _ => Comes::Nothing,
-    }
-}
-
-// `skip_u32_fast`.
-fn skip_call<'a>(b: &Body, target: Target, on: ExprId, args: &'a [ExprId]) -> Comes<'a>
-    requires target { is_target b.now.nodes target ≡ true }
-    requires on { IsTrue (is_expr b.now.nodes on) }
-    requires kind { IsTrue (has_kind kinds.Reader (type_of_node b.now.nodes on.0)) }
-    requires args { IsTrue (are_given b.now.nodes args.now) }
-    ensures comes { (at : Place) (t : TargetTree) → AreAlike t (target_in b.now.nodes target) → ComesTo b.now.nodes result (base_call_tree at t (tree_of b.now.nodes on) sigs.SkipFast (given_in b.now.nodes args.now)) }
-    ensures fits { comes_fits b.now.nodes result ≡ true }
-{
-    let a = io_arg(b.typed(), on);
-    match args {
-        [actual, worst] => Comes::Perform {
-            target,
-            call: Written::SkipFast {
-                a,
-                actual: *actual,
-                worst: *worst,
-            },
-        },
-        _ => Comes::Nothing,
-    }
-}
-
-// `write_u8_fast`, and `copy_from_slice` of a writer.
-fn writer_call<'a>(
-    b: &Body,
-    target: Target,
-    on: ExprId,
-    sig: BaseSig,
-    args: &'a [ExprId],
-) -> Comes<'a>
-    requires target { is_target b.now.nodes target ≡ true }
-    requires on { IsTrue (is_expr b.now.nodes on) }
-    requires kind { IsTrue (has_kind (row_of sig).on (type_of_node b.now.nodes on.0)) }
-    requires args { IsTrue (are_given b.now.nodes args.now) }
-    requires puts { is_putting sig ≡ true }
-    ensures comes { (at : Place) (t : TargetTree) → AreAlike t (target_in b.now.nodes target) → ComesTo b.now.nodes result (base_call_tree at t (tree_of b.now.nodes on) sig (given_in b.now.nodes args.now)) }
-    ensures fits { comes_fits b.now.nodes result ≡ true }
-{
-    let a = io_arg(b.typed(), on);
-    match (sig, args) {
-        (BaseSig::WriteFast, [byte]) => Comes::Perform {
-            target,
-            call: Written::WriteFast { a, byte: *byte },
-        },
-        (BaseSig::WriterCopy, [source]) => Comes::Perform {
-            target,
-            call: Written::CopyToWriter { a, source: *source },
-        },
-        _ => Comes::Nothing,
-    }
-}
-
-fn slice_call<'a>(
-    b: &Body,
-    target: Target,
-    on: ExprId,
-    sig: BaseSig,
-    args: &'a [ExprId],
-) -> Comes<'a>
-    requires target { is_target b.now.nodes target ≡ true }
-    requires on { IsTrue (is_expr b.now.nodes on) }
-    requires kind { IsTrue (has_kind (row_of sig).on (type_of_node b.now.nodes on.0)) }
-    requires args { IsTrue (are_given b.now.nodes args.now) }
-    requires copies { is_copying sig ≡ true }
-    ensures comes { (at : Place) (t : TargetTree) → AreAlike t (target_in b.now.nodes target) → ComesTo b.now.nodes result (base_call_tree at t (tree_of b.now.nodes on) sig (given_in b.now.nodes args.now)) }
-    ensures fits { comes_fits b.now.nodes result ≡ true }
-{
-    match args {
-        [source] => Comes::Perform {
-            target,
-            call: Written::CopyToSlice {
-                to: on,
-                source: *source,
-            },
-        },
-        _ => Comes::Nothing,
-    }
-}
-
 /// A base call by its arguments.
 fn base_call<'a>(
     b: &Body,
@@ -181,21 +62,58 @@ fn base_call<'a>(
     ensures comes { (at : Place) (t : TargetTree) → AreAlike t (target_in b.now.nodes target) → ComesTo b.now.nodes result (base_call_tree at t (tree_of b.now.nodes on) sig (given_in b.now.nodes args.now)) }
     ensures fits { comes_fits b.now.nodes result ≡ true }
 {
-    match sig {
-        BaseSig::SkipFast => skip_call(b, target, on, args),
-        BaseSig::WriteFast | BaseSig::WriterCopy => writer_call(b, target, on, sig, args),
-        BaseSig::SliceCopy(_) => slice_call(b, target, on, sig, args),
-        BaseSig::Read(_) | BaseSig::Skip | BaseSig::Write => {
-            awaited_call(b, target, on, sig, args)
-        }
-        BaseSig::ReaderLength | BaseSig::ReaderIsClosed | BaseSig::ReaderPosition => {
-            Comes::Nothing
-        }
-        BaseSig::Peek(_) | BaseSig::WriterLength | BaseSig::WriterPosition => Comes::Nothing,
-        BaseSig::SliceLength(_) | BaseSig::ArrayLength(_) => Comes::Nothing,
-        BaseSig::IsOk | BaseSig::IsNote | BaseSig::IsSuspension | BaseSig::IsError => {
-            Comes::Nothing
-        }
+    match args {
+        [] => match sig {
+            BaseSig::Read(form) => Comes::Await(Awaiting {
+                target,
+                a: io_arg(b.typed(), on).0,
+                call: Awaited::Read(form),
+            }),
+            _ => Comes::Nothing,
+        },
+        [x] => match sig {
+            BaseSig::Skip => Comes::Await(Awaiting {
+                target,
+                a: io_arg(b.typed(), on).0,
+                call: Awaited::Skip(*x),
+            }),
+            BaseSig::Write => Comes::Await(Awaiting {
+                target,
+                a: io_arg(b.typed(), on).0,
+                call: Awaited::Write(*x),
+            }),
+            BaseSig::WriteFast => Comes::Perform {
+                target,
+                call: Written::WriteFast {
+                    a: io_arg(b.typed(), on).0,
+                    byte: *x,
+                },
+            },
+            BaseSig::WriterCopy => Comes::Perform {
+                target,
+                call: Written::CopyToWriter {
+                    a: io_arg(b.typed(), on).0,
+                    source: *x,
+                },
+            },
+            BaseSig::SliceCopy(_) => Comes::Perform {
+                target,
+                call: Written::CopyToSlice { to: on, source: *x },
+            },
+            _ => Comes::Nothing,
+        },
+        [x, y] => match sig {
+            BaseSig::SkipFast => Comes::Perform {
+                target,
+                call: Written::SkipFast {
+                    a: io_arg(b.typed(), on).0,
+                    actual: *x,
+                    worst: *y,
+                },
+            },
+            _ => Comes::Nothing,
+        },
+        _ => Comes::Nothing,
     }
 }
 

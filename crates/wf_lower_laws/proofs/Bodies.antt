@@ -14,7 +14,7 @@ use Rattle.wf_lower.specs.Bodies.{touched, resumed, answered, answer_in, refuse,
 use Rattle.wf_lower.specs.Unit.{initialize_part, initialize_parts, initialize_code}
 use Rattle.wf_lower_laws.proofs.Straight.{Straight, over, assigned, calling, leaving, guarded, follows, ifs, restores, restores_started}
 
--- A label is looked for behind such statements.
+-- A label is looked for after such statements.
 pub straight_finds : (l : Label) (rest code : Code) → Straight rest code → (k : Continuation) → find l code k ≡ find l rest k
 straight_finds l rest _ over k = refl
 straight_finds l rest _ (assigned target value code s) k = straight_finds l rest code s k
@@ -27,7 +27,7 @@ straight_finds l rest _ (guarded test body code t s) k =
     past None q e = refl
     past (Some p) q e = absurd (cc e)
 
--- What stands in front of a function's own statements.
+-- What stands before a function's own statements.
 pub touches : (names : List (List ℕ)) (code rest : Code) → Straight rest (touched names code rest)
 touches [] code rest = over
 touches (name ∷ names) code rest = ifs (code_reads name code) _ _ rest (touches names code rest) (guarded _ _ _ over (touches names code rest))

@@ -1,4 +1,4 @@
--- The bodies of methods have the types that C asks, behind the items that stand in front of them.
+-- The bodies of methods have the types that C asks, after the items that stand before them.
 use Rattle.std.proofs.Common.{◌≡◌, ◌⊎◌, inl, inr, ℕ, suc, ◌+◌, Bool, true, false, List, [], ◌∷◌, ◌++◌, map, Option, Some, None, refl, sym, ap, ◌∙◌, subst, arith, append_assoc, append-nil}
 use Rattle.std.specs.Prelude.{if◌then◌else◌, cond, find, slice_get, bytes_eq, codes, is_some}
 use Rattle.std.specs.List.{list_all, AllByRecursion}
@@ -125,7 +125,7 @@ among_found (x ∷ xs) l a = by (either_true (bytes_eq l x.name) (is_among (map 
         later true k = refl
         later false k = k
 
--- What is found in front is found with anything behind.
+-- What is found in front is found with anything after it.
 front_alike : (xs ys zs : List ParamTree) (l : List ℕ) → is_some (find (λ it. bytes_eq (name_of it) l) xs) ≡ true → find (λ it. bytes_eq (name_of it) l) (xs ++ ys) ≡ find (λ it. bytes_eq (name_of it) l) (xs ++ zs)
 front_alike xs ys zs l h = by (find (λ it. bytes_eq (name_of it) l) xs) refl h
   where
@@ -166,7 +166,7 @@ module _ (structs : List StructDecl) where
       by (types.Part s) k = k
 
 module _ (before : List ItemTree) (params : List ParamTree) where
-  -- A local whose initial value has its type behind any names.
+  -- A local whose initial value has its type after any names.
   pub record LocalOk (l : LocalTree) : Type 0 where
     pub known : is_known (structs_of before) l.kind ≡ true
     pub initial : (ys : List ParamTree) → formed_initial (scope_of before (params ++ ys)) l.kind l.initial ≡ true

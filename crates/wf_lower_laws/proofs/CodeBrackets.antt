@@ -465,7 +465,7 @@ code_block : (d k : ℕ) (test : ExprTree) (body other rest : Code) → d + 1 �
 code_block d k test body other rest l h j o i =
     record { by = λ n m. (omega (arith, l, m), (h.by (n + 1) (omega (arith, l, m)), (j.by (n + 1) (omega (arith, l, m)), ((omega (arith, l, m), o.by (n + 1) (omega (arith, l, m))), i.by n m)))) }
 
--- What stands behind an `else`, of a block of the source: nothing, an `else if`, or a block.
+-- What stands after an `else`, of a block of the source: nothing, an `else if`, or a block.
 else_by : (d k : ℕ) (f : Form) (n : Site → ℕ) (test : ExprTree) (body rest : Code) (b : Block) → d + 1 ≤ k → ExprBy d test → CodeBy d body → CodeBy (if is_chained b then k else d) (lower f n b finish) → CodeBy k rest
     → CodeBy k (c.branch test body (other_kind b) (lower f n b finish) rest)
 else_by d k f n test body rest end l h j o i = code_when d k test body rest l h j i

@@ -149,7 +149,7 @@ module _ (c : Checked) (Settled : List ℕ → Type 0) (CallOk : List ℕ → Ty
   same_name : (name l : List ℕ) → bytes_eq l name ≡ true → l ≡ name
   same_name name l e = (bytes_eq-Decides l name).0 e
 
-  -- An assignment to a variable that is read in the value or behind.
+  -- An assignment to a variable that is read in the value or after it.
   pub ok_read : (t : TypeTree) (name : List ℕ) (value : ExprTree) (rest : Code) → held_of S (variable name) ≡ Some (one t) → Fits S t value → (expr_reads name value || code_reads name rest) ≡ true → CodeOk rest
       → CodeOk (assign (variable name) value rest)
   ok_read t name value rest h v r ok =
@@ -220,7 +220,7 @@ module _ (c : Checked) (Settled : List ℕ → Type 0) (CallOk : List ℕ → Ty
   pub ok_label : (name : List ℕ) (rest : Code) → CodeOk rest → CodeOk (name_label name rest)
   ok_label name rest r = record { typed = r.typed; fair = r.fair; called = r.called }
 
-  -- A call. Its result goes to a variable that is read behind it.
+  -- A call. Its result goes to a variable that is read after it.
   pub ok_call : (target : Option ExprTree) (function : List ℕ) (given : Args) (rest : Code) → formed_call (callee_of function) c target function given ≡ true → CallOk function
       → ((name : List ℕ) → is_result_of name target ≡ true → code_reads name rest ≡ true) → CodeOk rest → CodeOk (call target function given rest)
   ok_call target function given rest h k r ok =

@@ -1,4 +1,4 @@
--- The entries of methods have the types that C asks, behind the items that stand in front of them.
+-- The entries of methods have the types that C asks, after the items that stand before them.
 use Rattle.std.proofs.Common.{◌≡◌, ◌⊎◌, inl, inr, ℕ, zero, suc, ◌+◌, ◌-◌, ◌<◌, ◌^◌, Bool, true, false, not, List, [], ◌∷◌, ◌++◌, length, map, Option, Some, None, nat_lt, refl, sym, ◌∙◌, subst, arith}
 use Rattle.std.specs.Prelude.{if◌then◌else◌, find, slice_get, bytes_eq, codes, is_some}
 use Rattle.std.specs.List.{list_all, AllByRecursion}

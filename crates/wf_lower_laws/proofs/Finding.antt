@@ -19,7 +19,7 @@ module _ {X : Type 0} (name : X → List ℕ) where
   abbrev names : List X → List (List ℕ)
   names xs = map name xs
 
-  -- In front, or behind where it isn't in front.
+  -- In front, or after that where it isn't in front.
   pub found_front : (xs ys : List X) (l : List ℕ) (x : X) → found xs l ≡ Some x → found (xs ++ ys) l ≡ Some x
   found_front [] ys l x h = absurd (cc h)
   found_front (y ∷ xs) ys l x h = by (bytes_eq (name y) l) h (found_front xs ys l x)
@@ -52,7 +52,7 @@ module _ {X : Type 0} (name : X → List ℕ) where
           absurd (cc (n, (bytes_eq-Decides l (name x)).1 (sym same)))
       by false e n k = k
 
-  -- Behind what is alike for the name.
+  -- After what is alike for the name.
   pub found_alike : (xs zs ys : List X) (l : List ℕ) → found xs l ≡ found zs l → found (xs ++ ys) l ≡ found (zs ++ ys) l
   found_alike xs zs ys l h = parts xs ∙ (ap (λ o. or_else o (found ys l)) h ∙ sym (parts zs))
     where

@@ -218,7 +218,7 @@ at_next : (before items : List ItemTree) (item : ItemTree) → slice_get (before
 at_next [] items item = refl
 at_next (x ∷ before) items item = at_next before items item
 
--- A list of which each item is formed behind those in front of it.
+-- A list of which each item is formed after those before it.
 formed_list : (s : Surface) (all before items : List ItemTree) → before ++ items ≡ all → is_complete s all ≡ true
     → ((i : ℕ) (item : ItemTree) → slice_get all i ≡ Some item → formed_item s (take i all) (map item_name all) item ≡ true) → break_from s before all items ≡ None
 formed_list s all before [] e c h = rw c refl
@@ -297,7 +297,7 @@ free_item p i item d e = by (is_among (map item_name (take i (lowered_unit p))) 
     by true a = absurd (cc (d, among_front i (lowered_unit p) item (item_name item) e a refl))
     by false a = rw (a, no_library (item_name item) named_so) refl
 
--- What stands behind others is formed where it is typed.
+-- What stands after others is formed where it is typed.
 formed_behind : (nodes : TypedNodes) → IsTyped nodes → Decides (HasTooMany (package_of nodes)) None → HasNames (package_of nodes) → KeepsTypes (surface_of (package_of nodes)) (lowered_unit (package_of nodes))
     → (i : ℕ) (item : ItemTree) → slice_get (lowered_unit (package_of nodes)) i ≡ Some item → (x : ItemTree) (xs : List ItemTree) → take i (lowered_unit (package_of nodes)) ≡ x ∷ xs
     → formed_content (take i (lowered_unit (package_of nodes))) (map item_name (lowered_unit (package_of nodes))) item ≡ true

@@ -45,7 +45,7 @@ use Rattle.wf_lower_laws.proofs.EntryTypes.{entry_typed}
 use Rattle.wf_lower_laws.proofs.StructTypes.{struct_formed, init_typed}
 use Rattle.wf_lower_laws.proofs.KeptReads.{held_read, count_read}
 
--- ---- items behind others
+-- ---- items after others
 
 abbrev TypedFrom : List ItemTree → List ItemTree → Type 0
 TypedFrom before [] = Unit {0}
@@ -162,7 +162,7 @@ module _ (p : PackageTree) (well : well_typed p ≡ true) (named : HasItemNames 
   names_of_all : all_distinct (map item_name (before_function p (all_functions p))) ≡ true
   names_of_all = let P : List ItemTree → Type 0 = λ z. all_distinct (map item_name z) ≡ true in subst P whole (items_name_apart p named)
 
-  -- What stands in front of a part of the functions has names that differ.
+  -- What stands before a part of the functions has names that differ.
   front_names : (items rest : List ItemTree) → all_functions p ≡ items ++ rest → all_distinct (map item_name (before_function p items)) ≡ true
   front_names items rest e =
       let P : List ItemTree → Type 0 = λ z. all_distinct (map item_name (before_function p z)) ≡ true in
@@ -322,7 +322,7 @@ module _ (p : PackageTree) (well : well_typed p ≡ true) (named : HasItemNames 
   parts_at : (done rest : List ℕ) → p.order ≡ done ++ rest → all_functions p ≡ in_front done ++ method_functions p rest
   parts_at done rest e = ap (λ z. I ++ method_functions p z) e ∙ (ap (λ z. I ++ z) (methods_both p done rest) ∙ sym (append_assoc I (method_functions p done) (method_functions p rest)))
 
-  -- A body in its place, behind the functions of the methods in front of it.
+  -- A body in its place, after the functions of the methods before it.
   module _ (acc done rest : List ℕ) (n : ℕ) (m : MethodTree) (order : p.order ≡ done ++ n ∷ rest) (e : slice_get p.methods n ≡ Some m) (calls : calls_only (has acc) m.body ≡ true) (known : (j : ℕ) → has acc j ≡ true → has done j ≡ true) where
     abbrev items : List ItemTree
     items = in_front done
@@ -382,7 +382,7 @@ module _ (p : PackageTree) (well : well_typed p ≡ true) (named : HasItemNames 
         body_typed p n m items (items_are items later_items parts) body_there.0 body_there.1 (has acc) given s
         (body_ok p n m (structs_of (before_function p items)) (functions_of items) (has acc) given s rules.result_is rules.body_is calls)
 
-    -- And its entry behind it.
+    -- And its entry after it.
     module _ (public : m.public ≡ true) where
       abbrev with_body : List ItemTree
       with_body = items ++ body_function (form_of p m) ∷ []

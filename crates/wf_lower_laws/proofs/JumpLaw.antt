@@ -1,4 +1,4 @@
--- Each `goto` of a text leads to a label behind it.
+-- Each `goto` of a text leads to a label after it.
 use Rattle.std.proofs.Common.{◌≡◌, ℕ, zero, suc, true, List, [], ◌∷◌, Option, Some, subst}
 use Rattle.std.specs.Prelude.{nat_lt, length, slice_get}
 use Rattle.std.specs.List.{list_all}

@@ -1,4 +1,4 @@
--- The order of a package's methods has each of them once, and the order of its structs has each once, behind those that its
+-- The order of a package's methods has each of them once, and the order of its structs has each once, after those that its
 -- fields hold.
 use Rattle.std.proofs.Common.{◌≡◌, ℕ, zero, suc, ◌+◌, ◌<◌, ◌≤◌, Bool, true, false, not, ◌||◌, List, [], ◌∷◌, ◌++◌, length, Option, Some, None, nat_eq, refl, sym, ap, ◌∙◌, subst, arith, append_assoc}
 use Rattle.std.specs.Prelude.{if◌then◌else◌, slice_get}
@@ -98,7 +98,7 @@ parts_in (x ∷ xs) = by_type x.ty (parts_in xs)
     by_type ty others = others
 
 module _ (p : PackageTree) where
-  -- Each struct of the list stands behind those that its fields hold.
+  -- Each struct of the list stands after those that its fields hold.
   abbrev pub Rising : (front rest : List ℕ) → Type 0
   Rising front [] = Unit {0}
   Rising front (s ∷ ss) = ((t : ℕ) → has (parts_in (fields_of p s)) t ≡ true → has front t ≡ true) × Rising (front ++ s ∷ []) ss
@@ -112,7 +112,7 @@ module _ (p : PackageTree) where
   rising_more front (x ∷ rest) s r h =
       (r.0, rising_more (front ++ x ∷ []) rest s r.1 (λ t k. let P : List ℕ → Type 0 = λ zs. has zs t ≡ true in subst P (sym (append_assoc front (x ∷ []) rest)) (h t k)))
 
-  -- What is placed: each once, behind its parts.
+  -- What is placed: each once, after its parts.
   pub record Good (placed : List ℕ) : Type 0 where
     pub once : apart placed ≡ true
     pub below : (a : ℕ) → has placed a ≡ true → a < length p.structs
@@ -224,7 +224,7 @@ module _ (p : PackageTree) where
   has_last : (xs : List ℕ) (s : ℕ) → has (xs ++ s ∷ []) s ≡ true
   has_last xs s = list_any-append (nat_eq s) xs (s ∷ []) ∙ right_or (has xs s) _ (left_or (nat_eq s s) false (same_number s))
 
-  -- A struct behind its parts, that isn't among them.
+  -- A struct after its parts, that isn't among them.
   place_last : (l s : ℕ) (placed middle : List ℕ) → is_whole p (suc l) s ≡ true → is_whole p l s ≡ false → has placed s ≡ false → WholeFields l s → PartsPlaced l (fields_of p s) placed middle
       → Placing (suc l) placed (middle ++ s ∷ []) × (has (middle ++ s ∷ []) s ≡ true)
   place_last l s placed middle w n out f h =

@@ -1,4 +1,4 @@
--- The items in front of a function of a text, and what a scope has of them.
+-- The items before a function of a text, and what a scope has of them.
 use Rattle.std.proofs.Common.{◌≡◌, ℕ, zero, suc, Bool, true, false, List, [], ◌∷◌, ◌++◌, map, Option, Some, None, refl, sym, ap, ◌∙◌, subst, append-nil}
 use Rattle.std.specs.Prelude.{if◌then◌else◌, cond, find, slice_get, bytes_eq, codes}
 use Rattle.std.specs.List.{list_all, list_any}
@@ -121,7 +121,7 @@ helpers_all U functions (function_item linkage result_type name params locals bo
     by true t k = both_hold (U name) _ t k
     by false t k = k
 
--- ---- in front of a function
+-- ---- before a function
 
 module _ (p : PackageTree) where
   abbrev pub structs_part : List ItemTree
@@ -133,7 +133,7 @@ module _ (p : PackageTree) where
   abbrev pub helpers_part : List ItemTree
   helpers_part = used_helpers (all_functions p) all_saturating
 
-  -- All that stands in front of the functions, and some of these.
+  -- All that stands before the functions, and some of these.
   abbrev pub before_function : List ItemTree → List ItemTree
   before_function functions = io_buffer_item ∷ structs_part ++ (texts_part ++ (helpers_part ++ functions))
 

@@ -1,4 +1,4 @@
--- What a statement that is no jump is lowered to: statements in front of the code that follows it, with no loop, no label and no
+-- What a statement that is no jump is lowered to: statements before the code that follows it, with no loop, no label and no
 -- `goto` among them, but for the `case` of a point.
 use Rattle.std.proofs.Common.{◌≡◌, ℕ, zero, suc, Bool, true, false, List, [], ◌∷◌, Option, Some, None}
 use Rattle.std.specs.Prelude.{if◌then◌else◌, slice_get}

@@ -73,7 +73,7 @@ module _ (f : Form) (n : Site → ℕ) where
   label_weight true name rest h = omega arith
   label_weight false name rest h = absurd (cc h)
 
-  -- A jump stands in front of the labels of each loop round it.
+  -- A jump stands before the labels of each loop round it.
   pub before_behind : (it : Loop) (t : Trail) (name : List ℕ) (b : Block) → Around it t → breaks it.site.number it.body ≡ true
       → place_weight (behind_place f n it) < place_weight (at (jump name (lower f n b (tail_of f t))) (lower_trail f n t))
   before_behind it t name b h j =

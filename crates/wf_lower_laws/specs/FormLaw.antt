@@ -31,7 +31,7 @@ typed_code c (case_label n rest) = typed_code c rest
 typed_code c (default_label rest) = typed_code c rest
 typed_code c (name_label name rest) = typed_code c rest
 
--- What a text's types ask of an item, behind the items in front of it: fields, parameters, locals and statements.
+-- What a text's types ask of an item, after the items before it: fields, parameters, locals and statements.
 abbrev pub typed_item : List ItemTree → ItemTree → Bool
 typed_item before (struct_item fields name) = formed_fields (structs_of before) fields
 typed_item before (text_item name bytes) = true

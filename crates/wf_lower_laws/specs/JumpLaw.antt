@@ -8,7 +8,7 @@ use Rattle.c_meaning.specs.CStep.{Continuation, stop, Place, at, place_weight, b
 use Rattle.c_meaning.specs.TextOrder.{StandsAt}
 use Rattle.wf_lower.specs.Unit.{lowered_unit}
 
--- A label is there, and stands behind a place of its function: less text is left from it.
+-- A label is there, and stands after a place of its function: less text is left from it.
 abbrev pub LeadsBehind : (from : Place) → Option Place → Type 0
 LeadsBehind from None = ⊥
 LeadsBehind from (Some target) = place_weight target < place_weight from

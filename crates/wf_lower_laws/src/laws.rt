@@ -12,7 +12,7 @@ ghost use Rattle.wf_lower_laws.specs.SurfaceLaw.{TextsMeetSurfaces};
 ghost use Rattle.wf_lower_laws.specs.TurnLaw.{LoopAlike};
 ghost use Rattle.wf_lower_laws.specs.TypeLaw.{TextsAreTyped};
 
-/// Each `goto` of the text of a typed package leads to a label of its function that stands behind it. So it takes no turn, and no
+/// Each `goto` of the text of a typed package leads to a label of its function that stands after it. So it takes no turn, and no
 /// function goes back but by a `while`.
 pub fn jumps_lead_forward()
     ensures { TextsJumpForward }

@@ -1,5 +1,5 @@
 -- What is done for the items of a list from one on is done for that one, and then for the rest.
-use Rattle.std.proofs.Common.{◌≡◌, ℕ, zero, suc, ◌<◌, ◌≤◌, ◌-◌, Bool, List, [], ◌∷◌, drop, take, length, refl, sym, ap, ◌∙◌, subst, arith}
+use Rattle.std.proofs.Common.{◌≡◌, ℕ, zero, suc, ◌<◌, ◌≤◌, Bool, List, [], ◌∷◌, drop, take, length, refl, sym, ap, ◌∙◌, subst, arith}
 use Rattle.wf_ast.specs.TypedPackage.{Variable}
 use Rattle.c_text.specs.CNodes.{Nodes, code_of}
 use Rattle.c_text.specs.CTree.{Code}
@@ -29,7 +29,7 @@ module _ (method : List ℕ) (rest : Code) where
   restore_front zero (x ∷ xs) h = refl
   restore_front (suc k) (x ∷ xs) h = restore_front k xs (omega (arith, h))
 
--- Nothing is left to be done behind the end of a list.
+-- Nothing is left to be done after the end of a list.
 module _ (names : Names) (picks : ℕ → Bool) (rest : Code) where
   pub places_none : (way : Way) (m k : ℕ) (xs : List Variable) → length xs ≤ k → places_code way names picks m (drop k xs) rest ≡ rest
   places_none ways.Put m zero [] h = refl

@@ -1,5 +1,5 @@
 -- What is done for the one item at a place of a list.
-use Rattle.std.proofs.Common.{◌≡◌, ◌<◌, ℕ, zero, suc, length, subst, Result, IfOk, Bool, true, false, ◌&&◌, if◌then◌else◌, List, [], ◌∷◌, drop, take, map, Option, Some, None, refl, sym, ap, ◌∙◌, codes, ◌++◌}
+use Rattle.std.proofs.Common.{◌≡◌, ◌<◌, ℕ, zero, suc, length, subst, Result, IfOk, Bool, true, false, ◌&&◌, if◌then◌else◌, List, [], ◌∷◌, drop, take, map, Some, refl, sym, ap, ◌∙◌}
 use Rattle.std.specs.Prelude.{slice_get, option_map}
 use Rattle.std.proofs.lemmas.Option.{same_Some}
 use Rattle.wf_ast.specs.declared.declarations.Var.{Var}

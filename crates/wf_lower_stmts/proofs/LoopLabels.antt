@@ -1,4 +1,4 @@
--- The label at the end of a loop's body and the one behind the loop stand where the source goes on.
+-- The label at the end of a loop's body and the one after the loop stand where the source goes on.
 use Rattle.std.proofs.Common.{◌≡◌, ℕ, ◌<◌, ◌^◌, Bool, true, false, ◌&&◌, List, [], ◌∷◌, ◌++◌, Option, Some, None, refl, ap, ◌∙◌, nat_eq, arith}
 use Rattle.std.specs.Prelude.{option_map, if◌then◌else◌, bytes_eq, codes, decimal}
 use Rattle.std.proofs.lemmas.Bool.Decides.{nat_tests}
@@ -97,7 +97,7 @@ module _ (f : Form) (n : Site → ℕ) (w : ℕ) (few : w < 2 ^ 64) where
       ∙ (ap (λ same. if continues site.number body then here same p None else None) (spelt (codes "again_") w site.number few s)
       ∙ label_here (again_place f n) (nat_eq site.number w) (continues site.number body) it p refl)
 
-  -- The label behind a loop is none at its body's end.
+  -- The label after a loop is none at its body's end.
   behind_passes : (site : Site) (body : Block) (rest : Code) (k : Continuation) → find (by_name (again_label w)) (behind_here site body rest) k ≡ find (by_name (again_label w)) rest k
   behind_passes site body rest k =
       ifs (by_name (again_label w)) (breaks site.number body) (name_label (behind_label site.number) (empty rest)) rest rest (λ k. refl) (λ k. refl) k

@@ -1,4 +1,4 @@
--- What a statement is lowered to has no label but the `case` of a point's own, so a label is looked for behind it.
+-- What a statement is lowered to has no label but the `case` of a point's own, so a label is looked for after it.
 use Rattle.std.proofs.Common.{◌≡◌, ℕ, zero, suc, Bool, true, false, List, [], ◌∷◌, ◌&&◌, Option, Some, None, refl, ◌∙◌}
 use Rattle.std.specs.Prelude.{if◌then◌else◌, slice_get}
 use Rattle.wf_base.specs.declared.base_methods.ReadForm.{ReadForm}

@@ -1,6 +1,6 @@
 -- The pointer of a slice is never a literal.
 use Rattle.std.proofs.Common.{◌≡◌, Bool, true, false, Option, None, Some, refl}
-use Rattle.wf_ast.specs.TypedTree.{SliceTree, slice, array, cut, EndTree, absent, present, local, field, arg}
+use Rattle.wf_ast.specs.TypedTree.{SliceTree, slice, array, cut, local, field, arg}
 use Rattle.c_text.specs.CTree.{ExprTree}
 use Rattle.c_text.specs.CGrammar.{is_literal}
 use Rattle.wf_exprs.specs.Names.{Names}

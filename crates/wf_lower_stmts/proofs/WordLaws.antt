@@ -1,6 +1,6 @@
 -- Names that begin with a word of the compiler's own and go on with words of the source.
-use Rattle.std.proofs.Common.{◌≡◌, ◌∙◌, ap, sym, ℕ, ◌^◌, ◌<◌, ◌+◌, ◌%◌, Bool, true, false, ◌&&◌, ◌||◌, nat_le, List, [], ◌∷◌, ◌++◌, Some, refl, arith, codes, decimal, Result, Ok, Err, IfOk}
-use Rattle.std.specs.Prelude.{slice_get, unwrap_or, option_map, length, map, nat_lt}
+use Rattle.std.proofs.Common.{◌≡◌, ◌∙◌, ap, ℕ, ◌^◌, ◌<◌, ◌+◌, ◌%◌, Bool, true, false, ◌&&◌, ◌||◌, nat_le, List, [], ◌∷◌, ◌++◌, Some, refl, arith, codes, decimal, Result, Ok, Err, IfOk}
+use Rattle.std.specs.Prelude.{slice_get, length, nat_lt}
 use Rattle.std.specs.List.{list_all}
 use Rattle.std.proofs.lemmas.Fmt.{decimal_by_steps}
 use Rattle.std.proofs.lemmas.Bool.{le-leb}

@@ -160,6 +160,6 @@ abbrev pub suspend : Form → (k : ℕ) → (status : ExprTree) → (rest : Code
 suspend f k status rest =
     save_locals f.method.name f.method.locals (save_started f.method (assign (of_self (point_field f.method.name)) (num k) (give f (Some status) rest)))
 
--- `if (0) { case k: ; }`: what stands in front of it goes on behind it without falling into a `case`.
+-- `if (0) { case k: ; }`: what stands before it goes on after it without falling into a `case`.
 abbrev pub resume_here : (k : ℕ) → (rest : Code) → Code
 resume_here k rest = when (num 0) (case_label (Int k) (empty finish)) rest

@@ -32,7 +32,7 @@ IsSpelt top = Unit {0}
 IsSpelt (within_if passed rest t) = Unit {0}
 IsSpelt (in_loop site head body rest t) = site.number < 2 ^ 64
 
--- A `continue` leads to the end of its loop's body, and a `break` behind its loop.
+-- A `continue` leads to the end of its loop's body, and a `break` after its loop.
 abbrev pub ContinuesAtLoop : Form → (number : Site → ℕ) → (w : ℕ) → Block → Trail → Type 0
 ContinuesAtLoop f n w b t =
     find (by_name (again_label w)) (lower f n b (tail_of f t)) (lower_trail f n t)

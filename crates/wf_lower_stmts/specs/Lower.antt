@@ -1,5 +1,5 @@
 -- A body in C: `while` for `while` and `if` for `if`, each point's `case` where the point stands. Lowering is a function of
--- a block and of the code behind it, and likewise of what follows a block; so a label is found where the source goes on.
+-- a block and of the code after it, and likewise of what follows a block; so a label is found where the source goes on.
 use Rattle.std.specs.Prelude.{ℕ, Bool, true, false, ◌&&◌, ◌||◌, if◌then◌else◌, nat_eq, Option, None, Some}
 use Rattle.wf_ast.specs.declared.types.Ty.{Ty}
 use Rattle.wf_ast.specs.TypedTree.{Simple, continue_in, Site, Head, Block, end, plain, choose, loop}
@@ -26,20 +26,20 @@ continues w (plain site s rest) = continues w rest
 continues w (choose site chained c a b rest) = continues w a || (continues w b || continues w rest)
 continues w (loop site head body rest) = continues w body || continues w rest
 
--- The labels of a loop, where something jumps to them: at the end of its body, and behind it.
+-- The labels of a loop, where something jumps to them: at the end of its body, and after it.
 abbrev pub again_here : Site → (body : Block) → Code
 again_here site body = if continues site.number body then name_label (again_label site.number) (empty finish) else finish
 
 abbrev pub behind_here : Site → (body : Block) → (rest : Code) → Code
 behind_here site body rest = if breaks site.number body then name_label (behind_label site.number) (empty rest) else rest
 
--- What stands behind an `if`'s block: nothing, an `else if`, or an `else` with a block.
+-- What stands after an `if`'s block: nothing, an `else if`, or an `else` with a block.
 abbrev pub other_kind : Block → Otherwise
 other_kind end = else_is.Nothing
 other_kind (choose site true c a b rest) = else_is.If
 other_kind b = else_is.Block
 
--- A block, with the code that stands behind it. `number` tells the number of a point.
+-- A block, with the code that stands after it. `number` tells the number of a point.
 abbrev pub lower : Form → (number : Site → ℕ) → Block → (tail : Code) → Code
 lower f number end tail = tail
 lower f number (plain site s rest) tail = lower_simple f (number site) s (lower f number rest tail)
@@ -48,8 +48,8 @@ lower f number (choose site chained c a b rest) tail =
 lower f number (loop site head body rest) tail =
     repeat (lowered_cond f.names head.cond) (lower f number body (again_here site body)) (behind_here site body (lower f number rest tail))
 
--- What follows a block, from the innermost outwards, with the `else` block that is passed over behind an `if`'s block: C
--- tells by the text between them whether a label stands behind a `goto`.
+-- What follows a block, from the innermost outwards, with the `else` block that is passed over after an `if`'s block: C
+-- tells by the text between them whether a label stands after a `goto`.
 pub data Trail : Type 0 where
   top : Trail
   within_if : (passed rest : Block) → Trail → Trail
@@ -60,7 +60,7 @@ behind_of top = source.stop
 behind_of (within_if passed rest t) = source.behind_if rest (behind_of t)
 behind_of (in_loop site head body rest t) = source.again site head body rest (behind_of t)
 
--- The end of a body. That of a coroutine stands behind its `switch`, and answers ok; a method with a result never comes
+-- The end of a body. That of a coroutine stands after its `switch`, and answers ok; a method with a result never comes
 -- to its end.
 abbrev pub ending_of : Form → (has_result : Bool) → Code
 ending_of f true = finish
@@ -110,8 +110,8 @@ point_in number k (loop site head body rest) t = first_point (point_in number k 
 abbrev pub items_of : Point → Items
 items_of it = record { block = plain it.site it.statement it.rest; behind = behind_of it.trail }
 
--- Where a resumed call goes on in C: at the point's `case`, behind which stands the rest of the point's statement, and
--- behind that what follows the point.
+-- Where a resumed call goes on in C: at the point's `case`, after which stands the rest of the point's statement, and
+-- after that what follows the point.
 abbrev pub point_place : Form → (number : Site → ℕ) → (k : ℕ) → Point → Place
 point_place f number k it =
     at (case_label (Int k) (empty finish))

@@ -1,4 +1,4 @@
--- A statement without blocks of its own, in front of the code that follows it.
+-- A statement without blocks of its own, before the code that follows it.
 use Rattle.std.specs.Prelude.{ℕ, zero, suc, ◌/◌, Bool, true, false, ◌&&◌, ◌||◌, if◌then◌else◌, nat_eq, List, [], ◌∷◌, ◌++◌, Option, None, Some, slice_get, codes}
 use Rattle.wf_text.specs.declared.categories.Category.TheVariants.{Suspension}
 use Rattle.wf_base.specs.declared.marks.Mark.{Mark}
@@ -50,7 +50,7 @@ set_value names target (state t) rest = put_into names target (lowered_status na
 set_value names target (elements t) rest = set_slice names target (lowered_slice names t) rest
 set_value names target value rest = rest
 
--- Base calls that suspend. `begun` stands in front of the point's label, and `awoken` behind it: a resumed call goes on
+-- Base calls that suspend. `begun` stands before the point's label, and `awoken` after it: a resumed call goes on
 -- with what it has.
 abbrev pub step_on : Names → (io_arg : ℕ) → (bytes : ExprTree) → (rest : Code) → Code
 step_on names a bytes rest = c.assign (place_code names a) (two Add (place_code names a) bytes) rest
@@ -67,7 +67,7 @@ is_big_endian ReadU32Be = true
 is_big_endian ReadU64Be = true
 is_big_endian form = false
 
--- One more byte of a number: behind those that are there, or in front of them.
+-- One more byte of a number: after those that are there, or before them.
 abbrev pub with_byte : (big : Bool) → (byte : ExprTree) → ExprTree
 with_byte true byte = two Add (two Shl held_local (num 8)) byte
 with_byte false byte = two Add held_local (two Shl (cast (uint_of 64) byte) (two Mul (num 8) count_local))
@@ -220,7 +220,7 @@ give_value f (Some (logical t)) rest = give f (Some (lowered_cond f.names t)) re
 give_value f (Some (state t)) rest = give_status f t rest
 give_value f (Some value) rest = rest
 
--- What stands in front of a point's label, and what behind it.
+-- What stands before a point's label, and what after it.
 abbrev pub begun : Form → (k : ℕ) → Simple → (rest : Code) → Code
 begun f k (await at target a call) rest = begun_call f.names call rest
 begun f k (yield n) rest = suspend f k (status_constant n) rest

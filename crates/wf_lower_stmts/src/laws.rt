@@ -13,20 +13,20 @@ pub fn points_agree()
     ensures { (n : Site → ℕ) (k : ℕ) (b : Block) (t : Trail) → PointsAgree n k b t }
 {}
 
-/// The `case` of a point stands where the point does: it is found with the rest of the point's statement behind it, and
-/// behind that what follows the point in the source.
+/// The `case` of a point stands where the point does: it is found with the rest of the point's statement after it, and
+/// after that what follows the point in the source.
 pub fn resumes_at_point()
     ensures { (f : Form) (n : Site → ℕ) (k : ℕ) (b : Block) (t : Trail) → AreInts n → ResumesAtPoint f n k b t }
 {}
 
 /// A `goto` to the end of a loop's body, which a `continue` is, leads there: the label is found at the end of the body of
-/// the loop with this number, or, where the code is that body's own, behind it.
+/// the loop with this number, or, where the code is that body's own, after it.
 pub fn continues_at_loop()
     ensures { (f : Form) (n : Site → ℕ) (w : ℕ) (b : Block) (t : Trail) → w < 2 ^ 64 → AreSpelt b → IsSpelt t → ContinuesAtLoop f n w b t }
 {}
 
-/// A `goto` behind a loop, which a `break` is, leads there: behind the label stands what follows the loop in its block, and
-/// behind that what follows the block.
+/// A `goto` after a loop, which a `break` is, leads there: after the label stands what follows the loop in its block, and
+/// after that what follows the block.
 pub fn breaks_behind_loop()
     ensures { (f : Form) (n : Site → ℕ) (w : ℕ) (b : Block) (t : Trail) → w < 2 ^ 64 → AreSpelt b → BreaksBehindLoop f n w b t }
 {}

@@ -17,10 +17,9 @@ ghost use Rattle.wf_lower_stmts.specs.Statements.{is_passed as is_among};
 use crate::body::Body;
 use crate::code::assign;
 use c_text::{CExprId, CStmtId, Unit};
-use wf_ast::{ExprId, Ty, Typed};
+use wf_ast::{ExprId, Ty, Typed, io_arg};
 use wf_exprs::Scope;
 use wf_exprs::nodes::choice;
-use wf_exprs_nodes::asking;
 use wf_text::NoMemory;
 
 /// For which arguments something is done.
@@ -54,13 +53,13 @@ pub fn is_io(ty: Ty) -> bool
 }
 
 /// The argument that is the reader or the writer which an expression names, and None for every other expression.
-pub fn io_arg(t: &Typed, e: ExprId) -> Option<u32>
+pub fn io_handed(t: &Typed, e: ExprId) -> Option<u32>
     requires typed { IsTyped t.now }
     requires node { IsTrue (is_expr t.now e) }
     ensures { result ≡ io_handed (tree_of t.now e) }
 {
     if is_io(t.type_of(e)) {
-        Some(asking::io_arg(t, e))
+        Some(io_arg(t, e).0)
     } else {
         None
     }
@@ -86,7 +85,7 @@ fn is_argument(t: &Typed, e: ExprId, n: u32) -> bool
     requires node { IsTrue (is_expr t.now e) }
     ensures { result ≡ is_that_io n (tree_of t.now e) }
 {
-    match io_arg(t, e) {
+    match io_handed(t, e) {
         Some(a) => a == n,
         None => false,
     }

@@ -24,7 +24,9 @@ fn joined(
 ) -> Result<Vec<u8>, NoMemory>
     ensures { IfOk result (λ text. text.items ≡ first.now ++ (second.now ++ (third.now ++ fourth.now))) }
 {
-    let mut text = Vec::new(alloc);
+    let front = first.len().saturating_add(second.len());
+    let back = third.len().saturating_add(fourth.len());
+    let mut text = Vec::with_capacity(alloc, front.saturating_add(back))?;
     text.extend_from_slice(first)?;
     text.extend_from_slice(second)?;
     text.extend_from_slice(third)?;

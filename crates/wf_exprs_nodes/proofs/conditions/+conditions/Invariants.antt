@@ -18,7 +18,7 @@ decreases-chain l = 8 * l.e.0 + 6
 abbrev pub decreases-junction : goal.decreases-junction
 decreases-junction l = 8 * l.e.0 + 5
 
--- The unit has the first two operands and those behind them so far, and with those that are left they are all.
+-- The unit has the first two operands and those after them so far, and with those that are left they are all.
 abbrev pub invariant-junction-loop-i : goal.invariant-junction-loop-i
 invariant-junction-loop-i l = record {
   from : 2 ≤ l.i;

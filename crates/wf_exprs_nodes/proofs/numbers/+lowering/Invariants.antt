@@ -41,7 +41,7 @@ decreases-cut l = 8 * l.e.0 + 6
 abbrev pub decreases-end : goal.decreases-end
 decreases-end l = 8 * l.e.0 + 5
 
--- The unit has the first two operands and those behind them so far, and with those that are left they are all.
+-- The unit has the first two operands and those after them so far, and with those that are left they are all.
 abbrev pub invariant-operation_chain-loop-i : goal.invariant-operation_chain-loop-i
 invariant-operation_chain-loop-i l = record {
   from : 2 ≤ l.i;

@@ -6,7 +6,7 @@ use Rattle.wf_lower_stmts.specs.BodyNodes.{form_in}
 use Rattle.wf_lower_stmts.specs.Statements.{take_bytes}
 use Rattle.wf_lower_blocks.proofs.awaiting.take_bytes.Given as goal
 
--- So many bytes are taken in front of what follows.
+-- So many bytes are taken before what follows.
 abbrev pub invariant-loop-taken : goal.invariant-loop-taken
 invariant-loop-taken l = record {
   within : l.taken ≤ bytes_of (read_width l.form);

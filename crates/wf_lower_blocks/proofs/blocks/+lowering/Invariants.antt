@@ -1,4 +1,4 @@
-use Rattle.std.proofs.Common.{◌≡◌, ◌+◌, ◌*◌, ◌<◌, ◌≤◌, drop, length}
+use Rattle.std.proofs.Common.{◌+◌, ◌*◌, ◌<◌, ◌≤◌, drop, length}
 use Rattle.c_text.specs.CNodes.{code_of}
 use Rattle.c_text.specs.CTree.{finish}
 use Rattle.wf_ast.specs.TypedTrees.{block_made, onto, stmt_makers}

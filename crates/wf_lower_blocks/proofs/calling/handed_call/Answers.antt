@@ -1,4 +1,4 @@
-use Rattle.std.proofs.Common.{ap, ◌∙◌}
+use Rattle.std.proofs.Common.{ap}
 use Rattle.c_text.specs.CGrammar.{is_lvalue}
 use Rattle.wf_exprs.proofs.Growing.{grows_on}
 use Rattle.wf_lower_stmts.specs.BodyNodes.{form_in}

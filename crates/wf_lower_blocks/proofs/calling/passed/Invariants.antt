@@ -5,7 +5,7 @@ use Rattle.wf_lower_stmts.specs.Statements.{receiver_code, values_codes}
 use Rattle.wf_lower_blocks.specs.Calls.{HasGiven, called_in, given_in}
 use Rattle.wf_lower_blocks.proofs.calling.passed.Given as goal
 
--- The arguments so far stand behind the receiver.
+-- The arguments so far stand after the receiver.
 abbrev pub invariant-loop-e : goal.invariant-loop-e
 invariant-loop-e l = record {
   grows : Grows l.fn.u l.u;

@@ -1,4 +1,4 @@
-use Rattle.std.proofs.Common.{ap, false, refl, sym}
+use Rattle.std.proofs.Common.{ap, refl, sym}
 use Rattle.c_text.specs.CNodes.{code_of}
 use Rattle.wf_ast.specs.TypedInvariant.{is_logical, is_numeric, is_state}
 use Rattle.wf_lower_stmts.specs.BodyNodes.{form_in}

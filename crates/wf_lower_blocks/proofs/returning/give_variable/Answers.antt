@@ -1,4 +1,4 @@
-use Rattle.std.proofs.Common.{sym, ◌∙◌}
+use Rattle.std.proofs.Common.{sym}
 use Rattle.c_text.specs.CNodes.{code_of}
 use Rattle.wf_exprs_nodes.specs.Trees.{node_status}
 use Rattle.wf_lower_stmts.specs.BodyNodes.{form_in}

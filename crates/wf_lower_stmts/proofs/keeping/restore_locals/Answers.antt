@@ -1,12 +1,12 @@
-use Rattle.std.proofs.Common.{◌-◌, ℕ, arith, drop, length, map, refl, subst, sym, ◌≡◌, ◌≤◌}
+use Rattle.std.proofs.Common.{◌-◌, ℕ, arith, drop, length, subst, ◌≡◌}
 use Rattle.std.proofs.lemmas.List.{length-map}
-use Rattle.wf_ast.specs.TypedPackage.{Variable, variable_of}
+use Rattle.wf_ast.specs.TypedPackage.{variable_of}
 use Rattle.c_text.specs.CNodes.{code_of}
 use Rattle.wf_exprs.specs.Grown.{HasCode}
-use Rattle.wf_exprs.proofs.Growing.{grows_on, unchanged}
+use Rattle.wf_exprs.proofs.Growing.{grows_on}
 use Rattle.wf_lower_stmts.specs.BodyNodes.{form_in}
 use Rattle.wf_lower_stmts.specs.Forms.{restore_locals}
-use Rattle.wf_lower_stmts.proofs.FrontLaws.{restore_none, restore_step}
+use Rattle.wf_lower_stmts.proofs.FrontLaws.{restore_step}
 use Rattle.wf_lower_stmts.proofs.keeping.restore_locals.Goals as goal
 
 pub loop-left-preserved : goal.loop-left-preserved

@@ -1,4 +1,4 @@
-use Rattle.std.proofs.Common.{◌≡◌, ◌≤◌, drop, length}
+use Rattle.std.proofs.Common.{◌≤◌, drop, length}
 use Rattle.c_text.specs.CNodes.{code_of}
 use Rattle.wf_exprs.specs.Grown.{Grows, HasCode}
 use Rattle.wf_lower_stmts.specs.BodyNodes.{form_in}

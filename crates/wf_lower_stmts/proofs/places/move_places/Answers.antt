@@ -1,11 +1,11 @@
-use Rattle.std.proofs.Common.{◌-◌, ℕ, arith, drop, length, map, refl, subst, sym, ◌≡◌, ◌≤◌}
+use Rattle.std.proofs.Common.{◌-◌, ℕ, arith, drop, length, subst, ◌≡◌}
 use Rattle.std.proofs.lemmas.List.{length-map}
-use Rattle.wf_ast.specs.TypedPackage.{Variable, variable_of}
+use Rattle.wf_ast.specs.TypedPackage.{variable_of}
 use Rattle.c_text.specs.CNodes.{code_of}
 use Rattle.wf_exprs.specs.Grown.{HasCode}
-use Rattle.wf_exprs.proofs.Growing.{grows_on, unchanged}
+use Rattle.wf_exprs.proofs.Growing.{grows_on}
 use Rattle.wf_lower_stmts.specs.BodyNodes.{form_in, picks, places_code}
-use Rattle.wf_lower_stmts.proofs.FrontLaws.{places_none, places_step}
+use Rattle.wf_lower_stmts.proofs.FrontLaws.{places_step}
 use Rattle.wf_lower_stmts.proofs.places.move_places.Goals as goal
 
 pub loop-left-preserved : goal.loop-left-preserved

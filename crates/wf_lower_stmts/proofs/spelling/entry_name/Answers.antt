@@ -1,4 +1,4 @@
-use Rattle.std.proofs.Common.{◌∙◌, ◌++◌, [], ℕ, List, IfOk, ap, codes, refl, subst, sym}
+use Rattle.std.proofs.Common.{◌∙◌, ◌++◌, [], ℕ, List, IfOk, ap, codes, subst, sym}
 use Rattle.wf_ast.specs.TypedPackage.{package_of}
 use Rattle.wf_exprs.specs.Grown.{HasNamed}
 use Rattle.wf_exprs.specs.Names.{struct_type}

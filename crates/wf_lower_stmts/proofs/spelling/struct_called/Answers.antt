@@ -1,7 +1,6 @@
 use Rattle.std.proofs.Common.{sym, ◌∙◌, ap, []}
 use Rattle.std.specs.Prelude.{unwrap_or}
 use Rattle.std.specs.List.{list_all}
-use Rattle.std.proofs.lemmas.Bool.Decides.{nat_tests}
 use Rattle.c_text.specs.CSpelling.{is_word_byte}
 use Rattle.wf_lower_stmts.proofs.WordLaws.{struct_spelt, struct_called_is, word_there, word_is}
 use Rattle.wf_lower_stmts.proofs.spelling.struct_called.Goals as goal

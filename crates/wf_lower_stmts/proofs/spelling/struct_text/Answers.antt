@@ -1,4 +1,4 @@
-use Rattle.std.proofs.Common.{◌≡◌, ◌∙◌, ◌++◌, ℕ, List, true, ap, codes, refl, subst, sym, IfOk}
+use Rattle.std.proofs.Common.{◌≡◌, ◌∙◌, ◌++◌, ℕ, List, true, ap, codes, refl, subst, IfOk}
 use Rattle.std.specs.List.{list_all}
 use Rattle.c_text.specs.CSpelling.{is_word_byte}
 use Rattle.wf_lower_stmts.proofs.WordLaws.{joined_words, ok_map, struct_type_is}

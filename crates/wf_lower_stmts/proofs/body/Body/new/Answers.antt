@@ -1,4 +1,4 @@
-use Rattle.std.proofs.Common.{ap, ◌∙◌}
+use Rattle.std.proofs.Common.{ap}
 use Rattle.wf_exprs.specs.Scopes.{ScopeTree}
 use Rattle.wf_lower_stmts.proofs.BodyLaws.{body_known, form_is, is_scoped, method_few, method_spelt, names_same}
 use Rattle.wf_lower_stmts.proofs.WordLaws.{spelt_known}

@@ -2,7 +2,7 @@ use Rattle.std.proofs.Common.{sym, ◌∙◌, ap, Some}
 use Rattle.wf_ast.specs.TypedInvariant.{is_tree_of}
 use Rattle.wf_ast.specs.TypedTrees.{tree_of}
 use Rattle.wf_lower_stmts.proofs.PlaceLaws.{io_some, io_none, kind_at}
-use Rattle.wf_lower_stmts.proofs.places.io_arg.Goals as goal
+use Rattle.wf_lower_stmts.proofs.places.io_handed.Goals as goal
 
 pub returns-then-is_io : goal.returns-then-is_io
 returns-then-is_io c =
