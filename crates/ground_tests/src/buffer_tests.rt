@@ -101,7 +101,7 @@ fn skips(alloc: Global, rows: &[(u64, u64)]) -> Result<bool, NoMemory> {
     Ok(true)
 }
 
-// Behind the byte `A` in a buffer of four so many bytes of a piece are put, which leaves these cells.
+// After the byte `A` in a buffer of four so many bytes of a piece are put, which leaves these cells.
 fn puts(alloc: Global, rows: &[(&[u8], usize, &[u8])]) -> Result<bool, NoMemory> {
     for (piece, count, cells) in rows {
         let mut buf = four(alloc, (0, 1, 0))?;

@@ -6,8 +6,8 @@ ghost use Rattle.wf_bufs.specs.SurfaceViews.{answer_kind_of};
 use std::alloc::Global;
 use wf_base::Width;
 use wf_bufs::{
-    Action, AnswerKind, Buf, BufList, Bufs, ByteArray, ByteArrays, Call, Engine, MethodDecl,
-    Outcome, PublicSurface, ReceiverDecl, Reply, Saw, StructDecl, ZeroEngine, perform,
+    Action, AnswerKind, BoundedCall, Buf, BufList, Bufs, ByteArray, ByteArrays, Call, Engine,
+    MethodDecl, Outcome, PublicSurface, ReceiverDecl, Reply, Saw, StructDecl, ZeroEngine, perform,
 };
 use wf_text::{MethodId, NoMemory, StatusId, StructId};
 
@@ -74,12 +74,12 @@ fn three_actions(alloc: Global) -> Result<Vec<Saw>, NoMemory> {
     ]?;
     let mut engine = ZeroEngine::new(one_method(alloc, AnswerKind::Flag)?, receivers);
     let mut host = one_buffer(alloc)?;
-    let call = Action::Call {
+    let call = Action::Call(BoundedCall {
         receiver: 0,
         method: MethodId(0),
         args: Vec::new(alloc),
         turns: 1,
-    };
+    });
     let init = Action::Init {
         receiver: 0,
         turns: 1,

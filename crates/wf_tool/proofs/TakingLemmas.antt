@@ -32,7 +32,7 @@ AreHeld-length held [] (file ∷ files) h = absurd h
 AreHeld-length held (name ∷ names) [] h = absurd h
 AreHeld-length held (name ∷ names) (file ∷ files) h = ap suc (AreHeld-length held names files h.1)
 
--- these files were taken, in front of the one with this number, and so many bytes are left
+-- these files were taken, before the one with this number, and so many bytes are left
 pub record HasTaken (held : List ℕ → Option (List ℕ)) (most : ℕ) (names : List (List ℕ)) (number left : ℕ) (files : List (List ℕ)) : Type 0 where
   pub hold : (rest : List (List ℕ)) → AreHeld held (drop number names) rest → AreHeld held names (files ++ rest)
   pub sizes : (rest : List (List ℕ)) → too_long 0 most (files ++ rest) ≡ too_long number left rest

@@ -20,7 +20,7 @@ use Rattle.wf_tool.specs.Soundness.{NeverStuck, in_order}
 use Rattle.wf_tool.specs.Verdict.{IsAccepted}
 
 -- The files are accepted as a package that has this typed tree, and so it is never stuck. Its methods stand in an order in which
--- each is behind those that it calls.
+-- each is after those that it calls.
 pub record IsAcceptedAs (name : List ℕ) (files : List (List ℕ)) (p : PackageTree) : Type 0 where
   pub verdict : IsAccepted name files (length p.methods)
   pub runs : NeverStuck name files

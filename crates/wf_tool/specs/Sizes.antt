@@ -21,6 +21,6 @@ too_long number most [] = None
 too_long number most (bytes ∷ files) =
     if nat_le (length bytes) most then too_long (number + 1) (most - length bytes) files else Some (record { rule = L1; at = first_place number })
 
--- The number of files comes in front of their bytes.
+-- The number of files comes before their bytes.
 abbrev pub too_large : (files : List (List ℕ)) → Option Refusal
 too_large files = option_or (too_many (length files)) (too_long 0 most_bytes files)

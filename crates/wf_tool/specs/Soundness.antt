@@ -14,7 +14,7 @@ use Rattle.wf_tool.specs.Verdict.{IsAccepted}
 abbrev pub in_order : Parsed → (order : List ℕ) → NamedPackageTree
 in_order read order = resolved_package read.name read.texts (decls_of read) order
 
--- There is an order in which each method stands behind those that it calls.
+-- There is an order in which each method stands after those that it calls.
 abbrev pub HasSomeOrder : Parsed → Type 0
 HasSomeOrder read = (order : List ℕ) × HasOrder (in_order read order)
 

@@ -1,4 +1,4 @@
--- The words of a command, as they come behind the program's name.
+-- The words of a command, as they come after the program's name.
 use Rattle.std.specs.Prelude.{ℕ, Bool, List, [], ◌∷◌, length, Option, None, Some, ◌&&◌, ◌||◌, not, nat_eq, nat_le, codes, if◌then◌else◌}
 use Rattle.std.specs.List.{list_all}
 use Rattle.std.specs.Option.{option_map}

@@ -15,7 +15,6 @@ use c_text::{Unit, print};
 use std::alloc::Global;
 use wf_lower::lower;
 use wf_outside::{Inputs, Sink};
-use wf_text::NoMemory;
 
 /// Lowers the package with these words. Ok is the unit of its C text.
 pub(crate) fn lower_package<I: Inputs>(
@@ -30,13 +29,9 @@ pub(crate) fn lower_package<I: Inputs>(
     ensures name { IfErr result (NamesFailed (I.last_failed inputs.new) (words_seen asked.entry).files) }
     ensures same { I.held inputs.new ≡ I.held inputs.old }
 {
-    match accept_package(alloc, asked, inputs) {
-        Ok(accepted) => match lower(alloc, &accepted) {
-            Ok(unit) => Ok(unit),
-            Err(NoMemory) => Err(TakingFault::Memory),
-        },
-        Err(fault) => Err(fault),
-    }
+    let accepted = accept_package(alloc, asked, inputs)?;
+    let unit = lower(alloc, &accepted)?;
+    Ok(unit)
 }
 
 /// Writes the text of a unit: Done, or OutputFault where the sink fails.

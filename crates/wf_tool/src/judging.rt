@@ -42,20 +42,16 @@ fn too_many(count: usize) -> Option<Refusal>
 fn judge_named(alloc: Global, named: Named) -> Result<Accepted, PhaseFault>
     ensures { JudgesNamed (named_package named) result }
 {
-    match type_check(alloc, named) {
-        Ok(typed) => check(alloc, typed),
-        Err(mistyped) => Err(mistyped),
-    }
+    let typed = type_check(alloc, named)?;
+    check(alloc, typed)
 }
 
 /// Accepts a package that is read, or refuses it: by its names, and then by all that comes after them.
 fn judge_read(alloc: Global, parsed: Package) -> Result<Accepted, PhaseFault>
     ensures { JudgesRead parsed result }
 {
-    match resolve(alloc, parsed) {
-        Ok(named) => judge_named(alloc, named),
-        Err(misnamed) => Err(misnamed),
-    }
+    let named = resolve(alloc, parsed)?;
+    judge_named(alloc, named)
 }
 
 /// Accepts a package whose files are within the limits, or answers the refusal that decides.
@@ -68,10 +64,8 @@ pub(crate) fn judge_files(
     requires sized { too_large (map (λ bytes. bytes.items) files.now) ≡ None }
     ensures { Judges name.now (map (λ bytes. bytes.items) files.now) result }
 {
-    match parse(alloc, name, files) {
-        Ok(parsed) => judge_read(alloc, parsed),
-        Err(fault) => Err(fault),
-    }
+    let parsed = parse(alloc, name, files)?;
+    judge_read(alloc, parsed)
 }
 
 /// The same of files that have been taken.
@@ -127,10 +121,8 @@ pub(crate) fn accept_package<I: Inputs>(
     ensures name { IfErr result (NamesFailed (I.last_failed inputs.new) (words_seen asked.entry).files) }
     ensures same { I.held inputs.new ≡ I.held inputs.old }
 {
-    match take_package(alloc, asked.files, inputs) {
-        Ok(files) => judge_taken(alloc, asked.name, files.as_slice()),
-        Err(fault) => Err(fault),
-    }
+    let files = take_package(alloc, asked.files, inputs)?;
+    judge_taken(alloc, asked.name, files.as_slice())
 }
 
 /// Judges the package with these words. Ok is the number of its methods.
@@ -146,10 +138,8 @@ pub fn judge_package<I: Inputs>(
     ensures name { IfErr result (NamesFailed (I.last_failed inputs.new) (words_seen asked.entry).files) }
     ensures same { I.held inputs.new ≡ I.held inputs.old }
 {
-    match accept_package(alloc, asked, inputs) {
-        Ok(accepted) => Ok(number_of_methods(&accepted)),
-        Err(fault) => Err(fault),
-    }
+    let accepted = accept_package(alloc, asked, inputs)?;
+    Ok(number_of_methods(&accepted))
 }
 
 /// A package that is accepted, with the bytes of a script that is to run over it.
@@ -170,10 +160,8 @@ fn readied(
     requires sized { too_large (map (λ bytes. bytes.items) files.now) ≡ None }
     ensures verdict { JudgesReady name.now (map (λ bytes. bytes.items) files.now) script.items result }
 {
-    match judge_taken(alloc, name, files) {
-        Ok(accepted) => Ok(Ready { accepted, script }),
-        Err(fault) => Err(fault),
-    }
+    let accepted = judge_taken(alloc, name, files)?;
+    Ok(Ready { accepted, script })
 }
 
 // Takes a script after the files of a package, and judges the package.
@@ -192,10 +180,8 @@ fn ready_taken<I: Inputs>(
     ensures name { IfErr result (NamesFailed (I.last_failed inputs.new) ((words_seen asked.entry).files ++ script.now ∷ [])) }
     ensures same { I.held inputs.new ≡ I.held inputs.old }
 {
-    match take_other(alloc, script, asked.files.len(), inputs) {
-        Ok(script) => readied(alloc, asked.name, files, script),
-        Err(fault) => Err(fault),
-    }
+    let script = take_other(alloc, script, asked.files.len(), inputs)?;
+    readied(alloc, asked.name, files, script)
 }
 
 /// Takes the files of the package with these words and then the script with this name, and judges the package. Ok is the accepted
@@ -213,10 +199,8 @@ pub(crate) fn ready_package<I: Inputs>(
     ensures name { IfErr result (NamesFailed (I.last_failed inputs.new) ((words_seen asked.entry).files ++ script.now ∷ [])) }
     ensures same { I.held inputs.new ≡ I.held inputs.old }
 {
-    match take_package(alloc, asked.files, inputs) {
-        Ok(files) => ready_taken(alloc, asked, files.as_slice(), script, inputs),
-        Err(fault) => Err(fault),
-    }
+    let files = take_package(alloc, asked.files, inputs)?;
+    ready_taken(alloc, asked, files.as_slice(), script, inputs)
 }
 
 /// A package that is accepted, with the bytes of a script that is to run over these bytes as its C text.
@@ -238,10 +222,8 @@ fn readied_text(
     requires sized { too_large (map (λ bytes. bytes.items) files.now) ≡ None }
     ensures verdict { JudgesReadyText name.now (map (λ bytes. bytes.items) files.now) script.items text.items result }
 {
-    match readied(alloc, name, files, script) {
-        Ok(ready) => Ok(ReadyText { ready, text }),
-        Err(fault) => Err(fault),
-    }
+    let ready = readied(alloc, name, files, script)?;
+    Ok(ReadyText { ready, text })
 }
 
 // Takes a text after the files of a package and a script, and judges the package.
@@ -261,15 +243,13 @@ fn text_taken<I: Inputs>(
     ensures name { IfErr result (NamesFailed (I.last_failed inputs.new) ((words_seen asked.entry.package_words).files ++ asked.entry.script.now ∷ asked.entry.text.now ∷ [])) }
     ensures same { I.held inputs.new ≡ I.held inputs.old }
 {
-    match take_other(
+    let text = take_other(
         alloc,
         asked.text,
         asked.package_words.files.len() + 1,
         inputs,
-    ) {
-        Ok(text) => readied_text(alloc, asked.package_words.name, files, script, text),
-        Err(fault) => Err(fault),
-    }
+    )?;
+    readied_text(alloc, asked.package_words.name, files, script, text)
 }
 
 // Takes a script after the files of a package, then a text, and judges the package.
@@ -287,10 +267,8 @@ fn script_taken<I: Inputs>(
     ensures name { IfErr result (NamesFailed (I.last_failed inputs.new) ((words_seen asked.entry.package_words).files ++ asked.entry.script.now ∷ asked.entry.text.now ∷ [])) }
     ensures same { I.held inputs.new ≡ I.held inputs.old }
 {
-    match take_other(alloc, asked.script, asked.package_words.files.len(), inputs) {
-        Ok(script) => text_taken(alloc, asked, files, script, inputs),
-        Err(fault) => Err(fault),
-    }
+    let script = take_other(alloc, asked.script, asked.package_words.files.len(), inputs)?;
+    text_taken(alloc, asked, files, script, inputs)
 }
 
 /// Takes the files of the package with these words, then the script and then the text, and judges the package. Ok is the accepted
@@ -307,8 +285,6 @@ pub(crate) fn ready_text<I: Inputs>(
     ensures name { IfErr result (NamesFailed (I.last_failed inputs.new) ((words_seen asked.entry.package_words).files ++ asked.entry.script.now ∷ asked.entry.text.now ∷ [])) }
     ensures same { I.held inputs.new ≡ I.held inputs.old }
 {
-    match take_package(alloc, asked.package_words.files, inputs) {
-        Ok(files) => script_taken(alloc, asked, files.as_slice(), inputs),
-        Err(fault) => Err(fault),
-    }
+    let files = take_package(alloc, asked.package_words.files, inputs)?;
+    script_taken(alloc, asked, files.as_slice(), inputs)
 }

@@ -3,12 +3,13 @@
 ghost use Rattle.std.specs.Prelude.{◌≡◌, ◌-◌, ◌^◌, ◌≤◌, ◌<◌, length, map, string_bytes, IfOk, IfErr};
 ghost use Rattle.wf_text.specs.declared.rules.Rule.TheVariants.{L1};
 ghost use Rattle.wf_tokens.specs.Places.{first_place};
+ghost use Rattle.wf_tool.specs.declared.taking.TakingFault.TheVariants as faults;
 ghost use Rattle.wf_tool.specs.Taken.{CountsTaking, NamesFailed, NamesFile, StopsFile, StopsFiles, StopsScript, TakesFile, TakesFiles, TakesScript};
 
 use crate::words::file_name;
-use std::alloc::Global;
+use std::alloc::{AllocFailed, Global};
 use wf_outside::{Inputs, TakeFault};
-use wf_text::{Place, Refusal, Rule};
+use wf_text::{NoMemory, Place, Refusal, Rule};
 
 /// Why files aren't taken, or a package isn't accepted.
 #[derive(Clone, Copy)]
@@ -19,6 +20,22 @@ pub enum TakingFault {
     Failed(usize),
     /// Memory was refused.
     Memory,
+}
+
+impl<T: Drop> From<AllocFailed<T>> for TakingFault {
+    ghost from_gives = { λ _ fault. fault ≡ faults.Memory };
+
+    fn from(_refused: AllocFailed<T>) -> TakingFault {
+        TakingFault::Memory
+    }
+}
+
+impl From<NoMemory> for TakingFault {
+    ghost from_gives = { λ _ fault. fault ≡ faults.Memory };
+
+    fn from(_refused: NoMemory) -> TakingFault {
+        TakingFault::Memory
+    }
 }
 
 /// The first place of the file with this number.
@@ -82,16 +99,9 @@ pub(crate) fn take_files<I: Inputs>(
     let mut left: u64 = 1_048_576;
     let mut number: usize = 0;
     while number < names.len() {
-        match take_file(alloc, file_name(names, number), number, left, inputs) {
-            Ok(bytes) => {
-                left -= bytes.as_slice().len() as u64;
-                match files.push(bytes) {
-                    Ok(()) => {}
-                    Err(_) => return Err(TakingFault::Memory),
-                }
-            }
-            Err(fault) => return Err(fault),
-        }
+        let bytes = take_file(alloc, file_name(names, number), number, left, inputs)?;
+        left -= bytes.as_slice().len() as u64;
+        files.push(bytes)?;
         number += 1;
     }
     Ok(files)

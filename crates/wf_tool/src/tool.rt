@@ -28,7 +28,7 @@ use wf_script_drive::DriveEnd;
 use wf_text::NoMemory;
 use wf_tool_runs::{RunFault, run_lowered, run_source, run_text};
 
-/// Runs the command that `words` name, which come behind the program's name, over `inputs`, and writes its answer to `out`; `loader`
+/// Runs the command that `words` name, which come after the program's name, over `inputs`, and writes its answer to `out`; `loader`
 /// makes the engines of C texts.
 ///
 /// `check PACKAGE FILE...`: `ok N methods` and Done for a package that keeps every rule and so is never stuck.
@@ -97,10 +97,8 @@ impl Answer {
     fn of(ending: Ending, line: Result<String, AllocError>) -> Result<Answer, NoMemory>
         ensures { MatchResult result (λ answer. (answer.ending ≡ ending) × (line ≡ Ok answer.line)) (λ _. IsErr line) }
     {
-        match line {
-            Ok(line) => Ok(Answer { ending, line }),
-            Err(_) => Err(NoMemory),
-        }
+        let line = line?;
+        Ok(Answer { ending, line })
     }
 }
 

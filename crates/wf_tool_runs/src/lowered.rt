@@ -46,14 +46,9 @@ pub fn run_lowered<L: Loader, O: Sink>(
     ensures count { CountsRun (O.faults out.old) (O.faults out.new) result }
     ensures longest { KeepsLongest (O.longest out.old) (O.longest out.new) }
 {
-    let prepared = match Prepared::read(alloc, a.typed(), bytes) {
-        Ok(prepared) => prepared,
-        Err(fault) => return Err(fault),
-    };
-    match run_made(alloc, loader, a, &prepared, out) {
-        Ok(end) => Ok(end),
-        Err(NoMemory) => Err(ScriptFault::Memory),
-    }
+    let prepared = Prepared::read(alloc, a.typed(), bytes)?;
+    let end = run_made(alloc, loader, a, &prepared, out)?;
+    Ok(end)
 }
 
 // The same of a script that is read over the package's surface.

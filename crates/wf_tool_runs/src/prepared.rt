@@ -41,14 +41,9 @@ impl Prepared {
         requires typed { IsTyped t.now }
         ensures { Prepares (surface_of (package_of t.now)) bytes.now result }
     {
-        let surface = match public_surface(alloc, t) {
-            Ok(surface) => surface,
-            Err(NoMemory) => return Err(ScriptFault::Memory),
-        };
-        match read_script(alloc, bytes, &surface) {
-            Ok(script) => Ok(Prepared { surface, script }),
-            Err(fault) => Err(fault),
-        }
+        let surface = public_surface(alloc, t)?;
+        let script = read_script(alloc, bytes, &surface)?;
+        Ok(Prepared { surface, script })
     }
 
     /// The receivers that the script declares, by number.
@@ -77,12 +72,7 @@ impl Prepared {
         ensures room { FitsRun (O.room out.old) (O.room out.new) result (length (report_over (steps_of E.surface E.init_gives E.call_gives) (E.state engine.old) self.now.surface self.now.script).text) }
         ensures longest { KeepsLongest (O.longest out.old) (O.longest out.new) }
     {
-        match self.script.host(alloc) {
-            Ok(host) => {
-                let mut host = host;
-                Ok(drive(&self.script, &self.surface, engine, &mut host, out))
-            }
-            Err(NoMemory) => Err(NoMemory),
-        }
+        let mut host = self.script.host(alloc)?;
+        Ok(drive(&self.script, &self.surface, engine, &mut host, out))
     }
 }

@@ -31,14 +31,9 @@ pub fn run_source<O: Sink>(
     ensures count { CountsRun (O.faults out.old) (O.faults out.new) result }
     ensures longest { KeepsLongest (O.longest out.old) (O.longest out.new) }
 {
-    let prepared = match Prepared::read(alloc, a.typed(), bytes) {
-        Ok(prepared) => prepared,
-        Err(fault) => return Err(fault),
-    };
-    match run_prepared(alloc, a, &prepared, out) {
-        Ok(end) => Ok(end),
-        Err(NoMemory) => Err(ScriptFault::Memory),
-    }
+    let prepared = Prepared::read(alloc, a.typed(), bytes)?;
+    let end = run_prepared(alloc, a, &prepared, out)?;
+    Ok(end)
 }
 
 // Runs a script that is read over the package's surface.
@@ -56,11 +51,6 @@ fn run_prepared<O: Sink>(
     ensures room { FitsRun (O.room out.old) (O.room out.new) result (length (engine_report (package_of a.now.nodes) prepared.now.script).text) }
     ensures longest { KeepsLongest (O.longest out.old) (O.longest out.new) }
 {
-    match SourceEngine::load(alloc, a, prepared.receivers()) {
-        Ok(engine) => {
-            let mut engine = engine;
-            prepared.drive(alloc, &mut engine, out)
-        }
-        Err(fault) => Err(fault),
-    }
+    let mut engine = SourceEngine::load(alloc, a, prepared.receivers())?;
+    prepared.drive(alloc, &mut engine, out)
 }

@@ -18,7 +18,6 @@ use std::alloc::Global;
 use wf_ast::Typed;
 use wf_outside::Sink;
 use wf_script_drive::DriveEnd;
-use wf_text::NoMemory;
 
 /// Loads the unit as a text of the package with these types, and performs the script over its engine. Nothing is written where it
 /// isn't loaded.
@@ -40,14 +39,7 @@ pub(crate) fn run_unit<L: Loader, O: Sink>(
     ensures count { CountsRun (O.faults out.old) (O.faults out.new) result }
     ensures longest { KeepsLongest (O.longest out.old) (O.longest out.new) }
 {
-    match loader.load(alloc, unit, t, prepared.receivers()) {
-        Ok(engine) => {
-            let mut engine = engine;
-            match prepared.drive(alloc, &mut engine, out) {
-                Ok(end) => Ok(end),
-                Err(NoMemory) => Err(LoadFault::Memory),
-            }
-        }
-        Err(fault) => Err(fault),
-    }
+    let mut engine = loader.load(alloc, unit, t, prepared.receivers())?;
+    let end = prepared.drive(alloc, &mut engine, out)?;
+    Ok(end)
 }

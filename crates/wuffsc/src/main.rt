@@ -7,7 +7,7 @@ use std::{env, io};
 use wf_outside::{FileInputs, StdSink};
 use wf_tool::{Ending, wuffs_tool};
 
-/// Runs the command that the words behind the program's own name call for.
+/// Runs the command that the words after the program's own name call for.
 fn main(rt: HostRuntime) -> ExitCode {
     let mut inputs = FileInputs::new(&rt);
     let mut output = StdSink::new(&rt);
@@ -27,7 +27,7 @@ fn main(rt: HostRuntime) -> ExitCode {
     ExitCode::from(ending.status())
 }
 
-// The words behind the program's own name.
+// The words after the program's own name.
 fn words_of(rt: &HostRuntime) -> io::Result<Vec<String>> {
     let words = env::args(rt)?.skip(1).collect(rt.alloc())?;
     Ok(words)

@@ -6,6 +6,6 @@ use Rattle.wf_tool.proofs.judging.judge_files.Goals as goal
 pub parse-requires-clause-bytes : goal.parse-requires-clause-bytes
 parse-requires-clause-bytes c = sized-bytes (λ file. file.items) c.args.files.now c.requires.sized
 
-pub returns-in-Ok : goal.returns-in-Ok
-returns-in-Ok c =
-    read-judged c.args.name.now (map (λ file. file.items) c.args.files.now) c.in-Ok.parsed c.judge_read.result c.requires.named c.requires.sized c.in-Ok.ensures c.judge_read.ensures
+pub returns : goal.returns
+returns c =
+    read-judged c.args.name.now (map (λ file. file.items) c.args.files.now) c.in_ok-parsed.parsed c.judge_read.result c.requires.named c.requires.sized c.in_ok-parsed.ensures c.judge_read.ensures

@@ -1,6 +1,6 @@
 use Rattle.wf_tool.proofs.JudgingLemmas.{named-judged}
 use Rattle.wf_tool.proofs.judging.judge_read.Goals as goal
 
-pub returns-in-Ok : goal.returns-in-Ok
-returns-in-Ok c =
-    named-judged c.args.parsed c.in-Ok.named c.judge_named.result c.in-Ok.ensures.resolved c.judge_named.ensures
+pub returns : goal.returns
+returns c =
+    named-judged c.args.parsed c.in_ok-named.named c.judge_named.result c.in_ok-named.ensures.resolved c.judge_named.ensures

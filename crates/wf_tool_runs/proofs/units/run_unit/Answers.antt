@@ -17,13 +17,13 @@ load-requires-clause-declared g c =
 pub drive-requires-clause-numbers : goal.drive-requires-clause-numbers
 drive-requires-clause-numbers g c = subst HasOwnNumbers (sym c.requires.surface) (own_numbers (package_of c.args.t.now))
 
-pub returns-in-Ok-drive-clause-runs : goal.returns-in-Ok-drive-clause-runs
-returns-in-Ok-drive-clause-runs g c =
+pub returns-clause-runs : goal.returns-clause-runs
+returns-clause-runs g c =
     let seen = g.L.Loader.seen c.args.loader.now in
     let items = unit_tree c.args.unit in
-    let end = c.in-Ok-drive.end in
+    let end = c.in_ok-end.end in
     let steps = steps_of {State = g.L.E.Engine.State} g.L.E.Engine.surface g.L.E.Engine.init_gives g.L.E.Engine.call_gives in
-    let same = report-seen (package_of c.args.t.now) c.args.prepared.now.script c.requires.script (map receiver_of c.receivers.result.now) c.receivers.ensures seen items steps (g.L.E.Engine.state c.in-Ok.engine) c.args.prepared.now.surface c.requires.surface c.in-Ok.ensures.seen in
+    let same = report-seen (package_of c.args.t.now) c.args.prepared.now.script c.requires.script (map receiver_of c.receivers.result.now) c.receivers.ensures seen items steps (g.L.E.Engine.state c.in_ok-engine.engine) c.args.prepared.now.surface c.requires.surface c.in_ok-engine.ensures.seen in
     let D : Report → Type 0 = λ report. Drives (g.O.Sink.written c.args.out.now) (g.O.Sink.written c.drive.new.out) end report in
     let F : Report → Type 0 = λ report. FitsDrive (g.O.Sink.room c.args.out.now) (g.O.Sink.room c.drive.new.out) end (length report.text) in
-    (c.in-Ok.ensures.form, subst D same c.in-Ok-drive.ensures.report, subst F same c.in-Ok-drive.ensures.room)
+    (c.in_ok-engine.ensures.form, subst D same c.in_ok-end.ensures.report, subst F same c.in_ok-end.ensures.room)
