@@ -46,7 +46,7 @@ ANSWERS = [
     ("operators that are mixed", {"t.wuffs": b"pub struct s()\npub func s.f() {\n    x = a * b + 1\n}\n"},
      "check t t.wuffs", "refused S6 t.wuffs:3:15\n", 1),
     ("a struct", {"t.wuffs": b"pri const X : base.u8 = 255\npub struct s()\n"}, "check t t.wuffs", "ok 0 methods\n", 0),
-    ("a constant above its type in front of a struct", {"t.wuffs": b"pri const X : base.u8 = 256\npub struct s()\n"},
+    ("a constant above its type before a struct", {"t.wuffs": b"pri const X : base.u8 = 256\npub struct s()\n"},
      "check t t.wuffs", "refused T5 t.wuffs:1:25\n", 1),
     ("a sum", {"t.wuffs": b"pri const X : base.u8 = 1 + 2\n"}, "check t t.wuffs", "ok 0 methods\n", 0),
     ("a product above the type", {"t.wuffs": b"pri const X : base.u8 = (1 + 2) * 100\npub struct s()\n"}, "check t t.wuffs", "refused T5 t.wuffs:1:33\n", 1),

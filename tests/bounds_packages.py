@@ -238,7 +238,7 @@ CALLS = [
     ("a wider peek", "B9", "if args.r.length() > 0 {", "u = args.r.@peek_u16le()", "}"),
     ("a wider peek of enough", "ok", "if args.r.length() >= 4 {", "x = args.r.peek_u32le()", "}"),
     ("a wider peek of one less", "B9", "if args.r.length() >= 3 {", "x = args.r.@peek_u32le()", "}"),
-    ("a peek behind a negation", "ok", "if args.r.length() == 0 {", "return ok", "}", "c = args.r.peek_u8()"),
+    ("a peek after a negation", "ok", "if args.r.length() == 0 {", "return ok", "}", "c = args.r.peek_u8()"),
     ("a fast skip of too much", "B9", "if args.r.length() >= 1 {", "args.r.@skip_u32_fast!(actual: 1, worst_case: 2)", "}"),
     ("a fast skip of more than its worst case", "B9", "if args.r.length() >= 5 {", "args.r.@skip_u32_fast!(actual: 2, worst_case: 1)", "}"),
     ("a fast skip leaves the rest", "ok", "if args.r.length() >= 2 {", "args.r.skip_u32_fast!(actual: 1, worst_case: 1)", "c = args.r.peek_u8()", "}"),

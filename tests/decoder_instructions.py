@@ -134,7 +134,7 @@ def coded(random_):
         if following < 4096:
             table[longer] = following
             following += 1
-            # The decoder is one entry behind.
+            # The decoder has one entry less.
             if following - 1 == 1 << width and width < 12:
                 width += 1
         else:

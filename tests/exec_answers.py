@@ -234,10 +234,10 @@ BODIES = [
     # 6.8.4.2
     ("a case", "switch (2) { case 1: return 10; case 2: return 20; default: return 30; }", 20),
     ("a default that stands first", "switch (7) { default: return 30; case 1: return 10; }", 30),
-    ("a case behind a default", "switch (1) { default: return 30; case 1: return 10; }", 10),
+    ("a case after a default", "switch (1) { default: return 30; case 1: return 10; }", 10),
     ("no case, and no default", "switch (7) { case 1: return 10; } return 5;", 5),
     ("a fall through", "uint64_t n = 0; switch (1) { case 1: n = (n + 1); case 2: n = (n + 10); default: n = (n + 100); } return n;", 111),
-    ("a fall through behind a default", "uint64_t n = 0; switch (9) { case 1: n = (n + 1); default: n = (n + 10); case 2: n = (n + 100); } return n;", 110),
+    ("a fall through after a default", "uint64_t n = 0; switch (9) { case 1: n = (n + 1); default: n = (n + 10); case 2: n = (n + 100); } return n;", 110),
     ("two cases on one statement", "switch (a) { case 1: case 0: return 4; } return 5;", 4),
     ("a case of zeros and a case", "switch (self->n16) { case 65536: return 4; case 0: return 6; } return 5;", 6),
     ("a switch on a flag", "self->yes = 9; switch (self->yes) { case 9: return 4; case 1: return 6; } return 5;", 6),
@@ -266,7 +266,7 @@ BODIES = [
     # 6.8.4.1, 6.8.5
     ("an else if", "if (0) { return 1; } else if (a) { return 2; } else if (1) { return 3; } else { return (1 / 0); }", 3),
     ("a condition that isn't defined", "if ((1 / 0)) { } return 0;", "undefined"),
-    ("a condition behind one that holds", "if (1) { return 7; } else if ((1 / 0)) { } return 0;", 7),
+    ("a condition after one that holds", "if (1) { return 7; } else if ((1 / 0)) { } return 0;", 7),
     ("a pointer as a condition", "if (self->a8) { return 7; } return 0;", 7),
     ("a while that isn't entered", "while (0) { return (1 / 0); } return 3;", 3),
     # 6.9.1p12
@@ -314,7 +314,7 @@ BODIES = [
     ("a string that isn't there", "return self->s[0];", "undefined"),
 ]
 
-# An entry of `t` is a turn, and so are a test behind a pass and a jump back.
+# An entry of `t` is a turn, and so are a test after a pass and a jump back.
 TURNS = [
     ("an entry", "return 7;", 1, 7),
     ("a call inside", "uint8_t v = 0; v = set(self, 1); set(self, 2); return v;", 3, 1),

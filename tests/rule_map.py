@@ -1,9 +1,11 @@
 #!/usr/bin/env python3
 """rule_map.py [--check]: writes docs/RULE-MAP.md, which tells for each rule of refusal where it stands.
 
-The rules are the sections of docs/RULES.md. A rule's definitions are the constructors and definitions in specs/ that name
-it, its functions those in src/ that answer it, its tests the examples of its section and the tables of tests/ that name
-it. --check writes nothing and fails where the page isn't what would be written, or a rule lacks one of these.
+The rules are the sections of docs/RULES.md. A rule's definitions are the rows of tables, the constructors and the
+definitions in specs/ that name it, its functions those in src/ that answer it, its tests the examples of its section, the
+files of tests/ with a row that expects it, and the file of tests/second_opinion/ that refuses by it. A row of the rules of types names its judgement, and the function that decides it in src/ has
+the same name, with the kind of part after it where each kind has its own. --check writes nothing and fails where the page
+isn't what would be written, a rule lacks one of these, or a row of the rules of types has no such function.
 """
 import pathlib
 import re
@@ -14,8 +16,11 @@ PAGE = TOP / "docs" / "RULE-MAP.md"
 HEAD = """# Where each rule stands
 
 Made by `tests/rule_map.py` from docs/RULES.md, the crates and tests/; `tests/rule_map.py --check` runs in `.ci/run`. The
-table that is the rule's definition comes first; what else names the rule in specs/ states what code finds of it. Every rule has its printed name, and its rank among rules at one place, in wf_text
-(`specs/RuleNames`, `specs/Precedence`).
+table that is the rule's definition comes first; what else names the rule in specs/ states what code finds of it. A row of the
+rules of types, its judgement and the function that decides it have one name, with the kind of part after it where each kind
+has a function of its own; the judgements stand in wf_types_rules/specs/Judgements. Every rule has its printed name, and its
+rank among rules at one place, in wf_text (`specs/RuleNames`, `specs/Precedence`). Tests are the files of tests/ with a row that
+expects the rule, and the file of the second checker, tests/second_opinion/, that refuses by it.
 
 | Rule | Definition (specs/) | Code (src/) | Tests |
 |---|---|---|---|
@@ -23,6 +28,15 @@ table that is the rule's definition comes first; what else names the rule in spe
 # A name that a definition, a constructor or a function begins with.
 DEFINED = re.compile(r"^(?:unfoldable |abbrev )?(?:pub )?(?:record |data )?([A-Za-z_][\w-]*)(?: .*)?(?: :| =)")
 CONSTRUCTOR = re.compile(r"^  ([a-z][\w-]*) :")
+# A row of a table: a rule with the definition that tells where it is broken.
+ROW = re.compile(r"^\s+(?:∷ )?\(([A-Z]\d+), ([a-z][\w-]*)\)$")
+# The table whose rows have the names of functions in src/, and the crates that these stand in.
+NAMED_ROWS = "crates/wf_types_rules/specs/TypeRules.antt"
+NAMED_CRATES = "crates/wf_types_*/src/*.rt"
+# The table of the rules of names, some of whose rows have a function of their name.
+NAMES_TABLE = ("wf_names_rules", "NameRules")
+# Files of tests/ that name rules and expect none of them.
+NO_TESTS = ("rule_map.py", "rule_examples.py", "rules.py", "wrong_rules.py")
 FUNCTION = re.compile(r"^\s*(?:pub(?:\([a-z]+\))? )?(?:const )?(?:fn|const) (\w+)")
 
 
@@ -44,7 +58,7 @@ def code_only(line, mark):
 
 
 def named_in_specs(rules):
-    """For each rule: crate, file and names of the definitions and constructors that name it, tables of rules first."""
+    """For each rule: crate, file and names of the rows, constructors and definitions that name it, tables of rules first."""
     found = {rule: {} for rule in rules}
     for file in sorted(TOP.glob("crates/*/specs/**/*.antt")):
         where = (file.relative_to(TOP).parts[1], file.stem)
@@ -60,8 +74,10 @@ def named_in_specs(rules):
                 continue
             if line.strip().startswith("--"):
                 continue
-            constructor, definition = CONSTRUCTOR.match(line), DEFINED.match(line)
-            if constructor:
+            constructor, definition, row = CONSTRUCTOR.match(line), DEFINED.match(line), ROW.match(line)
+            if row:
+                name = row.group(2)
+            elif constructor:
                 name = constructor.group(1)
             elif definition and not line.startswith(" "):
                 name = definition.group(1)
@@ -71,57 +87,90 @@ def named_in_specs(rules):
                     names = found[rule].setdefault(where, [])
                     if name and name not in names:
                         names.append(name)
-            if constructor or definition:
+            if constructor or definition or row:
                 told = []
     return found
 
 
-def named_in_code(rules):
-    """For each rule: crate, file and functions that answer it."""
-    found = {rule: {} for rule in rules}
-    for file in sorted(TOP.glob("crates/*/src/**/*.rt")):
-        crate = file.relative_to(TOP).parts[1]
-        if crate == "wf_text":
-            continue
-        name = ""
-        for line in file.read_text().splitlines():
-            function = FUNCTION.match(line)
-            if function:
-                name = function.group(1)
-            for rule in re.findall(r"\bRule::([A-Z]\d+)\b", code_only(line, "//")):
-                if rule in found:
-                    names = found[rule].setdefault((crate, file.stem), [])
-                    if name and name not in names:
-                        names.append(name)
+def rows_with_functions():
+    """For each rule of the table of types: its rows' names, each with the functions of that name."""
+    functions = [function.group(1) for file in sorted(TOP.glob(NAMED_CRATES)) for line in file.read_text().splitlines()
+                 if (function := FUNCTION.match(line))]
+    found = {}
+    for line in (TOP / NAMED_ROWS).read_text().splitlines():
+        row = ROW.match(line)
+        if row:
+            kinds = re.compile(rf"{row.group(2)}(_(in|of|by|with)_\w+)?")
+            found.setdefault(row.group(1), {})[row.group(2)] = [name for name in functions if kinds.fullmatch(name)]
     return found
 
 
+def named_in_code(rules, rows):
+    """For each rule: crate, file and functions that answer it, those that have a row's name in place of who calls them."""
+    found = {rule: {} for rule in rules}
+    named = {rule: {name for names in rows.get(rule, {}).values() for name in names} for rule in rules}
+    for file in sorted(TOP.glob("crates/*/src/**/*.rt")):
+        crate = file.relative_to(TOP).parts[1]
+        if crate == "wf_text" or crate.endswith("_tests"):
+            continue
+        name = ""
+        lines = file.read_text().splitlines()
+        for line, after in zip(lines, lines[1:] + [""]):
+            function = FUNCTION.match(line)
+            if function:
+                name = function.group(1)
+            for rule, called in re.findall(r"\bRule::([A-Z]\d+)\b(?:,\s*(\w+)\()?", code_only(line, "//") + after):
+                if rule in found and f"Rule::{rule}" in code_only(line, "//"):
+                    teller = called if called in named[rule] else name
+                    names = found[rule].setdefault((crate, file.stem), [])
+                    if teller and teller not in names:
+                        names.append(teller)
+    return found
+
+
+def add_functions_of_rows(code, specs):
+    """Adds the functions that have the name of a row of the rules of names."""
+    for file in sorted(TOP.glob("crates/wf_names_*/src/*.rt")):
+        functions = [function.group(1) for line in file.read_text().splitlines() if (function := FUNCTION.match(line))]
+        for rule, places in specs.items():
+            for name in places.get(NAMES_TABLE, []):
+                names = code[rule].setdefault((file.relative_to(TOP).parts[1], file.stem), []) if name in functions else [name]
+                if name not in names:
+                    names.append(name)
+
+
 def named_in_tests(rules):
+    """For each rule: the files with a text that is an answer by it, and those of the second checker that refuse by it."""
     found = {rule: [] for rule in rules}
-    for file in sorted(TOP.glob("tests/*.py")):
-        text = file.read_text()
+    for file in sorted(TOP.glob("tests/*.py")) + sorted(TOP.glob("tests/second_opinion/*.py")):
+        if file.name in NO_TESTS:
+            continue
+        text = "\n".join(re.sub(r"(^|\s)# .*", "", line) for line in file.read_text().splitlines())
         for rule in rules:
-            if file.name not in ("rule_map.py", "rule_examples.py") and re.search(rf"\b{rule}\b", text):
-                found[rule].append(file.name)
+            if re.search(rf'"refused {rule} |"{rule}(?:"| [\d{{])|\bRule\.{rule}\b', text):
+                found[rule].append(str(file.relative_to(TOP / "tests")))
     return found
 
 
 def listed(places):
+    """The places with their names."""
     def rank(place):
         return ("Rules" not in place[0][1], place[0])
-    return "; ".join(f"{crate}/{file}: {', '.join(names[:6])}{' ..' if len(names) > 6 else ''}"
-                     for (crate, file), names in sorted(places.items(), key=rank))
+    return "; ".join(f"{crate}/{file}: {', '.join(names)}" for (crate, file), names in sorted(places.items(), key=rank))
 
 
 def main():
     if sys.argv[1:] not in ([], ["--check"]):
         sys.exit(__doc__)
     rules = sections((TOP / "docs" / "RULES.md").read_text())
-    specs, code, tests = named_in_specs(rules), named_in_code(rules), named_in_tests(rules)
+    table = rows_with_functions()
+    specs, code, tests = named_in_specs(rules), named_in_code(rules, table), named_in_tests(rules)
+    add_functions_of_rows(code, specs)
     rows, lacks = [], []
     for rule, examples in rules.items():
         shown = ([f"{examples} examples"] if examples else []) + tests[rule]
         rows.append(f"| [{rule}](RULES.md#{rule.lower()}) | {listed(specs[rule])} | {listed(code[rule])} | {', '.join(shown)} |\n")
+        lacks += [f"{rule}'s judgement {row} has no function of its name" for row, names in table.get(rule, {}).items() if not names]
         for what, there in (("definition", specs[rule]), ("code", code[rule]), ("test", shown)):
             if not there:
                 lacks.append(f"{rule} has no {what}")

@@ -8,7 +8,7 @@ is accepted.
 """
 from packages import answer_all
 
-# A struct in lines 3 to 9, behind two statuses; its method in line 10, with locals in lines 11 to 15.
+# A struct in lines 3 to 9, after two statuses; its method in line 10, with locals in lines 11 to 15.
 S = ('pub status "#bad" | pri status "$wait" | pub struct s?( | n : base.u32, | f : base.bool, | t : base.status, '
      '| a : array[4] base.u8, | r : array[4] base.u8[..= 9], | )')
 V = ("var x : base.u8", "var y : base.u16", "var b : base.bool", "var q : base.status", "var l : slice base.u8")
@@ -21,7 +21,7 @@ def method(*body, args=IO, mark="?", gives=""):
 
 
 def beside(declaration, *body, mark="?"):
-    """The same, in front of a method of the struct in one line: the statements stand from line 17 on."""
+    """The same, before a method of the struct in one line: the statements stand from line 17 on."""
     return f"{S} | {declaration} | pub func s.f{mark}({IO}) {{ | " + " | ".join(V + body) + " | }"
 
 
@@ -66,8 +66,8 @@ PACKAGES = [
     # T1: operands
     ("two numbers of one width", method("x = x + x"), "ok"),
     ("two numbers of two widths", method("x = x + y"), "T1 16:9"),
-    ("a bool in front of a number", method("x = b + x"), "T1 16:5"),
-    ("a bool behind a number", method("x = x + b"), "T1 16:9"),
+    ("a bool before a number", method("x = b + x"), "T1 16:5"),
+    ("a bool after a number", method("x = x + b"), "T1 16:9"),
     ("the third operand of a chain", method("x = x + x + y"), "T1 16:13"),
     ("a constant beside a number", method("x = x + 1"), "ok"),
     ("numbers of two widths compared", method("b = x < y"), "T1 16:9"),
@@ -235,14 +235,14 @@ PACKAGES = [
     ("an array without elements", "pub struct s( | n : array[0] base.u8, | )", "T5 2:11"),
     ("an array without elements by its value", "pub struct s( | n : array[1 - 1] base.u8, | )", "T5 2:13"),
     ("a constant beside a byte variable", method("x = x + 256"), "T5 16:9"),
-    ("a constant in front of a byte variable", method("x = 256 + x"), "T5 16:5"),
+    ("a constant before a byte variable", method("x = 256 + x"), "T5 16:5"),
     ("a constant compared with a byte", method("b = x < 256"), "T5 16:9"),
     ("a constant for a byte", method("x = 256"), "B1 16:5"),
     ("a constant for a byte's operator", method("x += 256"), "T5 16:6"),
     ("a constant argument", beside(G, "this.g!(k: 256)"), "B8 17:12"),
     ("a constant argument of a base method", method("args.w.write_u8?(a: 256)"), "B8 16:21"),
     ("a constant result", small("return 256", gives=" base.u8"), "B1 3:8"),
-    ("a bool behind a constant argument", beside(G, "this.g!(k: 256)", "x = b"), "T2 18:1"),
+    ("a bool after a constant argument", beside(G, "this.g!(k: 256)", "x = b"), "T2 18:1"),
     ("a status without a mark", 'pub status "bad"', "T5 1:12"),
     ("a status of a mark alone", 'pub status "#"', "T5 1:12"),
     ("a status with two question marks", 'pub status "#a??"', "T5 1:12"),
@@ -297,10 +297,10 @@ PACKAGES = [
     ("ok yielded", method("yield? ok"), "E5 16:8"),
     ("a variable yielded", method("yield? q"), "E5 16:8"),
     # two in one package: the lesser place
-    ("a result in front of an argument of another type", beside(P, "b = this.p(k: y)"), "T1 17:15"),
-    ("an effect in front of a type", method("this.n = 1", "x = b", mark=""), "E1 16:1"),
-    ("a type in front of an effect", method("x = b", "this.n = 1", mark=""), "T2 16:1"),
-    ("a constant in front of a method", "pri const A : base.u8 = 256 | " + small("return 1"), "T5 1:25"),
+    ("a result before an argument of another type", beside(P, "b = this.p(k: y)"), "T1 17:15"),
+    ("an effect before a type", method("this.n = 1", "x = b", mark=""), "E1 16:1"),
+    ("a type before an effect", method("x = b", "this.n = 1", mark=""), "T2 16:1"),
+    ("a constant before a method", "pri const A : base.u8 = 256 | " + small("return 1"), "T5 1:25"),
     # two rules at one place: the earlier rule
     ("a pure method that writes a bool to a number", method("this.n = true", mark=""), "T2 16:1"),
     ("an impure method that calls an impure one as a coroutine", beside(G, "this.g?(k: 1)", mark="!"), "E2 17:6"),
