@@ -26,7 +26,7 @@ pub struct Machine {
 
 /// What a token does to the top of what is wanted.
 #[derive(Clone, Copy, PartialEq, Eq)]
-pub enum Meeting {
+pub(crate) enum Meeting {
     /// It is read.
     Read,
     /// The top may be absent: the token is for what stands below.
@@ -85,7 +85,7 @@ impl Machine {
     }
 
     /// One token: whether it is read. Where it isn't, no text goes on so.
-    pub fn step(&mut self, kind: Kind, text: &[u8]) -> Result<bool, NoMemory>
+    pub(crate) fn step(&mut self, kind: Kind, text: &[u8]) -> Result<bool, NoMemory>
         requires fit { IsFit self.old.maker }
         requires token { IsToken (token_of kind text.now) }
         ensures answers { IfOk result (AnswersToken (token_of kind text.now) self.old self.new) }
@@ -105,7 +105,7 @@ impl Machine {
     }
 
     /// The end of the text: whether it may end so.
-    pub fn finish(&mut self) -> Result<bool, NoMemory>
+    pub(crate) fn finish(&mut self) -> Result<bool, NoMemory>
         requires fit { IsFit self.old.maker }
         ensures answers { IfOk result (AnswersEnd self.old self.new) }
         ensures fit { OnOk result (IsFit self.new.maker) }

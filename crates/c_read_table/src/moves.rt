@@ -29,14 +29,14 @@ impl Move {
     }
 
     /// The token is read, and nothing is wanted in place of the top.
-    pub fn done(alloc: Global) -> Move
+    pub(crate) fn done(alloc: Global) -> Move
         ensures { seen result ≡ machine.Take [] }
     {
         Move::Take(Wants::new(alloc))
     }
 
     /// The same move, with `wants` wanted after what it wants.
-    pub fn followed(self, wants: &[Want]) -> Result<Move, NoMemory>
+    pub(crate) fn followed(self, wants: &[Want]) -> Result<Move, NoMemory>
         ensures { IfOk result (λ m. seen m ≡ machine.followed (seen self) wants.now) }
     {
         match self {

@@ -8,7 +8,7 @@ use std::alloc::Global;
 use std::marker::Model;
 use wf_text::NoMemory;
 
-/// Wanted things, the first one in front.
+/// Wanted things, the first one at the front.
 #[derive(Drop)]
 pub struct Wants {
     items: Vec<Want>,
@@ -37,15 +37,13 @@ impl Wants {
     pub fn of(alloc: Global, wants: &[Want]) -> Result<Self, NoMemory>
         ensures { IfOk result (λ made. made ≡ wants.now) }
     {
-        let Ok(mut items) = Vec::with_capacity(alloc, LONGEST) else {
-            return Err(NoMemory);
-        };
+        let mut items = Vec::with_capacity(alloc, LONGEST)?;
         items.extend_from_slice(wants)?;
         Ok(Wants { items })
     }
 
     /// The same, and `wants` after them.
-    pub fn followed(self, wants: &[Want]) -> Result<Self, NoMemory>
+    pub(crate) fn followed(self, wants: &[Want]) -> Result<Self, NoMemory>
         ensures { IfOk result (λ longer. longer ≡ self ++ wants.now) }
     {
         let mut items = self.items;
@@ -54,7 +52,7 @@ impl Wants {
     }
 
     /// The same, and `want` before them.
-    pub fn led(self, want: Want) -> Result<Self, NoMemory>
+    pub(crate) fn led(self, want: Want) -> Result<Self, NoMemory>
         ensures { IfOk result (λ longer. longer ≡ want ∷ self) }
     {
         let mut items = self.items;

@@ -25,7 +25,7 @@ pub(crate) fn indent<P: Pen>(depth: usize, pen: &mut P)
     }
 }
 
-/// Prints the value of a `return`, with a space in front.
+/// Prints the value of a `return`, with a space before it.
 fn returned<P: Pen>(u: &Unit, value: Option<CExprId>, pen: &mut P)
     requires has { IfSome value (λ e. e.0 < length u.now.exprs) }
     requires ready { P.ready pen.old }

@@ -168,12 +168,8 @@ impl Unit {
         if let Some(n) = self.names.get_index_of(name) {
             return Ok(CNameId(n));
         }
-        let Ok(owned) = Vec::from_slice(self.alloc, name) else {
-            return Err(NoMemory);
-        };
-        let Ok((n, _)) = self.names.insert_full(owned) else {
-            return Err(NoMemory);
-        };
+        let owned = Vec::from_slice(self.alloc, name)?;
+        let (n, _) = self.names.insert_full(owned)?;
         Ok(CNameId(n))
     }
 
@@ -184,12 +180,8 @@ impl Unit {
         ensures err { OnErr result (self.new ≡ self.old) }
     {
         let s = self.strings.len();
-        let Ok(owned) = CList::from_slice(self.alloc, bytes) else {
-            return Err(NoMemory);
-        };
-        let Ok(()) = self.strings.push(owned) else {
-            return Err(NoMemory);
-        };
+        let owned = CList::from_slice(self.alloc, bytes)?;
+        self.strings.push(owned)?;
         Ok(CStringId(s))
     }
 
@@ -200,9 +192,7 @@ impl Unit {
         ensures err { OnErr result (self.new ≡ self.old) }
     {
         let id = self.exprs.len();
-        let Ok(()) = self.exprs.push(e) else {
-            return Err(NoMemory);
-        };
+        self.exprs.push(e)?;
         Ok(CExprId(id))
     }
 
@@ -213,9 +203,7 @@ impl Unit {
         ensures err { OnErr result (self.new ≡ self.old) }
     {
         let id = self.stmts.len();
-        let Ok(()) = self.stmts.push(s) else {
-            return Err(NoMemory);
-        };
+        self.stmts.push(s)?;
         Ok(CStmtId(id))
     }
 
@@ -227,9 +215,7 @@ impl Unit {
         ensures err { OnErr result (self.new ≡ self.old) }
     {
         let id = self.items.len();
-        let Ok(()) = self.items.push(i) else {
-            return Err(NoMemory);
-        };
+        self.items.push(i)?;
         Ok(CItemId(id))
     }
 }

@@ -99,7 +99,7 @@ module _ (rows : List (List ℕ)) (order : List ℕ) (h : IsOrder rows order) wh
   has-all : (a : ℕ) → a < length rows → holds order a ≡ true
   has-all = all-held (length rows) order h.whole h.within h.once
 
-  -- What a way leads to stands in front.
+  -- What a way leads to stands before it.
   way-behind : (i a b : ℕ) → slice_get order i ≡ Some a → Path (goes rows) a b → holds (take i order) b ≡ true
   way-behind i _ _ at (last a b s) = h.behind i a b at s
   way-behind i _ _ at (more a b c s p) =

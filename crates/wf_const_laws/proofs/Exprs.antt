@@ -1,4 +1,4 @@
--- A constant expression has the same value by the rules of names as by the rules of types, where the constants in front have.
+-- A constant expression has the same value by the rules of names as by the rules of types, where the constants before it have.
 use Rattle.std.proofs.Common.{◌≡◌, ℕ, suc, ◌+◌, ◌-◌, ◌^◌, ◌≤◌, Bool, true, false, ◌&&◌, List, [], ◌∷◌, ◌++◌, Option, Some, None, slice_get, nat_lt, refl, sym, ap, ◌∙◌, subst, arith}
 use Rattle.std.specs.Bool.{⊤}
 use Rattle.std.specs.List.{AllByRecursion, find, position_from}

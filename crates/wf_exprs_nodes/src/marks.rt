@@ -59,12 +59,8 @@ impl ReadNames {
         if self.has(name) {
             return Ok(());
         }
-        let Ok(owned) = Vec::from_slice(self.alloc, name) else {
-            return Err(NoMemory);
-        };
-        let Ok(_) = self.names.insert(owned) else {
-            return Err(NoMemory);
-        };
+        let owned = Vec::from_slice(self.alloc, name)?;
+        self.names.insert(owned)?;
         Ok(())
     }
 }

@@ -73,7 +73,7 @@ module _ (d : Declared) (kept : (refusal : Refusal) → Breaks d refusal → ⊥
     pub take : Take d it.fields bytes
     pub few : bytes ≤ 1048576
 
-  -- The fields in front have few; so have those with one more.
+  -- The fields before it have few; so have those with one more.
   few-behind : (it : Structure) → IsStructure d it → (back front : List Variable) → it.fields ≡ front ++ back → (n : ℕ) → Take d front n → n ≤ 1048576 → TakesFew it
   few-behind it is [] front e n t l =
       let P : List Variable → Type 0 = λ vs. Take d vs n in

@@ -147,7 +147,7 @@ no_struct = package_with (counter ∷ []) (count (Read ReadU8) breaking (through
 abbrev pub no_local : NamedPackageTree
 no_local = package_with (counter ∷ []) (count (Read ReadU8) breaking (own 1) (more_args (path (local 1 (at 15 24))) no_arg)) (step step_body) (1 ∷ 0 ∷ [])
 
--- In an order in which the caller stands in front.
+-- In an order in which the caller comes first.
 abbrev pub caller_first : NamedPackageTree
 caller_first = package_with (counter ∷ []) (count (Read ReadU8) breaking (own 1) one_arg) (step step_body) (0 ∷ 1 ∷ [])
 

@@ -24,7 +24,7 @@ use wf_text::rules::Refusal;
 
 /// What is known of a package once it was looked through for what it breaks.
 #[derive(Drop)]
-pub struct Findings {
+pub(crate) struct Findings {
     /// The refusal that decides; None exactly where the package keeps all rules of names.
     pub refusal: Option<Refusal>,
     /// What the package declares.

@@ -13,7 +13,7 @@ use Rattle.wf_names_cycles.specs.Called.{AreRows, method_names}
 use Rattle.wf_names_cycles.specs.Held.{names_of}
 use Rattle.wf_names_cycles.specs.StructRows.{AreStructRows}
 
--- What decides of what was found before and of all that breaks these rules.
+-- The first refusal of what was found before and of all that breaks these rules.
 abbrev pub DecidesWith : (Breaks : Refusal → Type 0) (found all : Option Refusal) → Type 0
 DecidesWith Breaks found all = Decides (λ s. (found ≡ Some s) ⊎ Breaks s) all
 

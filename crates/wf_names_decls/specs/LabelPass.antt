@@ -4,7 +4,7 @@ use Rattle.wf_text.specs.declared.rules.Refusal.{Refusal}
 use Rattle.wf_names_rules.specs.Declarations.{Declared, Method}
 use Rattle.wf_names_rules.specs.Jumps.{block_jumps, jumped}
 
--- What decides of what was found before and what the loops and jumps of a method break; `texts` are those of the
+-- The first refusal of what was found before and what the loops and jumps of a method break; `texts` are those of the
 -- package.
 abbrev pub method_labels : (texts : List (List ℕ)) → Option Refusal → Method → Option Refusal
 method_labels texts found m = jumped texts found (block_jumps [] m.body)

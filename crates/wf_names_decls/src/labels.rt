@@ -214,7 +214,7 @@ fn walk_decl(
     }
 }
 
-/// What decides of what was found before and what the loops and jumps of a package break: a label of a loop that
+/// The first refusal of what was found before and what the loops and jumps of a package break: a label of a loop that
 /// stands in a loop of the same label, a reserved label, and a jump to a label that no loop round it has or outside
 /// every loop. `Err` only where memory was refused.
 pub fn labels(

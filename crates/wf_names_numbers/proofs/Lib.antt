@@ -1,4 +1,3 @@
 pub mod NumberLemmas
 pub mod StandingLemmas
 pub mod StructLemmas
-pub mod ScopeLemmas

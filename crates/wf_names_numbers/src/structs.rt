@@ -20,7 +20,7 @@ use wf_text::faults::NoMemory;
 
 /// Structs by their names, fields by their struct's name and their own.
 #[derive(Drop)]
-pub struct StructPlaces {
+pub(crate) struct StructPlaces {
     pub structs: IndexMap<u32, u32>,
     pub fields: IndexMap<(u32, u32), u32>,
 }

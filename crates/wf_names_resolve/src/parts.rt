@@ -229,7 +229,7 @@ fn base_type(name: &[u8]) -> Option<BaseType>
 }
 
 /// What a type ends with, after its prefixes and before its bounds.
-pub fn core(parsed: &PackageNodes, numbers: &PackageNumbers, of: Core) -> NamedCore
+pub(crate) fn core(parsed: &PackageNodes, numbers: &PackageNumbers, of: Core) -> NamedCore
     ensures { result ≡ resolved_core (bytes_of parsed.now.texts) (get nat_eq numbers.now.structs) of }
 {
     match of {

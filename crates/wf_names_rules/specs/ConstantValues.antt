@@ -70,10 +70,6 @@ is_shift ops.Shr = true
 is_shift ops.ModShl = true
 is_shift _ = false
 
-abbrev pub fitted_number : Option ℕ → Option ℕ → Option Sized
-fitted_number bits None = None
-fitted_number bits (Some n) = fitted bits n
-
 -- A chain so far: the one width of its operands, the largest of them, and the number.
 pub record Running : Type 0 where
   pub bits : Option ℕ

@@ -1,4 +1,4 @@
--- What the uses of names break, one after the other: what decides of what was found before and what a use breaks.
+-- What the uses of names break, one after the other: the first refusal of what was found before and what a use breaks.
 use Rattle.std.specs.Prelude.{ℕ, Bool, true, false, not, ◌&&◌, if◌then◌else◌, List, [], ◌∷◌, map, Option, Some, None, nat_eq}
 use Rattle.std.specs.List.{list_any, list_all}
 use Rattle.indexmap.specs.IndexSet.{insert_key}
@@ -37,7 +37,7 @@ abbrev pub arg_path : ExprTree → Option Path
 arg_path (tree.path path) = arg_path_at path.root path
 arg_path _ = None
 
--- Readers and writers passed twice; `seen` are the arguments in front, each once.
+-- Readers and writers passed twice; `seen` are the arguments before it, each once.
 abbrev pub passed_item : (arg : ℕ → Option Sort) → (seen : List ℕ) → Option Path → Option Refusal
 passed_item arg seen None = None
 passed_item arg seen (Some path) = refused_if (is_io_arg arg path.name.text.0 && list_any (nat_eq path.name.text.0) seen) N2 path.at

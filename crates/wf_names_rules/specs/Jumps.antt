@@ -51,7 +51,7 @@ is_labelled text (Some label) = is_spelt text label
 abbrev pub has_label : List (Option Name) → ℕ → Bool
 has_label loops text = list_any (is_labelled text) loops
 
--- What decides of what was found before and what a labelled loop or a jump breaks; `texts` are those of the package.
+-- The first refusal of what was found before and what a labelled loop or a jump breaks; `texts` are those of the package.
 abbrev pub jump_judged : (texts : List (List ℕ)) → Option Refusal → Jump → Option Refusal
 jump_judged texts found (labelled loops label) = sooner (sooner found (refused_if (has_label loops label.text.0) N2 label.at)) (reserved_item texts label)
 jump_judged texts found (to_label loops label) = sooner found (refused_if (not (has_label loops label.text.0)) N5 label.at)

@@ -42,9 +42,6 @@ pub record IsRepeated (names : List Name) (later : Name) : Type 0 where
   pub at_second : slice_get names second ≡ Some later
   pub same : earlier.text ≡ later.text
 
-abbrev pub IsAmongNames : List Name → Name → Type 0
-IsAmongNames names name = (i : ℕ) × (slice_get names i ≡ Some name)
-
 abbrev pub variable_names : List Variable → List Name
 variable_names variables = map (λ v. v.name) variables
 

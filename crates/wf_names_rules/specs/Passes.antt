@@ -16,7 +16,7 @@ abbrev pub refused_if : Bool → Rule → Place → Option Refusal
 refused_if true rule at = Some (record { rule = rule; at = at })
 refused_if false rule at = None
 
--- Names declared twice; `seen` are those in front, each once.
+-- Names declared twice; `seen` are those before it, each once.
 abbrev pub doubles_of : (seen : List ℕ) → List Name → List (Option Refusal)
 doubles_of seen [] = []
 doubles_of seen (name ∷ names) = refused_if (list_any (nat_eq name.text.0) seen) N2 name.at ∷ doubles_of (insert_key nat_eq seen name.text.0) names

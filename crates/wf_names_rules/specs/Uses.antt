@@ -140,7 +140,7 @@ pub record Site : Type 0 where
 abbrev pub sites_in : Scope → List Use → List Site
 sites_in scope uses = map (λ usage. record { scope = scope; usage = usage }) uses
 
--- `known` are the constants in front.
+-- `known` are the constants before it.
 abbrev pub constant_sites : List Variable → List Constant → List Site
 constant_sites known [] = []
 constant_sites known (c ∷ cs) = sites_in (constant_scope known) (type_uses c.of ++ uses_of c.value) ++ constant_sites (known ++ as_variable c ∷ []) cs

@@ -12,7 +12,7 @@ use Rattle.wf_names_rules.specs.Tables.{Pair}
 use Rattle.wf_names_scopes.specs.Agreeing.{TellsVariables, TellsScope, sort_among}
 use Rattle.wf_names_scopes.specs.UsesFound.{sites_judged}
 
--- What a table answers after one more key, where `look` is what it answers in front.
+-- What a table answers after one more key, where `look` is what it answers before it.
 abbrev pub with_first : {K X : Type 0} → (same : K → K → Bool) → (look : K → Option X) → K → X → K → Option X
 with_first same look key value other = option_or (look other) (cond (same key other) (Some value) None)
 

@@ -6,11 +6,11 @@ use Rattle.wf_names_rules.specs.Uses.{Site, sites}
 use Rattle.wf_names_rules.specs.Meanings.{known_at}
 use Rattle.wf_names_rules.specs.Judged.{judged}
 
--- What decides of what was found before and what these places break, each by what is known there.
+-- The first refusal of what was found before and what these places break, each by what is known there.
 abbrev pub sites_judged : Declared → (found : Option Refusal) → List Site → Option Refusal
 sites_judged d found [] = found
 sites_judged d found (site ∷ rest) = sites_judged d (judged (known_at d site.scope) found site.usage) rest
 
--- What decides of what was found before and what all uses of names in a package break.
+-- The first refusal of what was found before and what all uses of names in a package break.
 abbrev pub uses_found : Declared → (found : Option Refusal) → Option Refusal
 uses_found d found = sites_judged d found (sites d)

@@ -96,7 +96,7 @@ fn constant_decl(
     }
 }
 
-/// The constants of a package in order: what decides of what was found before and of what their declarations use, each
+/// The constants of a package in order: the first refusal of what was found before and of what their declarations use, each
 /// where those before it are known. After them `scope`, which knew nothing, knows all constants. `Err` where
 /// memory was refused.
 pub fn constants(
@@ -271,7 +271,7 @@ fn methods(
     Ok(found)
 }
 
-/// What decides of what was found before and of all that the uses of names in the package break.
+/// The first refusal of what was found before and of all that the uses of names in the package break.
 pub fn uses(
     alloc: Global,
     found: Option<Refusal>,

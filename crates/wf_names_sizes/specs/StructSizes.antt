@@ -57,7 +57,7 @@ passes None b = false
 passes (Some a) None = false
 passes (Some a) (Some b) = not (nat_lt 1048576 a) && nat_lt 1048576 b
 
--- The field of a list that passes the limit; `sum` is that of the fields in front.
+-- The field of a list that passes the limit; `sum` is that of the fields before it.
 abbrev pub large_of : Declared → (flags : List Bool) → (sizes : List (Option ℕ)) → (sum : Option ℕ) → List Variable → List (Option Refusal)
 large_of d flags sizes sum [] = []
 large_of d flags sizes sum (v ∷ vs) =

@@ -31,7 +31,7 @@ pub enum Part {
 }
 
 /// What numbers of bytes above it count as.
-pub const MOST_BYTES: u64 = 1_048_577;
+pub(crate) const MOST_BYTES: u64 = 1_048_577;
 
 // The bytes that a width takes.
 fn width_bytes(width: Option<Width>) -> u64

@@ -43,7 +43,7 @@ const MOST_STATEMENTS: u32 = 4096;
 
 /// The machine. `room` is the number of statements that the method in hand may still begin.
 #[derive(Drop)]
-pub struct Machine {
+pub(crate) struct Machine {
     pub maker: Maker,
     pub wants: Stack<Want>,
     pub room: u32,
@@ -278,7 +278,7 @@ impl Machine {
     }
 
     /// The file's end. S5 where more is wanted.
-    pub fn finish(&mut self) -> Result<(), StepFault>
+    pub(crate) fn finish(&mut self) -> Result<(), StepFault>
         requires sound { IsSound self.old.maker }
         requires size { size self.old + 32 < 2 ^ 32 }
         ensures answers { AnswersEnd (state_of self.old) (state_of self.new) result }

@@ -142,7 +142,7 @@ pub(crate) fn pushes(action: Action) -> bool
 }
 
 /// What an action pushes that takes nothing from the stack.
-pub fn pushed(alloc: Global, action: Action) -> Value
+pub(crate) fn pushed(alloc: Global, action: Action) -> Value
     requires { pushes action ≡ true }
     ensures { (vs : List Value) → making action vs ≡ record { product = makes.Value result; vals = vs } }
 {

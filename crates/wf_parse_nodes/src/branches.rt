@@ -17,7 +17,7 @@ use wf_text::NoMemory;
 
 /// One arm more of an `if`.
 #[inline(never)]
-pub fn add_arm(values: &mut Stack<Value>) -> Result<Product, NoMemory>
+pub(crate) fn add_arm(values: &mut Stack<Value>) -> Result<Product, NoMemory>
     requires { fits (shapes.Block ∷ shapes.Expr ∷ shapes.Arms ∷ []) values.old ≡ true }
     ensures { IfOk result (λ product. making does.AddArm values.old ≡ record { product = product; vals = values.new }) }
 {

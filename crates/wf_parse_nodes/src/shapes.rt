@@ -77,7 +77,7 @@ impl ShapeOf<Value> for Shape {
 }
 
 /// The shapes of the values that an action takes, the topmost first.
-pub fn takes(action: Action) -> &'static [Shape]
+pub(crate) fn takes(action: Action) -> &'static [Shape]
     ensures { result.now ≡ takes action }
 {
     match action {

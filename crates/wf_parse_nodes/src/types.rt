@@ -25,7 +25,7 @@ fn closed_core(core: OpenCore) -> Core
 
 /// `slice` before a type.
 #[inline(never)]
-pub fn add_slice(at: Place, values: &mut Stack<Value>) -> Result<Product, NoMemory>
+pub(crate) fn add_slice(at: Place, values: &mut Stack<Value>) -> Result<Product, NoMemory>
     requires { fits (shapes.Prefixes ∷ []) values.old ≡ true }
     ensures { IfOk result (λ product. making (does.AddSlice at) values.old ≡ record { product = product; vals = values.new }) }
 {
@@ -36,7 +36,7 @@ pub fn add_slice(at: Place, values: &mut Stack<Value>) -> Result<Product, NoMemo
 
 /// `array` with a length before a type.
 #[inline(never)]
-pub fn add_array(values: &mut Stack<Value>) -> Result<Product, NoMemory>
+pub(crate) fn add_array(values: &mut Stack<Value>) -> Result<Product, NoMemory>
     requires { fits (shapes.Expr ∷ shapes.Place ∷ shapes.Prefixes ∷ []) values.old ≡ true }
     ensures { IfOk result (λ product. making does.AddArray values.old ≡ record { product = product; vals = values.new }) }
 {
@@ -49,7 +49,7 @@ pub fn add_array(values: &mut Stack<Value>) -> Result<Product, NoMemory>
 
 /// A type that ends with the name of a struct.
 #[inline(never)]
-pub fn struct_type(name: Name, values: &mut Stack<Value>) -> Product
+pub(crate) fn struct_type(name: Name, values: &mut Stack<Value>) -> Product
     requires { fits (shapes.Prefixes ∷ []) values.old ≡ true }
     ensures { making (does.StructType name) values.old ≡ record { product = result; vals = values.new } }
 {

@@ -14,14 +14,14 @@ pub struct Elaborated {
 
 /// The node of an expression whose parts are there, and what the expression means.
 #[derive(Drop)]
-pub struct MadeNode {
+pub(crate) struct MadeNode {
     pub node: ExprNode,
     pub of: Option<Meaning>,
 }
 
 /// The operands of a chain so far: the numbers of their nodes, the signs between them, and what they mean.
 #[derive(Drop)]
-pub struct MadeOperands {
+pub(crate) struct MadeOperands {
     pub parts: Sequence<ExprId>,
     pub signs: Sequence<Place>,
     pub of: Option<Sequence<Operand>>,

@@ -31,7 +31,7 @@ use wf_types_stmts::assignments::as_call;
 /// An assignment as it is written. `sign` is the place of the `=` with what stands before it, and `at` that of the
 /// statement.
 #[derive(Clone, Copy)]
-pub struct Assignment {
+pub(crate) struct Assignment {
     pub target: NamedTarget,
     pub op: Option<Op>,
     pub sign: Place,

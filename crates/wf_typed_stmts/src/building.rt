@@ -107,7 +107,7 @@ impl BodyBuilding {
     }
 
     /// Adds the nodes of an expression.
-    pub fn push_value(
+    pub(crate) fn push_value(
         &mut self,
         alloc: Global,
         named: &NamedNodes,
@@ -127,7 +127,7 @@ impl BodyBuilding {
     }
 
     /// Adds the nodes of an element that is written to.
-    pub fn push_element(
+    pub(crate) fn push_element(
         &mut self,
         alloc: Global,
         named: &NamedNodes,
@@ -149,7 +149,7 @@ impl BodyBuilding {
     }
 
     /// Adds the node of an operator between two expressions that are there, which gives numbers of this type.
-    pub fn push_operator(
+    pub(crate) fn push_operator(
         &mut self,
         alloc: Global,
         named: &NamedNodes,
@@ -181,7 +181,7 @@ impl BodyBuilding {
 
     /// Adds a statement, whose parts are there. What it makes joins the others, which make what they made. `Err` also comes
     /// where no number is left.
-    pub fn push_stmt(&mut self, node: StmtNode) -> Result<StmtId, NoMemory>
+    pub(crate) fn push_stmt(&mut self, node: StmtNode) -> Result<StmtId, NoMemory>
         requires there { stmt_there self.old (length self.old.stmts) node.stmt ≡ true }
         requires built { AreStmtsBuilt self.old }
         ensures ok { OnOk result (self.new ≡ record self.old { stmts = self.old.stmts ++ node ∷ [] }) }

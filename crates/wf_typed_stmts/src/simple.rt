@@ -21,7 +21,7 @@ use wf_types_rules::Setting;
 
 /// Adds the nodes of a statement's parts, and answers the statement. `loops` are the numbers of the loops round it, the
 /// innermost first, and `at` is its place.
-pub fn add_simple(
+pub(crate) fn add_simple(
     alloc: Global,
     nodes: &mut BodyBuilding,
     named: &NamedNodes,

@@ -32,7 +32,7 @@ struct MadeBody {
 
 /// The bodies of all methods, and the expressions that are their first locals.
 #[derive(Drop)]
-pub struct MadeBodies {
+pub(crate) struct MadeBodies {
     pub bodies: Sequence<Block>,
     pub first_locals: Sequence<ExprId>,
 }
@@ -64,7 +64,7 @@ fn elaborate_method(
 
 /// Adds the nodes of the locals and of the bodies of all methods of a package that was judged, and answers the blocks of their
 /// bodies with the expressions that are their first locals. `Err` also comes where no number is left.
-pub fn elaborate_bodies(
+pub(crate) fn elaborate_bodies(
     alloc: Global,
     nodes: &mut BodyBuilding,
     named: &NamedNodes,

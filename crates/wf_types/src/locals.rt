@@ -21,7 +21,7 @@ const NUMBERS: usize = 4294967296;
 
 /// Adds a node for each local of a method, in order: its path, at the place of its name. `Err` also comes where no number
 /// is left.
-pub fn elaborate_locals(
+pub(crate) fn elaborate_locals(
     alloc: Global,
     nodes: &mut BodyBuilding,
     named: &NamedNodes,

@@ -18,7 +18,7 @@ use Rattle.wf_types_exprs.specs.declared.found.Value.{Value}
 use Rattle.wf_types_decls.specs.declared.heads.Head.{Head}
 use Rattle.wf_types_decls.specs.declared.packages.Judged.{Judged}
 
--- What decides of what was found before and of all that the rules say of these parts.
+-- The first refusal of what was found before and of all that the rules say of these parts.
 unfoldable pub decided : Option Refusal → List Site → Option Refusal
 decided found sites = soonest found (flat_map refusals_of sites)
 
@@ -63,7 +63,7 @@ abbrev pub constant_found : Option Ty → Value → Option Refusal → Option Re
 constant_found ty v found =
     sooner (sooner found (told T1 (at_if (fails is_constant v.of) v.at))) (told T5 (at_if (both_fail lies_in ty (option_and_then constant_number v.of)) v.at))
 
--- Two `?` in a row, of byte 63, where the byte in front is one or isn't.
+-- Two `?` in a row, of byte 63, where the byte before it is one or isn't.
 abbrev pub questions_behind : (before : Bool) → List ℕ → Bool
 questions_behind before [] = false
 questions_behind before (b ∷ bs) = (before && nat_eq b 63) || questions_behind (nat_eq b 63) bs

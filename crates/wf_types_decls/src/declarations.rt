@@ -47,14 +47,14 @@ const BASE_STATUSES: [&str; 10] = [
 
 /// A constant: what decides so far, and its value, where it breaks no rule.
 #[derive(Clone, Copy, PartialEq, Eq)]
-pub struct JudgedConst {
+pub(crate) struct JudgedConst {
     pub found: Option<Refusal>,
     pub of: Option<Constant>,
 }
 
 /// Constants: what decides so far, and a setting that knows them and nothing else.
 #[derive(Drop)]
-pub struct JudgedConsts {
+pub(crate) struct JudgedConsts {
     pub found: Option<Refusal>,
     pub around: Setting,
 }
@@ -157,7 +157,7 @@ fn judge_next(
 }
 
 /// All constants, each of which knows those before it.
-pub fn judge_consts(alloc: Global, nodes: &NamedNodes) -> Result<JudgedConsts, NoMemory>
+pub(crate) fn judge_consts(alloc: Global, nodes: &NamedNodes) -> Result<JudgedConsts, NoMemory>
     ensures found { IfOk result (λ j. j.found ≡ decided None (const_sites [] (map (const_made nodes.now.texts (exprs_of nodes.now)) nodes.now.consts))) }
     ensures around { IfOk result (λ j. j.around ≡ among_constants (constants_after [] (map (const_made nodes.now.texts (exprs_of nodes.now)) nodes.now.consts))) }
 {
@@ -218,7 +218,7 @@ fn judge_status(found: Option<Refusal>, nodes: &NamedNodes, text: Name) -> Optio
 }
 
 /// The package's own statuses.
-pub fn judge_statuses(found: Option<Refusal>, nodes: &NamedNodes) -> Option<Refusal>
+pub(crate) fn judge_statuses(found: Option<Refusal>, nodes: &NamedNodes) -> Option<Refusal>
     ensures { (s : _) → result ≡ judged s found (map status_declared (map (word_at nodes.now.texts) nodes.now.statuses)) }
 {
     let mut found = found;

@@ -23,21 +23,21 @@ use wf_types_rules::{Role, Setting};
 
 /// Variables: what decides so far, and their types in order, each where it breaks no rule.
 #[derive(Drop)]
-pub struct JudgedTypes {
+pub(crate) struct JudgedTypes {
     pub found: Option<Refusal>,
     pub of: Sequence<Option<Ty>>,
 }
 
 /// A written result, if there is one: what decides so far, and its type.
 #[derive(Clone, Copy, PartialEq, Eq)]
-pub struct JudgedResult {
+pub(crate) struct JudgedResult {
     pub found: Option<Refusal>,
     pub of: Option<Option<Ty>>,
 }
 
 /// All fields: what decides so far, and their types by struct.
 #[derive(Drop)]
-pub struct JudgedFields {
+pub(crate) struct JudgedFields {
     pub found: Option<Refusal>,
     pub of: Sequence<Sequence<Option<Ty>>>,
 }
@@ -71,7 +71,7 @@ fn judge_variable(
 }
 
 /// Fields, arguments or locals, in order.
-pub fn judge_variables(
+pub(crate) fn judge_variables(
     alloc: Global,
     found: Option<Refusal>,
     nodes: &NamedNodes,
@@ -94,7 +94,7 @@ pub fn judge_variables(
 }
 
 /// The written result of a method with this mark.
-pub fn judge_result(
+pub(crate) fn judge_result(
     alloc: Global,
     found: Option<Refusal>,
     nodes: &NamedNodes,
@@ -147,7 +147,7 @@ fn judge_struct(
 }
 
 /// The fields of all structs.
-pub fn judge_fields(
+pub(crate) fn judge_fields(
     alloc: Global,
     found: Option<Refusal>,
     nodes: &NamedNodes,

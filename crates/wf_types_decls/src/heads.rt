@@ -33,7 +33,7 @@ struct JudgedHead {
 
 /// What all methods declare: what decides so far, and the types by method.
 #[derive(Drop)]
-pub struct JudgedHeads {
+pub(crate) struct JudgedHeads {
     pub found: Option<Refusal>,
     pub of: Sequence<Head>,
 }
@@ -86,7 +86,7 @@ fn judge_head(
 }
 
 /// What all methods declare, where `types` knows the constants.
-pub fn judge_heads(
+pub(crate) fn judge_heads(
     alloc: Global,
     found: Option<Refusal>,
     nodes: &NamedNodes,
@@ -119,7 +119,7 @@ fn method_type(alloc: Global, method: &NamedMethod, head: &Head) -> Result<Metho
 }
 
 /// What calls know of all methods, by number.
-pub fn method_types(
+pub(crate) fn method_types(
     alloc: Global,
     nodes: &NamedNodes,
     heads: &[Head],

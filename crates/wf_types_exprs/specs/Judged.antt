@@ -19,7 +19,7 @@ use Rattle.wf_types_exprs.specs.declared.found.Bound.{Bound}
 use Rattle.wf_types_exprs.specs.declared.found.Value.{Value}
 use Rattle.wf_types_exprs.specs.declared.found.WrittenType.{WrittenType}
 
--- What decides of what was found before and of all that the rules say of parts with this setting round them.
+-- The first refusal of what was found before and of all that the rules say of parts with this setting round them.
 unfoldable pub judged : Setting → Option Refusal → List Part → Option Refusal
 judged s found parts = soonest found (flat_map (refusals_at s) parts)
 

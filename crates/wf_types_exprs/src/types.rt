@@ -150,11 +150,18 @@ fn plain_of(of: BaseType) -> Option<Width>
     }
 }
 
+fn wrong_type_of_base(of: Option<BaseType>, at: Place) -> Option<Place>
+    ensures { result ≡ at_place_if (not (is_some of)) at }
+{
+    at_if(of.is_none(), at)
+}
+
 /// A type that begins with `base`, without bounds.
 #[tactic(auto, unfolding(crate::specs::Judged::judged))]
 pub(crate) fn written_plain(found: Option<Refusal>, of: Option<BaseType>, at: Place) -> WrittenType
     ensures { (s : _) → TellsType s found (tree.base_type of at tree.unrefined) result }
 {
+    let found = sooner(found, told(Rule::T1, wrong_type_of_base(of, at)));
     match of {
         Some(of) => WrittenType {
             found,
@@ -164,7 +171,7 @@ pub(crate) fn written_plain(found: Option<Refusal>, of: Option<BaseType>, at: Pl
             at,
         },
         None => WrittenType {
-            found: sooner(found, Some(Refusal { rule: Rule::T1, at })),
+            found,
             of: None,
             kind: None,
             plain: None,

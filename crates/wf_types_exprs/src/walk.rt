@@ -1,4 +1,4 @@
-// The walk over expressions, types and calls: what decides of what was found before and of all that the rules say of
+// The walk over expressions, types and calls: the first refusal of what was found before and of all that the rules say of
 // their parts, and what they mean. Parts come before their whole.
 
 ghost use Rattle.std.specs.Prelude.{◌≡◌, ◌<◌, ◌∷◌, ◌++◌, Some, length, IfOk};
@@ -38,7 +38,7 @@ use wf_types_rules::{Meaning, Role, Setting};
 
 /// An expression of the package.
 #[cycle(judge_exprs)]
-pub fn judge_expr(
+pub(crate) fn judge_expr(
     alloc: Global,
     found: Option<Refusal>,
     nodes: &NamedNodes,
@@ -215,7 +215,7 @@ fn judge_links(
 
 /// The operands of a chain in order, where each means something.
 #[cycle(judge_exprs)]
-pub fn judge_operands(
+pub(crate) fn judge_operands(
     alloc: Global,
     found: Option<Refusal>,
     nodes: &NamedNodes,
@@ -260,7 +260,7 @@ fn judge_argument(
 
 /// The arguments of a call in order.
 #[cycle(judge_exprs)]
-pub fn judge_args(
+pub(crate) fn judge_args(
     alloc: Global,
     found: Option<Refusal>,
     nodes: &NamedNodes,
@@ -284,7 +284,7 @@ pub fn judge_args(
 
 /// A call, and whether its arguments fit; `inside` tells whether it stands inside an expression.
 #[cycle(judge_exprs)]
-pub fn judge_call(
+pub(crate) fn judge_call(
     alloc: Global,
     found: Option<Refusal>,
     nodes: &NamedNodes,

@@ -37,7 +37,7 @@ use wf_types_rules::{Meaning, Operand, Setting};
 /// The right side of `=`: what decides so far, what it means, with its place, and whether it is a call that gives no
 /// value.
 #[derive(Clone, Copy, PartialEq, Eq)]
-pub struct RightSide {
+pub(crate) struct RightSide {
     pub found: Option<Refusal>,
     pub value: Value,
     pub lacks: bool,

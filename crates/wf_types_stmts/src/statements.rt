@@ -1,4 +1,4 @@
-// The walk over statements: what decides of what was found before and of all that the rules say of their parts.
+// The walk over statements: the first refusal of what was found before and of all that the rules say of their parts.
 
 ghost use Rattle.std.specs.Prelude.{◌≡◌, ◌<◌, ◌++◌, length, IfOk};
 ghost use Rattle.std.specs.List.{AllByRecursion};
@@ -53,7 +53,7 @@ fn judge_head(
 
 /// A statement with all that stands in it.
 #[cycle(judge_stmts)]
-pub fn judge_stmt(
+pub(crate) fn judge_stmt(
     alloc: Global,
     found: Option<Refusal>,
     nodes: &NamedNodes,
