@@ -63,7 +63,7 @@ impl Machine {
         ensures state { OnOk result (state_of self.new ≡ record { wanted = wants.now ++ self.old.wants; vals = kept (token_of kind text.now) (made self.old.maker) }) }
         ensures fit { OnOk result (IsFit self.new.maker) }
     {
-        self.wants.push_all(wants.as_slice())?;
+        wants.push_on(&mut self.wants)?;
         self.maker.keep(kind, text)
     }
 
@@ -74,7 +74,7 @@ impl Machine {
         ensures answers { IfOk result (AnswersMeeting symbol (token_of kind text.now) self.old self.new) }
         ensures fit { OnOk result (IsFit self.new.maker) }
     {
-        match move_of(self.maker.alloc, symbol, kind)? {
+        match move_of(symbol, kind) {
             Move::Take(wants) => {
                 self.take(&wants, kind, text)?;
                 Ok(Meeting::Read)
