@@ -14,7 +14,7 @@ use Rattle.wf_named.specs.NamedStatementPlaces.{named_bodies_rise}
 use Rattle.wf_names_rules.specs.Declarations.{Declared, declared}
 use Rattle.wf_names_rules.specs.NameRules.{Breaks, by_use, by_circle}
 use Rattle.wf_names_scopes.specs.Agreeing.{package_of}
-use Rattle.wf_names_cycles.specs.Called.{AreRows}
+use Rattle.wf_names_scopes.specs.CallRows.{AreRows}
 use Rattle.wf_names_cycles.specs.Circling.{IsCallOrder}
 use Rattle.wf_names_resolve.specs.Package.{resolved_package}
 use Rattle.graphs.specs.Orders.{IsOrder, HasCircle}

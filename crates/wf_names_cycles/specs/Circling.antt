@@ -1,15 +1,16 @@
 -- What methods and structs that can reach themselves break.
-use Rattle.std.specs.Prelude.{◌≡◌, ◌⊎◌, ℕ, List, length, Option, Some, slice_get}
+use Rattle.std.specs.Prelude.{◌≡◌, ◌⊎◌, ℕ, List, map, length, Option, Some, slice_get}
 use Rattle.wf_text.specs.declared.rules.Refusal.{Refusal}
 use Rattle.wf_text.specs.declared.rules.Rule.TheVariants.{N4}
 use Rattle.wf_text.specs.Precedence.{Decides}
+use Rattle.wf_ast.specs.declared.parsed.Name.{Name}
 use Rattle.wf_names_rules.specs.Declarations.{Structure, Method, Declared}
 use Rattle.graphs.specs.Graphs.{Path, AreCircles}
 use Rattle.graphs.specs.Orders.{IsOrderOffCircles}
 use Rattle.wf_names_rules.specs.Sizes.{holds_struct}
 use Rattle.wf_names_rules.specs.NameRules.{calls}
+use Rattle.wf_names_scopes.specs.CallRows.{AreRows}
 use Rattle.wf_names_cycles.specs.declared.circling.NamedCycles.{NamedCycles}
-use Rattle.wf_names_cycles.specs.Called.{AreRows, method_names}
 use Rattle.wf_names_cycles.specs.Held.{names_of}
 use Rattle.wf_names_cycles.specs.StructRows.{AreStructRows}
 
@@ -45,6 +46,9 @@ pub record AreStructCycles (d : Declared) (named : NamedCycles) : Type 0 where
   pub made : AreStructRows d rows
   pub names : named.names.items ≡ names_of d.structs
   pub cycles : AreCyclesOf rows named
+
+abbrev pub method_names : List Method → List Name
+method_names methods = map (λ m. m.name) methods
 
 -- The methods of a package, and the cycles of the graph that lists for each those that it calls.
 pub record AreMethodCycles (d : Declared) (named : NamedCycles) : Type 0 where

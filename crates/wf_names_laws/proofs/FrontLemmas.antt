@@ -25,7 +25,7 @@ use Rattle.wf_names_scopes.specs.UsesFound.{uses_found}
 use Rattle.wf_names_uses.proofs.UseLaws.{uses_found-decides}
 use Rattle.wf_names_uses.proofs.MeaningLaws.{calls-fit}
 use Rattle.wf_names_uses.proofs.ClosedUses.{In, in-behind, in-place, place-in, in-flat, in-scope, site}
-use Rattle.wf_names_cycles.specs.Called.{AreRows}
+use Rattle.wf_names_scopes.specs.CallRows.{AreRows}
 use Rattle.wf_names_resolve.specs.Standing.{standing_at}
 use Rattle.wf_names_resolve.specs.Resolved.{resolved_block}
 use Rattle.wf_names_resolve.specs.Package.{method_in, resolved_methods, resolved_package}

@@ -9,7 +9,7 @@ ghost use Rattle.wf_named.specs.WellNamed.{calls_in_front};
 ghost use Rattle.wf_names_rules.specs.Declarations.{Declared, declared, methods_of};
 ghost use Rattle.graphs.specs.Graphs.{AreWithin};
 ghost use Rattle.wf_names_rules.specs.NameRules.{DeclarationBreaks, UseBreaks, CircleBreaks};
-ghost use Rattle.wf_names_cycles.specs.Called.{AreRows};
+ghost use Rattle.wf_names_scopes.specs.CallRows.{AreRows};
 ghost use Rattle.wf_names_resolve.specs.Package.{resolved_package};
 ghost use Rattle.wf_names_laws.specs.Calling.{AreOpen};
 ghost use Rattle.graphs.specs.Orders.{IsOrder, HasCircle};

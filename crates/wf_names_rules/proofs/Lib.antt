@@ -1,4 +1,5 @@
 pub mod ArgumentLemmas
+pub mod CalledLemmas
 pub mod InsertLemmas
 pub mod ListLaws
 pub mod StmtLemmas

@@ -1,4 +1,5 @@
 pub mod Above
+pub mod Called
 pub mod ConstantValues
 pub mod Declarations
 pub mod Found

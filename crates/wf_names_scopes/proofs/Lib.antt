@@ -1,5 +1,7 @@
 pub mod AgreeLemmas
+pub mod CallRowLemmas
 pub mod FirstLemmas
 pub mod PackageLemmas
+pub mod RowLemmas
 pub mod UseLemmas
 pub mod VariableLemmas

@@ -10,8 +10,9 @@ use Rattle.wf_names_rules.specs.Declarations.{Method, Declared, declared}
 use Rattle.wf_names_rules.specs.Meanings.{known_at}
 use Rattle.wf_names_rules.specs.NameRules.{calls, method_calls, Breaks, by_use, by_circle, recursion}
 use Rattle.wf_names_rules.specs.Uses.{method_uses, method_scope}
-use Rattle.wf_names_cycles.specs.Called.{called_in, AreRows}
-use Rattle.wf_names_cycles.proofs.SectionLemmas.{row-is, methods-within}
+use Rattle.wf_names_scopes.specs.CallRows.{called_in, AreRows}
+use Rattle.wf_names_scopes.proofs.CallRowLemmas.{row-is}
+use Rattle.wf_names_cycles.proofs.SectionLemmas.{methods-within}
 use Rattle.wf_names_laws.proofs.FrontLemmas.{order-long, order-front, calls-open}
 use Rattle.wf_names_verdicts.specs.NameVerdicts.{KeptPackagesHaveAnOrder}
 use Rattle.wf_names_verdicts.proofs.Circles.{caller-there}

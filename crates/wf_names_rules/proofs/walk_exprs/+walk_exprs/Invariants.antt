@@ -6,6 +6,7 @@ use Rattle.wf_names_rules.specs.Uses.{link_uses, given_uses}
 use Rattle.wf_names_rules.specs.NodeUses.{prefix_uses}
 use Rattle.wf_names_rules.specs.Tables.{known_by}
 use Rattle.wf_names_rules.specs.Judged.{walked}
+use Rattle.wf_names_rules.specs.Called.{with_calls}
 use Rattle.wf_names_rules.proofs.walk_exprs.+walk_exprs.Given as goal
 
 abbrev pub decreases-walk_expr : goal.decreases-walk_expr
@@ -43,15 +44,21 @@ decreases-walk_type l = 8 * above_type l.of.now + 5
 
 abbrev pub invariant-walk_links-loop-link : goal.invariant-walk_links-loop-link
 invariant-walk_links-loop-link l =
-    walked (known_by l.parsed.texts l.tables l.scope) l.seen (link_uses (links_at (expr_trees l.parsed.exprs) (drop l.link-index l.links)))
-    ≡ walked (known_by l.parsed.texts l.tables l.scope) l.fn.seen (link_uses (links_at (expr_trees l.parsed.exprs) l.links))
+    (walked (known_by l.parsed.texts l.tables l.scope) l.seen (link_uses (links_at (expr_trees l.parsed.exprs) (drop l.link-index l.links)))
+    ≡ walked (known_by l.parsed.texts l.tables l.scope) l.fn.seen (link_uses (links_at (expr_trees l.parsed.exprs) l.links)))
+    × (with_calls (known_by l.parsed.texts l.tables l.scope) l.row (link_uses (links_at (expr_trees l.parsed.exprs) (drop l.link-index l.links)))
+    ≡ with_calls (known_by l.parsed.texts l.tables l.scope) l.fn.row (link_uses (links_at (expr_trees l.parsed.exprs) l.links)))
 
 abbrev pub invariant-walk_given-loop-given : goal.invariant-walk_given-loop-given
 invariant-walk_given-loop-given l =
-    walked (known_by l.parsed.texts l.tables l.scope) l.seen (given_uses (given_at (expr_trees l.parsed.exprs) (drop l.given-index l.args)))
-    ≡ walked (known_by l.parsed.texts l.tables l.scope) l.fn.seen (given_uses (given_at (expr_trees l.parsed.exprs) l.args))
+    (walked (known_by l.parsed.texts l.tables l.scope) l.seen (given_uses (given_at (expr_trees l.parsed.exprs) (drop l.given-index l.args)))
+    ≡ walked (known_by l.parsed.texts l.tables l.scope) l.fn.seen (given_uses (given_at (expr_trees l.parsed.exprs) l.args)))
+    × (with_calls (known_by l.parsed.texts l.tables l.scope) l.row (given_uses (given_at (expr_trees l.parsed.exprs) (drop l.given-index l.args)))
+    ≡ with_calls (known_by l.parsed.texts l.tables l.scope) l.fn.row (given_uses (given_at (expr_trees l.parsed.exprs) l.args)))
 
 abbrev pub invariant-walk_prefixes-loop-prefix : goal.invariant-walk_prefixes-loop-prefix
 invariant-walk_prefixes-loop-prefix l =
-    walked (known_by l.parsed.texts l.tables l.scope) l.seen (flat_map (prefix_uses (expr_trees l.parsed.exprs)) (drop l.prefix-index l.prefixes))
-    ≡ walked (known_by l.parsed.texts l.tables l.scope) l.fn.seen (flat_map (prefix_uses (expr_trees l.parsed.exprs)) l.prefixes)
+    (walked (known_by l.parsed.texts l.tables l.scope) l.seen (flat_map (prefix_uses (expr_trees l.parsed.exprs)) (drop l.prefix-index l.prefixes))
+    ≡ walked (known_by l.parsed.texts l.tables l.scope) l.fn.seen (flat_map (prefix_uses (expr_trees l.parsed.exprs)) l.prefixes))
+    × (with_calls (known_by l.parsed.texts l.tables l.scope) l.row (flat_map (prefix_uses (expr_trees l.parsed.exprs)) (drop l.prefix-index l.prefixes))
+    ≡ with_calls (known_by l.parsed.texts l.tables l.scope) l.fn.row (flat_map (prefix_uses (expr_trees l.parsed.exprs)) l.prefixes))

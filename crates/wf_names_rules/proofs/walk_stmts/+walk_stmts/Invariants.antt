@@ -4,6 +4,7 @@ use Rattle.wf_names_rules.specs.Above.{above_stmts, above_block, above_else, abo
 use Rattle.wf_names_rules.specs.Uses.{block_uses, arm_uses}
 use Rattle.wf_names_rules.specs.Tables.{known_by}
 use Rattle.wf_names_rules.specs.Judged.{walked}
+use Rattle.wf_names_rules.specs.Called.{with_calls}
 use Rattle.wf_names_rules.proofs.walk_stmts.+walk_stmts.Given as goal
 
 abbrev pub decreases-walk_stmt : goal.decreases-walk_stmt
@@ -23,10 +24,14 @@ decreases-walk_arms l = 4 * max (above_arms l.arms.now) (above_else l.otherwise.
 
 abbrev pub invariant-walk_block-loop-s : goal.invariant-walk_block-loop-s
 invariant-walk_block-loop-s l =
-    walked (known_by l.parsed.texts l.tables l.scope) l.seen (block_uses (items_at (stmt_trees l.parsed.exprs l.parsed.stmts) (drop l.s-index l.block.items) l.block.close))
-    ≡ walked (known_by l.parsed.texts l.tables l.scope) l.fn.seen (block_uses (items_at (stmt_trees l.parsed.exprs l.parsed.stmts) l.block.items l.block.close))
+    (walked (known_by l.parsed.texts l.tables l.scope) l.seen (block_uses (items_at (stmt_trees l.parsed.exprs l.parsed.stmts) (drop l.s-index l.block.items) l.block.close))
+    ≡ walked (known_by l.parsed.texts l.tables l.scope) l.fn.seen (block_uses (items_at (stmt_trees l.parsed.exprs l.parsed.stmts) l.block.items l.block.close)))
+    × (with_calls (known_by l.parsed.texts l.tables l.scope) l.row (block_uses (items_at (stmt_trees l.parsed.exprs l.parsed.stmts) (drop l.s-index l.block.items) l.block.close))
+    ≡ with_calls (known_by l.parsed.texts l.tables l.scope) l.fn.row (block_uses (items_at (stmt_trees l.parsed.exprs l.parsed.stmts) l.block.items l.block.close)))
 
 abbrev pub invariant-walk_arms-loop-arm : goal.invariant-walk_arms-loop-arm
 invariant-walk_arms-loop-arm l =
-    walked (known_by l.parsed.texts l.tables l.scope) l.seen (arm_uses (arms_at (expr_trees l.parsed.exprs) (stmt_trees l.parsed.exprs l.parsed.stmts) (drop l.arm-index l.arms) (else_at (stmt_trees l.parsed.exprs l.parsed.stmts) l.otherwise)))
-    ≡ walked (known_by l.parsed.texts l.tables l.scope) l.fn.seen (arm_uses (arms_at (expr_trees l.parsed.exprs) (stmt_trees l.parsed.exprs l.parsed.stmts) l.arms (else_at (stmt_trees l.parsed.exprs l.parsed.stmts) l.otherwise)))
+    (walked (known_by l.parsed.texts l.tables l.scope) l.seen (arm_uses (arms_at (expr_trees l.parsed.exprs) (stmt_trees l.parsed.exprs l.parsed.stmts) (drop l.arm-index l.arms) (else_at (stmt_trees l.parsed.exprs l.parsed.stmts) l.otherwise)))
+    ≡ walked (known_by l.parsed.texts l.tables l.scope) l.fn.seen (arm_uses (arms_at (expr_trees l.parsed.exprs) (stmt_trees l.parsed.exprs l.parsed.stmts) l.arms (else_at (stmt_trees l.parsed.exprs l.parsed.stmts) l.otherwise))))
+    × (with_calls (known_by l.parsed.texts l.tables l.scope) l.row (arm_uses (arms_at (expr_trees l.parsed.exprs) (stmt_trees l.parsed.exprs l.parsed.stmts) (drop l.arm-index l.arms) (else_at (stmt_trees l.parsed.exprs l.parsed.stmts) l.otherwise)))
+    ≡ with_calls (known_by l.parsed.texts l.tables l.scope) l.fn.row (arm_uses (arms_at (expr_trees l.parsed.exprs) (stmt_trees l.parsed.exprs l.parsed.stmts) l.arms (else_at (stmt_trees l.parsed.exprs l.parsed.stmts) l.otherwise))))

@@ -5,15 +5,25 @@ use Rattle.wf_names_rules.specs.Uses.{result_uses, block_uses, variable_uses}
 use Rattle.wf_names_rules.specs.Tables.{known_by}
 use Rattle.wf_names_rules.specs.Judged.{walked}
 use Rattle.wf_names_rules.proofs.WalkLemmas.{ok_same}
+use Rattle.wf_names_rules.proofs.CalledLemmas.{row_append}
 use Rattle.wf_names_rules.proofs.StmtLemmas.{ok_append}
 use Rattle.wf_names_scopes.proofs.declared_uses.walk_method.Goals as goal
 
-pub returns : goal.returns
-returns c =
+pub returns-clause-seen : goal.returns-clause-seen
+returns-clause-seen c =
     let k = known_by c.args.parsed.now.texts c.args.tables.now c.args.scope.now in
     let es = expr_trees c.args.parsed.now.exprs in
     let ts = stmt_trees c.args.parsed.now.exprs c.args.parsed.now.stmts in
     let args = variable_uses (variables (fields_at es c.args.method.args.now)) in
     let inside = result_uses (result_at es c.args.method.gives.now) ++ block_uses (block_at ts c.args.method.body.now) in
     ok_same c.walk_inside.result _ _ (ap (λ s. walked k s (args ++ inside)) (c.walk_struct-owned.ensures c.args.parsed.now.texts c.args.scope.now))
-    (ok_append k c.walk_struct-owned.result c.in_ok-seen.seen args inside c.walk_inside.result c.in_ok-seen.ensures c.walk_inside.ensures)
+    (ok_append k c.walk_struct-owned.result c.in_ok-seen.seen args inside c.walk_inside.result c.in_ok-seen.ensures.seen c.walk_inside.ensures.seen)
+
+pub returns-clause-row : goal.returns-clause-row
+returns-clause-row c =
+    let k = known_by c.args.parsed.now.texts c.args.tables.now c.args.scope.now in
+    let es = expr_trees c.args.parsed.now.exprs in
+    let ts = stmt_trees c.args.parsed.now.exprs c.args.parsed.now.stmts in
+    let args = variable_uses (variables (fields_at es c.args.method.args.now)) in
+    let inside = result_uses (result_at es c.args.method.gives.now) ++ block_uses (block_at ts c.args.method.body.now) in
+    row_append k c.args.row.now c.walk_fields.new.row args inside c.walk_inside.result c.walk_inside.new.row c.in_ok-seen.ensures.row c.walk_inside.ensures.row

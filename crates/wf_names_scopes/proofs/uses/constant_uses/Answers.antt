@@ -8,4 +8,4 @@ pub returns : goal.returns
 returns c =
     let es = expr_trees c.args.parsed.now.exprs in
     λ known h. walk_judged c.args.parsed.now c.args.tables.now c.args.scope.now (constant_scope known) c.args.found c.begin.result c.in_ok-seen.seen
-    (type_uses (type_at es c.args.of.now) ++ uses_of (expr_at es c.args.value)) c.requires.tables h c.begin.ensures c.in_ok-seen.ensures
+    (type_uses (type_at es c.args.of.now) ++ uses_of (expr_at es c.args.value)) c.requires.tables h c.begin.ensures c.in_ok-seen.ensures.seen

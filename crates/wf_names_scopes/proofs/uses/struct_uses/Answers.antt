@@ -11,7 +11,7 @@ pub returns-clause-found : goal.returns-clause-found
 returns-clause-found c =
     let d = package_of c.args.parsed.now in
     walk_judged c.args.parsed.now c.args.tables.now c.enter_struct.new.scope (scope_in d c.args.name [] []) c.args.found c.begin.result c.in_ok-seen.seen
-    (variable_uses (variables (fields_at (expr_trees c.args.parsed.now.exprs) c.args.fields.now))) c.requires.tables (c.enter_struct.ensures d c.requires.constants) c.begin.ensures c.in_ok-seen.ensures
+    (variable_uses (variables (fields_at (expr_trees c.args.parsed.now.exprs) c.args.fields.now))) c.requires.tables (c.enter_struct.ensures d c.requires.constants) c.begin.ensures c.in_ok-seen.ensures.seen
 
 pub returns-clause-constants : goal.returns-clause-constants
 returns-clause-constants c = (c.enter_struct.ensures (package_of c.args.parsed.now) c.requires.constants).constants

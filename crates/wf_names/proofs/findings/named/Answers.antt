@@ -1,0 +1,13 @@
+use Rattle.std.proofs.Common.{◌≡◌, ◌∙◌, ap, None}
+use Rattle.wf_names_decls.specs.DeclarationPass.{declarations_found}
+use Rattle.wf_names_decls.specs.LabelPass.{labels_found}
+use Rattle.wf_names_scopes.specs.Agreeing.{package_of}
+use Rattle.wf_names_scopes.specs.UsesFound.{uses_found}
+use Rattle.wf_names_scopes.proofs.UseLemmas.{if_ok}
+use Rattle.wf_names.proofs.findings.named.Goals as goal
+
+pub returns-clause-found : goal.returns-clause-found
+returns-clause-found c =
+    let d = package_of c.args.parsed.now in
+    if_ok (λ used. used.found ≡ uses_found d c.in_ok-labelled.labelled) (λ used. used.found ≡ uses_found d (labels_found d (declarations_found d None))) c.uses.result
+    (λ used last. last ∙ ap (uses_found d) c.in_ok-labelled.ensures ∙ ap (λ found. uses_found d (labels_found d found)) c.in_ok-declared.ensures) c.uses.ensures.found
