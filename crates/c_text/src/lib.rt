@@ -8,6 +8,7 @@ pub mod kinds;
 pub mod laws;
 mod lengths;
 pub mod lists;
+mod name_table;
 pub mod nodes;
 mod print_code;
 mod print_exprs;

@@ -1,5 +1,6 @@
-use Rattle.wf_exprs_nodes.proofs.MarkLaws.{marks_new}
+use Rattle.std.proofs.Common.{refl}
+use Rattle.wf_exprs_nodes.proofs.MarkLaws.{marks_one}
 use Rattle.wf_exprs_nodes.proofs.marks.ReadNames.add.Goals as goal
 
-pub returns : goal.returns
-returns c = rw (← c.self.view_is) (marks_new (λ v. v.items) c.self.inside.names.keys c.insert.new.self.keys c.in_ok-owned.owned c.args.name.now c.in_ok-owned.ensures.items c.in_ok-insert.ensures.keys)
+pub returns-clause-marks : goal.returns-clause-marks
+returns-clause-marks c = λ names. rw (← c.self.view_is) (marks_one names c.args.name.0 c.self.inside.read.items _ (rw (← c.self.view_is) at c.requires) refl)
