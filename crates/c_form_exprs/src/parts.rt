@@ -14,7 +14,7 @@ use c_text::{CExpr, CExprId, COp, CType};
 use wf_text::NoMemory;
 
 impl<'k, 'u> Scope<'k, 'u> {
-    /// The part that stands in front, of `of->field` and of `of[at]`.
+    /// The part that stands at the front, of `of->field` and of `of[at]`.
     pub(crate) fn link(&self, e: CExprId) -> Option<CExprId>
         requires { e.0 < length self.now.front.nodes.exprs }
         ensures some { IfSome result (λ of. IsLink self.now.front.nodes e of) }

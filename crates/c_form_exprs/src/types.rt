@@ -101,7 +101,7 @@ impl<'k, 'u> Scope<'k, 'u> {
     }
 
     /// Whether a type is one of numbers, flags among them (6.2.5p18).
-    pub fn is_numeric(&self, ty: CType) -> bool
+    pub(crate) fn is_numeric(&self, ty: CType) -> bool
         ensures { result ≡ is_numeric_tree (type_in self.now.front.nodes.names ty) }
     {
         match ty {
@@ -185,7 +185,7 @@ impl<'k, 'u> Scope<'k, 'u> {
     }
 
     /// Whether two types are alike (6.2.7).
-    pub fn is_same_type(&self, a: CType, b: CType) -> bool
+    pub(crate) fn is_same_type(&self, a: CType, b: CType) -> bool
         requires first { HasType self.now.front.nodes a }
         requires second { HasType self.now.front.nodes b }
         ensures { result ≡ are_same_types (type_in self.now.front.nodes.names a) (type_in self.now.front.nodes.names b) }

@@ -196,7 +196,7 @@ impl<'c, 'k, 'u> Frame<'c, 'k, 'u> {
     }
 
     /// Whether a call is formed (6.5.2.2).
-    pub fn is_call(&self, target: Option<CExprId>, call: &CCall) -> Result<bool, NoMemory>
+    pub(crate) fn is_call(&self, target: Option<CExprId>, call: &CCall) -> Result<bool, NoMemory>
         requires target { IfSome target (λ e. e.0 < length self.now.within.front.nodes.exprs) }
         requires call { HasCall self.now.within.front.nodes (length self.now.within.front.nodes.exprs) call.now }
         ensures { IfOk result (λ formed. formed ≡ formed_call (callee_of (bytes_at self.now.within.front.nodes.names call.now.function.0)) (checked_in self.now) (value_in (expr_of self.now.within.front.nodes) target) (bytes_at self.now.within.front.nodes.names call.now.function.0) (args_in self.now.within.front.nodes.names (expr_of self.now.within.front.nodes) call.now.args)) }

@@ -34,38 +34,29 @@ pub(crate) enum Answer {
 }
 
 fn owned(alloc: Global, bytes: &[u8]) -> Result<Vec<u8>, NoMemory> {
-    match Vec::from_slice(alloc, bytes) {
-        Ok(it) => Ok(it),
-        Err(_) => Err(NoMemory),
-    }
+    Ok(Vec::from_slice(alloc, bytes)?)
 }
 
 /// The surface of a package `e` whose struct `e` has the method `f(x: slice base.u8) base.u16`.
 fn surface(alloc: Global) -> Result<PublicSurface, NoMemory> {
     let mut args = Vec::new(alloc);
-    let Ok(()) = args.push(ArgDecl {
+    args.push(ArgDecl {
         name: owned(alloc, b"x")?,
         kind: ArgKind::Slice(Width::W8),
-    }) else {
-        return Err(NoMemory);
-    };
+    })?;
     let mut methods = Vec::new(alloc);
-    let Ok(()) = methods.push(MethodDecl {
+    methods.push(MethodDecl {
         number: MethodId(0),
         name: owned(alloc, b"f")?,
         args,
         answers: AnswerKind::Number(Width::W16),
-    }) else {
-        return Err(NoMemory);
-    };
+    })?;
     let mut structs = Vec::new(alloc);
-    let Ok(()) = structs.push(StructDecl {
+    structs.push(StructDecl {
         number: StructId(0),
         name: owned(alloc, b"e")?,
         methods,
-    }) else {
-        return Err(NoMemory);
-    };
+    })?;
     Ok(PublicSurface {
         package_name: owned(alloc, b"e")?,
         statuses: Vec::new(alloc),
@@ -76,9 +67,7 @@ fn surface(alloc: Global) -> Result<PublicSurface, NoMemory> {
 /// Adds `times` copies of a part to a text.
 pub(crate) fn repeat(text: &mut Vec<u8>, part: &[u8], times: usize) -> Result<(), NoMemory> {
     for _ in 0..times {
-        let Ok(()) = text.extend_from_slice(part) else {
-            return Err(NoMemory);
-        };
+        text.extend_from_slice(part)?;
     }
     Ok(())
 }

@@ -142,7 +142,7 @@ combined_by by memory o op first second = None
 abbrev pub combined : Memory → (whole_object : Bool) → COp → Option Value → Option Value → Option Value
 combined memory o op first second = combined_by (combination_of op) memory o op first second
 
--- From the left: an operator that repeats takes what it gave for the operands in front (6.5p3).
+-- From the left: an operator that repeats takes what it gave for the operands before it (6.5p3).
 abbrev pub from_left : Memory → (whole_object : Bool) → COp → Option Value → List (Option Value) → Option Value
 from_left memory o op first [] = first
 from_left memory o op first (next ∷ others) = from_left memory o op (combined memory o op first next) others

@@ -144,10 +144,6 @@ weight s = place_weight s.place
 abbrev pub surroundings : Running → Memory → Surroundings
 surroundings r memory = record { scope = r.scope; frame = r.frame; memory = memory; called = r.in_expressions memory }
 
--- A value of an expression in memory (6.5).
-abbrev pub in_memory : {A : Type 0} → (Surroundings → A) → Running → Memory → A
-in_memory f r memory = f (surroundings r memory)
-
 -- To the next statement in memory as it then is, where that is defined (6.8p3).
 abbrev pub goes_on : Code → Continuation → Option Memory → Next State Returned
 goes_on rest k None = Fail

@@ -26,7 +26,7 @@ pub struct Machine {
 
 /// What a token does to the top of what is wanted.
 #[derive(Clone, Copy, PartialEq, Eq)]
-pub enum Meeting {
+pub(crate) enum Meeting {
     /// It is read.
     Read,
     /// The top may be absent: the token is for what stands below.
@@ -63,7 +63,7 @@ impl Machine {
         ensures state { OnOk result (state_of self.new ≡ record { wanted = wants.now ++ self.old.wants; vals = kept (token_of kind text.now) (made self.old.maker) }) }
         ensures fit { OnOk result (IsFit self.new.maker) }
     {
-        self.wants.push_all(wants.as_slice())?;
+        wants.push_on(&mut self.wants)?;
         self.maker.keep(kind, text)
     }
 
@@ -74,7 +74,7 @@ impl Machine {
         ensures answers { IfOk result (AnswersMeeting symbol (token_of kind text.now) self.old self.new) }
         ensures fit { OnOk result (IsFit self.new.maker) }
     {
-        match move_of(self.maker.alloc, symbol, kind)? {
+        match move_of(symbol, kind) {
             Move::Take(wants) => {
                 self.take(&wants, kind, text)?;
                 Ok(Meeting::Read)
@@ -85,7 +85,7 @@ impl Machine {
     }
 
     /// One token: whether it is read. Where it isn't, no text goes on so.
-    pub fn step(&mut self, kind: Kind, text: &[u8]) -> Result<bool, NoMemory>
+    pub(crate) fn step(&mut self, kind: Kind, text: &[u8]) -> Result<bool, NoMemory>
         requires fit { IsFit self.old.maker }
         requires token { IsToken (token_of kind text.now) }
         ensures answers { IfOk result (AnswersToken (token_of kind text.now) self.old self.new) }
@@ -105,7 +105,7 @@ impl Machine {
     }
 
     /// The end of the text: whether it may end so.
-    pub fn finish(&mut self) -> Result<bool, NoMemory>
+    pub(crate) fn finish(&mut self) -> Result<bool, NoMemory>
         requires fit { IsFit self.old.maker }
         ensures answers { IfOk result (AnswersEnd self.old self.new) }
         ensures fit { OnOk result (IsFit self.new.maker) }

@@ -22,7 +22,7 @@ const MOST_BRACKETS: usize = 512;
 
 /// How a text ends.
 #[derive(Clone, Copy, PartialEq, Eq)]
-pub enum Ending {
+pub(crate) enum Ending {
     /// It is read to its end.
     Whole,
     /// A bracket here is one too many.
@@ -33,7 +33,7 @@ pub enum Ending {
 
 /// Whether a text ends here, or how it goes on: what stands after the token, and how many brackets are open there.
 #[derive(Clone, Copy)]
-pub enum Step<'a> {
+pub(crate) enum Step<'a> {
     /// It ends.
     Ends(Ending),
     /// A token is read.

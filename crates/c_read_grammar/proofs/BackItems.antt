@@ -88,7 +88,7 @@ then-body t lt front ts rest h d =
     let b = d.2.2.1 in
     (record { kind = t; name = d.1.0; initial = x.0 } ∷ b.0, b.1, (lt, d.1.1, x.1, b.2), b.3, cc (h, d.1.2, x.2, b.4, d.2.2.2))
 
--- statements with no local in front
+-- statements with no local before them
 no-local : (ts rest : List CToken) → StmtWord Stmts ts rest → BodyWord ts rest
 no-local ts rest w = ([], w.0, tt, w.1, w.2)
 

@@ -1,5 +1,5 @@
 -- What is wanted, as lists of tokens: `Word s ts rest` says that the tokens `ts` complete the symbol s up to `rest`.
--- Of a symbol that is left of a part it speaks with whatever stood in front.
+-- Of a symbol that is left of a part it speaks with whatever stood before it.
 use Rattle.std.proofs.Common.{◌≡◌, ℕ, true, false, IfSome, IsTrue, Option, List, [], ◌∷◌}
 use Rattle.c_text.specs.declared.kinds.CNumber.{CNumber}
 use Rattle.c_text.specs.declared.kinds.COp.TheVariants as op

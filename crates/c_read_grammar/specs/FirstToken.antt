@@ -71,7 +71,7 @@ literal_with value suffix =
     if bytes_eq suffix (codes "u") then (if nat_lt value (2 ^ 32) then Some (Unsigned value) else None) else (
     if bytes_eq suffix (codes "ull") then (if nat_lt value (2 ^ 64) then Some (Long value) else None) else None))
 
--- A run that begins with a digit is a literal where its digits have no 0 in front and its suffix fits its value.
+-- A run that begins with a digit is a literal where its digits have no 0 at the front and its suffix fits its value.
 abbrev pub literal_of : List ℕ → Option CNumber
 literal_of run = if has_leading_zero (front is_digit run) then None else literal_with (digits_value 10 (front is_digit run)) (behind is_digit run)
 

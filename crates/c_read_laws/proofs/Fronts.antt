@@ -1,4 +1,4 @@
--- Bytes have a token in front, or none.
+-- Bytes have a token at the front, or none.
 use Rattle.std.proofs.Common.{◌≡◌, ◌⊎◌, inl, inr, ℕ, Bool, true, false, ◌&&◌, Option, None, Some, List, [], ◌∷◌, ◌++◌, refl, sym, ◌∙◌, ap, subst}
 use Rattle.std.specs.List.{list_all}
 use Rattle.std.proofs.lemmas.Bool.{eqb-true}
@@ -22,7 +22,7 @@ cut-front test (byte ∷ bytes) = by_test (cut-front test bytes) (test byte) ref
     by_test c true e = record { front = byte ∷ c.front; back = c.back; cut = ap (λ x. byte ∷ x) c.cut; run = ap (λ x. x && list_all test c.front) e ∙ c.run; stops = c.stops }
     by_test c false e = record { front = []; back = byte ∷ bytes; cut = refl; run = refl; stops = e }
 
--- A token in front, or none.
+-- A token at the front, or none.
 abbrev pub HasToken : List ℕ → Type 0
 HasToken bytes = (t : CToken) × (tail : List ℕ) × Stands t bytes tail
 

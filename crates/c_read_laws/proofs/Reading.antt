@@ -141,7 +141,7 @@ read-on (suc n) bytes body rest r small = by_next (λ tail later less. read-on n
     by_next others (inl outcome) = outcome
     by_next others (inr g) = let less = g.2 in others g.0 g.1 (omega (arith, less, small))
 
--- A line in front, or none.
+-- A line at the front, or none.
 line-or-not : (line bytes : List ℕ) → ((rest : List ℕ) × (bytes ≡ line ++ rest)) ⊎ ((more : List ℕ) → bytes ≡ line ++ more → ⊥)
 line-or-not [] bytes = inl (bytes, refl)
 line-or-not (letter ∷ line) [] = inr (λ more e. absurd (cc e))

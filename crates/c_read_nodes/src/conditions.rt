@@ -97,7 +97,7 @@ fn is_operation_of(op: COp, values: &Stack<Value>) -> bool
 }
 
 /// Whether the topmost values are what the action asks for.
-pub fn meets(unit: &Unit, action: Action, values: &Stack<Value>) -> bool
+pub(crate) fn meets(unit: &Unit, action: Action, values: &Stack<Value>) -> bool
     requires { ValuesFit unit.now values.now }
     ensures { result ≡ meets unit.now action values.now }
 {

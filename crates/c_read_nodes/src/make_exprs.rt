@@ -151,7 +151,7 @@ pub(crate) fn make_called(values: &mut Stack<Value>) -> Product
 }
 
 /// One argument more.
-pub fn add_arg(values: &mut Stack<Value>) -> Result<Product, NoMemory>
+pub(crate) fn add_arg(values: &mut Stack<Value>) -> Result<Product, NoMemory>
     requires { fits (shapes.Expr ∷ shapes.Args ∷ []) values.old ≡ true }
     ensures { IfOk result (λ product. making (acts.Expr does.AddArg) values.old ≡ record { product = product; vals = values.new }) }
 {
@@ -175,7 +175,7 @@ pub(crate) fn add_sizeof(values: &mut Stack<Value>) -> Result<Product, NoMemory>
 }
 
 /// Takes the action's values from the stack, and answers what is made of them.
-pub fn make(
+pub(crate) fn make(
     alloc: Global,
     action: ExprAction,
     values: &mut Stack<Value>,

@@ -61,7 +61,7 @@ pub(crate) fn set_count(values: &mut Stack<Value>) -> Product
 }
 
 /// One field more.
-pub fn add_field(values: &mut Stack<Value>) -> Result<Product, NoMemory>
+pub(crate) fn add_field(values: &mut Stack<Value>) -> Result<Product, NoMemory>
     requires { fits (shapes.Field ∷ shapes.Fields ∷ []) values.old ≡ true }
     ensures { IfOk result (λ product. making (acts.Item does.AddField) values.old ≡ record { product = product; vals = values.new }) }
 {
@@ -107,7 +107,7 @@ pub(crate) fn make_result(linkage: Linkage, values: &mut Stack<Value>) -> Produc
 }
 
 /// One parameter more.
-pub fn add_param(values: &mut Stack<Value>) -> Result<Product, NoMemory>
+pub(crate) fn add_param(values: &mut Stack<Value>) -> Result<Product, NoMemory>
     requires { fits (shapes.Name ∷ shapes.Type ∷ shapes.Params ∷ []) values.old ≡ true }
     ensures { IfOk result (λ product. making (acts.Item does.AddParam) values.old ≡ record { product = product; vals = values.new }) }
 {
@@ -120,7 +120,7 @@ pub fn add_param(values: &mut Stack<Value>) -> Result<Product, NoMemory>
 }
 
 /// One local more.
-pub fn add_local(values: &mut Stack<Value>) -> Result<Product, NoMemory>
+pub(crate) fn add_local(values: &mut Stack<Value>) -> Result<Product, NoMemory>
     requires { fits (shapes.Name ∷ shapes.Type ∷ shapes.Locals ∷ []) values.old ≡ true }
     ensures { IfOk result (λ product. making (acts.Item does.AddLocal) values.old ≡ record { product = product; vals = values.new }) }
 {
@@ -176,7 +176,7 @@ pub(crate) fn make_function(values: &mut Stack<Value>) -> Product
 }
 
 /// Takes the action's values from the stack, and answers what is made of them.
-pub fn make(
+pub(crate) fn make(
     alloc: Global,
     action: ItemAction,
     values: &mut Stack<Value>,

@@ -72,7 +72,7 @@ pub(crate) fn make_goto(values: &mut Stack<Value>) -> Product
 }
 
 /// An arm of an `if`.
-pub fn add_arm(values: &mut Stack<Value>) -> Product
+pub(crate) fn add_arm(values: &mut Stack<Value>) -> Product
     requires { fits (shapes.Code ∷ shapes.Expr ∷ []) values.old ≡ true }
     ensures { making (acts.Stmt does.AddArm) values.old ≡ record { product = result; vals = values.new } }
 {
@@ -129,7 +129,7 @@ pub(crate) fn make_label(values: &mut Stack<Value>) -> Product
 }
 
 /// Takes the action's values from the stack, and answers what is made of them.
-pub fn make(
+pub(crate) fn make(
     alloc: Global,
     action: StmtAction,
     values: &mut Stack<Value>,

@@ -34,7 +34,7 @@ pub(crate) fn make_struct_pointer(values: &mut Stack<Value>) -> Product
 }
 
 /// Takes the action's values from the stack, and answers what is made of them.
-pub fn make(
+pub(crate) fn make(
     alloc: Global,
     action: TypeAction,
     values: &mut Stack<Value>,

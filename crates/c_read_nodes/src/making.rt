@@ -12,7 +12,11 @@ use std::alloc::Global;
 use wf_text::NoMemory;
 
 /// Takes the action's values from the stack, and answers what is made of them.
-pub fn make(alloc: Global, action: Action, values: &mut Stack<Value>) -> Result<Product, NoMemory>
+pub(crate) fn make(
+    alloc: Global,
+    action: Action,
+    values: &mut Stack<Value>,
+) -> Result<Product, NoMemory>
     requires fit { fits (takes action) values.old ≡ true }
     requires plain { is_plain action ≡ true }
     ensures { IfOk result (λ product. making action values.old ≡ record { product = product; vals = values.new }) }

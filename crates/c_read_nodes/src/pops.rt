@@ -15,7 +15,7 @@ use c_text::{
 use stacks::Stack;
 
 /// Takes a name from the top.
-pub fn pop_name(values: &mut Stack<Value>) -> CNameId
+pub(crate) fn pop_name(values: &mut Stack<Value>) -> CNameId
     requires { fits (shapes.Name ∷ []) values.old ≡ true }
     ensures { values.old ≡ vals.Name result ∷ values.new }
 {
@@ -48,7 +48,7 @@ pub(crate) fn pop_text(values: &mut Stack<Value>) -> CStringId
 }
 
 /// Takes an expression from the top.
-pub fn pop_expr(values: &mut Stack<Value>) -> CExprId
+pub(crate) fn pop_expr(values: &mut Stack<Value>) -> CExprId
     requires { fits (shapes.Expr ∷ []) values.old ≡ true }
     ensures { values.old ≡ vals.Expr result ∷ values.new }
 {
@@ -81,7 +81,7 @@ pub(crate) fn pop_args(values: &mut Stack<Value>) -> CList<CArg>
 }
 
 /// Takes a type from the top.
-pub fn pop_type(values: &mut Stack<Value>) -> CType
+pub(crate) fn pop_type(values: &mut Stack<Value>) -> CType
     requires { fits (shapes.Type ∷ []) values.old ≡ true }
     ensures { values.old ≡ vals.Type result ∷ values.new }
 {
@@ -103,7 +103,7 @@ pub(crate) fn pop_uint_type(values: &mut Stack<Value>) -> CUint
 }
 
 /// Takes the beginning of a block from the top.
-pub fn pop_block(values: &mut Stack<Value>)
+pub(crate) fn pop_block(values: &mut Stack<Value>)
     requires { fits (shapes.Block ∷ []) values.old ≡ true }
     ensures { values.old ≡ vals.Block ∷ values.new }
 {
@@ -158,7 +158,7 @@ pub(crate) fn pop_field(values: &mut Stack<Value>) -> CField
 }
 
 /// Takes fields from the top.
-pub fn pop_fields(values: &mut Stack<Value>) -> CList<CField>
+pub(crate) fn pop_fields(values: &mut Stack<Value>) -> CList<CField>
     requires { fits (shapes.Fields ∷ []) values.old ≡ true }
     ensures { values.old ≡ vals.Fields result ∷ values.new }
 {

@@ -155,7 +155,7 @@ fn takes_item(action: ItemAction) -> &'static [Shape]
 }
 
 /// The shapes of the values that an action takes, the topmost first.
-pub fn takes(action: Action) -> &'static [Shape]
+pub(crate) fn takes(action: Action) -> &'static [Shape]
     ensures { result.now ≡ takes action }
 {
     match action {

@@ -97,7 +97,7 @@ impl Statement {
     }
 
     /// Whether it is a label, which another statement follows.
-    pub fn is_label(&self) -> bool
+    pub(crate) fn is_label(&self) -> bool
         ensures { result ≡ is_label self.now }
     {
         match self {

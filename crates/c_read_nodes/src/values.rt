@@ -70,7 +70,7 @@ pub enum Value {
 
 /// What an action makes: a value, an expression of the unit, or an item of it.
 #[derive(Drop)]
-pub enum Product {
+pub(crate) enum Product {
     Value(Value),
     Expr(CExpr),
     Item(CItem),

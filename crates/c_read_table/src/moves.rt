@@ -1,13 +1,11 @@
 // What a token does to the top of the machine's stack.
 
-ghost use Rattle.std.specs.Prelude.{◌≡◌, [], IfOk};
+ghost use Rattle.std.specs.Prelude.{◌≡◌, ◌++◌, []};
 ghost use Rattle.c_read_grammar.specs.Machine as machine;
 ghost use Rattle.c_read_table.specs.Moves.{seen};
 
-use crate::wants::Wants;
-use c_read_grammar::{Action, ExprAction, Want};
-use std::alloc::Global;
-use wf_text::NoMemory;
+use crate::wants::{After, Wants};
+use c_read_grammar::Want;
 
 /// What a token does to the top of the stack.
 #[derive(Drop)]
@@ -22,40 +20,23 @@ pub enum Move {
 
 impl Move {
     /// The token is read, and `wants` are wanted then.
-    pub fn take(alloc: Global, wants: &[Want]) -> Result<Move, NoMemory>
-        ensures { IfOk result (λ m. seen m ≡ machine.Take wants.now) }
+    pub fn take(wants: &'static [Want]) -> Move
+        ensures { seen result ≡ machine.Take wants.now }
     {
-        Ok(Move::Take(Wants::of(alloc, wants)?))
+        Move::Take(Wants::of(wants, After::of(&[], &[])))
+    }
+
+    /// The token is read, and `wants` are wanted then, with `after` after them.
+    pub(crate) fn then(wants: &'static [Want], after: After) -> Move
+        ensures { seen result ≡ machine.Take (wants.now ++ after) }
+    {
+        Move::Take(Wants::of(wants, after))
     }
 
     /// The token is read, and nothing is wanted in place of the top.
-    pub fn done(alloc: Global) -> Move
+    pub fn done() -> Move
         ensures { seen result ≡ machine.Take [] }
     {
-        Move::Take(Wants::new(alloc))
-    }
-
-    /// The same move, with `wants` wanted after what it wants.
-    pub fn followed(self, wants: &[Want]) -> Result<Move, NoMemory>
-        ensures { IfOk result (λ m. seen m ≡ machine.followed (seen self) wants.now) }
-    {
-        match self {
-            Move::Take(list) => Ok(Move::Take(list.followed(wants)?)),
-            Move::Pass => Ok(Move::Pass),
-            Move::Stop => Ok(Move::Stop),
-        }
-    }
-
-    /// The same move, after a name, which is a variable.
-    pub(crate) fn behind_variable(self) -> Result<Move, NoMemory>
-        ensures { IfOk result (λ m. seen m ≡ machine.behind_variable (seen self)) }
-    {
-        match self {
-            Move::Take(list) => Ok(Move::Take(list.led(Want::Perform(Action::Expr(
-                ExprAction::MakeVariable,
-            )))?)),
-            Move::Pass => Ok(Move::Pass),
-            Move::Stop => Ok(Move::Stop),
-        }
+        Move::Take(Wants::of(&[], After::of(&[], &[])))
     }
 }

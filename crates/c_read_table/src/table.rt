@@ -1,6 +1,6 @@
 // The table of the grammar's machine: for each symbol, what the next token does to it.
 
-ghost use Rattle.std.specs.Prelude.{◌≡◌, IfOk};
+ghost use Rattle.std.specs.Prelude.{◌≡◌};
 ghost use Rattle.c_read_grammar.specs.Machine.{move, may_end};
 ghost use Rattle.c_read_tokens.specs.Kinds.{bare};
 ghost use Rattle.c_read_table.specs.Moves.{seen};
@@ -9,18 +9,16 @@ use crate::moves::Move;
 use crate::{table_exprs, table_items, table_stmts, table_tokens};
 use c_read_grammar::{ItemSym, Sym};
 use c_read_tokens::Kind;
-use std::alloc::Global;
-use wf_text::NoMemory;
 
 /// What a token of this kind does to `symbol` on top of the stack.
-pub fn move_of(alloc: Global, symbol: Sym, kind: Kind) -> Result<Move, NoMemory>
-    ensures { IfOk result (λ m. seen m ≡ move symbol (bare kind)) }
+pub fn move_of(symbol: Sym, kind: Kind) -> Move
+    ensures { seen result ≡ move symbol (bare kind) }
 {
     match symbol {
-        Sym::Expr(symbol) => table_exprs::expr_sym(alloc, symbol, kind),
-        Sym::Stmt(symbol) => table_stmts::stmt_sym(alloc, symbol, kind),
-        Sym::Item(symbol) => table_items::item_sym(alloc, symbol, kind),
-        Sym::Token(symbol) => table_tokens::token(alloc, symbol, kind),
+        Sym::Expr(symbol) => table_exprs::expr_sym(symbol, kind),
+        Sym::Stmt(symbol) => table_stmts::stmt_sym(symbol, kind),
+        Sym::Item(symbol) => table_items::item_sym(symbol, kind),
+        Sym::Token(symbol) => table_tokens::token(symbol, kind),
     }
 }
 

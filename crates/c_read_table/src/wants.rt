@@ -1,71 +1,115 @@
-// A list of wanted things, which contracts see as a list.
+// Wanted things, which contracts see as a list. The lists of the table stand in the program; what a token tells stands
+// beside them, so that nothing is allotted for a token.
 
-ghost use Rattle.std.specs.Prelude.{◌≡◌, ◌++◌, List, [], ◌∷◌, IfOk};
+ghost use Rattle.std.specs.Prelude.{◌≡◌, ◌++◌, List, ◌∷◌, OnOk};
 ghost use Rattle.c_read_grammar.specs.declared.actions.Want.{Want};
+ghost use Rattle.c_read_table.specs.Wanted.{led_by};
 
 use c_read_grammar::Want;
-use std::alloc::Global;
+use stacks::Stack;
 use std::marker::Model;
 use wf_text::NoMemory;
+
+/// Puts a list of the table on the stack, its first thing topmost. Many are empty, and cost nothing.
+fn push_list(list: &[Want], stack: &mut Stack<Want>) -> Result<(), NoMemory>
+    ensures { OnOk result (stack.new ≡ list.now ++ stack.old) }
+{
+    if list.is_empty() {
+        return Ok(());
+    }
+    stack.push_all(list)
+}
+
+/// What is wanted after a list of the table: what tells what the token says, if anything, and two more lists.
+#[derive(Drop)]
+pub struct After {
+    told: Option<Want>,
+    then: &'static [Want],
+    last: &'static [Want],
+}
+
+impl Model for After {
+    ghost Value = { List Want };
+
+    ghost view = { λ a. led_by a.told (a.then.now ++ a.last.now) };
+}
+
+impl After {
+    /// Two lists of the table.
+    pub fn of(then: &'static [Want], last: &'static [Want]) -> Self
+        ensures { result ≡ then.now ++ last.now }
+    {
+        After {
+            told: None,
+            then,
+            last,
+        }
+    }
+
+    /// What tells what the token says, and then two lists of the table.
+    pub fn led(told: Want, then: &'static [Want], last: &'static [Want]) -> Self
+        ensures { result ≡ told ∷ (then.now ++ last.now) }
+    {
+        After {
+            told: Some(told),
+            then,
+            last,
+        }
+    }
+
+    /// Puts the wanted things on the stack, the first of them topmost.
+    fn push_on(&self, stack: &mut Stack<Want>) -> Result<(), NoMemory>
+        ensures { OnOk result (stack.new ≡ self.now ++ stack.old) }
+    {
+        push_list(self.last, stack)?;
+        push_list(self.then, stack)?;
+        match self.told {
+            Some(want) => stack.push(want),
+            None => Ok(()),
+        }
+    }
+}
 
 /// Wanted things, the first one in front.
 #[derive(Drop)]
 pub struct Wants {
-    items: Vec<Want>,
+    lead: &'static [Want],
+    first: &'static [Want],
+    after: After,
 }
 
 impl Model for Wants {
     ghost Value = { List Want };
 
-    ghost view = { λ w. w.items.items };
+    ghost view = { λ w. w.lead.now ++ (w.first.now ++ w.after) };
 }
 
-// The longest list that the table has, so that no list is moved while it grows.
-const LONGEST: usize = 13;
-
 impl Wants {
-    /// Nothing.
-    pub fn new(alloc: Global) -> Self
-        ensures { result ≡ [] }
+    /// A list of the table, and what is wanted after it.
+    pub fn of(first: &'static [Want], after: After) -> Self
+        ensures { result ≡ first.now ++ after }
     {
         Wants {
-            items: Vec::new(alloc),
+            lead: &[],
+            first,
+            after,
         }
     }
 
-    /// These wanted things.
-    pub fn of(alloc: Global, wants: &[Want]) -> Result<Self, NoMemory>
-        ensures { IfOk result (λ made. made ≡ wants.now) }
+    /// The same, with a list of the table before it.
+    pub fn led(lead: &'static [Want], first: &'static [Want], after: After) -> Self
+        ensures { result ≡ lead.now ++ (first.now ++ after) }
     {
-        let Ok(mut items) = Vec::with_capacity(alloc, LONGEST) else {
-            return Err(NoMemory);
-        };
-        items.extend_from_slice(wants)?;
-        Ok(Wants { items })
+        Wants { lead, first, after }
     }
 
-    /// The same, and `wants` after them.
-    pub fn followed(self, wants: &[Want]) -> Result<Self, NoMemory>
-        ensures { IfOk result (λ longer. longer ≡ self ++ wants.now) }
+    /// Puts the wanted things on the stack, the first of them topmost. After `NoMemory` some of the last of them are on
+    /// it.
+    pub fn push_on(&self, stack: &mut Stack<Want>) -> Result<(), NoMemory>
+        ensures { OnOk result (stack.new ≡ self.now ++ stack.old) }
     {
-        let mut items = self.items;
-        items.extend_from_slice(wants)?;
-        Ok(Wants { items })
-    }
-
-    /// The same, and `want` before them.
-    pub fn led(self, want: Want) -> Result<Self, NoMemory>
-        ensures { IfOk result (λ longer. longer ≡ want ∷ self) }
-    {
-        let mut items = self.items;
-        items.insert(0, want)?;
-        Ok(Wants { items })
-    }
-
-    /// The wanted things in order.
-    pub fn as_slice(&self) -> &[Want]
-        ensures { result.now ≡ self.now }
-    {
-        self.items.as_slice()
+        self.after.push_on(stack)?;
+        push_list(self.first, stack)?;
+        push_list(self.lead, stack)
     }
 }

@@ -10,13 +10,9 @@ const HEAD: &[u8] = b"#include <stddef.h>\n#include <stdint.h>\n#include <string
 
 /// The three lines, and the parts after them.
 pub(crate) fn text(alloc: Global, parts: &[&[u8]]) -> Result<Vec<u8>, NoMemory> {
-    let Ok(mut bytes) = Vec::from_slice(alloc, HEAD) else {
-        return Err(NoMemory);
-    };
+    let mut bytes = Vec::from_slice(alloc, HEAD)?;
     for part in parts {
-        let Ok(()) = bytes.extend_from_slice(part) else {
-            return Err(NoMemory);
-        };
+        bytes.extend_from_slice(part)?;
     }
     Ok(bytes)
 }

@@ -21,7 +21,7 @@ is_quote b = nat_eq b 34
 abbrev pub StandsSomehow : CToken → List ℕ → Type 0
 StandsSomehow t bytes = (tail : List ℕ) × Stands t bytes tail
 
--- Two `?` stand side by side, or were found before; `previous` tells whether one stands in front.
+-- Two `?` stand side by side, or were found before; `previous` tells whether one stands before it.
 abbrev pub double_from : (found previous : Bool) → List ℕ → Bool
 double_from found previous [] = found
 double_from found previous (b ∷ bs) = double_from (found || (previous && nat_eq b 63)) (nat_eq b 63) bs

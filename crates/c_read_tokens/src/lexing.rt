@@ -48,7 +48,7 @@ fn run_kind(text: &[u8]) -> Option<Kind>
     }
 }
 
-/// A word, a name or a literal in front, if it is one of the subset.
+/// A word, a name or a literal at the front, if it is one of the subset.
 fn run_piece(bytes: &[u8]) -> Option<Piece<'_>>
     requires { begins is_word_byte bytes.now ≡ true }
     ensures some { IfSome result (λ p. Stands (token_of p.kind p.text.now) bytes.now p.rest.now) }
@@ -75,7 +75,7 @@ fn has_double_question(text: &[u8]) -> bool
     found
 }
 
-/// Whether a letter, a digit or `_` stands in front.
+/// Whether a letter, a digit or `_` stands at the front.
 fn begins_with_word(bytes: &[u8]) -> bool
     ensures { result ≡ begins is_word_byte bytes.now }
 {
@@ -85,7 +85,7 @@ fn begins_with_word(bytes: &[u8]) -> bool
     }
 }
 
-/// Whether a quote stands in front.
+/// Whether a quote stands at the front.
 fn begins_with_quote(bytes: &[u8]) -> bool
     ensures { result ≡ begins is_quote bytes.now }
 {
@@ -95,7 +95,7 @@ fn begins_with_quote(bytes: &[u8]) -> bool
     }
 }
 
-/// A string in front, if it is one of the subset.
+/// A string at the front, if it is one of the subset.
 fn string_piece(bytes: &[u8]) -> Option<Piece<'_>>
     requires { begins is_quote bytes.now ≡ true }
     ensures some { IfSome result (λ p. Stands (token_of p.kind p.text.now) bytes.now p.rest.now) }
@@ -117,7 +117,7 @@ fn string_piece(bytes: &[u8]) -> Option<Piece<'_>>
     })
 }
 
-/// This symbol in front.
+/// This symbol at the front.
 fn symbol_in_front(symbol: Symbol, bytes: &[u8]) -> Option<Piece<'_>>
     requires { StandsSomehow (symbol_token_of symbol) bytes.now }
     ensures some { IfSome result (λ p. Stands (token_of p.kind p.text.now) bytes.now p.rest.now) }
@@ -139,7 +139,7 @@ fn first_byte(bytes: &[u8]) -> u8
     bytes[0]
 }
 
-/// A symbol in front, if there is one.
+/// A symbol at the front, if there is one.
 fn symbol_piece(bytes: &[u8]) -> Option<Piece<'_>>
     requires some { 0 < length bytes.now }
     requires run { begins is_word_byte bytes.now ≡ false }

@@ -9,7 +9,7 @@ ghost use Rattle.c_read_tokens.specs.Numbers.{value_from};
 use crate::runs::is_digit;
 use c_text::CNumber;
 
-/// How many digits stand in front.
+/// How many digits stand at the front.
 fn digits_len(text: &[u8]) -> usize
     ensures within { result ≤ length text.now }
     ensures run { list_all is_digit (take result text.now) ≡ true }
@@ -88,7 +88,7 @@ fn literal_with(value: u64, suffix: &[u8]) -> Option<CNumber>
 }
 
 /// The literal that is written so, if one is.
-pub fn literal_of(text: &[u8]) -> Option<CNumber>
+pub(crate) fn literal_of(text: &[u8]) -> Option<CNumber>
     ensures { result ≡ literal_of text.now }
 {
     let (digits, suffix) = text.split_at(digits_len(text));

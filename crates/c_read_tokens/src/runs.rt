@@ -1,4 +1,4 @@
-// Classes of bytes, and how many bytes of a class stand in front.
+// Classes of bytes, and how many bytes of a class stand at the front.
 
 ghost use Rattle.std.specs.Prelude.{◌≡◌, ◌≤◌, length, take, drop, true, false};
 ghost use Rattle.std.specs.List.{list_all};
@@ -13,14 +13,14 @@ pub(crate) fn begins_name(byte: u8) -> bool
 }
 
 /// A decimal digit.
-pub fn is_digit(byte: u8) -> bool
+pub(crate) fn is_digit(byte: u8) -> bool
     ensures { result ≡ is_between 48 57 byte }
 {
     matches!(byte, b'0'..=b'9')
 }
 
 /// A byte of names, words and literals.
-pub fn is_word_byte(byte: u8) -> bool
+pub(crate) fn is_word_byte(byte: u8) -> bool
     ensures { result ≡ is_word_byte byte }
 {
     begins_name(byte) || is_digit(byte)
@@ -40,8 +40,8 @@ fn is_gap_byte(byte: u8) -> bool
     byte == b' ' || byte == b'\n'
 }
 
-/// How many bytes of a word stand in front.
-pub fn word_len(bytes: &[u8]) -> usize
+/// How many bytes of a word stand at the front.
+pub(crate) fn word_len(bytes: &[u8]) -> usize
     ensures within { result ≤ length bytes.now }
     ensures run { list_all is_word_byte (take result bytes.now) ≡ true }
     ensures whole { begins is_word_byte (drop result bytes.now) ≡ false }
@@ -53,7 +53,7 @@ pub fn word_len(bytes: &[u8]) -> usize
     len
 }
 
-/// How many bytes that may stand in a string stand in front.
+/// How many bytes that may stand in a string stand at the front.
 pub(crate) fn string_len(bytes: &[u8]) -> usize
     ensures within { result ≤ length bytes.now }
     ensures run { list_all is_string_byte (take result bytes.now) ≡ true }
@@ -66,7 +66,7 @@ pub(crate) fn string_len(bytes: &[u8]) -> usize
     len
 }
 
-/// How many bytes of a gap stand in front.
+/// How many bytes of a gap stand at the front.
 pub fn gap_len(bytes: &[u8]) -> usize
     ensures within { result ≤ length bytes.now }
     ensures run { list_all is_gap_byte (take result bytes.now) ≡ true }

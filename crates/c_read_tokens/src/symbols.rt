@@ -12,7 +12,7 @@ use c_text::{CMark, COp};
 
 /// A symbol.
 #[derive(Clone, Copy, PartialEq, Eq)]
-pub enum Symbol {
+pub(crate) enum Symbol {
     /// An operator with two operands.
     Operator(COp),
     /// Another mark.

@@ -75,7 +75,7 @@ fn find_word(text: &[u8]) -> Option<CWord>
 }
 
 /// The word of the subset that is written so, if one is.
-pub fn word_of(text: &[u8]) -> Option<CWord>
+pub(crate) fn word_of(text: &[u8]) -> Option<CWord>
     ensures { result ≡ word_of text.now }
 {
     find_word(text)
@@ -83,7 +83,7 @@ pub fn word_of(text: &[u8]) -> Option<CWord>
 
 /// A keyword of C99, or a type name that the subset uses as a word.
 #[derive(Clone, Copy, PartialEq, Eq)]
-pub enum Reserved {
+pub(crate) enum Reserved {
     Auto,
     Break,
     Case,
@@ -235,7 +235,7 @@ fn find_reserved(text: &[u8]) -> Option<Reserved>
 }
 
 /// Whether no name is written so.
-pub fn is_reserved(text: &[u8]) -> bool
+pub(crate) fn is_reserved(text: &[u8]) -> bool
     ensures { result ≡ is_reserved text.now }
 {
     match find_reserved(text) {

@@ -114,7 +114,7 @@ impl Machine {
 
     /// The greatest number of parameters and locals together along a chain of calls that begins at an external function of the
     /// text.
-    pub fn frame_cells(&self) -> u64
+    pub(crate) fn frame_cells(&self) -> u64
         ensures { result ≡ program_cells (program_of (unit_tree self.now.nodes)) }
     {
         self.known.cells

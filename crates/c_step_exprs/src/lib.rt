@@ -11,7 +11,7 @@ mod running;
 mod stack;
 
 pub use instrs::{Instr, Join, Put, Test, Turn};
-pub use numbers::{convert, whole_of};
+pub use numbers::convert;
 pub use places::{cast, cell_for, is_same_pointer, value_holds};
 pub use running::{Stop, run};
 pub use stack::Stack;

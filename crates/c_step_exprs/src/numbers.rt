@@ -8,7 +8,7 @@ use c_text::COp;
 use wf_num::{CTy, c_add, c_div, c_mul, c_rem, c_shl, c_shr, c_sub};
 
 /// The whole number that a number is.
-pub fn whole_of(n: Number) -> i128
+pub(crate) fn whole_of(n: Number) -> i128
     ensures exact { result ≡ whole n }
     ensures low { negsuc (2 ^ 31 - 1) ≤ℤ result }
     ensures high { result <ℤ pos (2 ^ 64) }

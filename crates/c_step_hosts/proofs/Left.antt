@@ -73,7 +73,7 @@ moved_bytes n from old new a b x e h s =
     let size : length new ≡ from = omega (arith, e, (moved_length n old new a b x).0) in
     subst HaveBytes (sym x.kept) (bytes_kept x.them a (λ k o l f. h (length new + k) o (omega (arith, size)) (omega (arith, size, l, x.many)) (ap (λ (m : Memory). slice_get m (length new + k)) x.cut ∙ (behind new x.them k ∙ f))) s)
 
--- What stands in front is as it was.
+-- What stands at the front is as it was.
 pub ios_stay : (n from to : ℕ) (old new : Memory) (a b : List Object) → MovesLast n old new a b → to ≤ length new → AreIosBetween from to old → AreIosBetween from to new
 ios_stay n from to old new a b x l h = λ k o f t e. h k o f t (ap (λ (m : Memory). slice_get m k) x.cut ∙ (in_front new x.them k (omega (arith, t, l)) ∙ e))
 

@@ -9,9 +9,9 @@ use Rattle.c_text.proofs.Names.{bytes_eq-true}
 use Rattle.c_meaning.specs.CTypes.{Function, functions_of}
 use Rattle.c_meaning.specs.CCall.{program_of}
 use Rattle.c_meaning.specs.UnitForm.{HasUnitForm}
+use Rattle.c_form_exprs.proofs.TableLemmas.{place_end}
 use Rattle.c_step_exprs.specs.Resolving.{function_number}
 use Rattle.c_step_load_exprs.specs.Knowing.{AreAlike}
-use Rattle.c_step_load_exprs.proofs.PlaceLemmas.{place_end}
 use Rattle.c_step_load_stmts.specs.Bodies.{below}
 use Rattle.c_step_program.specs.Programs.{AreApart}
 use Rattle.c_step_program.proofs.Apart.{functions_apart}

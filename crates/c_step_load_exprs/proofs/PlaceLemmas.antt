@@ -1,7 +1,7 @@
 -- Tables of places, as names are added to them.
-use Rattle.std.proofs.Common.{◌≡◌, ℕ, zero, suc, ◌+◌, ◌<◌, Bool, true, false, nat_lt, if◌then◌else◌, List, [], ◌∷◌, ◌++◌, length, map, find, Option, Some, None, is_none, position, refl, sym, ap, ◌∙◌, subst, arith, lt-ltb, le-ltb, ltb-true, ltb-false, take, get_or, ◌≤◌}
-use Rattle.std.specs.List.{position_or_len, slice_get}
-use Rattle.std.specs.Option.{option_map, option_or, option_and_then}
+use Rattle.std.proofs.Common.{◌≡◌, ℕ, zero, suc, ◌+◌, ◌<◌, Bool, true, false, if◌then◌else◌, List, [], ◌∷◌, ◌++◌, length, map, find, Option, Some, None, is_none, position, refl, sym, ap, ◌∙◌, subst, arith, take, get_or, ◌≤◌}
+use Rattle.std.specs.List.{slice_get}
+use Rattle.std.specs.Option.{option_or, option_and_then}
 use Rattle.std.specs.Str.{bytes_eq}
 use Rattle.std.proofs.lemmas.List.{take_all, map-append}
 use Rattle.std.proofs.lemmas.Option.{slice_get_within, slice_get-get_or}
@@ -14,51 +14,12 @@ use Rattle.c_text.proofs.Parts.{no_field}
 use Rattle.c_meaning.specs.CTypes.{StructDecl, structs_of, texts_of, functions_of}
 use Rattle.c_form_exprs.specs.Tables.{named}
 use Rattle.c_form_exprs.specs.Front.{Finds}
-use Rattle.c_form_exprs.proofs.TableLemmas.{place_in}
+use Rattle.c_form_exprs.proofs.TableLemmas.{place_in, place_cons, place_end}
 use Rattle.c_form_exprs.proofs.FrontLemmas.{bytes_eq-swap}
 use Rattle.c_form_exprs.proofs.GrowLemmas.{named_end, taken_not, tells_grow, finds_more, structs_append, texts_append, functions_append, take_one_more, tree_length}
 use Rattle.c_step_load_exprs.specs.declared.numbers.Kind.{Kind}
 use Rattle.c_step_load_exprs.specs.declared.numbers.Kind.TheVariants as kind
 use Rattle.c_step_load_exprs.specs.Knowing.{HasPlaces, HasFieldPlaces, HasStructs, names_of}
-
--- The place of the first that passes, one element at a time.
-less_on : (m n : ℕ) → nat_lt (1 + m) (suc n) ≡ nat_lt m n
-less_on m n = by (nat_lt m n) refl
-  where
-    by : (b : Bool) → nat_lt m n ≡ b → nat_lt (1 + m) (suc n) ≡ nat_lt m n
-    by true e = lt-ltb (1 + m) (suc n) (omega (arith, ltb-true m n e)) ∙ sym e
-    by false e = le-ltb (1 + m) (suc n) (omega (arith, ltb-false m n e)) ∙ sym e
-
-first_less : (n : ℕ) → nat_lt 0 (suc n) ≡ true
-first_less n = lt-ltb 0 (suc n) (omega arith)
-
-place_cons : {A : Type 0} (p : A → Bool) (x : A) (xs : List A) → position p (x ∷ xs) ≡ (if p x then Some 0 else option_map suc (position p xs))
-place_cons {A} p x xs = by (p x) refl
-  where
-    one : (n : ℕ) → 1 + n ≡ suc n
-    one n = omega arith
-
-    on : (t : Bool) → (if t then Some (1 + position_or_len p xs) else None) ≡ option_map suc (if t then Some (position_or_len p xs) else None)
-    on true = ap Some (one (position_or_len p xs))
-    on false = refl
-
-    by : (b : Bool) → p x ≡ b → position p (x ∷ xs) ≡ (if b then Some 0 else option_map suc (position p xs))
-    by true e = rw (e, first_less (length xs)) refl
-    by false e = rw (e, less_on (position_or_len p xs) (length xs)) (on (nat_lt (position_or_len p xs) (length xs)))
-
-pub place_end : {A : Type 0} (p : A → Bool) (xs : List A) (y : A) → position p (xs ++ y ∷ []) ≡ option_or (position p xs) (if p y then Some (length xs) else None)
-place_end {A} p [] y = place_cons p y [] ∙ by (p y)
-  where
-    by : (b : Bool) → (if b then Some 0 else option_map suc (position p [])) ≡ (if b then Some 0 else None)
-    by true = refl
-    by false = refl
-place_end {A} p (x ∷ xs) y = place_cons p x (xs ++ y ∷ []) ∙ (ap (λ (o : Option ℕ). if p x then Some 0 else option_map suc o) (place_end p xs y) ∙ (by (p x) (position p xs) (p y) ∙ ap (λ (o : Option ℕ). option_or o (if p y then Some (suc (length xs)) else None)) (sym (place_cons p x xs))))
-  where
-    by : (b : Bool) (o : Option ℕ) (c : Bool) → (if b then Some 0 else option_map suc (option_or o (if c then Some (length xs) else None))) ≡ option_or (if b then Some 0 else option_map suc o) (if c then Some (suc (length xs)) else None)
-    by true o c = refl
-    by false (Some k) c = refl
-    by false None true = refl
-    by false None false = refl
 
 -- A name more.
 places_fresh : (es : List (List ℕ × ℕ)) (names : List (List ℕ)) (name : List ℕ) (n : ℕ) → n ≡ length names → HasPlaces es names → HasPlaces (es ++ (name, n) ∷ []) (names ++ name ∷ [])

@@ -1,16 +1,16 @@
-// The numbers of structs, by name.
+// The numbers of structs, by name, in an ordered map, so that a look-up takes few comparisons whatever the names are.
 
 ghost use Rattle.std.specs.Prelude.{◌≡◌, ℕ, List, [], bytes_eq, if◌then◌else◌, OnOk};
 ghost use Rattle.c_step_objects.specs.Shapes.{number_in};
 
-use indexmap::IndexMap;
 use std::alloc::Global;
+use std::collections::BTreeMap;
 use std::marker::Model;
 use wf_text::NoMemory;
 
 /// The number of each struct, by its name; a name that isn't here has 0.
 pub(crate) struct StructNumbers<'u> {
-    entries: IndexMap<&'u [u8], usize>,
+    entries: BTreeMap<&'u [u8], usize>,
 }
 
 impl<'u> Drop for StructNumbers<'u> {
@@ -33,7 +33,7 @@ impl<'u> StructNumbers<'u> {
         ensures { result ≡ [] }
     {
         StructNumbers {
-            entries: IndexMap::new(alloc),
+            entries: BTreeMap::new(alloc),
         }
     }
 

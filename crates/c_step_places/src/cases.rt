@@ -20,7 +20,7 @@ use wf_num::CTy;
 use wf_text::NoMemory;
 
 /// The number of a literal (6.4.4.1p5).
-pub fn literal(n: CNumber) -> Number
+pub(crate) fn literal(n: CNumber) -> Number
     ensures { result ≡ literal_number n }
 {
     match n {

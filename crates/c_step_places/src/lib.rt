@@ -7,6 +7,6 @@ mod cases;
 pub mod listing;
 pub mod weighing;
 
-pub use cases::{add_cases, literal};
+pub use cases::add_cases;
 pub use listing::{Place, list_places};
 pub use weighing::{Weighed, next_number, number, weigh_all};

@@ -157,7 +157,7 @@ returned_stands all names place body x ty e r h =
     let one : StandAt all place (exprs_of names (leave (Some x) finish)) = subst (λ (b : Code). StandAt all place (exprs_of names b)) (one_return body x e) h in
     subst (λ (o : Option TypeTree). StandAt all place (return_exprs names o (Some x))) r (at_left all place (return_exprs names names.result_type (Some x)) [] one)
 
--- Names that no function in front has.
+-- Names that no function before it has.
 none_if : (b : Bool) (n : ℕ) (o : Option ℕ) → (if b then Some n else o) ≡ None → o ≡ None
 none_if true n o e = absurd (cc (e))
 none_if false n o e = e

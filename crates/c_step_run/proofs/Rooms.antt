@@ -24,7 +24,7 @@ there (x ∷ xs) (suc i) h = let r : There xs i = there xs i (omega (arith, h)) 
 pub rank_is : (fs : List Func) (i : ℕ) (f : Func) → slice_get fs i ≡ Some f → rank_at fs i ≡ f.rank
 rank_is fs i f e = ap (λ (o : Option Func). option_map_or (λ g. g.rank) o 0) e
 
--- A function in front has no greater rank, and one that may stand in an expression one that is smaller by its instructions.
+-- A function before it has no greater rank, and one that may stand in an expression one that is smaller by its instructions.
 pub ranks_below : (fs : List Func) (i j : ℕ) (f : Func) → IsRanked fs → i < j → j < length fs → slice_get fs i ≡ Some f → f.rank + inline_length f.inline ≤ rank_at fs j
 ranks_below fs i j f ranked below within e =
     let r : There fs j = there fs j within in

@@ -4,7 +4,7 @@ use c_meaning::values::Value;
 
 /// Where an instruction leads.
 #[derive(Clone, Copy)]
-pub enum Moved {
+pub(crate) enum Moved {
     /// To an instruction.
     Goes {
         /// Its number.

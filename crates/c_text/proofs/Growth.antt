@@ -12,7 +12,7 @@ use Rattle.c_text.specs.CSpelling.{is_name, is_string}
 use Rattle.c_text.proofs.Arena.{slice_get-seam}
 use Rattle.c_text.proofs.Trees.{append_nil, expr_fits, stmt_fits, item_fits, expr_of-is, expr_of-kept, made_expr-agrees, code_of-is, code_of-kept, made_code-same}
 
-slice_get-last : {X : Type 0} (xs : List X) (x : X) (i : ℕ) (y : X) → slice_get (xs ++ x ∷ []) i ≡ Some y → (slice_get xs i ≡ Some y) ⊎ ((i ≡ length xs) × (x ≡ y))
+pub slice_get-last : {X : Type 0} (xs : List X) (x : X) (i : ℕ) (y : X) → slice_get (xs ++ x ∷ []) i ≡ Some y → (slice_get xs i ≡ Some y) ⊎ ((i ≡ length xs) × (x ≡ y))
 slice_get-last [] x zero y h = inr (refl, cc (h))
 slice_get-last [] x (suc i) y h = absurd (cc (h))
 slice_get-last (a ∷ xs) x zero y h = inl h

@@ -1,6 +1,6 @@
 // Prints blocks of statements, one statement a line.
 
-ghost use Rattle.std.specs.Prelude.{◌≡◌, ◌<◌, ◌+◌, ◌^◌, ◌++◌, length, ℕ, List, false, true, codes, IsTrue, IfNone, IfSome, MatchOption};
+ghost use Rattle.std.specs.Prelude.{◌≡◌, ◌<◌, ◌≤◌, ◌+◌, ◌^◌, ◌++◌, length, ℕ, List, false, true, codes, IsTrue, IfNone, IfSome, MatchOption};
 ghost use Rattle.c_text.specs.CNodes.{bytes_at, expr_of, code_of, args_in, value_in};
 ghost use Rattle.c_text.specs.CFits.{HasCall};
 ghost use Rattle.c_text.specs.CTree.{finish};
@@ -14,18 +14,32 @@ use crate::print_exprs::{call, expr, literal};
 use crate::unit::Unit;
 use pens::Pen;
 
+/// Prints the spaces at the front of a line, up to eight levels deep.
+fn indent_some<P: Pen>(depth: usize, pen: &mut P)
+    requires few { depth ≤ 8 }
+    requires ready { P.ready pen.old }
+    ensures ready { P.ready pen.new }
+    ensures writes { P.writes pen.old pen.new (indented depth) }
+{
+    let spaces = b"                                ";
+    pen.write(&spaces[..4 * depth]);
+}
+
 /// Prints the spaces at the front of a line.
 pub(crate) fn indent<P: Pen>(depth: usize, pen: &mut P)
     requires { P.ready pen.old }
     ensures ready { P.ready pen.new }
     ensures writes { P.writes pen.old pen.new (indented depth) }
 {
-    for _ in 0..depth {
-        pen.write(b"    ");
+    let mut left = depth;
+    while left > 8 {
+        indent_some(8, pen);
+        left -= 8;
     }
+    indent_some(left, pen);
 }
 
-/// Prints the value of a `return`, with a space in front.
+/// Prints the value of a `return`, with a space before it.
 fn returned<P: Pen>(u: &Unit, value: Option<CExprId>, pen: &mut P)
     requires has { IfSome value (λ e. e.0 < length u.now.exprs) }
     requires ready { P.ready pen.old }

@@ -104,7 +104,7 @@ fn params<P: Pen>(u: &Unit, params: &[CParam], pen: &mut P)
     }
 }
 
-/// Prints the initial value of a local, with a `=` in front.
+/// Prints the initial value of a local, with a `=` before it.
 fn initial<P: Pen>(u: &Unit, initial: Option<CExprId>, pen: &mut P)
     requires has { IfSome initial (λ e. e.0 < length u.now.exprs) }
     requires ready { P.ready pen.old }

@@ -3,6 +3,7 @@
 
 ghost use Rattle.std.specs.Prelude.{◌≡◌, ◌<◌, ◌++◌, ◌∷◌, [], length, Some, slice_get, IsTrue, IfOk, OnErr};
 ghost use Rattle.std.specs.Str.{bytes_eq};
+ghost use Rattle.c_text.specs.CNames.{AreDistinct};
 ghost use Rattle.c_text.specs.CNodes.{no_nodes, bytes_at, expr_of, code_of, unit_tree, made_expr, made_code, made_item};
 ghost use Rattle.c_text.specs.CFits.{FitsExpr, FitsStmt, FitsItem};
 ghost use Rattle.c_text.specs.CGrammar.{IsName, IsUnit};
@@ -11,15 +12,15 @@ ghost use Rattle.c_text.specs.CUnit.{AddsName, IsSound};
 
 use crate::ids::{CExprId, CItemId, CNameId, CStmtId, CStringId};
 use crate::lists::CList;
+use crate::name_table::Names;
 use crate::nodes::{CExpr, CItem, CStmt};
-use indexmap::IndexSet;
 use std::alloc::Global;
 use std::marker::Model;
 use wf_text::NoMemory;
 
 /// A C text as a tree. Its items stand in the text in the order in which they were added.
 pub struct Unit {
-    names: IndexSet<Vec<u8>>,
+    names: Names,
     strings: Vec<CList<u8>>,
     exprs: Vec<CExpr>,
     stmts: Vec<CStmt>,
@@ -41,15 +42,14 @@ impl Drop for Unit {
 }
 
 impl Model for Unit {
-    ghost use Rattle.std.specs.Prelude.{map};
     ghost use Rattle.c_text.specs.CNodes.{Nodes};
     ghost use Rattle.c_text.specs.CUnit.{IsSound};
 
     ghost Value = { Nodes };
 
-    ghost view = { λ u. record { names = map (λ v. v.items) u.names.keys; strings = u.strings.items; exprs = u.exprs.items; stmts = u.stmts.items; items = u.items.items } };
+    ghost view = { λ u. record { names = u.names; strings = u.strings.items; exprs = u.exprs.items; stmts = u.stmts.items; items = u.items.items } };
 
-    ghost invariant = { λ u. IsSound (record { names = map (λ v. v.items) u.names.keys; strings = u.strings.items; exprs = u.exprs.items; stmts = u.stmts.items; items = u.items.items }) };
+    ghost invariant = { λ u. IsSound (record { names = u.names; strings = u.strings.items; exprs = u.exprs.items; stmts = u.stmts.items; items = u.items.items }) };
 }
 
 impl Unit {
@@ -58,7 +58,7 @@ impl Unit {
         ensures { result ≡ no_nodes }
     {
         Unit {
-            names: IndexSet::new(alloc),
+            names: Names::new(alloc),
             strings: Vec::new(alloc),
             exprs: Vec::new(alloc),
             stmts: Vec::new(alloc),
@@ -79,6 +79,14 @@ impl Unit {
         ensures { IsSound self.now }
     {
         let _ = &self.items;
+    }
+
+    /// The number of names, which differ from one another.
+    pub fn names(&self) -> usize
+        ensures count { result ≡ length self.now.names }
+        ensures unique { AreDistinct self.now.names }
+    {
+        self.names.len()
     }
 
     /// The number of items.
@@ -107,10 +115,7 @@ impl Unit {
         requires { n.0 < length self.now.names }
         ensures { result.now ≡ bytes_at self.now.names n.0 }
     {
-        match self.names.get_index(n.0) {
-            Some(name) => name.as_slice(),
-            None => &[],
-        }
+        self.names.name(n.0)
     }
 
     /// The bytes of a string.
@@ -127,7 +132,7 @@ impl Unit {
         requires second { b.0 < length self.now.names }
         ensures { result ≡ bytes_eq (bytes_at self.now.names a.0) (bytes_at self.now.names b.0) }
     {
-        let _known = self.names.len();
+        let _known = self.names();
         a == b
     }
 
@@ -165,15 +170,7 @@ impl Unit {
         ensures ok { IfOk result (λ n. AddsName self.old self.new name.now n.0) }
         ensures err { OnErr result (self.new ≡ self.old) }
     {
-        if let Some(n) = self.names.get_index_of(name) {
-            return Ok(CNameId(n));
-        }
-        let Ok(owned) = Vec::from_slice(self.alloc, name) else {
-            return Err(NoMemory);
-        };
-        let Ok((n, _)) = self.names.insert_full(owned) else {
-            return Err(NoMemory);
-        };
+        let n = self.names.add(name)?;
         Ok(CNameId(n))
     }
 
@@ -184,12 +181,8 @@ impl Unit {
         ensures err { OnErr result (self.new ≡ self.old) }
     {
         let s = self.strings.len();
-        let Ok(owned) = CList::from_slice(self.alloc, bytes) else {
-            return Err(NoMemory);
-        };
-        let Ok(()) = self.strings.push(owned) else {
-            return Err(NoMemory);
-        };
+        let owned = CList::from_slice(self.alloc, bytes)?;
+        self.strings.push(owned)?;
         Ok(CStringId(s))
     }
 
@@ -200,9 +193,7 @@ impl Unit {
         ensures err { OnErr result (self.new ≡ self.old) }
     {
         let id = self.exprs.len();
-        let Ok(()) = self.exprs.push(e) else {
-            return Err(NoMemory);
-        };
+        self.exprs.push(e)?;
         Ok(CExprId(id))
     }
 
@@ -213,9 +204,7 @@ impl Unit {
         ensures err { OnErr result (self.new ≡ self.old) }
     {
         let id = self.stmts.len();
-        let Ok(()) = self.stmts.push(s) else {
-            return Err(NoMemory);
-        };
+        self.stmts.push(s)?;
         Ok(CStmtId(id))
     }
 
@@ -227,9 +216,7 @@ impl Unit {
         ensures err { OnErr result (self.new ≡ self.old) }
     {
         let id = self.items.len();
-        let Ok(()) = self.items.push(i) else {
-            return Err(NoMemory);
-        };
+        self.items.push(i)?;
         Ok(CItemId(id))
     }
 }

@@ -1,12 +1,8 @@
-use Rattle.std.proofs.Common.{sym, ◌∙◌}
-use Rattle.c_form_exprs.proofs.TableLemmas.{taken, is_free, grown}
+use Rattle.c_form_exprs.proofs.TableLemmas.{place_taken, place_free}
 use Rattle.c_form_exprs.proofs.tables.NameTable.add.Goals as goal
 
-pub returns-then-contains_key-clause-fresh : goal.returns-then-contains_key-clause-fresh
-returns-then-contains_key-clause-fresh g c = rw (← c.self.view_is) (taken c.self.inside.entries.entries c.args.name.now (sym c.contains_key.ensures ∙ c.if-contains_key.true))
+pub returns-in-Some-clause-fresh : goal.returns-in-Some-clause-fresh
+returns-in-Some-clause-fresh g c = place_taken c.args.self.now c.args.name.now c.in-Some.field-0 c.in-Some.ensures
 
-pub returns-clause-fresh : goal.returns-clause-fresh
-returns-clause-fresh g c = rw (← c.self.view_is) (is_free c.self.inside.entries.entries c.args.name.now (sym c.contains_key.ensures ∙ c.if-contains_key.false))
-
-pub returns-clause-added : goal.returns-clause-added
-returns-clause-added g c = rw (← c.self.view_is) (grown c.self.inside.entries.entries c.insert.new.self.entries c.args.name c.args.value (sym c.contains_key.ensures ∙ c.if-contains_key.false) c.in_ok-insert.ensures.entries)
+pub returns-in_ok-join-in-None-clause-fresh : goal.returns-in_ok-join-in-None-clause-fresh
+returns-in_ok-join-in-None-clause-fresh g c = place_free c.args.self.now c.args.name.now c.in-None.ensures

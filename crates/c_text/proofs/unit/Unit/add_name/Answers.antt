@@ -1,12 +1,8 @@
-use Rattle.std.proofs.Common.{refl}
-use Rattle.c_text.proofs.Names.{sound_inserted, adds_inserted, adds_found, bytes_eq-true}
+use Rattle.c_text.proofs.Names.{adds_name, sound_names}
 use Rattle.c_text.proofs.unit.Unit.add_name.Goals as goal
 
 pub invariant_of-self-2 : goal.invariant_of-self-2
-invariant_of-self-2 c = sound_inserted (λ v. v.items) _ c.self.inside.names.keys c.insert_full.new.self.keys c.in-Ok.owned c.args.name.now _ refl c.in-Ok-insert_full.ensures.keys c.in-Ok.ensures.items c.self.invariant c.requires
+invariant_of-self-2 c = sound_names _ c.add.new.self c.args.name.now c.in_ok-n.n c.in_ok-n.ensures.ok c.self.invariant c.requires
 
 pub returns-clause-ok : goal.returns-clause-ok
-returns-clause-ok c = rw (← c.self.view_is) (adds_inserted (λ v. v.items) _ c.self.inside.names.keys c.insert_full.new.self.keys c.in-Ok.owned c.args.name.now _ c.in-Ok-insert_full.n refl c.in-Ok-insert_full.ensures.keys c.in-Ok.ensures.items c.in-Ok-insert_full.ensures.stored)
-
-pub returns-in-Some-clause-ok : goal.returns-in-Some-clause-ok
-returns-in-Some-clause-ok c = rw (← c.self.view_is) (adds_found (λ v. v.items) _ c.self.inside.names.keys _ c.args.name.now c.in-Some.n refl (λ v h. bytes_eq-true c.args.name.now v.items h) c.in-Some.ensures.index)
+returns-clause-ok c = rw (← c.self.view_is) (adds_name _ c.add.new.self c.args.name.now c.in_ok-n.n c.in_ok-n.ensures.ok)
