@@ -19,7 +19,7 @@ use Rattle.c_text.specs.CNodes.{Nodes, expr_of}
 use Rattle.c_text.specs.declared.kinds.CNumber.TheVariants as literals
 use Rattle.c_text.specs.CTree as c
 use Rattle.c_text.specs.CTree.{ExprTree, Operands, no_operand, operand}
-use Rattle.wf_exprs.specs.Exprs.{Rated, Pair, rated, op_of, order_op, linked, balanced, calculated, lowered, lowered_expr}
+use Rattle.wf_exprs.specs.Exprs.{Rated, Pair, rated, op_of, order_op, linked, balanced, lowered_expr}
 use Rattle.wf_exprs.specs.Names.{Names}
 use Rattle.wf_exprs.specs.Words.{two}
 use Rattle.wf_exprs.specs.Grown.{HasExpr}
@@ -96,19 +96,10 @@ bits_at (types.Slice width) = bits_of width
 bits_at (types.Array width lo hi count) = bits_of width
 bits_at ty = 0
 
-abbrev pub is_array_type : Ty → Bool
-is_array_type (types.Array width lo hi count) = true
-is_array_type ty = false
-
 -- The further operands of one operation of C.
 abbrev pub operands_of : Names → List NumTree → Operands
 operands_of names [] = no_operand
 operands_of names (t ∷ ts) = operand (lowered_expr names t) (operands_of names ts)
-
--- What stands left so far, with further operands one by one.
-abbrev pub further_code : Names → Sort → (bits : ℕ) → ExprTree → List NumTree → ExprTree
-further_code names sort bits left [] = left
-further_code names sort bits left (t ∷ ts) = further_code names sort bits (linked_by sort bits (rated left (calculated bits)) (lowered names t)) ts
 
 -- What a pair or an end names is there.
 abbrev pub HasPairAt : Nodes → PairNode → Type 0

@@ -8,3 +8,4 @@ pub mod Numbered
 pub mod OperandLaws
 pub mod ReadLaws
 pub mod SliceLaws
+mod WalkLaws

@@ -1,11 +1,12 @@
--- Names that are read, added to those of a set.
-use Rattle.std.proofs.Common.{◌≡◌, ◌∙◌, ap, sym, ℕ, Bool, true, false, ◌||◌, if◌then◌else◌, List, [], ◌∷◌, ◌++◌, map, refl, bytes_eq}
-use Rattle.std.specs.List.{list_any}
-use Rattle.c_text.specs.CNodes.{Nodes, code_of}
-use Rattle.c_text.proofs.Names.{bytes_eq-true}
-use Rattle.indexmap.specs.IndexSet.{insert_key}
+-- Names that are read, added to those that were there.
+use Rattle.std.proofs.Common.{◌≡◌, ◌∙◌, ◌+◌, ◌<◌, ◌≤◌, ap, sym, arith, unwrap_or, ℕ, zero, suc, Bool, true, false, ◌&&◌, ◌||◌, nat_eq, List, [], ◌∷◌, length, replicate, refl, bytes_eq, inl, inr}
+use Rattle.std.specs.List.{slice_get, slice_set}
+use Rattle.std.proofs.lemmas.Bool.{cases_Bool, eqb-true}
+use Rattle.c_text.specs.CNames.{AreDistinct}
+use Rattle.c_text.specs.CNodes.{Nodes, bytes_at, code_of}
+use Rattle.c_text.proofs.Names.{bytes_eq-refl, same_names}
 use Rattle.wf_exprs.specs.Reads.{code_reads}
-use Rattle.wf_exprs_nodes.specs.Marks.{Marks, has_name}
+use Rattle.wf_exprs_nodes.specs.Marks.{AreThose, Marks, is_marked, is_marked_from}
 use Rattle.wf_exprs_nodes.specs.Readers.{own_reads, next_of}
 use Rattle.wf_exprs_nodes.proofs.ReadLaws.{reads_first}
 
@@ -17,40 +18,136 @@ or_false : (a : Bool) → (a || false) ≡ a
 or_false true = refl
 or_false false = refl
 
--- The names of a set, each as the bytes that `f` tells.
-module _ {V : Type 0} (f : V → List ℕ) where
-  any_end : (p : List ℕ → Bool) (keys : List V) (x : V) → list_any p (map f (keys ++ x ∷ [])) ≡ (list_any p (map f keys) || p (f x))
-  any_end p [] x = or_false (p (f x))
-  any_end p (k ∷ keys) x = ap (λ b. p (f k) || b) (any_end p keys x) ∙ sym (or_assoc (p (f k)) (list_any p (map f keys)) (p (f x)))
+-- A flag that is set adds its name, whether it was set before or not.
+set_first : (flag is rest : Bool) → ((true && is) || rest) ≡ (((flag && is) || rest) || is)
+set_first true true rest = refl
+set_first true false rest = sym (or_false rest)
+set_first false true true = refl
+set_first false true false = refl
+set_first false false rest = sym (or_false rest)
 
-  pub has_seen : (keys : List V) (name : List ℕ) → list_any (λ v. bytes_eq name (f v)) keys ≡ has_name (map f keys) name
-  has_seen [] name = refl
-  has_seen (k ∷ keys) name = ap (λ b. bytes_eq name (f k) || b) (has_seen keys name)
+to_suc : (n i : ℕ) → suc n + i ≡ n + suc i
+to_suc n i = omega arith
 
-  -- A name that is one of them leaves them as they are; another one goes last.
-  there : (keys : List V) (name other : List ℕ) → has_name (map f keys) name ≡ true → has_name (map f keys) other ≡ (has_name (map f keys) other || bytes_eq other name)
-  there keys name other h = by (bytes_eq other name) refl
-    where
-      by : (b : Bool) → bytes_eq other name ≡ b → has_name (map f keys) other ≡ (has_name (map f keys) other || b)
-      by false e = sym (or_false (has_name (map f keys) other))
-      by true e =
-          let is : other ≡ name = bytes_eq-true other name e in
-          let yes : has_name (map f keys) other ≡ true = ap (has_name (map f keys)) is ∙ h in
-          yes ∙ sym (ap (λ b. b || true) yes)
+from_zero : (i : ℕ) → 0 + i ≡ i
+from_zero i = omega arith
 
-  pub marks_new : (keys after : List V) (x : V) (name : List ℕ) → f x ≡ name → after ≡ insert_key (λ v w. bytes_eq (f v) (f w)) keys x → Marks (λ other. bytes_eq other name) (map f keys) (map f after)
-  marks_new keys after x name is e = λ other. ap (λ vs. has_name (map f vs) other) e ∙ by other (list_any (λ v. bytes_eq (f x) (f v)) keys) refl
-    where
-      by : (other : List ℕ) (b : Bool) → list_any (λ v. bytes_eq (f x) (f v)) keys ≡ b → has_name (map f (if b then keys else keys ++ x ∷ [])) other ≡ (has_name (map f keys) other || bytes_eq other name)
-      by other true k = there keys name other (ap (has_name (map f keys)) (sym is) ∙ sym (has_seen keys (f x)) ∙ k)
-      by other false k = any_end (bytes_eq other) keys x ∙ ap (λ n. has_name (map f keys) other || bytes_eq other n) is
+set_marks : (names : List (List ℕ)) (n i : ℕ) (flags : List Bool) (name : List ℕ) → i < length flags → is_marked_from names n (slice_set flags i true) name ≡ (is_marked_from names n flags name || bytes_eq name (bytes_at names (n + i)))
+set_marks names n i [] name h = absurd (omega (arith, h))
+set_marks names n zero (flag ∷ flags) name h =
+    let at : n ≡ n + 0 = omega arith in
+    set_first flag (bytes_eq name (bytes_at names n)) (is_marked_from names (suc n) flags name)
+    ∙ ap (λ k. is_marked_from names n (flag ∷ flags) name || bytes_eq name (bytes_at names k)) at
+set_marks names n (suc i) (flag ∷ flags) name h =
+    let own = flag && bytes_eq name (bytes_at names n) in
+    let rest = is_marked_from names (suc n) flags name in
+    ap (λ b. own || b) (set_marks names (suc n) i flags name (omega (arith, h)) ∙ ap (λ k. rest || bytes_eq name (bytes_at names k)) (to_suc n i))
+    ∙ sym (or_assoc own rest (bytes_eq name (bytes_at names (n + suc i))))
+
+pub marks_one : (names : List (List ℕ)) (i : ℕ) (old new : List Bool) → i < length old → new ≡ slice_set old i true → Marks (λ name. bytes_eq name (bytes_at names i)) names old new
+marks_one names i old new h e = λ name. ap (λ flags. is_marked names flags name) e ∙ set_marks names 0 i old name h ∙ ap (λ k. is_marked names old name || bytes_eq name (bytes_at names k)) (from_zero i)
+
+-- Three that are marked one after the other.
+pub marks_three : (names : List (List ℕ)) (a b c d : List Bool) (p q r : List ℕ → Bool) → Marks p names a b → Marks q names b c → Marks r names c d → Marks (λ name. p name || (q name || r name)) names a d
+marks_three names a b c d p q r first second third = λ name.
+    third name
+    ∙ ap (λ x. x || r name) (second name ∙ ap (λ x. x || q name) (first name) ∙ or_assoc (is_marked names a name) (p name) (q name))
+    ∙ or_assoc (is_marked names a name) (p name || q name) (r name)
+    ∙ ap (λ x. is_marked names a name || x) (or_assoc (p name) (q name) (r name))
+
+-- No name has a flag at first.
+pub none_marked : (names : List (List ℕ)) (n k : ℕ) (name : List ℕ) → is_marked_from names n (replicate k false) name ≡ false
+none_marked names n zero name = refl
+none_marked names n (suc k) name = none_marked names (suc n) k name
+
+pub length-none : (k : ℕ) → length (replicate k false) ≡ k
+length-none zero = refl
+length-none (suc k) = ap suc (length-none k)
+
+-- What was read with nothing there before.
+pub those_marked : (reads : List ℕ → Bool) (names : List (List ℕ)) (old new : List Bool) → old ≡ replicate (length names) false → length new ≡ length old → Marks reads names old new → AreThose reads names new
+those_marked reads names old new none same marks = record {
+  within = let l : length old ≡ length names = ap length none ∙ length-none (length names) in omega (arith, l, same);
+  are = λ name. marks name ∙ ap (λ b. b || reads name) (ap (λ flags. is_marked names flags name) none ∙ none_marked names 0 (length names) name);
+}
+
+-- Other names of a unit are spelt otherwise.
+apart : (names : List (List ℕ)) → AreDistinct names → (i j : ℕ) → i < j → j < length names → bytes_eq (bytes_at names j) (bytes_at names i) ≡ false
+apart names distinct i j less within =
+    let differ : nat_eq j i ≡ false = elim (cases_Bool (nat_eq j i)) [ inl e ↦ let same = eqb-true j i e in absurd (omega (arith, same, less)) | inr e ↦ e ] in
+    sym (same_names names distinct j i within (omega (arith, less, within))) ∙ differ
+
+apart_back : (names : List (List ℕ)) → AreDistinct names → (i j : ℕ) → i < j → j < length names → bytes_eq (bytes_at names i) (bytes_at names j) ≡ false
+apart_back names distinct i j less within =
+    let differ : nat_eq i j ≡ false = elim (cases_Bool (nat_eq i j)) [ inl e ↦ let same = eqb-true i j e in absurd (omega (arith, same, less)) | inr e ↦ e ] in
+    sym (same_names names distinct i j (omega (arith, less, within)) within) ∙ differ
+
+and_false : (a : Bool) → (a && false) ≡ false
+and_false true = refl
+and_false false = refl
+
+and_true : (a : Bool) → (a && true) ≡ a
+and_true true = refl
+and_true false = refl
+
+-- The flags of later names tell nothing of a name.
+not_later : (names : List (List ℕ)) → AreDistinct names → (n k : ℕ) (flags : List Bool) → k < n → n + length flags ≤ length names → is_marked_from names n flags (bytes_at names k) ≡ false
+not_later names distinct n k [] less within = refl
+not_later names distinct n k (flag ∷ flags) less within =
+    let name = bytes_at names k in
+    ap (λ b. (flag && b) || is_marked_from names (suc n) flags name) (apart_back names distinct k n less (omega (arith, within)))
+    ∙ ap (λ b. b || is_marked_from names (suc n) flags name) (and_false flag)
+    ∙ not_later names distinct (suc n) k flags (omega (arith, less)) (omega (arith, within))
+
+-- A name is one of those where its flag is set.
+flag_tells : (names : List (List ℕ)) → AreDistinct names → (n i : ℕ) (flags : List Bool) → n + length flags ≤ length names → n + i < length names → is_marked_from names n flags (bytes_at names (n + i)) ≡ unwrap_or (slice_get flags i) false
+flag_tells names distinct n i [] within there = refl
+flag_tells names distinct n zero (flag ∷ flags) within there =
+    let at : n + 0 ≡ n = omega arith in
+    let name = bytes_at names n in
+    ap (λ k. is_marked_from names n (flag ∷ flags) (bytes_at names k)) at
+    ∙ ap (λ b. (flag && b) || is_marked_from names (suc n) flags name) (bytes_eq-refl name)
+    ∙ ap (λ b. b || is_marked_from names (suc n) flags name) (and_true flag)
+    ∙ ap (λ b. flag || b) (not_later names distinct (suc n) n flags (omega arith) (omega (arith, within)))
+    ∙ or_false flag
+flag_tells names distinct n (suc i) (flag ∷ flags) within there =
+    let name = bytes_at names (n + suc i) in
+    let at = to_suc n i in
+    ap (λ b. (flag && b) || is_marked_from names (suc n) flags name) (apart names distinct n (n + suc i) (omega arith) there)
+    ∙ ap (λ b. b || is_marked_from names (suc n) flags name) (and_false flag)
+    ∙ ap (λ k. is_marked_from names (suc n) flags (bytes_at names k)) (sym at)
+    ∙ flag_tells names distinct (suc n) i flags (omega (arith, within)) (omega (arith, there))
+
+pub flag_of : (names : List (List ℕ)) → AreDistinct names → (i : ℕ) (flags : List Bool) → i < length names → (reads : List ℕ → Bool) → AreThose reads names flags → unwrap_or (slice_get flags i) false ≡ reads (bytes_at names i)
+flag_of names distinct i flags there reads those =
+    let within = those.within in
+    sym (flag_tells names distinct 0 i flags (omega (arith, within)) (omega (arith, there)))
+    ∙ ap (λ k. is_marked names flags (bytes_at names k)) (from_zero i)
+    ∙ those.are (bytes_at names i)
+
+-- The flags tell the same while the unit gets further names.
+marked_same : (old new : List (List ℕ)) (n : ℕ) (flags : List Bool) → n + length flags ≤ length old → ((k : ℕ) → k < length old → bytes_at new k ≡ bytes_at old k) → (name : List ℕ) → is_marked_from new n flags name ≡ is_marked_from old n flags name
+marked_same old new n [] within same name = refl
+marked_same old new n (flag ∷ flags) within same name =
+    ap (λ b. (flag && bytes_eq name b) || is_marked_from new (suc n) flags name) (same n (omega (arith, within)))
+    ∙ ap (λ b. (flag && bytes_eq name (bytes_at old n)) || b) (marked_same old new (suc n) flags (omega (arith, within)) same name)
+
+still_within : (k m l : ℕ) → k ≤ m → ((n : ℕ) → n < m → n < l) → k ≤ l
+still_within zero m l h more = omega arith
+still_within (suc k) m l h more = let one = more k (omega (arith, h)) in omega (arith, one)
+
+pub those_still : (reads : List ℕ → Bool) (old new : List (List ℕ)) (flags : List Bool) → ((n : ℕ) → n < length old → n < length new) → ((n : ℕ) → n < length old → bytes_at new n ≡ bytes_at old n) → AreThose reads old flags → AreThose reads new flags
+those_still reads old new flags more same those = record {
+  within = still_within (length flags) (length old) (length new) those.within more;
+  are = λ name. let within = those.within in marked_same old new 0 flags (omega (arith, within)) same name ∙ those.are name;
+}
 
 -- Statements, one after the other: what all read with what was there stays `total`.
-pub code_on : (u : Nodes) (a b : List (List ℕ)) (total : List ℕ → Bool) (at next : ℕ) → Marks (λ name. own_reads name (code_of u at)) a b → code_of u next ≡ next_of (code_of u at)
-    → ((name : List ℕ) → (has_name a name || code_reads name (code_of u at)) ≡ total name) → (name : List ℕ) → (has_name b name || code_reads name (code_of u next)) ≡ total name
+pub code_on : (u : Nodes) (a b : List Bool) (total : List ℕ → Bool) (at next : ℕ) → Marks (λ name. own_reads name (code_of u at)) u.names a b → code_of u next ≡ next_of (code_of u at)
+    → ((name : List ℕ) → (is_marked u.names a name || code_reads name (code_of u at)) ≡ total name) → (name : List ℕ) → (is_marked u.names b name || code_reads name (code_of u next)) ≡ total name
 code_on u a b total at next marks is left = λ name.
-    ap (λ c. has_name b name || code_reads name c) is
+    ap (λ c. is_marked u.names b name || code_reads name c) is
     ∙ ap (λ x. x || code_reads name (next_of (code_of u at))) (marks name)
-    ∙ or_assoc (has_name a name) (own_reads name (code_of u at)) (code_reads name (next_of (code_of u at)))
-    ∙ ap (λ x. has_name a name || x) (sym (reads_first name (code_of u at)))
+    ∙ or_assoc (is_marked u.names a name) (own_reads name (code_of u at)) (code_reads name (next_of (code_of u at)))
+    ∙ ap (λ x. is_marked u.names a name || x) (sym (reads_first name (code_of u at)))
     ∙ left name

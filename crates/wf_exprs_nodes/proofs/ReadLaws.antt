@@ -1,7 +1,6 @@
 -- What a block reads is what its first statement reads, or what is looked at after it.
-use Rattle.std.proofs.Common.{◌≡◌, ℕ, Bool, true, false, ◌||◌, if◌then◌else◌, List, refl, sym, ap, ◌∙◌}
+use Rattle.std.proofs.Common.{◌≡◌, ℕ, Bool, true, false, ◌||◌, if◌then◌else◌, List, refl, ap, ◌∙◌}
 use Rattle.c_text.specs.CGrammar.{is_finish}
-use Rattle.c_text.specs.CNodes.{Nodes, code_of}
 use Rattle.c_text.specs.CTree.{Code, finish, nested, empty, assign, call, jump, branch, repeat, select, leave, case_label, default_label, name_label}
 use Rattle.wf_exprs.specs.Reads.{expr_reads, args_read, target_reads, result_reads, code_reads}
 use Rattle.wf_exprs_nodes.specs.Readers.{other_reads, own_reads, next_of}
@@ -46,14 +45,3 @@ reads_first name (leave value rest) = refl
 reads_first name (case_label n rest) = refl
 reads_first name (default_label rest) = refl
 reads_first name (name_label label rest) = refl
-
--- A statement that doesn't read the name leaves what follows it; one that does tells.
-pub reads_next : (u : Nodes) (name : List ℕ) (at rest : ℕ) (all : Bool) → false ≡ own_reads name (code_of u at) → code_of u rest ≡ next_of (code_of u at) → code_reads name (code_of u at) ≡ all → code_reads name (code_of u rest) ≡ all
-reads_next u name at rest all own is h =
-    ap (code_reads name) is ∙ ap (λ b. b || code_reads name (next_of (code_of u at))) own ∙ sym (reads_first name (code_of u at)) ∙ h
-
-pub reads_here : (u : Nodes) (name : List ℕ) (at : ℕ) (all : Bool) → true ≡ own_reads name (code_of u at) → code_reads name (code_of u at) ≡ all → true ≡ all
-reads_here u name at all own h = ap (λ b. b || code_reads name (next_of (code_of u at))) own ∙ sym (reads_first name (code_of u at)) ∙ h
-
-pub reads_none : (u : Nodes) (name : List ℕ) (at : ℕ) (all : Bool) → code_of u at ≡ finish → code_reads name (code_of u at) ≡ all → false ≡ all
-reads_none u name at all is h = ap (code_reads name) (sym is) ∙ h

@@ -68,7 +68,7 @@ fn place_behind(scope: &Scope, u: &mut Unit, a: u32, k: u32) -> Result<CExprId, 
 }
 
 /// The next byte but k.
-pub fn peeked(scope: &Scope, u: &mut Unit, a: u32, k: u32) -> Result<CExprId, NoMemory>
+pub(crate) fn peeked(scope: &Scope, u: &mut Unit, a: u32, k: u32) -> Result<CExprId, NoMemory>
     ensures grows { Grows u.old u.new }
     ensures made { IfOk result (λ it. HasExpr u.new it.0 (peeked_code scope.now.names a k)) }
 {

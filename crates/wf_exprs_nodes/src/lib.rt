@@ -8,7 +8,6 @@ pub mod helpers;
 pub mod marks;
 pub mod numbers;
 pub mod parts;
-pub mod reads;
 pub mod statuses;
 pub mod values;
 

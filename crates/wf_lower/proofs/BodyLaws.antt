@@ -1,11 +1,13 @@
 -- The statements of a body with the numbers of their points, and the names that its code reads.
-use Rattle.std.proofs.Common.{◌≡◌, ◌+◌, ◌<◌, ◌≤◌, ℕ, zero, suc, Bool, true, false, if◌then◌else◌, Some, List, [], ◌∷◌, ◌++◌, drop, get_or, length, map, refl, sym, ◌∙◌, ap, subst, arith}
+use Rattle.std.proofs.Common.{◌≡◌, ◌+◌, ◌<◌, ◌≤◌, ℕ, zero, suc, Bool, true, false, if◌then◌else◌, Some, Result, Ok, Err, IfOk, List, [], ◌∷◌, ◌++◌, drop, get_or, length, map, refl, sym, ◌∙◌, ap, subst, arith}
 use Rattle.std.specs.Prelude.{slice_get, unwrap_or, ⊤}
+use Rattle.wf_text.specs.declared.faults.NoMemory.{NoMemory}
 use Rattle.wf_ast.specs.declared.resolved.Block as resolved
 use Rattle.wf_ast.specs.TypedInvariant.{IsTyped}
 use Rattle.wf_ast.specs.TypedTree.{Simple, Site, Block, end, plain, choose, loop}
 use Rattle.wf_meaning.specs.Remaining.{is_point, points_in, number_of}
 use Rattle.wf_points.proofs.NumberLemmas.{each_point, in_order}
+use Rattle.c_text.specs.declared.ids.CStmtId.{CStmtId}
 use Rattle.c_text.specs.declared.nodes.CLocal.{CLocal}
 use Rattle.c_text.specs.declared.nodes.CParam.{CParam}
 use Rattle.c_text.specs.CFits.{HasLocals, HasParams}
@@ -15,12 +17,16 @@ use Rattle.c_text.specs.CTree.{ExprTree, variable, ParamTree, LocalTree, Code, f
 use Rattle.wf_exprs.specs.Exprs.{lowered_cond}
 use Rattle.wf_exprs.specs.Grown.{Grows, HasCode, HasExpr}
 use Rattle.wf_exprs.specs.Reads.{code_reads}
+use Rattle.wf_exprs_nodes.specs.Marks.{AreThose}
+use Rattle.wf_lower_stmts.proofs.HereLaws.{code_here}
 use Rattle.wf_lower_stmts.specs.BodyNodes.{BodyTree, form_in, points_by}
 use Rattle.wf_lower_stmts.specs.Forms.{Form, when, when_some}
 use Rattle.wf_lower_stmts.specs.Lower.{lower, other_kind, again_here, behind_here}
 use Rattle.wf_lower_stmts.specs.Statements.{lower_point, lower_plain}
 use Rattle.wf_lower.specs.Bodies.{touched}
+use Rattle.wf_lower.specs.Made.{CodeReads}
 use Rattle.wf_lower.specs.Methods.{IsBodyOf, local_names, names_in, param_names}
+use Rattle.wf_lower.proofs.LocalLaws.{first_of, second_of}
 
 -- Two numberings that agree at these points.
 abbrev Alike : (p q : Site → ℕ) → List Site → Type 0
@@ -120,6 +126,26 @@ touch_same {a} {b} {c} name e body rest g h empty_body made named there =
     ap (λ x. when x (code_of c body) (code_of c rest)) (made.is ∙ ap variable (g.names name named))
     ∙ ap (λ x. when (variable (bytes_at a.names name)) x (code_of c rest)) (h.stmts body empty_body.there ∙ empty_body.is)
     ∙ ap (when (variable (bytes_at a.names name)) finish) (h.stmts rest (g.more_stmts rest there) ∙ g.stmts rest there)
+
+-- A name that the code reads isn't touched, and one that it doesn't read is.
+pub touched_not : (a : Nodes) (flags : List Bool) (name : List ℕ) (rest : ℕ) → rest < length a.stmts
+    → ((reads : List ℕ → Bool) → AreThose reads a.names flags → true ≡ reads name)
+    → (code : Code) → CodeReads code a.names flags → HasCode a rest (touched (name ∷ []) code (code_of a rest))
+touched_not a flags name rest there tells = λ code reads.
+    code_here a (touched (name ∷ []) code (code_of a rest)) rest there (sym (first_of (code_reads name code) (code_of a rest) (when (variable name) finish (code_of a rest)) (tells (λ x. code_reads x code) reads)))
+
+pub touched_one : (a b c d : Nodes) (flags : List Bool) (name e body rest : ℕ) (r : Result CStmtId NoMemory) → Grows a b → Grows b c → HasCode b body finish → HasExpr c e (variable (bytes_at b.names name)) → name < length a.names → rest < length a.stmts
+    → ((reads : List ℕ → Bool) → AreThose reads a.names flags → false ≡ reads (bytes_at a.names name))
+    → IfOk r (λ it. HasCode d it.0 (when (expr_of c e) (code_of c body) (code_of c rest)))
+    → IfOk r (λ it. (code : Code) → CodeReads code a.names flags → HasCode d it.0 (touched (bytes_at a.names name ∷ []) code (code_of a rest)))
+touched_one a b c d flags name e body rest (Ok it) g h empty_body made named there tells own = λ code reads.
+    let x = bytes_at a.names name in
+    let kept = code_of a rest in
+    record {
+      there = own.there;
+      is = own.is ∙ touch_same name e body rest g h empty_body made named there ∙ second_of (code_reads x code) kept (when (variable x) finish kept) (tells (λ y. code_reads y code) reads);
+    }
+touched_one a b c d flags name e body rest (Err refused) g h empty_body made named there tells own = own
 
 -- Names are touched one after the other.
 module _ (code rest : Code) where

@@ -23,7 +23,7 @@ use Rattle.c_text.specs.declared.nodes.CParam.{CParam}
 use Rattle.c_text.specs.declared.kinds.COp.TheVariants.{Either, Lt, Gt}
 use Rattle.c_text.specs.CFits.{HasArgs, HasExprs, HasParams, HasTarget}
 use Rattle.c_text.specs.CNodes.{Nodes, bytes_at, expr_of, args_in, operands_in, param_tree}
-use Rattle.c_text.specs.CTree.{ExprTree, variable, unary, operation, Operands, no_operand, operand, Args, Code}
+use Rattle.c_text.specs.CTree.{ExprTree, variable, operation, Operands, no_operand, operand, Args, Code}
 use Rattle.c_text.specs.CTree as c
 use Rattle.wf_exprs.specs.Exprs.{same_op, chained, with_operand}
 use Rattle.wf_exprs.specs.Grown.{Grows, HasExpr}

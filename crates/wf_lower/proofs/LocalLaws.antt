@@ -1,14 +1,17 @@
 -- Locals of a body by their parts, where the code reads them.
-use Rattle.std.proofs.Common.{◌≡◌, ◌∙◌, ap, sym, subst, ℕ, ◌<◌, Bool, true, false, if◌then◌else◌, Result, Ok, Err, IfOk, OnOk, List, [], ◌++◌, length, refl}
+use Rattle.std.proofs.Common.{◌≡◌, ◌∙◌, ap, sym, subst, ℕ, Bool, true, false, if◌then◌else◌, Result, Ok, Err, IfOk, OnOk, List, [], ◌∷◌, ◌++◌, refl}
 use Rattle.wf_text.specs.declared.faults.NoMemory.{NoMemory}
-use Rattle.c_text.specs.declared.ids.CStmtId.{CStmtId}
 use Rattle.c_text.specs.declared.nodes.CLocal.{CLocal}
-use Rattle.c_text.specs.CNodes.{Nodes, code_of}
-use Rattle.c_text.specs.CTree.{ExprTree, LocalTree, TypeTree}
+use Rattle.c_text.specs.CNodes.{Nodes}
+use Rattle.c_text.specs.CTree.{Code, ExprTree, LocalTree, TypeTree}
 use Rattle.wf_exprs.specs.Grown.{Grows}
+use Rattle.wf_exprs.specs.Reads.{code_reads}
+use Rattle.wf_exprs.proofs.Growing.{unchanged}
+use Rattle.wf_exprs_nodes.specs.Marks.{AreThose}
+use Rattle.wf_exprs_nodes.proofs.MarkLaws.{those_still}
 use Rattle.wf_lower.specs.Bodies.{declared, only_read}
-use Rattle.wf_lower.specs.Made.{AddsLocals, HasLocalTree}
-use Rattle.wf_lower.proofs.Kept.{locals_after, locals_on, locals_then, no_locals}
+use Rattle.wf_lower.specs.Made.{AddsLocals, AddsRead, CodeReads, HasLocalTree}
+use Rattle.wf_lower.proofs.Kept.{locals_after, locals_on, no_locals}
 use Rattle.wf_lower.proofs.PartLaws.{read_apart}
 
 -- What a test that was made chooses.
@@ -35,28 +38,39 @@ adds_as a b ps qs ts us e h = let P : List LocalTree → Type 0 = λ l. AddsLoca
 pub no_locals_as : {a b : Nodes} (ps : List CLocal) (ts : List LocalTree) → [] ≡ ts → Grows a b → AddsLocals a b ps ps ts
 no_locals_as {a} {b} ps ts e g = adds_as a b ps ps [] ts e (no_locals ps g)
 
--- The code stays while the unit grows.
-pub code_stays : {a b : Nodes} (s : CStmtId) (xs : List LocalTree) → Grows a b → s.0 < length a.stmts → only_read (code_of b s.0) xs ≡ only_read (code_of a s.0) xs
-code_stays s xs g h = ap (λ code. only_read code xs) (g.stmts s.0 h)
+-- What the code reads stays told while the unit grows.
+pub still_reads : {a b : Nodes} {flags : List Bool} (code : Code) → Grows a b → CodeReads code a.names flags → CodeReads code b.names flags
+still_reads {a} {b} {flags} code g reads = those_still (λ name. code_reads name code) a.names b.names flags g.more_names g.names reads
 
-pub reads_after : (a b c : Nodes) (ps qs : List CLocal) (s : CStmtId) (xs ys : List LocalTree) (r : Result (Unit {0}) NoMemory) → Grows a b → s.0 < length a.stmts → xs ≡ ys → OnOk r (AddsLocals b c ps qs (only_read (code_of b s.0) xs)) → OnOk r (AddsLocals a c ps qs (only_read (code_of a s.0) ys))
-reads_after a b c ps qs s xs ys r g h e f =
-    locals_after a b c ps qs (only_read (code_of b s.0) xs) (only_read (code_of a s.0) ys) r g (code_stays s xs g h ∙ ap (only_read (code_of a s.0)) e) f
+-- A local that the code reads is added, and one that it doesn't read isn't.
+pub read_added : (flags : List Bool) (a : Nodes) (ps qs : List CLocal) (l : LocalTree) (r : Result (Unit {0}) NoMemory)
+    → ((reads : List ℕ → Bool) → AreThose reads a.names flags → true ≡ reads l.name) → OnOk r (AddsLocals a a ps qs (l ∷ [])) → OnOk r (AddsRead flags a a ps qs (l ∷ []))
+read_added flags a ps qs l (Ok u) tells h = λ code reads. adds_as a a ps qs (l ∷ []) (only_read code (l ∷ [])) (first_of (code_reads l.name code) (l ∷ []) [] (tells (λ name. code_reads name code) reads)) h
+read_added flags a ps qs l (Err refused) tells h = h
 
-pub reads_on : (a b c : Nodes) (ps qs rs : List CLocal) (s : CStmtId) (xs ys : List LocalTree) → Grows a b → s.0 < length a.stmts → AddsLocals a b ps qs (only_read (code_of a s.0) xs) → AddsLocals b c qs rs (only_read (code_of b s.0) ys) → AddsLocals a c ps rs (only_read (code_of a s.0) (xs ++ ys))
-reads_on a b c ps qs rs s xs ys g h first second =
+pub unread_left : (flags : List Bool) (a : Nodes) (ps : List CLocal) (l : LocalTree)
+    → ((reads : List ℕ → Bool) → AreThose reads a.names flags → false ≡ reads l.name) → AddsRead flags a a ps ps (l ∷ [])
+unread_left flags a ps l tells = λ code reads. no_locals_as ps (only_read code (l ∷ [])) (second_of (code_reads l.name code) (l ∷ []) [] (tells (λ name. code_reads name code) reads)) (unchanged a a refl)
+
+pub reads_after : (flags : List Bool) (a b c : Nodes) (ps qs : List CLocal) (xs ys : List LocalTree) (r : Result (Unit {0}) NoMemory) → Grows a b → xs ≡ ys → OnOk r (AddsRead flags b c ps qs xs) → OnOk r (AddsRead flags a c ps qs ys)
+reads_after flags a b c ps qs xs ys (Ok u) g e f = λ code reads.
+    locals_after a b c ps qs (only_read code xs) (only_read code ys) (Ok u) g (ap (only_read code) e) (f code (still_reads code g reads))
+reads_after flags a b c ps qs xs ys (Err refused) g e f = f
+
+pub reads_on : (flags : List Bool) (a b c : Nodes) (ps qs rs : List CLocal) (xs ys : List LocalTree) → Grows a b → AddsRead flags a b ps qs xs → AddsRead flags b c qs rs ys → AddsRead flags a c ps rs (xs ++ ys)
+reads_on flags a b c ps qs rs xs ys g first second = λ code reads.
     let P : List LocalTree → Type 0 = λ l. AddsLocals a c ps rs l in
-    let Q : List LocalTree → Type 0 = λ l. AddsLocals b c qs rs l in
-    subst P (sym (read_apart (code_of a s.0) xs ys)) (locals_on (only_read (code_of a s.0) xs) (only_read (code_of a s.0) ys) first (subst Q (code_stays s ys g h) second))
+    subst P (sym (read_apart code xs ys)) (locals_on (only_read code xs) (only_read code ys) (first code reads) (second code (still_reads code g reads)))
 
-pub reads_then : (a b c : Nodes) (ps qs rs : List CLocal) (s : CStmtId) (xs ys : List LocalTree) (r : Result (Unit {0}) NoMemory) → Grows a b → s.0 < length a.stmts → AddsLocals a b ps qs (only_read (code_of a s.0) xs) → OnOk r (AddsLocals b c qs rs (only_read (code_of b s.0) ys)) → OnOk r (AddsLocals a c ps rs (only_read (code_of a s.0) (xs ++ ys)))
-reads_then a b c ps qs rs s xs ys (Ok u) g h first second = reads_on a b c ps qs rs s xs ys g h first second
-reads_then a b c ps qs rs s xs ys (Err refused) g h first second = second
+pub reads_then : (flags : List Bool) (a b c : Nodes) (ps qs rs : List CLocal) (xs ys : List LocalTree) (r : Result (Unit {0}) NoMemory) → Grows a b → AddsRead flags a b ps qs xs → OnOk r (AddsRead flags b c qs rs ys) → OnOk r (AddsRead flags a c ps rs (xs ++ ys))
+reads_then flags a b c ps qs rs xs ys (Ok u) g first second = reads_on flags a b c ps qs rs xs ys g first second
+reads_then flags a b c ps qs rs xs ys (Err refused) g first second = second
 
--- Some locals, then those that the code reads, and then some more.
-pub reads_between : (a b c d : Nodes) (ps qs rs ss : List CLocal) (s : CStmtId) (xs ys zs : List LocalTree) (r : Result (Unit {0}) NoMemory) → Grows a b → s.0 < length a.stmts
-    → AddsLocals a b ps qs xs → AddsLocals b c qs rs (only_read (code_of b s.0) ys) → OnOk r (AddsLocals c d rs ss zs) → OnOk r (AddsLocals a d ps ss (xs ++ (only_read (code_of a s.0) ys ++ zs)))
-reads_between a b c d ps qs rs ss s xs ys zs r g h first second third =
-    let read = only_read (code_of a s.0) ys in
-    let between = adds_as b c qs rs (only_read (code_of b s.0) ys) read (code_stays s ys g h) second in
-    locals_then a b d ps qs ss xs (read ++ zs) r first (locals_then b c d qs rs ss read zs r between third)
+-- Some locals that the code reads, then others that it reads, and then some more.
+pub reads_between : (flags : List Bool) (a b c d : Nodes) (ps qs rs ss : List CLocal) (xs ys zs : List LocalTree) (r : Result (Unit {0}) NoMemory) → Grows a b
+    → AddsRead flags a b ps qs xs → AddsRead flags b c qs rs ys → OnOk r (AddsLocals c d rs ss zs)
+    → OnOk r ((code : Code) → CodeReads code a.names flags → AddsLocals a d ps ss (only_read code xs ++ (only_read code ys ++ zs)))
+reads_between flags a b c d ps qs rs ss xs ys zs (Ok u) g first second third = λ code reads.
+    let later = still_reads code g reads in
+    locals_on (only_read code xs) (only_read code ys ++ zs) (first code reads) (locals_on (only_read code ys) zs (second code later) third)
+reads_between flags a b c d ps qs rs ss xs ys zs (Err refused) g first second third = third

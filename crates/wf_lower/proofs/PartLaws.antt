@@ -14,7 +14,6 @@ use Rattle.wf_exprs.specs.Names.{status_name}
 use Rattle.wf_exprs.specs.Reads.{code_reads}
 use Rattle.wf_lower_stmts.specs.Forms.{Form, is_io, is_kept}
 use Rattle.wf_lower.specs.Bodies.{bytes_locals, io_locals, local_of, locals_of, only_read, public_args}
-use Rattle.wf_lower.specs.Made.{bytes_read}
 use Rattle.wf_lower.specs.Structs.{kept_of, method_fields, typed_field}
 use Rattle.wf_lower.specs.Unit.{coroutine_fields, is_used, kept_fields, methods_fields, source_field, used_texts}
 
@@ -62,13 +61,11 @@ read_both code (x ∷ xs) ys = ap (λ l. if code_reads x.name code then x ∷ l 
 pub read_apart : (code : Code) (xs ys : List LocalTree) → only_read code (xs ++ ys) ≡ only_read code xs ++ only_read code ys
 read_apart code xs ys = read_both code xs ys
 
-abbrev pub bytes_walk : Form → Code → TypedNodes → ℕ → List Var → List LocalTree
-bytes_walk f code nodes n xs = bytes_read f code n (map (variable_of nodes) xs)
+abbrev pub bytes_walk : Form → TypedNodes → ℕ → List Var → List LocalTree
+bytes_walk f nodes n xs = bytes_locals f n (map (variable_of nodes) xs)
 
-pub bytes_cons : (f : Form) (code : Code) (nodes : TypedNodes) (n : ℕ) (x : Var) (xs : List Var) → bytes_walk f code nodes n (x ∷ xs) ≡ bytes_walk f code nodes n (x ∷ []) ++ bytes_walk f code nodes (suc n) xs
-bytes_cons f code nodes n x xs =
-    ap (only_read code) (one_or_none (is_io x.ty) _ (bytes_locals f (suc n) (map (variable_of nodes) xs)))
-    ∙ read_both code (bytes_locals f n (variable_of nodes x ∷ [])) (bytes_locals f (suc n) (map (variable_of nodes) xs))
+pub bytes_cons : (f : Form) (nodes : TypedNodes) (n : ℕ) (x : Var) (xs : List Var) → bytes_walk f nodes n (x ∷ xs) ≡ bytes_walk f nodes n (x ∷ []) ++ bytes_walk f nodes (suc n) xs
+bytes_cons f nodes n x xs = one_or_none (is_io x.ty) _ (bytes_locals f (suc n) (map (variable_of nodes) xs))
 
 -- What a coroutine keeps.
 abbrev pub kept_walk : (method : List ℕ) → TypedNodes → ℕ → List Var → List FieldTree

@@ -1,5 +1,5 @@
 -- The text of a unit grows by items.
-use Rattle.std.proofs.Common.{◌≡◌, ◌∙◌, ap, sym, subst, ℕ, zero, suc, ◌+◌, ◌<◌, ◌≤◌, Bool, true, false, ◌||◌, if◌then◌else◌, Option, Some, Result, Ok, Err, OnOk, List, [], ◌∷◌, ◌++◌, drop, get_or, length, map, refl, arith, length-append}
+use Rattle.std.proofs.Common.{◌≡◌, ◌∙◌, ap, sym, subst, ℕ, zero, suc, ◌+◌, ◌<◌, ◌≤◌, Bool, true, false, ◌||◌, if◌then◌else◌, Option, Some, Result, Ok, Err, OnOk, List, [], ◌∷◌, ◌++◌, drop, get_or, length, map, replicate, refl, arith, length-append}
 use Rattle.std.specs.Prelude.{slice_get, unwrap_or}
 use Rattle.wf_text.specs.declared.faults.NoMemory.{NoMemory}
 use Rattle.c_text.specs.declared.ids.CNameId.{CNameId}
@@ -15,11 +15,12 @@ use Rattle.c_text.proofs.Trees.{append_nil, bytes_at-front}
 use Rattle.wf_exprs.specs.Grown.{Grows, HasNamed}
 use Rattle.wf_exprs.specs.Names.{status_name}
 use Rattle.wf_exprs_nodes.specs.Growth.{GrowsBy}
-use Rattle.wf_exprs_nodes.specs.Marks.{Marks, has_name}
+use Rattle.wf_exprs_nodes.specs.Marks.{AreThose, Marks, is_marked}
 use Rattle.wf_exprs_nodes.proofs.ItemLaws.{by_after, unit_kept}
+use Rattle.wf_exprs_nodes.proofs.MarkLaws.{none_marked, those_still}
 use Rattle.wf_lower.specs.Made.{AreRead, FitsFunction, FitFunctions, HasFunctionTrees, item_trees}
 use Rattle.wf_lower.specs.Unit.{helper_name, is_read_in, is_used, used_helpers, used_texts}
-use Rattle.wf_lower.proofs.Kept.{Keeps, keeps_by, functions_kept}
+use Rattle.wf_lower.proofs.Kept.{Keeps, keeps, keeps_by, functions_kept}
 use Rattle.wf_lower.proofs.Walks.{dropped, none_left, to_suc}
 
 or_assoc : (a b c : Bool) → ((a || b) || c) ≡ (a || (b || c))
@@ -122,26 +123,32 @@ module _ (nodes : Nodes) (xs : List CItem) (i : ℕ) (x : CItem) (is : x ≡ get
       ∙ ap (λ (y : CItem). is_read_in name (made_item nodes y) || is_used (item_trees nodes (drop (i + 1) xs)) name) (sym is)
 
   -- What the names that are read and those that are left come to stays `total`.
-  pub names_on : (before after : List (List ℕ)) (total : List ℕ → Bool) → Marks (λ name. is_read_in name (made_item nodes x)) before after
-      → ((name : List ℕ) → (has_name before name || is_used (item_trees nodes (drop i xs)) name) ≡ total name) → (name : List ℕ) → (has_name after name || is_used (item_trees nodes (drop (i + 1) xs)) name) ≡ total name
+  pub names_on : (before after : List Bool) (total : List ℕ → Bool) → Marks (λ name. is_read_in name (made_item nodes x)) nodes.names before after
+      → ((name : List ℕ) → (is_marked nodes.names before name || is_used (item_trees nodes (drop i xs)) name) ≡ total name) → (name : List ℕ) → (is_marked nodes.names after name || is_used (item_trees nodes (drop (i + 1) xs)) name) ≡ total name
   names_on before after total marks left = λ name.
       ap (λ b. b || is_used (item_trees nodes (drop (i + 1) xs)) name) (marks name)
-      ∙ or_assoc (has_name before name) (is_read_in name (made_item nodes x)) (is_used (item_trees nodes (drop (i + 1) xs)) name)
-      ∙ ap (λ b. has_name before name || b) (sym (used_next name))
+      ∙ or_assoc (is_marked nodes.names before name) (is_read_in name (made_item nodes x)) (is_used (item_trees nodes (drop (i + 1) xs)) name)
+      ∙ ap (λ b. is_marked nodes.names before name || b) (sym (used_next name))
       ∙ left name
 
-pub names_first : (nodes : Nodes) (fs : List CItem) (names : List (List ℕ)) → names ≡ [] → (name : List ℕ) → (has_name names name || is_used (item_trees nodes fs) name) ≡ is_used (item_trees nodes fs) name
-names_first nodes fs names e = λ name. ap (λ (ns : List (List ℕ)). has_name ns name || is_used (item_trees nodes fs) name) e
+pub names_first : (nodes : Nodes) (fs : List CItem) (flags : List Bool) → flags ≡ replicate (length nodes.names) false → (name : List ℕ) → (is_marked nodes.names flags name || is_used (item_trees nodes fs) name) ≡ is_used (item_trees nodes fs) name
+names_first nodes fs flags e = λ name. ap (λ b. b || is_used (item_trees nodes fs) name) (ap (λ l. is_marked nodes.names l name) e ∙ none_marked nodes.names 0 (length nodes.names) name)
 
-pub names_end : (nodes : Nodes) (names : List (List ℕ)) (total : List ℕ → Bool) (xs : List CItem) (i : ℕ) → length xs ≤ i
-    → ((name : List ℕ) → (has_name names name || is_used (item_trees nodes (drop i xs)) name) ≡ total name) → (name : List ℕ) → has_name names name ≡ total name
-names_end nodes names total xs i h left = λ name.
-    sym (or_false (has_name names name)) ∙ ap (λ (l : List CItem). has_name names name || is_used (item_trees nodes l) name) (sym (none_left xs i h)) ∙ left name
+pub names_end : (nodes : Nodes) (flags : List Bool) (total : List ℕ → Bool) (xs : List CItem) (i : ℕ) → length xs ≤ i → length flags ≡ length nodes.names
+    → ((name : List ℕ) → (is_marked nodes.names flags name || is_used (item_trees nodes (drop i xs)) name) ≡ total name) → AreThose total nodes.names flags
+names_end nodes flags total xs i h sized left = record {
+  within = omega (arith, sized);
+  are = λ name. sym (or_false (is_marked nodes.names flags name)) ∙ ap (λ (l : List CItem). is_marked nodes.names flags name || is_used (item_trees nodes l) name) (sym (none_left xs i h)) ∙ left name;
+}
+
+-- What functions read stays told while the unit grows.
+pub still_read : {a b : Nodes} {flags : List Bool} (functions : List ItemTree) → Keeps a b → AreRead functions a.names flags → AreRead functions b.names flags
+still_read {a} {b} {flags} functions k are = those_still (λ name. is_used functions name) a.names b.names flags k.more_names k.names are
 
 -- A name is used where it is one of those that are read.
-module _ (b : Nodes) (read : List (List ℕ)) (name : ℕ) (spelt : List ℕ) (named : HasNamed b name spelt) (functions : List ItemTree) (are : AreRead functions read) where
-  used_as : (told : Bool) → has_name read (bytes_at b.names name) ≡ told → is_used functions spelt ≡ told
-  used_as told h = sym (are spelt) ∙ ap (has_name read) (sym named.is) ∙ h
+module _ (a b : Nodes) (flags : List Bool) (name : ℕ) (spelt : List ℕ) (g : Grows a b) (named : HasNamed b name spelt) (functions : List ItemTree) (are : AreRead functions a.names flags) where
+  used_as : (told : Bool) → ((reads : List ℕ → Bool) → AreThose reads b.names flags → told ≡ reads (bytes_at b.names name)) → is_used functions spelt ≡ told
+  used_as told tells = ap (λ x. is_used functions x) (sym named.is) ∙ sym (tells (λ x. is_used functions x) (still_read functions (keeps g) are))
 
 -- Items were added, which with those that are left are all.
 pub record Added (old new : Nodes) (others all : List ItemTree) : Type 0 where
@@ -150,21 +157,21 @@ pub record Added (old new : Nodes) (others all : List ItemTree) : Type 0 where
   pub left : added ++ others ≡ all
 
 -- A status stands in the text where it is used.
-module _ (a b c : Nodes) (read : List (List ℕ)) (n name : ℕ) (o : Option (List ℕ)) (bytes : List ℕ) (sound : IsSound a) (g : Grows a b) (named : HasNamed b name (status_name n)) where
-  pub text_used : (r : Result (Unit {0}) NoMemory) → o ≡ Some bytes → has_name read (bytes_at b.names name) ≡ true
+module _ (a b c : Nodes) (read : List Bool) (n name : ℕ) (o : Option (List ℕ)) (bytes : List ℕ) (sound : IsSound a) (g : Grows a b) (named : HasNamed b name (status_name n)) where
+  pub text_used : (r : Result (Unit {0}) NoMemory) → o ≡ Some bytes → ((reads : List ℕ → Bool) → AreThose reads b.names read → true ≡ reads (bytes_at b.names name))
       → OnOk r (GrowsBy (text_item (bytes_at b.names name) bytes ∷ []) b c)
-      → OnOk r ((functions : List ItemTree) → AreRead functions read → (text : List ℕ) → o ≡ Some text → GrowsBy (used_texts functions n (text ∷ [])) a c)
+      → OnOk r ((functions : List ItemTree) → AreRead functions a.names read → (text : List ℕ) → o ≡ Some text → GrowsBy (used_texts functions n (text ∷ [])) a c)
   text_used (Ok u) known used h = λ functions are text is.
-      let there : is_used functions (status_name n) ≡ true = used_as b read name (status_name n) named functions are true used in
+      let there : is_used functions (status_name n) ≡ true = used_as a b read name (status_name n) g named functions are true used in
       let e : bytes ≡ text = cc (known, is) in
       let same : text_item (bytes_at b.names name) bytes ∷ [] ≡ used_texts functions n (text ∷ []) =
       ap (λ x. text_item x bytes ∷ []) named.is ∙ ap (λ x. text_item (status_name n) x ∷ []) e ∙ ap (λ q. if q then text_item (status_name n) text ∷ [] else []) (sym there) in
       by_list same (by_after a b c (text_item (bytes_at b.names name) bytes ∷ []) sound g h)
   text_used (Err refused) known used h = h
 
-  pub text_unused : has_name read (bytes_at b.names name) ≡ false → (functions : List ItemTree) → AreRead functions read → (text : List ℕ) → o ≡ Some text → GrowsBy (used_texts functions n (text ∷ [])) a b
+  pub text_unused : ((reads : List ℕ → Bool) → AreThose reads b.names read → false ≡ reads (bytes_at b.names name)) → (functions : List ItemTree) → AreRead functions a.names read → (text : List ℕ) → o ≡ Some text → GrowsBy (used_texts functions n (text ∷ [])) a b
   text_unused unused = λ functions are text is.
-      let there : is_used functions (status_name n) ≡ false = used_as b read name (status_name n) named functions are false unused in
+      let there : is_used functions (status_name n) ≡ false = used_as a b read name (status_name n) g named functions are false unused in
       by_list (ap (λ q. if q then text_item (status_name n) text ∷ [] else []) (sym there)) (by_none a b sound g)
 
 -- A string has the last number.
@@ -181,16 +188,16 @@ text_put a b c bytes name s (Ok u) sound e is h = text_added a b c bytes name s 
 text_put a b c bytes name s (Err refused) sound e is h = h
 
 -- A helper stands in the text where it is used.
-module _ (a b c : Nodes) (read : List (List ℕ)) (name : ℕ) (it : ItemTree) (sound : IsSound a) (g : Grows a b) (named : HasNamed b name (helper_name it)) where
-  pub helper_used : (r : Result (Unit {0}) NoMemory) → has_name read (bytes_at b.names name) ≡ true → OnOk r (GrowsBy (it ∷ []) b c) → OnOk r ((functions : List ItemTree) → AreRead functions read → GrowsBy (used_helpers functions (it ∷ [])) a c)
+module _ (a b c : Nodes) (read : List Bool) (name : ℕ) (it : ItemTree) (sound : IsSound a) (g : Grows a b) (named : HasNamed b name (helper_name it)) where
+  pub helper_used : (r : Result (Unit {0}) NoMemory) → ((reads : List ℕ → Bool) → AreThose reads b.names read → true ≡ reads (bytes_at b.names name)) → OnOk r (GrowsBy (it ∷ []) b c) → OnOk r ((functions : List ItemTree) → AreRead functions a.names read → GrowsBy (used_helpers functions (it ∷ [])) a c)
   helper_used (Ok u) used h = λ functions are.
-      let there : is_used functions (helper_name it) ≡ true = used_as b read name (helper_name it) named functions are true used in
+      let there : is_used functions (helper_name it) ≡ true = used_as a b read name (helper_name it) g named functions are true used in
       by_list (ap (λ q. if q then it ∷ [] else []) (sym there)) (by_after a b c (it ∷ []) sound g h)
   helper_used (Err refused) used h = h
 
-  pub helper_unused : has_name read (bytes_at b.names name) ≡ false → (functions : List ItemTree) → AreRead functions read → GrowsBy (used_helpers functions (it ∷ [])) a b
+  pub helper_unused : ((reads : List ℕ → Bool) → AreThose reads b.names read → false ≡ reads (bytes_at b.names name)) → (functions : List ItemTree) → AreRead functions a.names read → GrowsBy (used_helpers functions (it ∷ [])) a b
   helper_unused unused = λ functions are.
-      let there : is_used functions (helper_name it) ≡ false = used_as b read name (helper_name it) named functions are false unused in
+      let there : is_used functions (helper_name it) ≡ false = used_as a b read name (helper_name it) g named functions are false unused in
       by_list (ap (λ q. if q then it ∷ [] else []) (sym there)) (by_none a b sound g)
 
 helpers_both : (functions xs ys : List ItemTree) → used_helpers functions (xs ++ ys) ≡ used_helpers functions xs ++ used_helpers functions ys
@@ -201,13 +208,15 @@ helpers_both functions (x ∷ xs) ys = ap (λ l. if is_used functions (helper_na
     one_more true = refl
     one_more false = refl
 
-module _ (a b c : Nodes) (read : List (List ℕ)) (xs ys : List ItemTree) where
-  pub helpers_on : ((functions : List ItemTree) → AreRead functions read → GrowsBy (used_helpers functions xs) a b) → ((functions : List ItemTree) → AreRead functions read → GrowsBy (used_helpers functions ys) b c)
-      → (functions : List ItemTree) → AreRead functions read → GrowsBy (used_helpers functions (xs ++ ys)) a c
-  helpers_on g h = λ functions are. by_list (sym (helpers_both functions xs ys)) (by_on (used_helpers functions xs) (used_helpers functions ys) (g functions are) (h functions are))
+module _ (a b c : Nodes) (read : List Bool) (xs ys : List ItemTree) where
+  pub helpers_on : ((functions : List ItemTree) → AreRead functions a.names read → GrowsBy (used_helpers functions xs) a b) → ((functions : List ItemTree) → AreRead functions b.names read → GrowsBy (used_helpers functions ys) b c)
+      → (functions : List ItemTree) → AreRead functions a.names read → GrowsBy (used_helpers functions (xs ++ ys)) a c
+  helpers_on g h = λ functions are.
+      let first = g functions are in
+      by_list (sym (helpers_both functions xs ys)) (by_on (used_helpers functions xs) (used_helpers functions ys) first (h functions (still_read functions (keeps_by first) are)))
 
-  pub helpers_then : (r : Result (Unit {0}) NoMemory) → ((functions : List ItemTree) → AreRead functions read → GrowsBy (used_helpers functions xs) a b) → OnOk r ((functions : List ItemTree) → AreRead functions read → GrowsBy (used_helpers functions ys) b c)
-      → OnOk r ((functions : List ItemTree) → AreRead functions read → GrowsBy (used_helpers functions (xs ++ ys)) a c)
+  pub helpers_then : (r : Result (Unit {0}) NoMemory) → ((functions : List ItemTree) → AreRead functions a.names read → GrowsBy (used_helpers functions xs) a b) → OnOk r ((functions : List ItemTree) → AreRead functions b.names read → GrowsBy (used_helpers functions ys) b c)
+      → OnOk r ((functions : List ItemTree) → AreRead functions a.names read → GrowsBy (used_helpers functions (xs ++ ys)) a c)
   helpers_then (Ok u) g h = helpers_on g h
   helpers_then (Err refused) g h = h
 

@@ -1,5 +1,5 @@
 -- The whole text of an accepted package.
-use Rattle.std.proofs.Common.{◌≡◌, ◌∙◌, ap, sym, subst, ℕ, Result, Ok, Err, OnOk, List, [], ◌∷◌, ◌++◌, refl}
+use Rattle.std.proofs.Common.{◌≡◌, ◌∙◌, ap, sym, subst, ℕ, Bool, Result, Ok, Err, OnOk, List, [], ◌∷◌, ◌++◌, refl}
 use Rattle.wf_text.specs.declared.faults.NoMemory.{NoMemory}
 use Rattle.wf_ast.specs.declared.typed_nodes.TypedNodes.{TypedNodes}
 use Rattle.wf_ast.specs.TypedPackage.{PackageTree, package_of}
@@ -19,7 +19,7 @@ use Rattle.wf_lower.specs.Unit.{io_buffer_item, lowered_unit, struct_items, stru
 use Rattle.wf_lower.proofs.Functions.{statuses_same}
 use Rattle.wf_lower.proofs.Kept.{keeps_by}
 use Rattle.wf_lower.proofs.Small.{points_small}
-use Rattle.wf_lower.proofs.Texts.{by_as, by_list, by_on, same_grown}
+use Rattle.wf_lower.proofs.Texts.{by_as, by_list, by_on, same_grown, still_read}
 
 ready_as : (a : AcceptedPackage) → IsAccepted a → IsSpelt a.nodes → IsReady a.nodes a.points.numbers
 ready_as a kept spelt = record { typed = kept.typed; spelt = spelt; small = points_small a.nodes kept.typed kept.few a.points.numbers kept.numbers; numbered = kept.numbers }
@@ -49,16 +49,17 @@ pub items_lowered : (p : PackageTree) (order : List ℕ) (a b : Nodes) (r : Resu
 items_lowered p order a b r e h = by_as a b (items_in p order) (lowered_unit p) r (ap (items_in p) e ∙ items_are p) h
 
 -- The items before the functions, one kind after the other.
-pub before_all : (nodes : TypedNodes) (order : List ℕ) (a b c d e : Nodes) (read : List (List ℕ)) (r : Result (Unit {0}) NoMemory)
-    → GrowsBy (io_buffer_item ∷ []) a b → GrowsBy (struct_items (package_of nodes) order) b c → ((functions : List ItemTree) → AreRead functions read → GrowsBy (used_texts functions 0 nodes.statuses) c d)
-    → OnOk r ((functions : List ItemTree) → AreRead functions read → GrowsBy (used_helpers functions all_saturating) d e) → OnOk r ((functions : List ItemTree) → AreRead functions read → GrowsBy (items_before (package_of nodes) order functions) a e)
+pub before_all : (nodes : TypedNodes) (order : List ℕ) (a b c d e : Nodes) (read : List Bool) (r : Result (Unit {0}) NoMemory)
+    → GrowsBy (io_buffer_item ∷ []) a b → GrowsBy (struct_items (package_of nodes) order) b c → ((functions : List ItemTree) → AreRead functions c.names read → GrowsBy (used_texts functions 0 nodes.statuses) c d)
+    → OnOk r ((functions : List ItemTree) → AreRead functions d.names read → GrowsBy (used_helpers functions all_saturating) d e) → OnOk r ((functions : List ItemTree) → AreRead functions a.names read → GrowsBy (items_before (package_of nodes) order functions) a e)
 before_all nodes order a b c d e read (Ok u) buffer structs texts helpers = λ functions are.
     let ss = struct_items (package_of nodes) order in
     let front : GrowsBy (io_buffer_item ∷ ss) a c = by_on (io_buffer_item ∷ []) ss buffer structs in
     let ts = used_texts functions 0 (package_of nodes).statuses in
     let hs = used_helpers functions all_saturating in
-    let own : GrowsBy ts c d = by_list (ap (used_texts functions 0) (sym (statuses_same nodes))) (texts functions are) in
-    by_on (io_buffer_item ∷ ss) (ts ++ hs) front (by_on ts hs own (helpers functions are))
+    let first = still_read functions (keeps_by front) are in
+    let own : GrowsBy ts c d = by_list (ap (used_texts functions 0) (sym (statuses_same nodes))) (texts functions first) in
+    by_on (io_buffer_item ∷ ss) (ts ++ hs) front (by_on ts hs own (helpers functions (still_read functions (keeps_by own) first)))
 before_all nodes order a b c d e read (Err refused) buffer structs texts helpers = helpers
 
 -- All items: those before the functions, and the functions.

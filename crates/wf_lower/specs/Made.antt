@@ -1,5 +1,5 @@
 -- What a unit has of the parts of its items.
-use Rattle.std.specs.Prelude.{◌≡◌, ℕ, true, List, [], ◌∷◌, ◌++◌, length, map, Option, None, Some, option_map, IfSome, if◌then◌else◌, ⊤, codes}
+use Rattle.std.specs.Prelude.{◌≡◌, ℕ, Bool, true, List, [], ◌∷◌, ◌++◌, length, map, Option, None, Some, option_map, IfSome, if◌then◌else◌, ⊤, codes}
 use Rattle.std.specs.List.{list_all}
 use Rattle.wf_ast.specs.declared.declarations.Method.{Method}
 use Rattle.wf_ast.specs.declared.typed_nodes.TypedNodes.{TypedNodes}
@@ -23,8 +23,9 @@ use Rattle.c_text.specs.CTree.{TypeTree, struct_pointer, FieldTree, ParamTree, L
 use Rattle.c_meaning.specs.UnitForm.{args_params}
 use Rattle.wf_exprs.specs.Exprs.{status_constant}
 use Rattle.wf_exprs.specs.Names.{struct_type}
+use Rattle.wf_exprs.specs.Reads.{code_reads}
 use Rattle.wf_exprs.specs.Words.{num, of_self, self}
-use Rattle.wf_exprs_nodes.specs.Marks.{has_name}
+use Rattle.wf_exprs_nodes.specs.Marks.{AreThose}
 use Rattle.wf_lower_stmts.specs.BodyNodes.{AreSmall, HasWords}
 use Rattle.wf_lower_stmts.specs.Forms.{Form, when}
 use Rattle.wf_lower.specs.Bodies.{public_args, bytes_locals, further_locals, only_read, resume_of}
@@ -113,9 +114,17 @@ AddsFields old new before after added = (so_far : List FieldTree) → HasFieldTr
 abbrev pub AddsFunctions : (old new : Nodes) → (before after : List CItem) → List ItemTree → Type 0
 AddsFunctions old new before after added = (so_far : List ItemTree) → HasFunctionTrees old before so_far → HasFunctionTrees new after (so_far ++ added)
 
--- The names that one of these functions reads.
-abbrev pub AreRead : List ItemTree → (names : List (List ℕ)) → Type 0
-AreRead functions names = (name : List ℕ) → has_name names name ≡ is_used functions name
+-- The flags are those of the names that one of these functions reads.
+abbrev pub AreRead : List ItemTree → (names : List (List ℕ)) → (flags : List Bool) → Type 0
+AreRead functions names flags = AreThose (λ name. is_used functions name) names flags
+
+-- The flags are those of the names that this code reads.
+abbrev pub CodeReads : Code → (names : List (List ℕ)) → (flags : List Bool) → Type 0
+CodeReads code names flags = AreThose (λ name. code_reads name code) names flags
+
+-- Of some locals those are added whose names the code reads that has these flags.
+abbrev pub AddsRead : (flags : List Bool) → (old new : Nodes) → (before after : List CLocal) → List LocalTree → Type 0
+AddsRead flags old new before after locals = (code : Code) → CodeReads code old.names flags → AddsLocals old new before after (only_read code locals)
 
 -- A type without names is the same tree in every unit.
 pub record IsResult (result : Option CType) (tree : Option TypeTree) : Type 0 where

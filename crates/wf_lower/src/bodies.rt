@@ -5,7 +5,7 @@ ghost use Rattle.std.specs.Prelude.{◌≡◌, ◌<◌, ◌+◌, ◌++◌, ◌�
 ghost use Rattle.c_text.specs.CFits.{HasLocals, HasParams};
 ghost use Rattle.c_text.specs.CGrammar.{is_finish};
 ghost use Rattle.c_text.specs.CNodes.{Nodes, bytes_at, code_of, param_tree};
-ghost use Rattle.c_text.specs.CTree.{assign as assign_code, case_label, empty, finish as finish_code, select};
+ghost use Rattle.c_text.specs.CTree.{Code, assign as assign_code, case_label, empty, finish as finish_code, select};
 ghost use Rattle.c_text.specs.declared.kinds.CNumber.TheVariants.{Int};
 ghost use Rattle.wf_exprs.specs.Grown.{Grows, HasCode, HasNamed};
 ghost use Rattle.wf_exprs.specs.Names.{body_name as named_body};
@@ -13,7 +13,7 @@ ghost use Rattle.wf_lower_stmts.specs.BodyNodes.{form_in};
 ghost use Rattle.wf_lower_stmts.specs.Forms.{resume_local, when_some};
 ghost use Rattle.wf_lower_stmts.specs.Lower.{ending as ending_code};
 ghost use Rattle.wf_lower.specs.Bodies.{body_code as code_of_body, body_function as body_item, coroutine_code as code_of_coroutine, fixed_locals as locals_of_all, params_of as params_for, result_of as result_for, resumed, statements_of, touched as touched_code};
-ghost use Rattle.wf_lower.specs.Made.{HasItemTree, HasLocalTrees, HasParamTrees, IsResult};
+ghost use Rattle.wf_lower.specs.Made.{CodeReads, HasItemTree, HasLocalTrees, HasParamTrees, IsResult};
 ghost use Rattle.wf_lower.specs.Methods.{IsBodyOf, local_names, names_in, param_names, read_locals};
 
 use crate::declaring::{params_of, result_of};
@@ -24,7 +24,7 @@ use c_text::{
 use wf_ast::Block;
 use wf_exprs::nodes::{number, put, variable};
 use wf_exprs_nodes::helpers::put_stmt;
-use wf_exprs_nodes::reads::code_reads;
+use wf_exprs_nodes::marks::ReadNames;
 use wf_lower_blocks::ending::{ending, lower_body};
 use wf_lower_stmts::Body;
 use wf_lower_stmts::code::{assign, case, finish, when};
@@ -141,14 +141,13 @@ fn body_code(b: &Body, u: &mut Unit, body: &Block) -> Result<CStmtId, NoMemory>
 }
 
 /// `if (name) { }` where nothing reads the name.
-fn touch(u: &mut Unit, code: CStmtId, name: CNameId, rest: CStmtId) -> Result<CStmtId, NoMemory>
-    requires code { code.0 < length u.old.stmts }
+fn touch(u: &mut Unit, read: &ReadNames, name: CNameId, rest: CStmtId) -> Result<CStmtId, NoMemory>
     requires name { name.0 < length u.old.names }
     requires rest { rest.0 < length u.old.stmts }
     ensures grows { Grows u.old u.new }
-    ensures made { IfOk result (λ it. HasCode u.new it.0 (touched_code (bytes_at u.old.names name.0 ∷ []) (code_of u.old code.0) (code_of u.old rest.0))) }
+    ensures made { IfOk result (λ it. (code : Code) → CodeReads code u.old.names read.now → HasCode u.new it.0 (touched_code (bytes_at u.old.names name.0 ∷ []) code (code_of u.old rest.0))) }
 {
-    if code_reads(u, name, code) {
+    if read.has(u, name) {
         return Ok(rest);
     }
     let body = finish(u)?;
@@ -172,10 +171,12 @@ fn name_at(params: &[CParam], locals: &[CLocal], i: usize) -> CNameId
 /// The code after what touches the names of these parameters and locals that nothing in it reads.
 fn touch_all(
     u: &mut Unit,
+    read: &ReadNames,
     code: CStmtId,
     params: &[CParam],
     locals: &[CLocal],
 ) -> Result<CStmtId, NoMemory>
+    requires read { CodeReads (code_of u.old code.0) u.old.names read.now }
     requires code { code.0 < length u.old.stmts }
     requires params { HasParams u.old params.now }
     requires locals { HasLocals u.old locals.now }
@@ -186,7 +187,7 @@ fn touch_all(
     let mut front = code;
     while left > 0 {
         left -= 1;
-        front = touch(u, code, name_at(params, locals, left), front)?;
+        front = touch(u, read, name_at(params, locals, left), front)?;
     }
     Ok(front)
 }
@@ -197,6 +198,7 @@ fn touched(
     u: &mut Unit,
     params: &[CParam],
     code: CStmtId,
+    read: &mut ReadNames,
 ) -> Result<(CList<CLocal>, CStmtId), NoMemory>
     requires params { HasParams u.old params.now }
     requires code { code.0 < length u.old.stmts }
@@ -205,8 +207,9 @@ fn touched(
     ensures code { IfOk result (λ it. HasCode u.new it.1.0 (touched_code (param_names (map (param_tree u.old.names) params.now) ++ local_names (locals_of_all (form_in b.now))) (code_of u.old code.0) (code_of u.old code.0))) }
 {
     let mut locals = fixed_locals(b, u)?;
-    let whole = touch_all(u, code, params, locals.as_slice())?;
-    add_further(b, u, code, &mut locals)?;
+    read.read_code(u, code)?;
+    let whole = touch_all(u, read, code, params, locals.as_slice())?;
+    add_further(b, u, read, &mut locals)?;
     Ok((locals, whole))
 }
 
@@ -236,14 +239,19 @@ fn result_of_body(b: &Body) -> Option<CType>
 }
 
 /// The function that is the body of a method. `Err` where memory was refused.
-pub(crate) fn body_function(b: &Body, u: &mut Unit, body: &Block) -> Result<CItem, NoMemory>
+pub(crate) fn body_function(
+    b: &Body,
+    u: &mut Unit,
+    body: &Block,
+    read: &mut ReadNames,
+) -> Result<CItem, NoMemory>
     requires { IsBodyOf b.now body.now }
     ensures grows { Grows u.old u.new }
     ensures made { IfOk result (λ item. HasItemTree u.new item (body_item (form_in b.now))) }
 {
     let own = body_code(b, u, body)?;
     let params = params_of_body(b, u)?;
-    let (locals, code) = touched(b, u, params.as_slice(), own)?;
+    let (locals, code) = touched(b, u, params.as_slice(), own, read)?;
     let name = name_of_body(b, u)?;
     Ok(CItem::Function {
         linkage: Linkage::Static,

@@ -6,10 +6,10 @@ ghost use Rattle.std.specs.List.{list_all};
 ghost use Rattle.wf_ast.specs.TypedPackage.{variable_of};
 ghost use Rattle.c_text.specs.CFits.{HasLocal, HasType};
 ghost use Rattle.c_text.specs.CGrammar.{IsName};
-ghost use Rattle.c_text.specs.CNodes.{code_of, expr_of, local_tree, type_in};
+ghost use Rattle.c_text.specs.CNodes.{expr_of, local_tree, type_in};
 ghost use Rattle.c_text.specs.CSpelling.{is_word_byte};
 ghost use Rattle.c_text.specs.declared.kinds.CUint.TheVariants.{U8};
-ghost use Rattle.c_text.specs.CTree.{member, size, uint_pointer};
+ghost use Rattle.c_text.specs.CTree.{Code, member, size, uint_pointer};
 ghost use Rattle.wf_exprs.specs.Exprs.{io_code};
 ghost use Rattle.wf_exprs.specs.Grown.{Grows};
 ghost use Rattle.wf_exprs.specs.Names.{io_bytes, io_end, io_place, named};
@@ -17,16 +17,16 @@ ghost use Rattle.wf_exprs.specs.Scopes.{is_named};
 ghost use Rattle.wf_exprs.specs.Words.{num};
 ghost use Rattle.wf_lower_stmts.specs.BodyNodes.{form_in};
 ghost use Rattle.wf_lower_stmts.specs.Forms.{end_of as end_code, place_in as place_code};
-ghost use Rattle.wf_lower.specs.Bodies.{declared, fixed_locals as fixed_locals_of, further_locals, io_locals, local_of, locals_of, only_read, resume_of};
-ghost use Rattle.wf_lower.specs.Made.{AddsLocals, HasLocalTree, HasLocalTrees, bytes_read, more_locals, resume_locals};
+ghost use Rattle.wf_lower.specs.Bodies.{bytes_locals, declared, fixed_locals as fixed_locals_of, further_locals, io_locals, local_of, locals_of, resume_of};
+ghost use Rattle.wf_lower.specs.Made.{AddsLocals, AddsRead, CodeReads, HasLocalTree, HasLocalTrees, more_locals, resume_locals};
 ghost use Rattle.wf_lower.specs.Locals.{answer_locals, bytes_in, place_locals, started_locals};
 
 use crate::declaring::{local, zero_local, zero_spelt};
-use c_text::{CExprId, CList, CLocal, CStmtId, CType, CUint, Unit};
+use c_text::{CExprId, CList, CLocal, CType, CUint, Unit};
 use wf_ast::{Ty, Var};
 use wf_exprs::names::put_spelt;
 use wf_exprs::nodes::uint_of;
-use wf_exprs_nodes::reads::code_reads;
+use wf_exprs_nodes::marks::ReadNames;
 use wf_lower_stmts::Body;
 use wf_lower_stmts::keeping::point_there;
 use wf_lower_stmts::places::{end_of, is_io, place_in};
@@ -210,15 +210,14 @@ pub(crate) fn fixed_locals(b: &Body, u: &mut Unit) -> Result<CList<CLocal>, NoMe
 /// Adds a local, where the code reads it.
 fn add_where_read(
     u: &Unit,
-    code: CStmtId,
+    read: &ReadNames,
     local: CLocal,
     locals: &mut CList<CLocal>,
 ) -> Result<(), NoMemory>
-    requires code { code.0 < length u.now.stmts }
-    requires local { HasLocal u.now local }
-    ensures { OnOk result (AddsLocals u.now u.now locals.old locals.new (only_read (code_of u.now code.0) (local_tree u.now.names (expr_of u.now) local ∷ []))) }
+    requires { HasLocal u.now local }
+    ensures { OnOk result (AddsRead read.now u.now u.now locals.old locals.new (local_tree u.now.names (expr_of u.now) local ∷ [])) }
 {
-    if code_reads(u, local.name, code) {
+    if read.has(u, local.name) {
         locals.push(local)
     } else {
         Ok(())
@@ -228,19 +227,18 @@ fn add_where_read(
 /// A further local, where the code reads it.
 fn add_read(
     u: &mut Unit,
-    code: CStmtId,
+    read: &ReadNames,
     kind: CType,
     name: &[u8],
     locals: &mut CList<CLocal>,
 ) -> Result<(), NoMemory>
-    requires code { code.0 < length u.old.stmts }
     requires kind { HasType u.old kind }
     requires name { IsName name.now }
     ensures grows { Grows u.old u.new }
-    ensures made { OnOk result (AddsLocals u.old u.new locals.old locals.new (only_read (code_of u.old code.0) (declared (type_in u.old.names kind) name.now (num 0) ∷ []))) }
+    ensures made { OnOk result (AddsRead read.now u.old u.new locals.old locals.new (declared (type_in u.old.names kind) name.now (num 0) ∷ [])) }
 {
     let local = zero_local(u, kind, name)?;
-    add_where_read(u, code, local, locals)
+    add_where_read(u, read, local, locals)
 }
 
 /// The pointer to the bytes of a reader or a writer.
@@ -266,17 +264,16 @@ fn add_bytes(
     u: &mut Unit,
     n: usize,
     ty: Ty,
-    code: CStmtId,
+    read: &ReadNames,
     locals: &mut CList<CLocal>,
 ) -> Result<(), NoMemory>
     requires known { n < length b.now.method.args }
-    requires code { code.0 < length u.old.stmts }
     ensures grows { Grows u.old u.new }
-    ensures made { OnOk result (AddsLocals u.old u.new locals.old locals.new (only_read (code_of u.old code.0) (bytes_in (form_in b.now).names n ty))) }
+    ensures made { OnOk result (AddsRead read.now u.old u.new locals.old locals.new (bytes_in (form_in b.now).names n ty)) }
 {
     if is_io(ty) {
         let bytes = bytes_local(b, u, n)?;
-        add_where_read(u, code, bytes, locals)
+        add_where_read(u, read, bytes, locals)
     } else {
         Ok(())
     }
@@ -285,16 +282,15 @@ fn add_bytes(
 fn add_all_bytes(
     b: &Body,
     u: &mut Unit,
-    code: CStmtId,
+    read: &ReadNames,
     locals: &mut CList<CLocal>,
 ) -> Result<(), NoMemory>
-    requires { code.0 < length u.old.stmts }
     ensures grows { Grows u.old u.new }
-    ensures made { OnOk result (AddsLocals u.old u.new locals.old locals.new (bytes_read (form_in b.now) (code_of u.old code.0) 0 (form_in b.now).method.args)) }
+    ensures made { OnOk result (AddsRead read.now u.old u.new locals.old locals.new (bytes_locals (form_in b.now) 0 (form_in b.now).method.args)) }
 {
     let args = b.arguments();
     for i in 0..args.len() {
-        add_bytes(b, u, i, args[i].ty, code, locals)?;
+        add_bytes(b, u, i, args[i].ty, read, locals)?;
     }
     Ok(())
 }
@@ -323,48 +319,44 @@ fn add_resume(b: &Body, u: &mut Unit, locals: &mut CList<CLocal>) -> Result<(), 
 
 /// What a call answers, and how many bytes are copied.
 #[tactic(auto, using(wf_exprs::proofs::Growing::grows_on), unfolding(c_text::specs::CSpelling::is_reserved))]
-fn add_answers(u: &mut Unit, code: CStmtId, locals: &mut CList<CLocal>) -> Result<(), NoMemory>
-    requires { code.0 < length u.old.stmts }
+fn add_answers(u: &mut Unit, read: &ReadNames, locals: &mut CList<CLocal>) -> Result<(), NoMemory>
     ensures grows { Grows u.old u.new }
-    ensures made { OnOk result (AddsLocals u.old u.new locals.old locals.new (only_read (code_of u.old code.0) answer_locals)) }
+    ensures made { OnOk result (AddsRead read.now u.old u.new locals.old locals.new answer_locals) }
 {
-    add_read(u, code, CType::Text, b"status", locals)?;
-    add_read(u, code, CType::Uint(CUint::U64), b"got", locals)?;
-    add_read(u, code, CType::Size, b"size", locals)
+    add_read(u, read, CType::Text, b"status", locals)?;
+    add_read(u, read, CType::Uint(CUint::U64), b"got", locals)?;
+    add_read(u, read, CType::Size, b"size", locals)
 }
 
 /// What a started statement has.
 #[tactic(auto, using(wf_exprs::proofs::Growing::grows_on), unfolding(c_text::specs::CSpelling::is_reserved))]
-fn add_started(u: &mut Unit, code: CStmtId, locals: &mut CList<CLocal>) -> Result<(), NoMemory>
-    requires { code.0 < length u.old.stmts }
+fn add_started(u: &mut Unit, read: &ReadNames, locals: &mut CList<CLocal>) -> Result<(), NoMemory>
     ensures grows { Grows u.old u.new }
-    ensures made { OnOk result (AddsLocals u.old u.new locals.old locals.new (only_read (code_of u.old code.0) started_locals)) }
+    ensures made { OnOk result (AddsRead read.now u.old u.new locals.old locals.new started_locals) }
 {
-    add_read(u, code, CType::Uint(CUint::U64), b"held", locals)?;
-    add_read(u, code, CType::Uint(CUint::U8), b"count", locals)
+    add_read(u, read, CType::Uint(CUint::U64), b"held", locals)?;
+    add_read(u, read, CType::Uint(CUint::U8), b"count", locals)
 }
 
-fn add_own(u: &mut Unit, code: CStmtId, locals: &mut CList<CLocal>) -> Result<(), NoMemory>
-    requires { code.0 < length u.old.stmts }
+fn add_own(u: &mut Unit, read: &ReadNames, locals: &mut CList<CLocal>) -> Result<(), NoMemory>
     ensures grows { Grows u.old u.new }
-    ensures made { OnOk result (AddsLocals u.old u.new locals.old locals.new (only_read (code_of u.old code.0) further_locals)) }
+    ensures made { OnOk result (AddsRead read.now u.old u.new locals.old locals.new further_locals) }
 {
-    add_answers(u, code, locals)?;
-    add_started(u, code, locals)
+    add_answers(u, read, locals)?;
+    add_started(u, read, locals)
 }
 
 /// What else the code reads.
 pub(crate) fn add_further(
     b: &Body,
     u: &mut Unit,
-    code: CStmtId,
+    read: &ReadNames,
     locals: &mut CList<CLocal>,
 ) -> Result<(), NoMemory>
-    requires { code.0 < length u.old.stmts }
     ensures grows { Grows u.old u.new }
-    ensures made { OnOk result (AddsLocals u.old u.new locals.old locals.new (more_locals (form_in b.now) (code_of u.old code.0))) }
+    ensures made { OnOk result ((code : Code) → CodeReads code u.old.names read.now → AddsLocals u.old u.new locals.old locals.new (more_locals (form_in b.now) code)) }
 {
-    add_all_bytes(b, u, code, locals)?;
-    add_own(u, code, locals)?;
+    add_all_bytes(b, u, read, locals)?;
+    add_own(u, read, locals)?;
     add_resume(b, u, locals)
 }

@@ -10,7 +10,7 @@ ghost use Rattle.c_text.specs.CTree.{ItemTree, text_item};
 ghost use Rattle.wf_exprs.specs.Grown.{Grows};
 ghost use Rattle.wf_exprs.specs.Helpers.{all_saturating, saturating};
 ghost use Rattle.wf_exprs_nodes.specs.Growth.{GrowsBy};
-ghost use Rattle.wf_exprs_nodes.specs.Marks.{Marks, has_name};
+ghost use Rattle.wf_exprs_nodes.specs.Marks.{Marks};
 ghost use Rattle.wf_lower_stmts.specs.Forms.{form_of};
 ghost use Rattle.wf_lower.specs.Bodies.{body_function as body_function_of, functions_of};
 ghost use Rattle.wf_lower.specs.Made.{AddsFunctions, AreRead, FitFunctions, FitsFunction, HasFunctionTrees, IsReady, IsSpelt, item_trees};
@@ -37,34 +37,29 @@ use wf_points::table::Points;
 use wf_text::{MethodId, NoMemory, StatusId};
 
 /// Adds the names that a function reads.
-fn mark_function(u: &Unit, read: &mut ReadNames, item: &CItem) -> Result<(), NoMemory>
-    requires { FitsFunction u.now item.now }
-    ensures { OnOk result (Marks (λ name. is_read_in name (made_item u.now item.now)) read.old read.new) }
+fn mark_function(u: &Unit, read: &mut ReadNames, item: &CItem)
+    requires fits { FitsFunction u.now item.now }
+    requires sized { length read.old ≡ length u.now.names }
+    ensures marks { Marks (λ name. is_read_in name (made_item u.now item.now)) u.now.names read.old read.new }
+    ensures sized { length read.new ≡ length read.old }
 {
     match item {
         CItem::Function { body, .. } => mark_code(u, read, *body),
-        CItem::Struct { .. } | CItem::Text { .. } => Ok(()),
+        CItem::Struct { .. } | CItem::Text { .. } => {}
     }
 }
 
 /// The names that these functions read.
 fn names_read(alloc: Global, u: &Unit, functions: &[CItem]) -> Result<ReadNames, NoMemory>
     requires { FitFunctions u.now functions.now }
-    ensures { IfOk result (λ read. AreRead (item_trees u.now functions.now) read) }
+    ensures { IfOk result (λ read. AreRead (item_trees u.now functions.now) u.now.names read) }
 {
     let mut read = ReadNames::new(alloc);
+    read.begin(u)?;
     for item in functions {
-        mark_function(u, &mut read, item)?;
+        mark_function(u, &mut read, item);
     }
     Ok(read)
-}
-
-/// Whether a name is one of those that are read.
-fn is_read(u: &Unit, read: &ReadNames, name: CNameId) -> bool
-    requires { name.0 < length u.now.names }
-    ensures { result ≡ has_name read.now (bytes_at u.now.names name.0) }
-{
-    read.has(u.name(name))
 }
 
 /// What is lowered.
@@ -116,12 +111,13 @@ fn add_all_initialize(
     Ok(())
 }
 
-/// The body of a method.
+/// The body of a method. `read` only serves for what the body reads.
 fn add_body(
     p: &Source,
     u: &mut Unit,
     m: MethodId,
     functions: &mut Vec<CItem>,
+    read: &mut ReadNames,
 ) -> Result<(), NoMemory>
     requires ready { IsReady p.now.t.now p.now.points.now.numbers }
     requires known { m.0 < length p.now.t.now.methods }
@@ -129,7 +125,7 @@ fn add_body(
     ensures made { OnOk result ((method : MethodTree) → slice_get (package_of p.now.t.now).methods m.0 ≡ Some method → AddsFunctions u.old u.new functions.old.items functions.new.items (body_function_of (form_of (package_of p.now.t.now) method) ∷ [])) }
 {
     let b = Body::new(p.alloc, p.t, p.points, m);
-    let item = body_function(&b, u, p.t.body(m))?;
+    let item = body_function(&b, u, p.t.body(m), read)?;
     put_into(functions, item)
 }
 
@@ -154,13 +150,19 @@ fn add_entry(
 }
 
 /// The body of a method, and its entry where it is public.
-fn add_method(p: &Source, u: &mut Unit, m: u32, functions: &mut Vec<CItem>) -> Result<(), NoMemory>
+fn add_method(
+    p: &Source,
+    u: &mut Unit,
+    m: u32,
+    functions: &mut Vec<CItem>,
+    read: &mut ReadNames,
+) -> Result<(), NoMemory>
     requires ready { IsReady p.now.t.now p.now.points.now.numbers }
     requires known { m < length p.now.t.now.methods }
     ensures grows { Grows u.old u.new }
     ensures made { OnOk result (AddsFunctions u.old u.new functions.old.items functions.new.items (functions_of (package_of p.now.t.now) m (slice_get (package_of p.now.t.now).methods m))) }
 {
-    add_body(p, u, MethodId(m), functions)?;
+    add_body(p, u, MethodId(m), functions, read)?;
     add_entry(p, u, MethodId(m), functions)
 }
 
@@ -170,8 +172,9 @@ fn add_methods(p: &Source, u: &mut Unit, functions: &mut Vec<CItem>) -> Result<(
     ensures made { OnOk result (AddsFunctions u.old u.new functions.old.items functions.new.items (method_functions (package_of p.now.t.now) (package_of p.now.t.now).order)) }
 {
     let order = p.t.order();
+    let mut read = ReadNames::new(p.alloc);
     for i in 0..order.len() {
-        add_method(p, u, order[i], functions)?;
+        add_method(p, u, order[i], functions, &mut read)?;
     }
     Ok(())
 }
@@ -233,11 +236,11 @@ fn put_text(u: &mut Unit, name: CNameId, bytes: &[u8]) -> Result<(), NoMemory>
 fn add_text(p: &Source, u: &mut Unit, n: u32, read: &ReadNames) -> Result<(), NoMemory>
     requires ready { IsReady p.now.t.now p.now.points.now.numbers }
     requires known { n < length p.now.t.now.statuses }
-    ensures { OnOk result ((functions : List ItemTree) → AreRead functions read.now → (text : List ℕ) → slice_get p.now.t.now.statuses n ≡ Some text → GrowsBy (used_texts functions n (text ∷ [])) u.old u.new) }
+    ensures { OnOk result ((functions : List ItemTree) → AreRead functions u.old.names read.now → (text : List ℕ) → slice_get p.now.t.now.statuses n ≡ Some text → GrowsBy (used_texts functions n (text ∷ [])) u.old u.new) }
 {
     u.is_sound();
     let name = put_numbered(p.alloc, u, b"status_", n as u64)?;
-    if is_read(u, read, name) {
+    if read.has(u, name) {
         put_text(u, name, p.t.status_text(StatusId(n)))
     } else {
         Ok(())
@@ -246,7 +249,7 @@ fn add_text(p: &Source, u: &mut Unit, n: u32, read: &ReadNames) -> Result<(), No
 
 fn add_texts(p: &Source, u: &mut Unit, read: &ReadNames) -> Result<(), NoMemory>
     requires { IsReady p.now.t.now p.now.points.now.numbers }
-    ensures { OnOk result ((functions : List ItemTree) → AreRead functions read.now → GrowsBy (used_texts functions 0 p.now.t.now.statuses) u.old u.new) }
+    ensures { OnOk result ((functions : List ItemTree) → AreRead functions u.old.names read.now → GrowsBy (used_texts functions 0 p.now.t.now.statuses) u.old u.new) }
 {
     for n in 0..p.t.statuses() {
         add_text(p, u, n, read)?;
@@ -262,11 +265,11 @@ fn add_helper(
     width: Width,
     read: &ReadNames,
 ) -> Result<(), NoMemory>
-    ensures { OnOk result ((functions : List ItemTree) → AreRead functions read.now → GrowsBy (used_helpers functions (saturating is_sum (bits_of width) ∷ [])) u.old u.new) }
+    ensures { OnOk result ((functions : List ItemTree) → AreRead functions u.old.names read.now → GrowsBy (used_helpers functions (saturating is_sum (bits_of width) ∷ [])) u.old u.new) }
 {
     u.is_sound();
     let name = saturating_name(p.alloc, u, is_sum, width)?;
-    if is_read(u, read, name) {
+    if read.has(u, name) {
         put_saturating(p.alloc, u, is_sum, width)
     } else {
         Ok(())
@@ -275,7 +278,7 @@ fn add_helper(
 
 /// The functions of one saturating operator.
 fn add_widths(p: &Source, u: &mut Unit, is_sum: bool, read: &ReadNames) -> Result<(), NoMemory>
-    ensures { OnOk result ((functions : List ItemTree) → AreRead functions read.now → GrowsBy (used_helpers functions (saturating_widths is_sum)) u.old u.new) }
+    ensures { OnOk result ((functions : List ItemTree) → AreRead functions u.old.names read.now → GrowsBy (used_helpers functions (saturating_widths is_sum)) u.old u.new) }
 {
     add_helper(p, u, is_sum, Width::W8, read)?;
     add_helper(p, u, is_sum, Width::W16, read)?;
@@ -284,7 +287,7 @@ fn add_widths(p: &Source, u: &mut Unit, is_sum: bool, read: &ReadNames) -> Resul
 }
 
 fn add_helpers(p: &Source, u: &mut Unit, read: &ReadNames) -> Result<(), NoMemory>
-    ensures { OnOk result ((functions : List ItemTree) → AreRead functions read.now → GrowsBy (used_helpers functions all_saturating) u.old u.new) }
+    ensures { OnOk result ((functions : List ItemTree) → AreRead functions u.old.names read.now → GrowsBy (used_helpers functions all_saturating) u.old u.new) }
 {
     add_widths(p, u, true, read)?;
     add_widths(p, u, false, read)
@@ -304,7 +307,7 @@ fn add_functions(u: &mut Unit, functions: Vec<CItem>) -> Result<(), NoMemory>
 fn add_before(p: &Source, u: &mut Unit, order: &[u32], read: &ReadNames) -> Result<(), NoMemory>
     requires ready { IsReady p.now.t.now p.now.points.now.numbers }
     requires known { are_structs (package_of p.now.t.now) order.now ≡ true }
-    ensures { OnOk result ((functions : List ItemTree) → AreRead functions read.now → GrowsBy (items_before (package_of p.now.t.now) order.now functions) u.old u.new) }
+    ensures { OnOk result ((functions : List ItemTree) → AreRead functions u.old.names read.now → GrowsBy (items_before (package_of p.now.t.now) order.now functions) u.old u.new) }
 {
     add_buffer(p, u)?;
     add_structs(p, u, order)?;

@@ -40,7 +40,7 @@ const SHORT_WRITE: u32 = 2;
 
 /// A base method that may suspend, with its argument.
 #[derive(Clone, Copy)]
-pub enum Awaited {
+pub(crate) enum Awaited {
     Read(ReadForm),
     Skip(ExprId),
     Write(ExprId),
@@ -48,7 +48,7 @@ pub enum Awaited {
 
 /// A base call that may suspend: of the reader or writer that is this argument of the method.
 #[derive(Clone, Copy)]
-pub struct Awaiting {
+pub(crate) struct Awaiting {
     pub target: Target,
     pub a: u32,
     pub call: Awaited,

@@ -37,7 +37,7 @@ use wf_text::{MethodId, NoMemory};
 
 /// A method that is called: of the receiver itself, or of what stands in one of its fields.
 #[derive(Clone, Copy)]
-pub enum Called {
+pub(crate) enum Called {
     Own(MethodId),
     Sub { field: FieldId, method: MethodId },
 }
@@ -56,7 +56,7 @@ impl Called {
 
 /// What a call is of, with what it is passed.
 #[derive(Clone, Copy)]
-pub struct Invoked<'a> {
+pub(crate) struct Invoked<'a> {
     pub called: Called,
     pub args: &'a [ExprId],
 }

@@ -34,7 +34,7 @@ use wf_text::NoMemory;
 
 /// A base method that writes and doesn't suspend, with its arguments.
 #[derive(Clone, Copy)]
-pub enum Written {
+pub(crate) enum Written {
     SkipFast {
         a: u32,
         actual: ExprId,

@@ -210,7 +210,7 @@ fn give_some(b: &Body, u: &mut Unit, e: ExprId, rest: CStmtId) -> Result<CStmtId
 }
 
 /// The function returns what is given, or nothing.
-pub fn give_value(
+pub(crate) fn give_value(
     b: &Body,
     u: &mut Unit,
     value: Option<ExprId>,

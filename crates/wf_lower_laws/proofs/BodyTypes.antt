@@ -125,7 +125,7 @@ among_found (x ∷ xs) l a = by (either_true (bytes_eq l x.name) (is_among (map 
         later true k = refl
         later false k = k
 
--- What is found in front is found with anything after it.
+-- What is found at the front is found with anything after it.
 front_alike : (xs ys zs : List ParamTree) (l : List ℕ) → is_some (find (λ it. bytes_eq (name_of it) l) xs) ≡ true → find (λ it. bytes_eq (name_of it) l) (xs ++ ys) ≡ find (λ it. bytes_eq (name_of it) l) (xs ++ zs)
 front_alike xs ys zs l h = by (find (λ it. bytes_eq (name_of it) l) xs) refl h
   where

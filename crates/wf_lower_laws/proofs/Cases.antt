@@ -80,7 +80,7 @@ module _ (f : Form) (n : Site → ℕ) where
   abbrev pub case_of : Site → CNumber
   case_of site = Int (n site)
 
-  -- With a point in front, or without.
+  -- With a point before it, or without.
   here : (point : Bool) (site : Site) (points : List Site) (one other : Code) (tail : List CNumber) → case_numbers one ≡ case_of site ∷ (map case_of points ++ tail) → case_numbers other ≡ map case_of points ++ tail
       → case_numbers (if point then one else other) ≡ map case_of (if point then site ∷ points else points) ++ tail
   here true site points one other tail h j = h

@@ -19,7 +19,7 @@ module _ {X : Type 0} (name : X → List ℕ) where
   abbrev names : List X → List (List ℕ)
   names xs = map name xs
 
-  -- In front, or after that where it isn't in front.
+  -- At the front, or after that where it isn't at the front.
   pub found_front : (xs ys : List X) (l : List ℕ) (x : X) → found xs l ≡ Some x → found (xs ++ ys) l ≡ Some x
   found_front [] ys l x h = absurd (cc h)
   found_front (y ∷ xs) ys l x h = by (bytes_eq (name y) l) h (found_front xs ys l x)

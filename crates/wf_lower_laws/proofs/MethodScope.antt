@@ -125,7 +125,7 @@ module _ (p : PackageTree) (n : ℕ) (m : MethodTree) (structs : List StructDecl
   abbrev pub Settled : List ℕ → Type 0
   Settled name = (is_some (find (λ it. bytes_eq it.name name) front) ≡ true) ⊎ (code_reads name (body_code f) ≡ true)
 
-  -- What the package and the items in front give.
+  -- What the package and the items before it give.
   pub record Given (known : ℕ → Bool) : Type 0 where
     pub is : slice_get p.methods n ≡ Some m
     pub words : Words m
@@ -139,7 +139,7 @@ module _ (p : PackageTree) (n : ℕ) (m : MethodTree) (structs : List StructDecl
     pub fields_apart : all_distinct (field_labels (struct_fields p m.of)) ≡ true
 
   module _ (known : ℕ → Bool) (g : Given known) where
-    -- ---- names in front
+    -- ---- names before it
 
     lookup : (x : ParamTree) → There x front → find (λ it. bytes_eq it.name x.name) T.names ≡ Some x
     lookup x h = found_front name_of front behind x.name x (there_found name_of front x g.distinct h)
@@ -723,7 +723,7 @@ module _ (p : PackageTree) (n : ℕ) (m : MethodTree) (structs : List StructDecl
         in_buffer (types.Array width lo hi count) k = absurd (cc k)
         in_buffer (types.Part s) k = absurd (cc k)
 
-    -- Functions that stand in front.
+    -- Functions that stand before it.
     pub record FoundAs (name : List ℕ) (callee : MethodTree) : Type 0 where
       pub function : Function
       pub there : function_named fs name ≡ Some function

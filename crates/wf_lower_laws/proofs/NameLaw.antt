@@ -178,7 +178,7 @@ module _ (p : PackageTree) (m : MethodTree) (w : Words m) where
       bytes_too : (T : List ℕ → Bool) → ((x : List ℕ) → is_word_name x ≡ true → T (codes "b_" ++ x) ≡ true) → list_all T bytes_labels ≡ true
       bytes_too T h = read_all T is_word_name (body_code f) (bytes_locals f 0 m.args) (bytes_all T is_word_name f 0 m.args (from_front p m) w.args_words h)
 
-  -- With the parameters in front, and any names after them that aren't spelt like them.
+  -- With the parameters at the front, and any names after them that aren't spelt like them.
   with_params : (ls : List (List ℕ)) → list_all (λ l. not (begins (codes "a") l)) ls ≡ true → list_all (λ l. not (bytes_eq l (codes "self"))) ls ≡ true → all_distinct ls ≡ true
       → all_distinct (codes "self" ∷ (args_labels m.args ++ ls)) ≡ true
   with_params ls h j d =

@@ -156,7 +156,7 @@ module _ (p : PackageTree) (s : ℕ) (B : List ItemTree) where
     returned : (e : ExprTree) → IsText S e → formed_return C (Some e) (Some text) ≡ true
     returned e t = let v = text_fits S e t in rw v.is v.fits
 
-    -- The parts that stand in front are made ready.
+    -- The parts that stand before it are made ready.
     pub record Ready (t : ℕ) : Type 0 where
       pub function : Function
       pub found : function_named (functions_of B) (initialize_name p t) ≡ Some function

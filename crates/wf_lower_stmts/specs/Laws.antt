@@ -45,10 +45,3 @@ BreaksBehindLoop f n w b t =
 -- The numbers of points fit the `int` that a `switch` asks.
 abbrev pub AreInts : (number : Site → ℕ) → Type 0
 AreInts n = (site : Site) → n site < 2 ^ 31
-
--- All of it.
-pub record IsLabelLaw : Type 0 where
-  pub points : (n : Site → ℕ) (k : ℕ) (b : Block) (t : Trail) → PointsAgree n k b t
-  pub cases : (f : Form) (n : Site → ℕ) (k : ℕ) (b : Block) (t : Trail) → AreInts n → ResumesAtPoint f n k b t
-  pub to_end : (f : Form) (n : Site → ℕ) (w : ℕ) (b : Block) (t : Trail) → w < 2 ^ 64 → AreSpelt b → IsSpelt t → ContinuesAtLoop f n w b t
-  pub to_behind : (f : Form) (n : Site → ℕ) (w : ℕ) (b : Block) (t : Trail) → w < 2 ^ 64 → AreSpelt b → BreaksBehindLoop f n w b t

@@ -53,7 +53,7 @@ pub fn is_io(ty: Ty) -> bool
 }
 
 /// The argument that is the reader or the writer which an expression names, and None for every other expression.
-pub fn io_handed(t: &Typed, e: ExprId) -> Option<u32>
+pub(crate) fn io_handed(t: &Typed, e: ExprId) -> Option<u32>
     requires typed { IsTyped t.now }
     requires node { IsTrue (is_expr t.now e) }
     ensures { result ≡ io_handed (tree_of t.now e) }

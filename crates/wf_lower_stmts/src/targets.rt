@@ -54,7 +54,7 @@ fn variable_target(ty: Ty, path: Path) -> Target
 }
 
 /// The target that an expression is.
-pub fn target_at(b: &Body, e: ExprId) -> Target
+pub(crate) fn target_at(b: &Body, e: ExprId) -> Target
     requires node { IsTrue (is_expr b.now.nodes e) }
     ensures is { AreAlike (target_tree (tree_of b.now.nodes e)) (target_in b.now.nodes result) }
     ensures there { is_target b.now.nodes result ≡ true }

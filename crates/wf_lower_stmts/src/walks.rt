@@ -17,7 +17,7 @@ use wf_base::{BaseSig, ReadForm};
 
 /// What is looked for.
 #[derive(Clone, Copy)]
-pub enum Sought {
+pub(crate) enum Sought {
     /// A `break` of this loop.
     Break(StmtId),
     /// A `continue` of this loop.

@@ -1,7 +1,7 @@
-use Rattle.std.proofs.Common.{◌≡◌, ◌+◌, ◌*◌, ◌||◌, ℕ, List, drop}
+use Rattle.std.proofs.Common.{◌≡◌, ◌+◌, ◌*◌, ◌||◌, ℕ, List, drop, length}
 use Rattle.c_text.specs.CNodes.{args_in, expr_of, operands_in}
 use Rattle.wf_exprs.specs.Reads.{args_read, operands_read}
-use Rattle.wf_exprs_nodes.specs.Marks.{has_name}
+use Rattle.wf_exprs_nodes.specs.Marks.{is_marked}
 use Rattle.wf_exprs_nodes.proofs.marks.+marking.Given as goal
 
 abbrev pub decreases-mark_expr : goal.decreases-mark_expr
@@ -21,9 +21,13 @@ decreases-mark_arg l = 4 * l.e.0
 
 -- A name is there, or one of those that are left reads it, where it was there or one of all reads it.
 abbrev pub invariant-mark_operands-loop-operand : goal.invariant-mark_operands-loop-operand
-invariant-mark_operands-loop-operand l =
-    (name : List ℕ) → (has_name l.read name || operands_read name (operands_in (expr_of l.u) (drop l.operand-index l.operands))) ≡ (has_name l.fn.read name || operands_read name (operands_in (expr_of l.u) l.operands))
+invariant-mark_operands-loop-operand l = record {
+  sized : length l.read ≡ length l.fn.read;
+  left : (name : List ℕ) → (is_marked l.u.names l.read name || operands_read name (operands_in (expr_of l.u) (drop l.operand-index l.operands))) ≡ (is_marked l.u.names l.fn.read name || operands_read name (operands_in (expr_of l.u) l.operands));
+}
 
 abbrev pub invariant-mark_args-loop-arg : goal.invariant-mark_args-loop-arg
-invariant-mark_args-loop-arg l =
-    (name : List ℕ) → (has_name l.read name || args_read name (args_in l.u.names (expr_of l.u) (drop l.arg-index l.args))) ≡ (has_name l.fn.read name || args_read name (args_in l.u.names (expr_of l.u) l.args))
+invariant-mark_args-loop-arg l = record {
+  sized : length l.read ≡ length l.fn.read;
+  left : (name : List ℕ) → (is_marked l.u.names l.read name || args_read name (args_in l.u.names (expr_of l.u) (drop l.arg-index l.args))) ≡ (is_marked l.u.names l.fn.read name || args_read name (args_in l.u.names (expr_of l.u) l.args));
+}

@@ -1,7 +1,7 @@
-use Rattle.std.proofs.Common.{◌≡◌, ◌+◌, ◌*◌, ◌≤◌, ◌||◌, ℕ, List}
+use Rattle.std.proofs.Common.{◌≡◌, ◌+◌, ◌*◌, ◌≤◌, ◌||◌, ℕ, List, length}
 use Rattle.c_text.specs.CNodes.{code_of}
 use Rattle.wf_exprs.specs.Reads.{code_reads}
-use Rattle.wf_exprs_nodes.specs.Marks.{has_name}
+use Rattle.wf_exprs_nodes.specs.Marks.{is_marked}
 use Rattle.wf_exprs_nodes.proofs.marks.+marking_code.Given as goal
 
 abbrev pub decreases-mark_code : goal.decreases-mark_code
@@ -17,7 +17,8 @@ decreases-mark_other l = 3 * l.other.0 + 2
 abbrev pub invariant-mark_code-loop-next : goal.invariant-mark_code-loop-next
 invariant-mark_code-loop-next l = record {
   within : l.at.0 ≤ l.fn.s.0;
-  left : (name : List ℕ) → (has_name l.read name || code_reads name (code_of l.u l.at.0)) ≡ (has_name l.fn.read name || code_reads name (code_of l.u l.fn.s.0));
+  sized : length l.read ≡ length l.fn.read;
+  left : (name : List ℕ) → (is_marked l.u.names l.read name || code_reads name (code_of l.u l.at.0)) ≡ (is_marked l.u.names l.fn.read name || code_reads name (code_of l.u l.fn.s.0));
 }
 
 abbrev pub decreases-mark_code-loop-next : goal.decreases-mark_code-loop-next

@@ -5,6 +5,7 @@ use Rattle.wf_exprs.proofs.Growing.{grows_on, unchanged}
 use Rattle.wf_lower_stmts.proofs.HereLaws.{code_here}
 use Rattle.wf_lower.specs.Bodies.{touched}
 use Rattle.wf_lower.specs.Methods.{names_in}
+use Rattle.wf_lower.proofs.LocalLaws.{still_reads}
 use Rattle.wf_lower.proofs.BodyLaws.{names_count, touched_none, touched_step}
 use Rattle.wf_lower.proofs.bodies.touch_all.Goals as goal
 
@@ -31,10 +32,10 @@ loop-left-preserved c =
     record {
       within = omega (arith, inv.within);
       grows = grows_on inv.grows c.touch.ensures.grows;
-      made = touched_step own own (names_in u c.args.params.now c.args.locals.now) c.loop-left.left (c.loop-left.left - 1) _ _ _
+      made = touched_step own own (names_in u c.args.params.now c.args.locals.now) c.loop-left.left (c.loop-left.left - 1) _ _ own
           (omega (arith, c.loop-left-test.true)) (c.name_at.ensures.is u)
-          (inv.grows.names _ (c.name_at.ensures.there u c.requires.params c.requires.locals)) (inv.grows.stmts c.args.code.0 c.requires.code)
-          inv.made c.in_ok-front.ensures.made;
+          (inv.grows.names _ (c.name_at.ensures.there u c.requires.params c.requires.locals)) refl
+          inv.made (c.in_ok-front.ensures.made own (still_reads own inv.grows c.requires.read));
     }
 
 pub returns-clause-made : goal.returns-clause-made

@@ -10,7 +10,7 @@ abbrev pub invariant-loop-left : goal.invariant-loop-left
 invariant-loop-left l = record {
   within : l.left ≤ length l.params + length l.locals;
   grows : Grows l.fn.u l.u;
-  made : HasCode l.u l.front.0 (touched (drop l.left (names_in l.fn.u l.params l.locals)) (code_of l.fn.u l.code.0) (code_of l.fn.u l.code.0));
+  made : HasCode l.u l.front.0 (touched (drop l.left (names_in l.fn.u l.params l.locals)) (code_of l.fn.u l.fn.code.0) (code_of l.fn.u l.fn.code.0));
 }
 
 abbrev pub decreases-loop-left : goal.decreases-loop-left

@@ -16,5 +16,5 @@ returns-clause-made c =
     let got : List LocalTree = declared (uint U64) (codes "got") (num 0) ∷ [] in
     let left : List LocalTree = declared size (codes "size") (num 0) ∷ [] in
     let g = c.add_read.ensures.grows in
-    reads_then _ _ _ _ _ _ c.args.code (status ++ got) left c.add_read-3.result (grows_on g c.add_read-2.ensures.grows) c.requires
-    (reads_on _ _ _ _ _ _ c.args.code status got g c.requires c.in_ok-add_read.ensures.made c.in_ok-add_read-2.ensures.made) c.add_read-3.ensures.made
+    reads_then c.args.read.now _ _ _ _ _ _ (status ++ got) left c.add_read-3.result (grows_on g c.add_read-2.ensures.grows)
+    (reads_on c.args.read.now _ _ _ _ _ _ status got g c.in_ok-add_read.ensures.made c.in_ok-add_read-2.ensures.made) c.add_read-3.ensures.made

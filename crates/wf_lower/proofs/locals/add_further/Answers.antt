@@ -1,8 +1,7 @@
-use Rattle.c_text.specs.CNodes.{code_of}
 use Rattle.wf_exprs.proofs.Growing.{grows_on}
 use Rattle.wf_lower_stmts.specs.BodyNodes.{form_in}
-use Rattle.wf_lower.specs.Bodies.{further_locals}
-use Rattle.wf_lower.specs.Made.{bytes_read, resume_locals}
+use Rattle.wf_lower.specs.Bodies.{bytes_locals, further_locals}
+use Rattle.wf_lower.specs.Made.{resume_locals}
 use Rattle.wf_lower.proofs.LocalLaws.{reads_between}
 use Rattle.wf_lower.proofs.locals.add_further.Goals as goal
 
@@ -12,5 +11,5 @@ returns-clause-grows c = grows_on (grows_on c.add_all_bytes.ensures.grows c.add_
 pub returns-clause-made : goal.returns-clause-made
 returns-clause-made c =
     let f = form_in c.args.b.now in
-    reads_between _ _ _ _ _ _ _ _ c.args.code (bytes_read f (code_of c.args.u.now c.args.code.0) 0 f.method.args) further_locals (resume_locals f.method) c.add_resume.result c.add_all_bytes.ensures.grows c.requires
+    reads_between c.args.read.now _ _ _ _ _ _ _ _ (bytes_locals f 0 f.method.args) further_locals (resume_locals f.method) c.add_resume.result c.add_all_bytes.ensures.grows
     c.in_ok-add_all_bytes.ensures.made c.in_ok-add_own.ensures.made c.add_resume.ensures.made

@@ -3,4 +3,4 @@ use Rattle.wf_lower.proofs.LocalLaws.{reads_then}
 use Rattle.wf_lower.proofs.locals.add_own.Goals as goal
 
 pub returns-clause-made : goal.returns-clause-made
-returns-clause-made c = reads_then _ _ _ _ _ _ c.args.code answer_locals started_locals c.add_started.result c.add_answers.ensures.grows c.requires c.in_ok-add_answers.ensures.made c.add_started.ensures.made
+returns-clause-made c = reads_then c.args.read.now _ _ _ _ _ _ answer_locals started_locals c.add_started.result c.add_answers.ensures.grows c.in_ok-add_answers.ensures.made c.add_started.ensures.made

@@ -10,4 +10,4 @@ pub returns-clause-made : goal.returns-clause-made
 returns-clause-made c =
     let held : List LocalTree = declared (uint U64) (codes "held") (num 0) ∷ [] in
     let count : List LocalTree = declared (uint U8) (codes "count") (num 0) ∷ [] in
-    reads_then _ _ _ _ _ _ c.args.code held count c.add_read-2.result c.add_read.ensures.grows c.requires c.in_ok-add_read.ensures.made c.add_read-2.ensures.made
+    reads_then c.args.read.now _ _ _ _ _ _ held count c.add_read-2.result c.add_read.ensures.grows c.in_ok-add_read.ensures.made c.add_read-2.ensures.made

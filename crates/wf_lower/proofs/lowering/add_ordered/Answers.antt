@@ -16,7 +16,7 @@ pub add_functions-requires : goal.add_functions-requires
 add_functions-requires c =
     let u = c.all_functions.new.u in
     let fs = c.in_ok-functions.functions.items in
-    let are = subst (λ (l : List CItem). AreRead (item_trees u l) c.in_ok-read.read) c.as_slice.ensures.value c.in_ok-read.ensures in
+    let are = subst (λ (l : List CItem). AreRead (item_trees u l) u.names c.in_ok-read.read) c.as_slice.ensures.value c.in_ok-read.ensures in
     fit_grown fs (keeps_by (c.in_ok-add_before.ensures (item_trees u fs) are)) c.in_ok-functions.ensures.made.there
 
 pub returns : goal.returns
@@ -25,5 +25,5 @@ returns c =
     let order = c.args.order.now in
     let u = c.all_functions.new.u in
     let fs = c.in_ok-functions.functions.items in
-    let are = subst (λ (l : List CItem). AreRead (item_trees u l) c.in_ok-read.read) c.as_slice.ensures.value c.in_ok-read.ensures in
+    let are = subst (λ (l : List CItem). AreRead (item_trees u l) u.names c.in_ok-read.read) c.as_slice.ensures.value c.in_ok-read.ensures in
     ordered_all p order c.args.u.now u _ _ fs c.add_functions.result c.is_sound.ensures c.all_functions.ensures.grows c.in_ok-functions.ensures.made (c.in_ok-add_before.ensures (item_trees u fs) are) c.add_functions.ensures

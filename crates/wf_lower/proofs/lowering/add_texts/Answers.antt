@@ -1,8 +1,9 @@
 use Rattle.std.proofs.Common.{◌<◌, ◌≤◌, [], ◌∷◌, length, refl, arith}
 use Rattle.c_text.proofs.Arena.{slice_get-some}
 use Rattle.wf_lower.specs.Unit.{used_texts}
+use Rattle.wf_lower.proofs.Kept.{keeps_by}
 use Rattle.wf_lower.proofs.PartLaws.{texts_cons}
-use Rattle.wf_lower.proofs.Texts.{by_list, by_on, by_same}
+use Rattle.wf_lower.proofs.Texts.{by_list, by_on, by_same, still_read}
 use Rattle.wf_lower.proofs.Walks.{walk_at, walk_end}
 use Rattle.wf_lower.proofs.lowering.add_texts.Goals as goal
 
@@ -18,7 +19,7 @@ loop-n-preserved c = λ functions are.
     let found = slice_get-some texts n there in
     record {
       added = _;
-      grows = by_on inv.added (used_texts functions n (found.0 ∷ [])) inv.grows (c.in_ok-add_text.ensures functions are found.0 found.1);
+      grows = by_on inv.added (used_texts functions n (found.0 ∷ [])) inv.grows (c.in_ok-add_text.ensures functions (still_read functions (keeps_by inv.grows) are) found.0 found.1);
       left = walk_at (used_texts functions) (λ m. refl) (texts_cons functions) inv.added _ _ n n texts found.0 found.1 refl inv.left;
     }
 
