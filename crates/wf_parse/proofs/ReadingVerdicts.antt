@@ -315,7 +315,7 @@ same_cut (x ∷ a) b (y ∷ c) d e h =
     let a_is = same.0 in
     (cc, same.1)
 
--- The limits hold in front where they hold of more.
+-- The limits hold of the front where they hold of more.
 within_front : (front more : List Token) → IsWithin (front ++ more) → IsWithin front
 within_front front more w = record {
   shallow = λ f t b e h. w.shallow f t (b ++ more) (ap (λ xs. xs ++ more) e ∙ append_assoc f (t ∷ b) more) h;

@@ -15,7 +15,7 @@ use wf_tokens::Lexer;
 /// The tokens of a file with the place of the file's end. Where the file has bytes that are no token, `refused`
 /// says so, and the last token is a `Bad` one in their place.
 #[derive(Drop)]
-pub struct FileTokens {
+pub(crate) struct FileTokens {
     pub tokens: Vec<Token>,
     pub end: Place,
     pub refused: Option<Refusal>,

@@ -43,7 +43,7 @@ const MOST_STATEMENTS: u32 = 4096;
 
 /// The machine. `room` is the number of statements that the method in hand may still begin.
 #[derive(Drop)]
-pub struct Machine {
+pub(crate) struct Machine {
     pub maker: Maker,
     pub wants: Stack<Want>,
     pub room: u32,
@@ -200,6 +200,7 @@ impl Machine {
 
     /// What the table says to the token where `symbol` stood on the top: true where the token is taken, false where
     /// it is left to what stands below.
+    #[inline(never)]
     fn read(&mut self, limited: bool, symbol: Sym, token: Token) -> Result<bool, StepFault>
         requires sound { IsSound self.old.maker }
         requires size { size self.old + 32 < 2 ^ 32 }
@@ -209,8 +210,7 @@ impl Machine {
         ensures below { IfOk result (λ taken. taken ≡ false → self.new.wants ≡ self.old.wants) }
         ensures size { IfOk result (λ taken. size self.new ≤ size self.old + (if taken then 32 else 2)) }
     {
-        let told = build(symbol, token);
-        match &told {
+        match &build(symbol, token) {
             Build::Take(wants) => self.take(limited, symbol, token, wants),
             Build::Begin(wants) => self.begin(limited, symbol, token, wants),
             Build::Enter(wants) => self.enter(limited, symbol, token, wants),
@@ -278,7 +278,7 @@ impl Machine {
     }
 
     /// The file's end. S5 where more is wanted.
-    pub fn finish(&mut self) -> Result<(), StepFault>
+    pub(crate) fn finish(&mut self) -> Result<(), StepFault>
         requires sound { IsSound self.old.maker }
         requires size { size self.old + 32 < 2 ^ 32 }
         ensures answers { AnswersEnd (state_of self.old) (state_of self.new) result }

@@ -107,7 +107,7 @@ link-taken op p ts k m =
     ap (λ c. go (if c then Take (Make (does.PushPlace p) ∷ Read syms.Operand ∷ Make does.AddLink ∷ Read (syms.Links op) ∷ []) else wrong_mix) (λ xs. makes (xs ++ k) ts m)
     (makes k (token (kinds.Chain op) p ∷ ts) (skipped (syms.Links op) m))) (same_op-self op)
 
--- Arguments, where these stand in front.
+-- Arguments, where these stand before them.
 abbrev GivensBuilt : GivensForm → Type 0
 GivensBuilt gs = (r : Place) (rest : List Token) (k : List Want) (so_far : List GivenVal) (vs : List Val) (d : List DeclTree)
     → makes (Read syms.Givens ∷ k) (givens_before gs (token kinds.CloseRound r ∷ rest)) (made (givens so_far ∷ vs) d) ≡ makes k rest (made (givens (so_far ++ given_vals gs) ∷ vs) d)

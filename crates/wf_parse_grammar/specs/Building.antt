@@ -26,7 +26,7 @@ pub use Rattle.wf_parse_grammar.specs.declared.builds.Build.TheVariants.{Take, B
 use Rattle.wf_parse_grammar.specs.Machine.{may_end, owes, opens, one_more_if}
 use Rattle.wf_parse_grammar.specs.Values.{Made, perform}
 
--- A move, where more is wanted after it, and one with an action in front.
+-- A move, where more is wanted after it, and one with an action before it.
 abbrev pub followed : Build → List Want → Build
 followed (Take xs) ys = Take (xs ++ ys)
 followed (Begin xs) ys = Begin (xs ++ ys)

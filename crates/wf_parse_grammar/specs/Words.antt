@@ -1,5 +1,5 @@
 -- What is wanted, as lists of tokens: `Word s ts rest` says that the tokens `ts` complete the symbol s up to
--- `rest`. Of a symbol that is left of a production it speaks with whatever stood in front.
+-- `rest`. Of a symbol that is left of a production it speaks with whatever stood before it.
 use Rattle.std.specs.Prelude.{◌≡◌, List, [], ◌∷◌}
 use Rattle.wf_text.specs.declared.place.Place.{Place}
 use Rattle.wf_ast.specs.declared.parsed.Name.{Name}

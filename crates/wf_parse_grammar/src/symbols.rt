@@ -212,7 +212,7 @@ pub enum Action {
     /// A call, the statement's place.
     CallStmt,
     StartArms,
-    /// A block, an expression, the arms in front.
+    /// A block, an expression, the arms before it.
     AddArm,
     NoElse,
     /// A block.
@@ -220,7 +220,7 @@ pub enum Action {
     /// What stands after `else`, the arms, the statement's place.
     IfStmt,
     StartClauses,
-    /// An expression, the place of the clause's word, the clauses in front.
+    /// An expression, the place of the clause's word, the clauses before it.
     AddClause(Clause),
     /// A block, clauses, an expression, the statement's place.
     LoopStmt,
@@ -245,7 +245,7 @@ pub enum Action {
 
     // declarations
     StartFields,
-    /// A type, a name, the fields in front.
+    /// A type, a name, the fields before it.
     AddField,
     /// Prefixes of a type that isn't there.
     NoResult,

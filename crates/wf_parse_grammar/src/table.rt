@@ -79,7 +79,7 @@ pub fn build(symbol: Sym, token: Token) -> Build
     }
 }
 
-/// The actions where `symbol` is left out, the first one in front.
+/// The actions where `symbol` is left out, the first one at the front.
 pub fn skips(symbol: Sym) -> &'static [Action]
     ensures { result.now ≡ skips symbol }
 {

@@ -33,7 +33,7 @@ pub enum Lead {
     ThisTarget { op: Option<Op>, at: Place },
 }
 
-/// Wanted things, the first one in front.
+/// Wanted things, the first one at the front.
 #[derive(Drop)]
 pub struct Wants {
     lead: Lead,
@@ -82,7 +82,7 @@ impl Wants {
     }
 
     /// Actions that tell what the token says, then `rest` and `after`.
-    pub fn led(lead: Lead, rest: &'static [Want], after: &'static [Want]) -> Self
+    pub(crate) fn led(lead: Lead, rest: &'static [Want], after: &'static [Want]) -> Self
         ensures { result ≡ led_by lead (rest.now ++ after.now) }
     {
         Wants {

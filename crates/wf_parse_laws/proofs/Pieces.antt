@@ -1,4 +1,4 @@
--- Bytes have a token's piece in front, or a rule that refuses them.
+-- Bytes have a token's piece at the front, or a rule that refuses them.
 use Rattle.std.proofs.Common.{◌≡◌, ◌⊎◌, inl, inr, ℕ, ◌+◌, ◌≤◌, ◌<◌, ◌^◌, Bool, true, false, ◌||◌, List, [], ◌∷◌, ◌++◌, length, take, drop, refl, sym, ◌∙◌, ap, subst, suc, zero, nat_lt, arith, Option, Some, None, length-append}
 use Rattle.std.specs.List.{list_all}
 use Rattle.std.proofs.lemmas.Bool.Decides.{nat_tests}
@@ -19,7 +19,7 @@ use Rattle.wf_tokens.proofs.SymbolTable.{longest_found, none_found, is_symbol_by
 use Rattle.wf_tokens.proofs.WordTable as words
 use Rattle.wf_tokens.proofs.WordTable.{if_none, if_found}
 
--- A piece in front.
+-- A piece at the front.
 pub record HasPiece (bytes : List ℕ) : Type 0 where
   pub kind : TokenKind
   pub len : ℕ

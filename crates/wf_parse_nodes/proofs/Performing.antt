@@ -10,8 +10,8 @@ use Rattle.wf_ast.specs.ParsedParts.{Parsed, ExprParts, StmtParts, DeclParts}
 use Rattle.wf_parse_grammar.specs.declared.symbols.Action.{Action}
 use Rattle.wf_parse_grammar.specs.declared.symbols.Action.TheVariants as does
 use Rattle.wf_parse_grammar.specs.Values.{Made, perform}
-use Rattle.wf_parse_nodes.specs.declared.products.Product.{Product}
-use Rattle.wf_parse_nodes.specs.declared.products.Product.TheVariants as makes
+use Rattle.wf_parse_nodes.specs.Products.{Product}
+use Rattle.wf_parse_nodes.specs.Products as makes
 use Rattle.wf_parse_nodes.specs.declared.shapes.Shape.{Shape}
 use Rattle.wf_parse_nodes.specs.declared.values.Value.{Value}
 use Rattle.wf_parse_nodes.specs.declared.values.Value.TheVariants as vals
@@ -88,21 +88,24 @@ misfit_performed p vs ws a shapes fit s f not_there w =
     rw w (rw none at law)
 
 -- An action that fits: what it makes, put on what it leaves.
-pub fit_performed : (p : Parsed) (vs : List Value) (a : Action) (shapes : List Shape) (fit : Bool) (m : Making) → shapes ≡ takes a → fit ≡ fits shapes vs → fit ≡ true → making a vs ≡ m
-    → made_with (expr_trees p.exprs) (stmt_trees p.exprs p.stmts) m.product (seen_values (expr_trees p.exprs) (stmt_trees p.exprs p.stmts) m.vals) (decl_trees p.exprs p.stmts p.decls) ≡ perform a (made_of p vs)
-fit_performed p vs a shapes fit m s f is e =
-    let es = expr_trees p.exprs in
-    let ss = stmt_trees p.exprs p.stmts in
-    let fit_there : fits (takes a) vs ≡ true = ap (λ x. fits x vs) (sym s) ∙ sym f ∙ is in
-    let law = action-made es ss (decl_trees p.exprs p.stmts p.decls) a vs in
-    rw (fit_there, e) at law
+module _ (old : Maker) (a : Action) (fit : fits (takes a) old.values ≡ true) (product : Product) (ws : List Value) (e : let m : Making = record { product = product; vals = ws } in making a old.values ≡ m) where
+  pub fit_performed : put_on (record old { values = ws }) product ≡ perform a (made_of old.package old.values)
+  fit_performed =
+      let es = expr_trees old.package.exprs in
+      let ss = stmt_trees old.package.exprs old.package.stmts in
+      let law = action-made es ss (decl_trees old.package.exprs old.package.stmts old.package.decls) a old.values in
+      rw (fit, e) at law
 
-pub fit_below : (p : Parsed) (vs : List Value) (a : Action) (shapes : List Shape) (fit : Bool) (m : Making) → shapes ≡ takes a → fit ≡ fits shapes vs → fit ≡ true → making a vs ≡ m → AreOf p vs
-    → ProductParts (length p.exprs) (length p.stmts) m.product × AreOf p m.vals
-fit_below p vs a shapes fit m s f is e b =
-    let fit_there : fits (takes a) vs ≡ true = ap (λ x. fits x vs) (sym s) ∙ sym f ∙ is in
-    let P : Making → Type 0 = λ x. ProductParts (length p.exprs) (length p.stmts) x.product × AreOf p x.vals in
-    subst P e (action-below (length p.exprs) (length p.stmts) a vs fit_there b)
+  fit_below : AreOf old.package old.values → ProductParts (length old.package.exprs) (length old.package.stmts) product × AreOf old.package ws
+  fit_below b =
+      let P : Making → Type 0 = λ x. ProductParts (length old.package.exprs) (length old.package.stmts) x.product × AreOf old.package x.vals in
+      subst P e (action-below (length old.package.exprs) (length old.package.stmts) a old.values fit b)
+
+  pub fit_parts : AreOf old.package old.values → ProductParts (length old.package.exprs) (length old.package.stmts) product
+  fit_parts b = (fit_below b).0
+
+  pub fit_sound : IsSound old → IsSound (record old { values = ws })
+  fit_sound sound = record { ordered = sound.ordered; below = (fit_below sound.below).1 }
 
 -- An action that pushes finds whatever it takes, which is nothing.
 push_fits : (a : Action) (vs : List Value) → pushes a ≡ true → fits (takes a) vs ≡ true
@@ -128,7 +131,7 @@ push_fits _ vs h = absurd (cc h)
 -- What such an action pushes, put on what was there.
 module _ (old : Maker) (a : Action) (v : Value) (h : pushes a ≡ true) (e : (vs : List Value) → let pushed : Making = record { product = makes.Value v; vals = vs } in making a vs ≡ pushed) where
   pub push_performed : put_on old (makes.Value v) ≡ perform a (made_of old.package old.values)
-  push_performed = fit_performed old.package old.values a (takes a) (fits (takes a) old.values) (record { product = makes.Value v; vals = old.values }) refl refl (push_fits a old.values h) (e old.values)
+  push_performed = fit_performed old a (push_fits a old.values h) (makes.Value v) old.values (e old.values)
 
   pub push_parts : AreOf old.package old.values → ProductParts (length old.package.exprs) (length old.package.stmts) (makes.Value v)
-  push_parts b = (fit_below old.package old.values a (takes a) (fits (takes a) old.values) (record { product = makes.Value v; vals = old.values }) refl refl (push_fits a old.values h) (e old.values) b).0
+  push_parts b = fit_parts old a (push_fits a old.values h) (makes.Value v) old.values (e old.values) b

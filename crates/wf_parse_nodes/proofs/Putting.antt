@@ -12,7 +12,7 @@ use Rattle.wf_ast.specs.ParsedParts.{Parsed, ExprParts, StmtParts, DeclParts}
 use Rattle.wf_ast.proofs.TreeLemmas.{Agree, all_map, all_push, slice_get-front, slice_get-seam, stmts_push, StmtsOrdered-more, DeclParts-more}
 use Rattle.wf_parse_grammar.specs.Values as val
 use Rattle.wf_parse_grammar.specs.Values.{Made, Val}
-use Rattle.wf_parse_nodes.specs.declared.products.Product.TheVariants as makes
+use Rattle.wf_parse_nodes.specs.Products as makes
 use Rattle.wf_parse_nodes.specs.declared.values.Value.{Value}
 use Rattle.wf_parse_nodes.specs.declared.values.Value.TheVariants as vals
 use Rattle.wf_parse_nodes.specs.Seen.{seen_values, AreOf, made_of, made_with, IsOrdered}

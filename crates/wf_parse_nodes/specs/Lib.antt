@@ -1,4 +1,5 @@
 pub mod Makers
 pub mod Making
+pub mod Products
 pub mod Seen
 pub mod Shapes

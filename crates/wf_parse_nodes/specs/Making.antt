@@ -15,8 +15,8 @@ use Rattle.wf_ast.specs.declared.parsed.Target.TheVariants as targets
 use Rattle.wf_parse_grammar.specs.declared.symbols.Action.{Action}
 use Rattle.wf_parse_grammar.specs.declared.symbols.Action.TheVariants as does
 use Rattle.wf_parse_grammar.specs.Values.{bare_path, this_path, args_path}
-use Rattle.wf_parse_nodes.specs.declared.products.Product.{Product}
-use Rattle.wf_parse_nodes.specs.declared.products.Product.TheVariants as makes
+use Rattle.wf_parse_nodes.specs.Products.{Product}
+use Rattle.wf_parse_nodes.specs.Products as makes
 use Rattle.wf_parse_nodes.specs.declared.values.OpenCore.{OpenCore}
 use Rattle.wf_parse_nodes.specs.declared.values.OpenCore.TheVariants as open_cores
 use Rattle.wf_parse_nodes.specs.declared.values.Value.{Value}

@@ -14,8 +14,8 @@ use Rattle.wf_ast.specs.ParsedTree.{ExprTree, StmtTree, BlockTree, DeclTree}
 use Rattle.wf_ast.specs.ParsedTrees.{expr_at, part_at, call_at, bounds_at, type_at, expr_trees, target_at, via_at, stmt_at, block_at, stmt_trees, result_at, decl_trees, expr_made, stmt_made, decl_made}
 use Rattle.wf_parse_grammar.specs.Values as val
 use Rattle.wf_parse_grammar.specs.Values.{Val, Made, LinkVal, GivenVal, ArmVal, ClauseVal, FieldVal, PrefixVal, CoreVal}
-use Rattle.wf_parse_nodes.specs.declared.products.Product.{Product}
-use Rattle.wf_parse_nodes.specs.declared.products.Product.TheVariants as makes
+use Rattle.wf_parse_nodes.specs.Products.{Product}
+use Rattle.wf_parse_nodes.specs.Products as makes
 use Rattle.wf_parse_nodes.specs.declared.values.OpenCore.{OpenCore}
 use Rattle.wf_parse_nodes.specs.declared.values.OpenCore.TheVariants as open_cores
 use Rattle.wf_parse_nodes.specs.declared.values.Value.{Value}

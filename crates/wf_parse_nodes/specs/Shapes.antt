@@ -3,6 +3,8 @@ use Rattle.std.specs.Prelude.{Bool, true, false, List, [], ◌∷◌}
 use Rattle.stacks.specs.Shapes.{all_fit}
 use Rattle.wf_parse_grammar.specs.declared.symbols.Action.{Action}
 use Rattle.wf_parse_grammar.specs.declared.symbols.Action.TheVariants as does
+use Rattle.wf_parse_nodes.specs.declared.actions.ActionKind.{ActionKind}
+use Rattle.wf_parse_nodes.specs.declared.actions.ActionKind.TheVariants as kinds
 use Rattle.wf_parse_nodes.specs.declared.shapes.Shape.{Shape}
 use Rattle.wf_parse_nodes.specs.declared.shapes.Shape.TheVariants as shapes
 use Rattle.wf_parse_nodes.specs.declared.values.Value.{Value}
@@ -139,15 +141,43 @@ pushes does.NoVia = true
 pushes does.StartFields = true
 pushes _ = false
 
--- It adds to a list or pushes two values, and so may want memory.
-abbrev pub lets_grow : Action → Bool
-lets_grow does.ThisMethod = true
-lets_grow does.AddLink = true
-lets_grow does.AddGiven = true
-lets_grow (does.AddSlice _) = true
-lets_grow does.AddArray = true
-lets_grow does.AddStmt = true
-lets_grow does.AddArm = true
-lets_grow (does.AddClause _) = true
-lets_grow does.AddField = true
-lets_grow _ = false
+-- What kind of thing it makes: a value, one for which memory may be wanted, or a node.
+abbrev pub kind_of : Action → ActionKind
+kind_of does.ThisMethod = kinds.Grown
+kind_of does.AddLink = kinds.Grown
+kind_of does.AddGiven = kinds.Grown
+kind_of (does.AddSlice _) = kinds.Grown
+kind_of does.AddArray = kinds.Grown
+kind_of does.AddStmt = kinds.Grown
+kind_of does.AddArm = kinds.Grown
+kind_of (does.AddClause _) = kinds.Grown
+kind_of does.AddField = kinds.Grown
+kind_of (does.NumberExpr _ _) = kinds.Expr
+kind_of (does.OwnStatusExpr _) = kinds.Expr
+kind_of does.BaseStatusExpr = kinds.Expr
+kind_of (does.FineExpr _) = kinds.Expr
+kind_of (does.TruthExpr _ _) = kinds.Expr
+kind_of does.PathExpr = kinds.Expr
+kind_of does.IndexExpr = kinds.Expr
+kind_of does.SliceExpr = kinds.Expr
+kind_of does.CallExpr = kinds.Expr
+kind_of does.NotExpr = kinds.Expr
+kind_of does.ConvertExpr = kinds.Expr
+kind_of does.FinishChain = kinds.Expr
+kind_of does.VarStmt = kinds.Stmt
+kind_of does.AssignStmt = kinds.Stmt
+kind_of does.KeepStmt = kinds.Stmt
+kind_of does.CallStmt = kinds.Stmt
+kind_of does.IfStmt = kinds.Stmt
+kind_of does.LoopStmt = kinds.Stmt
+kind_of does.LabelledStmt = kinds.Stmt
+kind_of does.BreakStmt = kinds.Stmt
+kind_of does.ContinueStmt = kinds.Stmt
+kind_of does.ReturnStmt = kinds.Stmt
+kind_of does.YieldStmt = kinds.Stmt
+kind_of does.AssertStmt = kinds.Stmt
+kind_of does.StatusDecl = kinds.Decl
+kind_of does.ConstDecl = kinds.Decl
+kind_of does.StructDecl = kinds.Decl
+kind_of does.MethodDecl = kinds.Decl
+kind_of _ = kinds.Value

@@ -1,25 +1,41 @@
-// What an action makes of the values on top of the stack. The actions are parted so that no function has room for what
-// all of them make: it would have to clear that room whenever it begins.
+// What an action makes of the values on top of the stack. The actions are parted by what they make, so that no function
+// has room for what all of them make: it would have to clear that room whenever it begins, and copy it to hand it on.
 
 ghost use Rattle.std.specs.Prelude.{◌≡◌, List, true, false, IfOk};
 ghost use Rattle.wf_parse_nodes.specs.Making.{making};
-ghost use Rattle.wf_parse_nodes.specs.Shapes.{fits, takes, pushes, lets_grow};
-ghost use Rattle.wf_parse_nodes.specs.declared.products.Product.TheVariants as makes;
+ghost use Rattle.wf_parse_nodes.specs.Shapes.{fits, takes, pushes, kind_of};
+ghost use Rattle.wf_parse_nodes.specs.declared.actions.ActionKind.TheVariants as kinds;
+ghost use Rattle.wf_parse_nodes.specs.Products as makes;
 ghost use Rattle.wf_parse_nodes.specs.declared.values.Value.{Value};
 
-use crate::products::Product;
 use crate::values::{Sign, Value};
 use crate::{branches, calls, declarations, expressions, paths, statements, types};
 use stacks::Stack;
 use std::alloc::Global;
 use wf_ast::Sequence;
-use wf_ast::parsed::{Path, Root};
+use wf_ast::parsed::{DeclNode, ExprNode, Path, Root, StmtNode};
 use wf_parse_grammar::Action;
 use wf_text::NoMemory;
 
-/// Whether an action adds to a list or pushes two values, and so may want memory.
-pub(crate) fn lets_grow(action: Action) -> bool
-    ensures { result ≡ lets_grow action }
+/// What an action makes.
+#[derive(Clone, Copy)]
+pub enum ActionKind {
+    /// A value.
+    Value,
+    /// A value that has grown by one part, or is one of two, for which memory may be wanted.
+    Grown,
+    /// An expression.
+    Expr,
+    /// A statement.
+    Stmt,
+    /// A declaration.
+    Decl,
+}
+
+/// What kind of thing an action makes.
+#[inline(always)]
+pub(crate) fn kind_of(action: Action) -> ActionKind
+    ensures { result ≡ kind_of action }
 {
     match action {
         Action::ThisMethod
@@ -30,16 +46,80 @@ pub(crate) fn lets_grow(action: Action) -> bool
         | Action::AddStmt
         | Action::AddArm
         | Action::AddClause(_)
-        | Action::AddField => true,
-        _ => false,
+        | Action::AddField => ActionKind::Grown,
+        Action::NumberExpr { .. }
+        | Action::OwnStatusExpr(_)
+        | Action::BaseStatusExpr
+        | Action::FineExpr(_)
+        | Action::TruthExpr { .. }
+        | Action::PathExpr
+        | Action::IndexExpr
+        | Action::SliceExpr
+        | Action::CallExpr
+        | Action::NotExpr
+        | Action::ConvertExpr
+        | Action::FinishChain => ActionKind::Expr,
+        Action::VarStmt
+        | Action::AssignStmt
+        | Action::KeepStmt
+        | Action::CallStmt
+        | Action::IfStmt
+        | Action::LoopStmt
+        | Action::LabelledStmt
+        | Action::BreakStmt
+        | Action::ContinueStmt
+        | Action::ReturnStmt
+        | Action::YieldStmt
+        | Action::AssertStmt => ActionKind::Stmt,
+        Action::StatusDecl | Action::ConstDecl | Action::StructDecl | Action::MethodDecl =>
+            ActionKind::Decl,
+        // a value of nothing on the stack
+        Action::PushName(_)
+        | Action::PushPlace(_)
+        | Action::PushMark(_)
+        | Action::PushPublic(_)
+        | Action::PushSign { .. }
+        | Action::BarePath(_)
+        | Action::NoPart
+        | Action::StartGivens
+        | Action::StartType
+        | Action::NoBounds
+        | Action::StartItems
+        | Action::StartArms
+        | Action::NoElse
+        | Action::StartClauses
+        | Action::NoLabel
+        | Action::NoVia
+        | Action::StartFields => ActionKind::Value,
+        // a value of those on the stack
+        Action::ThisPath
+        | Action::ArgsPath
+        | Action::PathReceiver
+        | Action::StartChain { .. }
+        | Action::SomePart
+        | Action::FinishCall
+        | Action::StructType(_)
+        | Action::BaseCore(_)
+        | Action::StatusCore
+        | Action::SomeBounds
+        | Action::FinishType
+        | Action::CloseBlock(_)
+        | Action::PathTarget
+        | Action::ElementTarget
+        | Action::SomeElse
+        | Action::SomeLabel
+        | Action::SomeVia
+        | Action::NoResult
+        | Action::SomeResult => ActionKind::Value,
     }
 }
 
-/// What an action makes that lets something grow.
-pub fn grown(action: Action, values: &mut Stack<Value>) -> Result<Product, NoMemory>
+/// The value that an action makes for which memory may be wanted.
+#[inline(always)]
+pub fn grown(action: Action, values: &mut Stack<Value>) -> Result<Value, NoMemory>
     requires fit { fits (takes action) values.old ≡ true }
-    requires grows { lets_grow action ≡ true }
-    ensures { IfOk result (λ product. making action values.old ≡ record { product = product; vals = values.new }) }
+    requires kind { kind_of action ≡ kinds.Grown }
+    ensures { IfOk result (λ value. making action values.old ≡ record { product = makes.Value value; vals = values.new }) }
 {
     match action {
         Action::ThisMethod => paths::this_method(values),
@@ -55,18 +135,46 @@ pub fn grown(action: Action, values: &mut Stack<Value>) -> Result<Product, NoMem
     }
 }
 
-/// What an action makes that takes values and lets nothing grow.
-#[inline(never)]
-pub fn made(alloc: Global, action: Action, values: &mut Stack<Value>) -> Product
+/// The value that an action makes of those that it takes, where nothing grows.
+#[inline(always)]
+pub fn made_value(alloc: Global, action: Action, values: &mut Stack<Value>) -> Value
     requires fit { fits (takes action) values.old ≡ true }
     requires takes { pushes action ≡ false }
-    requires fixed { lets_grow action ≡ false }
-    ensures { making action values.old ≡ record { product = result; vals = values.new } }
+    requires kind { kind_of action ≡ kinds.Value }
+    ensures { making action values.old ≡ record { product = makes.Value result; vals = values.new } }
 {
     match action {
         Action::ThisPath => paths::this_path(values),
         Action::ArgsPath => paths::args_path(values),
         Action::PathReceiver => paths::path_receiver(values),
+        Action::StartChain { op, at } => expressions::start_chain(alloc, op, at, values),
+        Action::SomePart => expressions::some_part(values),
+        Action::FinishCall => calls::finish_call(values),
+        Action::StructType(name) => types::struct_type(name, values),
+        Action::BaseCore(name) => types::base_core(name, values),
+        Action::StatusCore => types::status_core(values),
+        Action::SomeBounds => types::some_bounds(values),
+        Action::FinishType => types::finish_type(values),
+        Action::CloseBlock(close) => statements::close_block(close, values),
+        Action::PathTarget => statements::path_target(values),
+        Action::ElementTarget => statements::element_target(values),
+        Action::SomeElse => branches::some_else(values),
+        Action::SomeLabel => branches::some_label(values),
+        Action::SomeVia => statements::some_via(values),
+        Action::NoResult => declarations::no_result(values),
+        Action::SomeResult => declarations::some_result(values),
+        _ => unreachable!(),
+    }
+}
+
+/// The expression that an action makes.
+#[inline(always)]
+pub fn made_expr(action: Action, values: &mut Stack<Value>) -> ExprNode
+    requires fit { fits (takes action) values.old ≡ true }
+    requires kind { kind_of action ≡ kinds.Expr }
+    ensures { making action values.old ≡ record { product = makes.Expr result; vals = values.new } }
+{
+    match action {
         Action::NumberExpr { value, at } => expressions::number_expr(value, at),
         Action::OwnStatusExpr(name) => expressions::own_status_expr(name),
         Action::BaseStatusExpr => expressions::base_status_expr(values),
@@ -78,35 +186,43 @@ pub fn made(alloc: Global, action: Action, values: &mut Stack<Value>) -> Product
         Action::CallExpr => expressions::call_expr(values),
         Action::NotExpr => expressions::not_expr(values),
         Action::ConvertExpr => expressions::convert_expr(values),
-        Action::StartChain { op, at } => expressions::start_chain(alloc, op, at, values),
         Action::FinishChain => expressions::finish_chain(values),
-        Action::SomePart => expressions::some_part(values),
-        Action::FinishCall => calls::finish_call(values),
-        Action::StructType(name) => types::struct_type(name, values),
-        Action::BaseCore(name) => types::base_core(name, values),
-        Action::StatusCore => types::status_core(values),
-        Action::SomeBounds => types::some_bounds(values),
-        Action::FinishType => types::finish_type(values),
-        Action::CloseBlock(close) => statements::close_block(close, values),
+        _ => unreachable!(),
+    }
+}
+
+/// The statement that an action makes.
+#[inline(always)]
+pub fn made_stmt(action: Action, values: &mut Stack<Value>) -> StmtNode
+    requires fit { fits (takes action) values.old ≡ true }
+    requires kind { kind_of action ≡ kinds.Stmt }
+    ensures { making action values.old ≡ record { product = makes.Stmt result; vals = values.new } }
+{
+    match action {
         Action::VarStmt => statements::var_stmt(values),
-        Action::PathTarget => statements::path_target(values),
-        Action::ElementTarget => statements::element_target(values),
         Action::AssignStmt => statements::assign_stmt(values),
         Action::KeepStmt => statements::keep_stmt(values),
         Action::CallStmt => statements::call_stmt(values),
-        Action::SomeElse => branches::some_else(values),
         Action::IfStmt => branches::if_stmt(values),
         Action::LoopStmt => branches::loop_stmt(values),
         Action::LabelledStmt => branches::labelled_stmt(values),
-        Action::SomeLabel => branches::some_label(values),
         Action::BreakStmt => branches::break_stmt(values),
         Action::ContinueStmt => branches::continue_stmt(values),
         Action::ReturnStmt => statements::return_stmt(values),
         Action::YieldStmt => statements::yield_stmt(values),
-        Action::SomeVia => statements::some_via(values),
         Action::AssertStmt => statements::assert_stmt(values),
-        Action::NoResult => declarations::no_result(values),
-        Action::SomeResult => declarations::some_result(values),
+        _ => unreachable!(),
+    }
+}
+
+/// The declaration that an action makes.
+#[inline(always)]
+pub fn made_decl(action: Action, values: &mut Stack<Value>) -> DeclNode
+    requires fit { fits (takes action) values.old ≡ true }
+    requires kind { kind_of action ≡ kinds.Decl }
+    ensures { making action values.old ≡ record { product = makes.Decl result; vals = values.new } }
+{
+    match action {
         Action::StatusDecl => declarations::status_decl(values),
         Action::ConstDecl => declarations::const_decl(values),
         Action::StructDecl => declarations::struct_decl(values),
@@ -142,7 +258,8 @@ pub(crate) fn pushes(action: Action) -> bool
 }
 
 /// What an action pushes that takes nothing from the stack.
-pub fn pushed(alloc: Global, action: Action) -> Value
+#[inline(always)]
+pub(crate) fn pushed(alloc: Global, action: Action) -> Value
     requires { pushes action ≡ true }
     ensures { (vs : List Value) → making action vs ≡ record { product = makes.Value result; vals = vs } }
 {

@@ -3,13 +3,13 @@
 ghost use Rattle.std.specs.Prelude.{◌≡◌, ◌<◌, List, [], ◌∷◌, true, IfOk};
 ghost use Rattle.wf_parse_grammar.specs.declared.symbols.Action.TheVariants as does;
 ghost use Rattle.wf_parse_nodes.specs.Making.{making};
+ghost use Rattle.wf_parse_nodes.specs.Products as makes;
 ghost use Rattle.wf_parse_nodes.specs.Shapes.{fits};
 ghost use Rattle.wf_parse_nodes.specs.declared.shapes.Shape.TheVariants as shapes;
 
 use crate::pops::{
     pop_arms, pop_block, pop_clauses, pop_expr, pop_label, pop_name, pop_otherwise, pop_place,
 };
-use crate::products::Product;
 use crate::values::Value;
 use stacks::Stack;
 use wf_ast::parsed::{Arm, Clause, LoopClause, Stmt, StmtNode};
@@ -17,47 +17,47 @@ use wf_text::NoMemory;
 
 /// One arm more of an `if`.
 #[inline(never)]
-pub fn add_arm(values: &mut Stack<Value>) -> Result<Product, NoMemory>
+pub fn add_arm(values: &mut Stack<Value>) -> Result<Value, NoMemory>
     requires { fits (shapes.Block ∷ shapes.Expr ∷ shapes.Arms ∷ []) values.old ≡ true }
-    ensures { IfOk result (λ product. making does.AddArm values.old ≡ record { product = product; vals = values.new }) }
+    ensures { IfOk result (λ value. making does.AddArm values.old ≡ record { product = makes.Value value; vals = values.new }) }
 {
     let body = pop_block(values);
     let condition = pop_expr(values);
     let mut arms = pop_arms(values);
     arms.push(Arm { condition, body })?;
-    Ok(Product::Value(Value::Arms(arms)))
+    Ok(Value::Arms(arms))
 }
 
 /// The block after a last `else`.
 #[inline(never)]
-pub(crate) fn some_else(values: &mut Stack<Value>) -> Product
+pub(crate) fn some_else(values: &mut Stack<Value>) -> Value
     requires { fits (shapes.Block ∷ []) values.old ≡ true }
-    ensures { making does.SomeElse values.old ≡ record { product = result; vals = values.new } }
+    ensures { making does.SomeElse values.old ≡ record { product = makes.Value result; vals = values.new } }
 {
     let body = pop_block(values);
-    Product::Value(Value::Otherwise(Some(body)))
+    Value::Otherwise(Some(body))
 }
 
 /// A whole `if`.
 #[inline(never)]
-pub(crate) fn if_stmt(values: &mut Stack<Value>) -> Product
+pub(crate) fn if_stmt(values: &mut Stack<Value>) -> StmtNode
     requires { fits (shapes.Otherwise ∷ shapes.Arms ∷ shapes.Place ∷ []) values.old ≡ true }
-    ensures { making does.IfStmt values.old ≡ record { product = result; vals = values.new } }
+    ensures { making does.IfStmt values.old ≡ record { product = makes.Stmt result; vals = values.new } }
 {
     let otherwise = pop_otherwise(values);
     let arms = pop_arms(values);
     let at = pop_place(values);
-    Product::Stmt(StmtNode {
+    StmtNode {
         stmt: Stmt::If { arms, otherwise },
         at,
-    })
+    }
 }
 
 /// One promise more of a loop.
 #[inline(never)]
-pub(crate) fn add_clause(kind: Clause, values: &mut Stack<Value>) -> Result<Product, NoMemory>
+pub(crate) fn add_clause(kind: Clause, values: &mut Stack<Value>) -> Result<Value, NoMemory>
     requires { fits (shapes.Expr ∷ shapes.Place ∷ shapes.Clauses ∷ []) values.old ≡ true }
-    ensures { IfOk result (λ product. making (does.AddClause kind) values.old ≡ record { product = product; vals = values.new }) }
+    ensures { IfOk result (λ value. making (does.AddClause kind) values.old ≡ record { product = makes.Value value; vals = values.new }) }
 {
     let condition = pop_expr(values);
     let at = pop_place(values);
@@ -67,20 +67,20 @@ pub(crate) fn add_clause(kind: Clause, values: &mut Stack<Value>) -> Result<Prod
         condition,
         at,
     })?;
-    Ok(Product::Value(Value::Clauses(clauses)))
+    Ok(Value::Clauses(clauses))
 }
 
 /// A loop without a label.
 #[inline(never)]
-pub(crate) fn loop_stmt(values: &mut Stack<Value>) -> Product
+pub(crate) fn loop_stmt(values: &mut Stack<Value>) -> StmtNode
     requires { fits (shapes.Block ∷ shapes.Clauses ∷ shapes.Expr ∷ shapes.Place ∷ []) values.old ≡ true }
-    ensures { making does.LoopStmt values.old ≡ record { product = result; vals = values.new } }
+    ensures { making does.LoopStmt values.old ≡ record { product = makes.Stmt result; vals = values.new } }
 {
     let body = pop_block(values);
     let clauses = pop_clauses(values);
     let condition = pop_expr(values);
     let at = pop_place(values);
-    Product::Stmt(StmtNode {
+    StmtNode {
         stmt: Stmt::While {
             label: None,
             condition,
@@ -88,21 +88,21 @@ pub(crate) fn loop_stmt(values: &mut Stack<Value>) -> Product
             body,
         },
         at,
-    })
+    }
 }
 
 /// A loop with a label.
 #[inline(never)]
-pub(crate) fn labelled_stmt(values: &mut Stack<Value>) -> Product
+pub(crate) fn labelled_stmt(values: &mut Stack<Value>) -> StmtNode
     requires { fits (shapes.Block ∷ shapes.Clauses ∷ shapes.Expr ∷ shapes.Name ∷ shapes.Place ∷ []) values.old ≡ true }
-    ensures { making does.LabelledStmt values.old ≡ record { product = result; vals = values.new } }
+    ensures { making does.LabelledStmt values.old ≡ record { product = makes.Stmt result; vals = values.new } }
 {
     let body = pop_block(values);
     let clauses = pop_clauses(values);
     let condition = pop_expr(values);
     let label = pop_name(values);
     let at = pop_place(values);
-    Product::Stmt(StmtNode {
+    StmtNode {
         stmt: Stmt::While {
             label: Some(label),
             condition,
@@ -110,43 +110,43 @@ pub(crate) fn labelled_stmt(values: &mut Stack<Value>) -> Product
             body,
         },
         at,
-    })
+    }
 }
 
 /// The label of a jump.
 #[inline(never)]
-pub(crate) fn some_label(values: &mut Stack<Value>) -> Product
+pub(crate) fn some_label(values: &mut Stack<Value>) -> Value
     requires { fits (shapes.Name ∷ []) values.old ≡ true }
-    ensures { making does.SomeLabel values.old ≡ record { product = result; vals = values.new } }
+    ensures { making does.SomeLabel values.old ≡ record { product = makes.Value result; vals = values.new } }
 {
     let name = pop_name(values);
-    Product::Value(Value::Label(Some(name)))
+    Value::Label(Some(name))
 }
 
 /// A `break`.
 #[inline(never)]
-pub(crate) fn break_stmt(values: &mut Stack<Value>) -> Product
+pub(crate) fn break_stmt(values: &mut Stack<Value>) -> StmtNode
     requires { fits (shapes.Label ∷ shapes.Place ∷ []) values.old ≡ true }
-    ensures { making does.BreakStmt values.old ≡ record { product = result; vals = values.new } }
+    ensures { making does.BreakStmt values.old ≡ record { product = makes.Stmt result; vals = values.new } }
 {
     let label = pop_label(values);
     let at = pop_place(values);
-    Product::Stmt(StmtNode {
+    StmtNode {
         stmt: Stmt::Break(label),
         at,
-    })
+    }
 }
 
 /// A `continue`.
 #[inline(never)]
-pub(crate) fn continue_stmt(values: &mut Stack<Value>) -> Product
+pub(crate) fn continue_stmt(values: &mut Stack<Value>) -> StmtNode
     requires { fits (shapes.Label ∷ shapes.Place ∷ []) values.old ≡ true }
-    ensures { making does.ContinueStmt values.old ≡ record { product = result; vals = values.new } }
+    ensures { making does.ContinueStmt values.old ≡ record { product = makes.Stmt result; vals = values.new } }
 {
     let label = pop_label(values);
     let at = pop_place(values);
-    Product::Stmt(StmtNode {
+    StmtNode {
         stmt: Stmt::Continue(label),
         at,
-    })
+    }
 }

@@ -3,11 +3,11 @@
 ghost use Rattle.std.specs.Prelude.{◌≡◌, ◌<◌, List, [], ◌∷◌, true, IfOk};
 ghost use Rattle.wf_parse_grammar.specs.declared.symbols.Action.TheVariants as does;
 ghost use Rattle.wf_parse_nodes.specs.Making.{making};
+ghost use Rattle.wf_parse_nodes.specs.Products as makes;
 ghost use Rattle.wf_parse_nodes.specs.Shapes.{fits};
 ghost use Rattle.wf_parse_nodes.specs.declared.shapes.Shape.TheVariants as shapes;
 
 use crate::pops::{pop_expr, pop_givens, pop_mark, pop_name, pop_receiver};
-use crate::products::Product;
 use crate::values::Value;
 use stacks::Stack;
 use wf_ast::parsed::{Call, Given};
@@ -15,31 +15,31 @@ use wf_text::NoMemory;
 
 /// One argument more.
 #[inline(never)]
-pub(crate) fn add_given(values: &mut Stack<Value>) -> Result<Product, NoMemory>
+pub(crate) fn add_given(values: &mut Stack<Value>) -> Result<Value, NoMemory>
     requires { fits (shapes.Expr ∷ shapes.Name ∷ shapes.Givens ∷ []) values.old ≡ true }
-    ensures { IfOk result (λ product. making does.AddGiven values.old ≡ record { product = product; vals = values.new }) }
+    ensures { IfOk result (λ value. making does.AddGiven values.old ≡ record { product = makes.Value value; vals = values.new }) }
 {
     let value = pop_expr(values);
     let name = pop_name(values);
     let mut givens = pop_givens(values);
     givens.push(Given { name, value })?;
-    Ok(Product::Value(Value::Givens(givens)))
+    Ok(Value::Givens(givens))
 }
 
 /// A whole call.
 #[inline(never)]
-pub fn finish_call(values: &mut Stack<Value>) -> Product
+pub fn finish_call(values: &mut Stack<Value>) -> Value
     requires { fits (shapes.Givens ∷ shapes.Mark ∷ shapes.Name ∷ shapes.Receiver ∷ []) values.old ≡ true }
-    ensures { making does.FinishCall values.old ≡ record { product = result; vals = values.new } }
+    ensures { making does.FinishCall values.old ≡ record { product = makes.Value result; vals = values.new } }
 {
     let given = pop_givens(values);
     let mark = pop_mark(values);
     let method = pop_name(values);
     let on = pop_receiver(values);
-    Product::Value(Value::Call(Call {
+    Value::Call(Call {
         on,
         method,
         mark,
         args: given,
-    }))
+    })
 }

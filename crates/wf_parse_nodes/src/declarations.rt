@@ -3,6 +3,7 @@
 ghost use Rattle.std.specs.Prelude.{◌≡◌, ◌<◌, List, [], ◌∷◌, true, IfOk};
 ghost use Rattle.wf_parse_grammar.specs.declared.symbols.Action.TheVariants as does;
 ghost use Rattle.wf_parse_nodes.specs.Making.{making};
+ghost use Rattle.wf_parse_nodes.specs.Products as makes;
 ghost use Rattle.wf_parse_nodes.specs.Shapes.{fits};
 ghost use Rattle.wf_parse_nodes.specs.declared.shapes.Shape.TheVariants as shapes;
 
@@ -10,7 +11,6 @@ use crate::pops::{
     pop_block, pop_expr, pop_fields, pop_mark, pop_name, pop_place, pop_prefixes, pop_public,
     pop_result, pop_type,
 };
-use crate::products::Product;
 use crate::values::Value;
 use stacks::Stack;
 use wf_ast::parsed::{Decl, DeclNode, Field};
@@ -18,94 +18,94 @@ use wf_text::NoMemory;
 
 /// One field more.
 #[inline(never)]
-pub fn add_field(values: &mut Stack<Value>) -> Result<Product, NoMemory>
+pub fn add_field(values: &mut Stack<Value>) -> Result<Value, NoMemory>
     requires { fits (shapes.Type ∷ shapes.Name ∷ shapes.Fields ∷ []) values.old ≡ true }
-    ensures { IfOk result (λ product. making does.AddField values.old ≡ record { product = product; vals = values.new }) }
+    ensures { IfOk result (λ value. making does.AddField values.old ≡ record { product = makes.Value value; vals = values.new }) }
 {
     let of = pop_type(values);
     let name = pop_name(values);
     let mut fields = pop_fields(values);
     fields.push(Field { name, of })?;
-    Ok(Product::Value(Value::Fields(fields)))
+    Ok(Value::Fields(fields))
 }
 
 /// No result of a method.
 #[inline(never)]
-pub(crate) fn no_result(values: &mut Stack<Value>) -> Product
+pub(crate) fn no_result(values: &mut Stack<Value>) -> Value
     requires { fits (shapes.Prefixes ∷ []) values.old ≡ true }
-    ensures { making does.NoResult values.old ≡ record { product = result; vals = values.new } }
+    ensures { making does.NoResult values.old ≡ record { product = makes.Value result; vals = values.new } }
 {
     let _prefixes = pop_prefixes(values);
-    Product::Value(Value::Result(None))
+    Value::Result(None)
 }
 
 /// The result of a method.
 #[inline(never)]
-pub(crate) fn some_result(values: &mut Stack<Value>) -> Product
+pub(crate) fn some_result(values: &mut Stack<Value>) -> Value
     requires { fits (shapes.Type ∷ []) values.old ≡ true }
-    ensures { making does.SomeResult values.old ≡ record { product = result; vals = values.new } }
+    ensures { making does.SomeResult values.old ≡ record { product = makes.Value result; vals = values.new } }
 {
     let of = pop_type(values);
-    Product::Value(Value::Result(Some(of)))
+    Value::Result(Some(of))
 }
 
 /// A status.
 #[inline(never)]
-pub(crate) fn status_decl(values: &mut Stack<Value>) -> Product
+pub(crate) fn status_decl(values: &mut Stack<Value>) -> DeclNode
     requires { fits (shapes.Name ∷ shapes.Place ∷ shapes.Public ∷ []) values.old ≡ true }
-    ensures { making does.StatusDecl values.old ≡ record { product = result; vals = values.new } }
+    ensures { making does.StatusDecl values.old ≡ record { product = makes.Decl result; vals = values.new } }
 {
     let text = pop_name(values);
     let at = pop_place(values);
     let public = pop_public(values);
-    Product::Decl(DeclNode {
+    DeclNode {
         public,
         decl: Decl::Status(text),
         at,
-    })
+    }
 }
 
 /// A constant.
 #[inline(never)]
-pub fn const_decl(values: &mut Stack<Value>) -> Product
+pub fn const_decl(values: &mut Stack<Value>) -> DeclNode
     requires { fits (shapes.Expr ∷ shapes.Type ∷ shapes.Name ∷ shapes.Place ∷ shapes.Public ∷ []) values.old ≡ true }
-    ensures { making does.ConstDecl values.old ≡ record { product = result; vals = values.new } }
+    ensures { making does.ConstDecl values.old ≡ record { product = makes.Decl result; vals = values.new } }
 {
     let value = pop_expr(values);
     let of = pop_type(values);
     let name = pop_name(values);
     let at = pop_place(values);
     let public = pop_public(values);
-    Product::Decl(DeclNode {
+    DeclNode {
         public,
         decl: Decl::Const { name, of, value },
         at,
-    })
+    }
 }
 
 /// A struct.
 #[inline(never)]
-pub fn struct_decl(values: &mut Stack<Value>) -> Product
+pub fn struct_decl(values: &mut Stack<Value>) -> DeclNode
     requires { fits (shapes.Fields ∷ shapes.Mark ∷ shapes.Name ∷ shapes.Place ∷ shapes.Public ∷ []) values.old ≡ true }
-    ensures { making does.StructDecl values.old ≡ record { product = result; vals = values.new } }
+    ensures { making does.StructDecl values.old ≡ record { product = makes.Decl result; vals = values.new } }
 {
     let fields = pop_fields(values);
     let mark = pop_mark(values);
     let name = pop_name(values);
     let at = pop_place(values);
     let public = pop_public(values);
-    Product::Decl(DeclNode {
+    DeclNode {
         public,
         decl: Decl::Struct { name, mark, fields },
         at,
-    })
+    }
 }
 
 /// A method.
 #[inline(never)]
-pub fn method_decl(values: &mut Stack<Value>) -> Product
+pub fn method_decl(values: &mut Stack<Value>) -> DeclNode
     requires { fits (shapes.Block ∷ shapes.Result ∷ shapes.Fields ∷ shapes.Mark ∷ shapes.Name ∷ shapes.Name ∷ shapes.Place ∷ shapes.Public ∷ []) values.old ≡ true }
-    ensures { making does.MethodDecl values.old ≡ record { product = result; vals = values.new } }
+    ensures { making does.MethodDecl values.old ≡ record { product = makes.Decl result; vals = values.new } }
 {
     let body = pop_block(values);
     let gives = pop_result(values);
@@ -115,7 +115,7 @@ pub fn method_decl(values: &mut Stack<Value>) -> Product
     let of = pop_name(values);
     let at = pop_place(values);
     let public = pop_public(values);
-    Product::Decl(DeclNode {
+    DeclNode {
         public,
         decl: Decl::Method {
             of,
@@ -126,5 +126,5 @@ pub fn method_decl(values: &mut Stack<Value>) -> Product
             body,
         },
         at,
-    })
+    }
 }

@@ -4,14 +4,13 @@ ghost use Rattle.std.specs.Prelude.{◌≡◌, ◌<◌, List, [], ◌∷◌, tru
 ghost use Rattle.wf_parse_grammar.specs.declared.symbols.Action.TheVariants as does;
 ghost use Rattle.wf_ast.specs.declared.parsed.Expr.TheVariants as exprs;
 ghost use Rattle.wf_parse_nodes.specs.Making.{making};
-ghost use Rattle.wf_parse_nodes.specs.declared.products.Product.TheVariants as makes;
+ghost use Rattle.wf_parse_nodes.specs.Products as makes;
 ghost use Rattle.wf_parse_nodes.specs.Shapes.{fits};
 ghost use Rattle.wf_parse_nodes.specs.declared.shapes.Shape.TheVariants as shapes;
 
 use crate::pops::{
     pop_call, pop_chain, pop_expr, pop_name, pop_part, pop_path, pop_place, pop_type,
 };
-use crate::products::Product;
 use crate::values::{OpenChain, Value};
 use stacks::Stack;
 use std::alloc::Global;
@@ -21,206 +20,206 @@ use wf_text::{NoMemory, Place};
 
 /// A number.
 #[inline(never)]
-pub(crate) fn number_expr(value: u64, at: Place) -> Product
-    ensures { result ≡ makes.Expr (record { expr = exprs.Number value; at = at }) }
+pub(crate) fn number_expr(value: u64, at: Place) -> ExprNode
+    ensures { result ≡ record { expr = exprs.Number value; at = at } }
 {
-    Product::Expr(ExprNode {
+    ExprNode {
         expr: Expr::Number(value),
         at,
-    })
+    }
 }
 
 /// A status of the package.
 #[inline(never)]
-pub(crate) fn own_status_expr(text: Name) -> Product
-    ensures { result ≡ makes.Expr (record { expr = exprs.OwnStatus text; at = text.at }) }
+pub(crate) fn own_status_expr(text: Name) -> ExprNode
+    ensures { result ≡ record { expr = exprs.OwnStatus text; at = text.at } }
 {
-    Product::Expr(ExprNode {
+    ExprNode {
         expr: Expr::OwnStatus(text),
         at: text.at,
-    })
+    }
 }
 
 /// `ok`
 #[inline(never)]
-pub(crate) fn fine_expr(at: Place) -> Product
-    ensures { result ≡ makes.Expr (record { expr = exprs.Fine; at = at }) }
+pub(crate) fn fine_expr(at: Place) -> ExprNode
+    ensures { result ≡ record { expr = exprs.Fine; at = at } }
 {
-    Product::Expr(ExprNode {
+    ExprNode {
         expr: Expr::Fine,
         at,
-    })
+    }
 }
 
 /// `true` or `false`
 #[inline(never)]
-pub(crate) fn truth_expr(value: bool, at: Place) -> Product
-    ensures { result ≡ makes.Expr (record { expr = exprs.Truth value; at = at }) }
+pub(crate) fn truth_expr(value: bool, at: Place) -> ExprNode
+    ensures { result ≡ record { expr = exprs.Truth value; at = at } }
 {
-    Product::Expr(ExprNode {
+    ExprNode {
         expr: Expr::Truth(value),
         at,
-    })
+    }
 }
 
 /// A status of the language.
 #[inline(never)]
-pub(crate) fn base_status_expr(values: &mut Stack<Value>) -> Product
+pub(crate) fn base_status_expr(values: &mut Stack<Value>) -> ExprNode
     requires { fits (shapes.Name ∷ shapes.Place ∷ []) values.old ≡ true }
-    ensures { making does.BaseStatusExpr values.old ≡ record { product = result; vals = values.new } }
+    ensures { making does.BaseStatusExpr values.old ≡ record { product = makes.Expr result; vals = values.new } }
 {
     let text = pop_name(values);
     let at = pop_place(values);
-    Product::Expr(ExprNode {
+    ExprNode {
         expr: Expr::BaseStatus(text),
         at,
-    })
+    }
 }
 
 /// A path as an operand.
 #[inline(never)]
-pub(crate) fn path_expr(values: &mut Stack<Value>) -> Product
+pub(crate) fn path_expr(values: &mut Stack<Value>) -> ExprNode
     requires { fits (shapes.Path ∷ []) values.old ≡ true }
-    ensures { making does.PathExpr values.old ≡ record { product = result; vals = values.new } }
+    ensures { making does.PathExpr values.old ≡ record { product = makes.Expr result; vals = values.new } }
 {
     let path = pop_path(values);
-    Product::Expr(ExprNode {
+    ExprNode {
         expr: Expr::Path(path),
         at: path.at,
-    })
+    }
 }
 
 /// An index.
 #[inline(never)]
-pub(crate) fn index_expr(values: &mut Stack<Value>) -> Product
+pub(crate) fn index_expr(values: &mut Stack<Value>) -> ExprNode
     requires { fits (shapes.Expr ∷ shapes.Place ∷ shapes.Path ∷ []) values.old ≡ true }
-    ensures { making does.IndexExpr values.old ≡ record { product = result; vals = values.new } }
+    ensures { making does.IndexExpr values.old ≡ record { product = makes.Expr result; vals = values.new } }
 {
     let index = pop_expr(values);
     let at = pop_place(values);
     let base = pop_path(values);
-    Product::Expr(ExprNode {
+    ExprNode {
         expr: Expr::Index { base, index },
         at,
-    })
+    }
 }
 
 /// A slice.
 #[inline(never)]
-pub(crate) fn slice_expr(values: &mut Stack<Value>) -> Product
+pub(crate) fn slice_expr(values: &mut Stack<Value>) -> ExprNode
     requires { fits (shapes.Part ∷ shapes.Part ∷ shapes.Place ∷ shapes.Path ∷ []) values.old ≡ true }
-    ensures { making does.SliceExpr values.old ≡ record { product = result; vals = values.new } }
+    ensures { making does.SliceExpr values.old ≡ record { product = makes.Expr result; vals = values.new } }
 {
     let to = pop_part(values);
     let from = pop_part(values);
     let at = pop_place(values);
     let base = pop_path(values);
-    Product::Expr(ExprNode {
+    ExprNode {
         expr: Expr::Slice { base, from, to },
         at,
-    })
+    }
 }
 
 /// A call as an operand.
 #[inline(never)]
-pub(crate) fn call_expr(values: &mut Stack<Value>) -> Product
+pub(crate) fn call_expr(values: &mut Stack<Value>) -> ExprNode
     requires { fits (shapes.Call ∷ []) values.old ≡ true }
-    ensures { making does.CallExpr values.old ≡ record { product = result; vals = values.new } }
+    ensures { making does.CallExpr values.old ≡ record { product = makes.Expr result; vals = values.new } }
 {
     let call = pop_call(values);
     let at = call.method.at;
-    Product::Expr(ExprNode {
+    ExprNode {
         expr: Expr::Call(call),
         at,
-    })
+    }
 }
 
 /// A negation.
 #[inline(never)]
-pub(crate) fn not_expr(values: &mut Stack<Value>) -> Product
+pub(crate) fn not_expr(values: &mut Stack<Value>) -> ExprNode
     requires { fits (shapes.Expr ∷ shapes.Place ∷ []) values.old ≡ true }
-    ensures { making does.NotExpr values.old ≡ record { product = result; vals = values.new } }
+    ensures { making does.NotExpr values.old ≡ record { product = makes.Expr result; vals = values.new } }
 {
     let of = pop_expr(values);
     let at = pop_place(values);
-    Product::Expr(ExprNode {
+    ExprNode {
         expr: Expr::Not(of),
         at,
-    })
+    }
 }
 
 /// A conversion.
 #[inline(never)]
-pub(crate) fn convert_expr(values: &mut Stack<Value>) -> Product
+pub(crate) fn convert_expr(values: &mut Stack<Value>) -> ExprNode
     requires { fits (shapes.Type ∷ shapes.Place ∷ shapes.Expr ∷ []) values.old ≡ true }
-    ensures { making does.ConvertExpr values.old ≡ record { product = result; vals = values.new } }
+    ensures { making does.ConvertExpr values.old ≡ record { product = makes.Expr result; vals = values.new } }
 {
     let to = pop_type(values);
     let at = pop_place(values);
     let of = pop_expr(values);
-    Product::Expr(ExprNode {
+    ExprNode {
         expr: Expr::Convert { of, to },
         at,
-    })
+    }
 }
 
 /// A chain with its first operand.
 #[inline(never)]
-pub(crate) fn start_chain(alloc: Global, op: Op, at: Place, values: &mut Stack<Value>) -> Product
+pub(crate) fn start_chain(alloc: Global, op: Op, at: Place, values: &mut Stack<Value>) -> Value
     requires { fits (shapes.Expr ∷ []) values.old ≡ true }
-    ensures { making (does.StartChain op at) values.old ≡ record { product = result; vals = values.new } }
+    ensures { making (does.StartChain op at) values.old ≡ record { product = makes.Value result; vals = values.new } }
 {
     let first = pop_expr(values);
-    Product::Value(Value::Chain(OpenChain {
+    Value::Chain(OpenChain {
         op,
         first,
         links: Sequence::new(alloc),
         at,
-    }))
+    })
 }
 
 /// One operand more of a chain.
 #[inline(never)]
-pub(crate) fn add_link(values: &mut Stack<Value>) -> Result<Product, NoMemory>
+pub(crate) fn add_link(values: &mut Stack<Value>) -> Result<Value, NoMemory>
     requires { fits (shapes.Expr ∷ shapes.Place ∷ shapes.Chain ∷ []) values.old ≡ true }
-    ensures { IfOk result (λ product. making does.AddLink values.old ≡ record { product = product; vals = values.new }) }
+    ensures { IfOk result (λ value. making does.AddLink values.old ≡ record { product = makes.Value value; vals = values.new }) }
 {
     let operand = pop_expr(values);
     let sign = pop_place(values);
     let chain = pop_chain(values);
     let mut links = chain.links;
     links.push(Link { sign, operand })?;
-    Ok(Product::Value(Value::Chain(OpenChain {
+    Ok(Value::Chain(OpenChain {
         op: chain.op,
         first: chain.first,
         links,
         at: chain.at,
-    })))
+    }))
 }
 
 /// A whole chain.
 #[inline(never)]
-pub(crate) fn finish_chain(values: &mut Stack<Value>) -> Product
+pub(crate) fn finish_chain(values: &mut Stack<Value>) -> ExprNode
     requires { fits (shapes.Chain ∷ []) values.old ≡ true }
-    ensures { making does.FinishChain values.old ≡ record { product = result; vals = values.new } }
+    ensures { making does.FinishChain values.old ≡ record { product = makes.Expr result; vals = values.new } }
 {
     let chain = pop_chain(values);
-    Product::Expr(ExprNode {
+    ExprNode {
         expr: Expr::Chain {
             op: chain.op,
             first: chain.first,
             links: chain.links,
         },
         at: chain.at,
-    })
+    }
 }
 
 /// An expression that might be absent.
 #[inline(never)]
-pub(crate) fn some_part(values: &mut Stack<Value>) -> Product
+pub(crate) fn some_part(values: &mut Stack<Value>) -> Value
     requires { fits (shapes.Expr ∷ []) values.old ≡ true }
-    ensures { making does.SomePart values.old ≡ record { product = result; vals = values.new } }
+    ensures { making does.SomePart values.old ≡ record { product = makes.Value result; vals = values.new } }
 {
     let part = pop_expr(values);
-    Product::Value(Value::Part(Some(part)))
+    Value::Part(Some(part))
 }

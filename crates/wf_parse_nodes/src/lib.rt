@@ -11,7 +11,6 @@ pub mod expressions;
 pub mod maker;
 pub mod paths;
 pub mod pops;
-pub mod products;
 pub mod shapes;
 pub mod statements;
 pub mod types;

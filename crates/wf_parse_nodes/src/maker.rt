@@ -5,18 +5,21 @@ ghost use Rattle.wf_ast.specs.ParsedTrees.{expr_trees, stmt_trees, decl_trees};
 ghost use Rattle.wf_parse_grammar.specs.Building.{all_performed};
 ghost use Rattle.wf_parse_grammar.specs.Values.{perform};
 ghost use Rattle.wf_parse_grammar.specs.Wanted.{performed_by};
-ghost use Rattle.wf_parse_nodes.specs.Shapes.{pushes};
-ghost use Rattle.wf_parse_nodes.specs.declared.products.Product.TheVariants as makes;
+ghost use Rattle.wf_parse_nodes.specs.Shapes.{fits, takes, pushes, kind_of};
+ghost use Rattle.wf_parse_nodes.specs.declared.actions.ActionKind.TheVariants as kinds;
+ghost use Rattle.wf_parse_nodes.specs.Products as makes;
 ghost use Rattle.wf_parse_nodes.specs.Seen.{ProductParts, made_with, seen_values};
 ghost use Rattle.wf_parse_nodes.specs.Makers.{made, nodes, IsSound, KeepsTexts};
 
-use crate::actions::{grown, lets_grow, made, pushed, pushes};
-use crate::products::Product;
+use crate::actions::{
+    ActionKind, grown, kind_of, made_decl, made_expr, made_stmt, made_value, pushed, pushes,
+};
 use crate::shapes::takes;
 use crate::values::Value;
 use stacks::{Stack, fits};
 use std::alloc::Global;
 use wf_ast::PackageNodes;
+use wf_ast::parsed::{DeclNode, ExprNode, StmtNode};
 use wf_parse_grammar::{Action, Lead};
 use wf_text::NoMemory;
 
@@ -29,31 +32,46 @@ pub struct Maker {
 }
 
 impl Maker {
-    /// Puts what was made into the package, and on the stack what stands for it.
-    fn put(&mut self, product: Product) -> Result<(), NoMemory>
+    /// Puts an expression into the package, and its number on the stack.
+    fn put_expr(&mut self, node: ExprNode) -> Result<(), NoMemory>
         requires sound { IsSound self.old }
-        requires parts { ProductParts (length self.old.package.exprs) (length self.old.package.stmts) product }
+        requires parts { ProductParts (length self.old.package.exprs) (length self.old.package.stmts) (makes.Expr node) }
         requires room { nodes self.old < 2 ^ 32 }
-        ensures made { OnOk result (made self.new ≡ made_with (expr_trees self.old.package.exprs) (stmt_trees self.old.package.exprs self.old.package.stmts) product (seen_values (expr_trees self.old.package.exprs) (stmt_trees self.old.package.exprs self.old.package.stmts) self.old.values) (decl_trees self.old.package.exprs self.old.package.stmts self.old.package.decls)) }
+        ensures made { OnOk result (made self.new ≡ made_with (expr_trees self.old.package.exprs) (stmt_trees self.old.package.exprs self.old.package.stmts) (makes.Expr node) (seen_values (expr_trees self.old.package.exprs) (stmt_trees self.old.package.exprs self.old.package.stmts) self.old.values) (decl_trees self.old.package.exprs self.old.package.stmts self.old.package.decls)) }
         ensures sound { OnOk result (IsSound self.new) }
         ensures grows { OnOk result (nodes self.new ≤ nodes self.old + 1) }
         ensures texts { OnOk result (KeepsTexts self.old.package self.new.package) }
     {
-        match product {
-            Product::Value(value) => self.values.push(value),
-            Product::Expr(node) => {
-                let number = self.package.push_expr(node)?;
-                self.values.push(Value::Expr(number))
-            }
-            Product::Stmt(node) => {
-                let number = self.package.push_stmt(node)?;
-                self.values.push(Value::Stmt(number))
-            }
-            Product::Decl(node) => {
-                self.package.push_decl(node)?;
-                Ok(())
-            }
-        }
+        let number = self.package.push_expr(node)?;
+        self.values.push(Value::Expr(number))
+    }
+
+    /// Puts a statement into the package, and its number on the stack.
+    fn put_stmt(&mut self, node: StmtNode) -> Result<(), NoMemory>
+        requires sound { IsSound self.old }
+        requires parts { ProductParts (length self.old.package.exprs) (length self.old.package.stmts) (makes.Stmt node) }
+        requires room { nodes self.old < 2 ^ 32 }
+        ensures made { OnOk result (made self.new ≡ made_with (expr_trees self.old.package.exprs) (stmt_trees self.old.package.exprs self.old.package.stmts) (makes.Stmt node) (seen_values (expr_trees self.old.package.exprs) (stmt_trees self.old.package.exprs self.old.package.stmts) self.old.values) (decl_trees self.old.package.exprs self.old.package.stmts self.old.package.decls)) }
+        ensures sound { OnOk result (IsSound self.new) }
+        ensures grows { OnOk result (nodes self.new ≤ nodes self.old + 1) }
+        ensures texts { OnOk result (KeepsTexts self.old.package self.new.package) }
+    {
+        let number = self.package.push_stmt(node)?;
+        self.values.push(Value::Stmt(number))
+    }
+
+    /// Puts a declaration into the package.
+    fn put_decl(&mut self, node: DeclNode) -> Result<(), NoMemory>
+        requires sound { IsSound self.old }
+        requires parts { ProductParts (length self.old.package.exprs) (length self.old.package.stmts) (makes.Decl node) }
+        requires room { nodes self.old < 2 ^ 32 }
+        ensures made { OnOk result (made self.new ≡ made_with (expr_trees self.old.package.exprs) (stmt_trees self.old.package.exprs self.old.package.stmts) (makes.Decl node) (seen_values (expr_trees self.old.package.exprs) (stmt_trees self.old.package.exprs self.old.package.stmts) self.old.values) (decl_trees self.old.package.exprs self.old.package.stmts self.old.package.decls)) }
+        ensures sound { OnOk result (IsSound self.new) }
+        ensures grows { OnOk result (nodes self.new ≤ nodes self.old + 1) }
+        ensures texts { OnOk result (KeepsTexts self.old.package self.new.package) }
+    {
+        self.package.push_decl(node)?;
+        Ok(())
     }
 
     /// Puts a value on the stack.
@@ -68,8 +86,38 @@ impl Maker {
     }
 
     /// Performs an action. Where the topmost values are others than it takes, none are left; the actions of the
-    /// grammar's table never come to that.
+    /// grammar's table never come to that. Those that come most often have each a way of their own, on which nothing is
+    /// left to look up.
     pub fn perform(&mut self, action: Action) -> Result<(), NoMemory>
+        requires sound { IsSound self.old }
+        requires room { nodes self.old < 2 ^ 32 }
+        ensures made { OnOk result (made self.new ≡ perform action (made self.old)) }
+        ensures sound { OnOk result (IsSound self.new) }
+        ensures grows { OnOk result (nodes self.new ≤ nodes self.old + 1) }
+        ensures texts { OnOk result (KeepsTexts self.old.package self.new.package) }
+    {
+        match action {
+            Action::PushName(name) => self.push(Action::PushName(name)),
+            Action::PushPlace(at) => self.push(Action::PushPlace(at)),
+            Action::PushSign { op, at } => self.push(Action::PushSign { op, at }),
+            Action::BarePath(name) => self.push(Action::BarePath(name)),
+            Action::ThisPath => self.replace(Action::ThisPath),
+            Action::ArgsPath => self.replace(Action::ArgsPath),
+            Action::PathTarget => self.replace(Action::PathTarget),
+            Action::PathExpr => self.replace(Action::PathExpr),
+            Action::NumberExpr { value, at } => self.replace(Action::NumberExpr { value, at }),
+            Action::StartChain { op, at } => self.replace(Action::StartChain { op, at }),
+            Action::AddLink => self.replace(Action::AddLink),
+            Action::FinishChain => self.replace(Action::FinishChain),
+            Action::AddStmt => self.replace(Action::AddStmt),
+            Action::AssignStmt => self.replace(Action::AssignStmt),
+            _ => self.perform_any(action),
+        }
+    }
+
+    /// Performs an action, whichever it is.
+    #[inline(never)]
+    fn perform_any(&mut self, action: Action) -> Result<(), NoMemory>
         requires sound { IsSound self.old }
         requires room { nodes self.old < 2 ^ 32 }
         ensures made { OnOk result (made self.new ≡ perform action (made self.old)) }
@@ -84,8 +132,8 @@ impl Maker {
         }
     }
 
-    /// Performs an action that takes nothing from the stack. Its value is put there without a way through `Product`,
-    /// which has room for a node.
+    /// Performs an action that takes nothing from the stack.
+    #[inline(always)]
     fn push(&mut self, action: Action) -> Result<(), NoMemory>
         requires sound { IsSound self.old }
         requires pushes { pushes action ≡ true }
@@ -97,7 +145,85 @@ impl Maker {
         self.put_value(value)
     }
 
+    /// Performs an action that makes a value of those that it takes.
+    #[inline(always)]
+    fn replace_by_value(&mut self, action: Action) -> Result<(), NoMemory>
+        requires sound { IsSound self.old }
+        requires fit { fits (takes action) self.old.values ≡ true }
+        requires pushes { pushes action ≡ false }
+        requires kind { kind_of action ≡ kinds.Value }
+        ensures made { OnOk result (made self.new ≡ perform action (made self.old)) }
+        ensures sound { OnOk result (IsSound self.new) }
+        ensures package { self.new.package ≡ self.old.package }
+    {
+        let value = made_value(self.alloc, action, &mut self.values);
+        self.put_value(value)
+    }
+
+    /// Performs an action that makes a value for which memory may be wanted.
+    #[inline(always)]
+    fn grow(&mut self, action: Action) -> Result<(), NoMemory>
+        requires sound { IsSound self.old }
+        requires fit { fits (takes action) self.old.values ≡ true }
+        requires kind { kind_of action ≡ kinds.Grown }
+        ensures made { OnOk result (made self.new ≡ perform action (made self.old)) }
+        ensures sound { OnOk result (IsSound self.new) }
+        ensures package { self.new.package ≡ self.old.package }
+    {
+        let value = grown(action, &mut self.values)?;
+        self.put_value(value)
+    }
+
+    /// Performs an action that makes an expression.
+    #[inline(always)]
+    fn make_expr(&mut self, action: Action) -> Result<(), NoMemory>
+        requires sound { IsSound self.old }
+        requires room { nodes self.old < 2 ^ 32 }
+        requires fit { fits (takes action) self.old.values ≡ true }
+        requires kind { kind_of action ≡ kinds.Expr }
+        ensures made { OnOk result (made self.new ≡ perform action (made self.old)) }
+        ensures sound { OnOk result (IsSound self.new) }
+        ensures grows { OnOk result (nodes self.new ≤ nodes self.old + 1) }
+        ensures texts { OnOk result (KeepsTexts self.old.package self.new.package) }
+    {
+        let node = made_expr(action, &mut self.values);
+        self.put_expr(node)
+    }
+
+    /// Performs an action that makes a statement.
+    #[inline(always)]
+    fn make_stmt(&mut self, action: Action) -> Result<(), NoMemory>
+        requires sound { IsSound self.old }
+        requires room { nodes self.old < 2 ^ 32 }
+        requires fit { fits (takes action) self.old.values ≡ true }
+        requires kind { kind_of action ≡ kinds.Stmt }
+        ensures made { OnOk result (made self.new ≡ perform action (made self.old)) }
+        ensures sound { OnOk result (IsSound self.new) }
+        ensures grows { OnOk result (nodes self.new ≤ nodes self.old + 1) }
+        ensures texts { OnOk result (KeepsTexts self.old.package self.new.package) }
+    {
+        let node = made_stmt(action, &mut self.values);
+        self.put_stmt(node)
+    }
+
+    /// Performs an action that makes a declaration.
+    #[inline(always)]
+    fn make_decl(&mut self, action: Action) -> Result<(), NoMemory>
+        requires sound { IsSound self.old }
+        requires room { nodes self.old < 2 ^ 32 }
+        requires fit { fits (takes action) self.old.values ≡ true }
+        requires kind { kind_of action ≡ kinds.Decl }
+        ensures made { OnOk result (made self.new ≡ perform action (made self.old)) }
+        ensures sound { OnOk result (IsSound self.new) }
+        ensures grows { OnOk result (nodes self.new ≤ nodes self.old + 1) }
+        ensures texts { OnOk result (KeepsTexts self.old.package self.new.package) }
+    {
+        let node = made_decl(action, &mut self.values);
+        self.put_decl(node)
+    }
+
     /// Performs an action on the values that it takes.
+    #[inline(always)]
     fn replace(&mut self, action: Action) -> Result<(), NoMemory>
         requires sound { IsSound self.old }
         requires room { nodes self.old < 2 ^ 32 }
@@ -111,26 +237,42 @@ impl Maker {
             self.values.clear();
             return Ok(());
         }
-        if lets_grow(action) {
-            let product = grown(action, &mut self.values)?;
-            self.put(product)
-        } else {
-            let product = made(self.alloc, action, &mut self.values);
-            self.put(product)
+        match kind_of(action) {
+            ActionKind::Value => self.replace_by_value(action),
+            ActionKind::Grown => self.grow(action),
+            ActionKind::Expr => self.make_expr(action),
+            ActionKind::Stmt => self.make_stmt(action),
+            ActionKind::Decl => self.make_decl(action),
         }
     }
 
-    /// Performs two actions, one after the other.
+    /// Performs two actions, one after the other. The second takes nothing from the stack.
+    #[inline(always)]
     fn perform_two(&mut self, first: Action, second: Action) -> Result<(), NoMemory>
         requires sound { IsSound self.old }
         requires room { nodes self.old + 1 < 2 ^ 32 }
+        requires pushes { pushes second ≡ true }
         ensures made { OnOk result (made self.new ≡ perform second (perform first (made self.old))) }
         ensures sound { OnOk result (IsSound self.new) }
-        ensures grows { OnOk result (nodes self.new ≤ nodes self.old + 2) }
+        ensures grows { OnOk result (nodes self.new ≤ nodes self.old + 1) }
         ensures texts { OnOk result (KeepsTexts self.old.package self.new.package) }
     {
         self.perform(first)?;
-        self.perform(second)
+        self.push(second)
+    }
+
+    /// Performs two actions that take nothing from the stack, one after the other.
+    #[inline(always)]
+    fn push_two(&mut self, first: Action, second: Action) -> Result<(), NoMemory>
+        requires sound { IsSound self.old }
+        requires first { pushes first ≡ true }
+        requires second { pushes second ≡ true }
+        ensures made { OnOk result (made self.new ≡ perform second (perform first (made self.old))) }
+        ensures sound { OnOk result (IsSound self.new) }
+        ensures package { self.new.package ≡ self.old.package }
+    {
+        self.push(first)?;
+        self.push(second)
     }
 
     /// Performs the actions before a list of the table.
@@ -145,9 +287,9 @@ impl Maker {
         match lead {
             Lead::Empty => Ok(()),
             Lead::One(action) => self.perform(action),
-            Lead::Places(at) => self.perform_two(Action::PushPlace(at), Action::PushPlace(at)),
+            Lead::Places(at) => self.push_two(Action::PushPlace(at), Action::PushPlace(at)),
             Lead::PlacedPath(name) => {
-                self.perform_two(Action::PushPlace(name.at), Action::BarePath(name))
+                self.push_two(Action::PushPlace(name.at), Action::BarePath(name))
             }
             Lead::ThisPath(at) => self.perform_two(Action::ThisPath, Action::PushPlace(at)),
             Lead::Chain { op, at } => {

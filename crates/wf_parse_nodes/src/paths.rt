@@ -3,11 +3,11 @@
 ghost use Rattle.std.specs.Prelude.{◌≡◌, ◌<◌, List, [], ◌∷◌, true, IfOk};
 ghost use Rattle.wf_parse_grammar.specs.declared.symbols.Action.TheVariants as does;
 ghost use Rattle.wf_parse_nodes.specs.Making.{making};
+ghost use Rattle.wf_parse_nodes.specs.Products as makes;
 ghost use Rattle.wf_parse_nodes.specs.Shapes.{fits};
 ghost use Rattle.wf_parse_nodes.specs.declared.shapes.Shape.TheVariants as shapes;
 
 use crate::pops::{pop_name, pop_path, pop_place};
-use crate::products::Product;
 use crate::values::Value;
 use stacks::Stack;
 use wf_ast::parsed::{Path, Receiver, Root};
@@ -15,52 +15,52 @@ use wf_text::NoMemory;
 
 /// A name after `this` and a dot.
 #[inline(never)]
-pub(crate) fn this_path(values: &mut Stack<Value>) -> Product
+pub(crate) fn this_path(values: &mut Stack<Value>) -> Value
     requires { fits (shapes.Name ∷ shapes.Place ∷ []) values.old ≡ true }
-    ensures { making does.ThisPath values.old ≡ record { product = result; vals = values.new } }
+    ensures { making does.ThisPath values.old ≡ record { product = makes.Value result; vals = values.new } }
 {
     let name = pop_name(values);
     let at = pop_place(values);
-    Product::Value(Value::Path(Path {
+    Value::Path(Path {
         root: Root::This,
         name,
         at,
-    }))
+    })
 }
 
 /// A name after `args` and a dot.
 #[inline(never)]
-pub(crate) fn args_path(values: &mut Stack<Value>) -> Product
+pub(crate) fn args_path(values: &mut Stack<Value>) -> Value
     requires { fits (shapes.Name ∷ shapes.Place ∷ []) values.old ≡ true }
-    ensures { making does.ArgsPath values.old ≡ record { product = result; vals = values.new } }
+    ensures { making does.ArgsPath values.old ≡ record { product = makes.Value result; vals = values.new } }
 {
     let name = pop_name(values);
     let at = pop_place(values);
-    Product::Value(Value::Path(Path {
+    Value::Path(Path {
         root: Root::Args,
         name,
         at,
-    }))
+    })
 }
 
 /// A path that a call is made on.
 #[inline(never)]
-pub(crate) fn path_receiver(values: &mut Stack<Value>) -> Product
+pub(crate) fn path_receiver(values: &mut Stack<Value>) -> Value
     requires { fits (shapes.Path ∷ []) values.old ≡ true }
-    ensures { making does.PathReceiver values.old ≡ record { product = result; vals = values.new } }
+    ensures { making does.PathReceiver values.old ≡ record { product = makes.Value result; vals = values.new } }
 {
     let path = pop_path(values);
-    Product::Value(Value::Receiver(Receiver::Path(path)))
+    Value::Receiver(Receiver::Path(path))
 }
 
 /// `this` that a call is made on, below the method's name.
 #[inline(never)]
-pub(crate) fn this_method(values: &mut Stack<Value>) -> Result<Product, NoMemory>
+pub(crate) fn this_method(values: &mut Stack<Value>) -> Result<Value, NoMemory>
     requires { fits (shapes.Name ∷ shapes.Place ∷ []) values.old ≡ true }
-    ensures { IfOk result (λ product. making does.ThisMethod values.old ≡ record { product = product; vals = values.new }) }
+    ensures { IfOk result (λ value. making does.ThisMethod values.old ≡ record { product = makes.Value value; vals = values.new }) }
 {
     let name = pop_name(values);
     let at = pop_place(values);
     values.push(Value::Receiver(Receiver::This(at)))?;
-    Ok(Product::Value(Value::Name(name)))
+    Ok(Value::Name(name))
 }

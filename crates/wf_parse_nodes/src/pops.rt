@@ -22,7 +22,7 @@ fn lost(_top: Option<Value>) {}
 
 /// Takes a name or a text from the top.
 #[inline(never)]
-pub fn pop_name(values: &mut Stack<Value>) -> Name
+pub(crate) fn pop_name(values: &mut Stack<Value>) -> Name
     requires { fits (shapes.Name ∷ []) values.old ≡ true }
     ensures { values.old ≡ vals.Name result ∷ values.new }
 {
@@ -127,7 +127,7 @@ pub(crate) fn pop_receiver(values: &mut Stack<Value>) -> Receiver
 
 /// Takes an expression from the top.
 #[inline(never)]
-pub fn pop_expr(values: &mut Stack<Value>) -> ExprId
+pub(crate) fn pop_expr(values: &mut Stack<Value>) -> ExprId
     requires { fits (shapes.Expr ∷ []) values.old ≡ true }
     ensures { values.old ≡ vals.Expr result ∷ values.new }
 {
@@ -235,7 +235,7 @@ pub(crate) fn pop_bounds(values: &mut Stack<Value>) -> Option<Bounds>
 
 /// Takes a type from the top.
 #[inline(never)]
-pub fn pop_type(values: &mut Stack<Value>) -> TypeExpr
+pub(crate) fn pop_type(values: &mut Stack<Value>) -> TypeExpr
     requires { fits (shapes.Type ∷ []) values.old ≡ true }
     ensures { values.old ≡ vals.Type result ∷ values.new }
 {
@@ -259,7 +259,7 @@ pub(crate) fn pop_items(values: &mut Stack<Value>) -> Sequence<StmtId>
 
 /// Takes a block from the top.
 #[inline(never)]
-pub fn pop_block(values: &mut Stack<Value>) -> Block
+pub(crate) fn pop_block(values: &mut Stack<Value>) -> Block
     requires { fits (shapes.Block ∷ []) values.old ≡ true }
     ensures { values.old ≡ vals.Block result ∷ values.new }
 {
@@ -364,7 +364,7 @@ pub(crate) fn pop_via(values: &mut Stack<Value>) -> Option<Via>
 
 /// Takes fields from the top.
 #[inline(never)]
-pub fn pop_fields(values: &mut Stack<Value>) -> Sequence<Field>
+pub(crate) fn pop_fields(values: &mut Stack<Value>) -> Sequence<Field>
     requires { fits (shapes.Fields ∷ []) values.old ≡ true }
     ensures { values.old ≡ vals.Fields result ∷ values.new }
 {

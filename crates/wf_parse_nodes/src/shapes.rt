@@ -77,7 +77,8 @@ impl ShapeOf<Value> for Shape {
 }
 
 /// The shapes of the values that an action takes, the topmost first.
-pub fn takes(action: Action) -> &'static [Shape]
+#[inline(always)]
+pub(crate) fn takes(action: Action) -> &'static [Shape]
     ensures { result.now ≡ takes action }
 {
     match action {

@@ -2,12 +2,12 @@
 
 ghost use Rattle.std.specs.Prelude.{◌≡◌, ◌<◌, List, [], ◌∷◌, true, IfOk};
 ghost use Rattle.wf_parse_grammar.specs.declared.symbols.Action.TheVariants as does;
+ghost use Rattle.wf_parse_nodes.specs.Products as makes;
 ghost use Rattle.wf_parse_nodes.specs.Making.{making, closed_core};
 ghost use Rattle.wf_parse_nodes.specs.Shapes.{fits};
 ghost use Rattle.wf_parse_nodes.specs.declared.shapes.Shape.TheVariants as shapes;
 
 use crate::pops::{pop_bounds, pop_core, pop_expr, pop_part, pop_place, pop_prefixes};
-use crate::products::Product;
 use crate::values::{OpenCore, Value};
 use stacks::Stack;
 use wf_ast::parsed::{Bounds, Core, Name, Prefix, TypeExpr};
@@ -25,85 +25,85 @@ fn closed_core(core: OpenCore) -> Core
 
 /// `slice` before a type.
 #[inline(never)]
-pub fn add_slice(at: Place, values: &mut Stack<Value>) -> Result<Product, NoMemory>
+pub fn add_slice(at: Place, values: &mut Stack<Value>) -> Result<Value, NoMemory>
     requires { fits (shapes.Prefixes ∷ []) values.old ≡ true }
-    ensures { IfOk result (λ product. making (does.AddSlice at) values.old ≡ record { product = product; vals = values.new }) }
+    ensures { IfOk result (λ value. making (does.AddSlice at) values.old ≡ record { product = makes.Value value; vals = values.new }) }
 {
     let mut prefixes = pop_prefixes(values);
     prefixes.push(Prefix::Slice(at))?;
-    Ok(Product::Value(Value::Prefixes(prefixes)))
+    Ok(Value::Prefixes(prefixes))
 }
 
 /// `array` with a length before a type.
 #[inline(never)]
-pub fn add_array(values: &mut Stack<Value>) -> Result<Product, NoMemory>
+pub fn add_array(values: &mut Stack<Value>) -> Result<Value, NoMemory>
     requires { fits (shapes.Expr ∷ shapes.Place ∷ shapes.Prefixes ∷ []) values.old ≡ true }
-    ensures { IfOk result (λ product. making does.AddArray values.old ≡ record { product = product; vals = values.new }) }
+    ensures { IfOk result (λ value. making does.AddArray values.old ≡ record { product = makes.Value value; vals = values.new }) }
 {
     let length = pop_expr(values);
     let at = pop_place(values);
     let mut prefixes = pop_prefixes(values);
     prefixes.push(Prefix::Array { length, at })?;
-    Ok(Product::Value(Value::Prefixes(prefixes)))
+    Ok(Value::Prefixes(prefixes))
 }
 
 /// A type that ends with the name of a struct.
 #[inline(never)]
-pub fn struct_type(name: Name, values: &mut Stack<Value>) -> Product
+pub fn struct_type(name: Name, values: &mut Stack<Value>) -> Value
     requires { fits (shapes.Prefixes ∷ []) values.old ≡ true }
-    ensures { making (does.StructType name) values.old ≡ record { product = result; vals = values.new } }
+    ensures { making (does.StructType name) values.old ≡ record { product = makes.Value result; vals = values.new } }
 {
     let prefixes = pop_prefixes(values);
-    Product::Value(Value::Type(TypeExpr {
+    Value::Type(TypeExpr {
         prefixes,
         core: Core::Struct(name),
         bounds: None,
-    }))
+    })
 }
 
 /// A type of the language, by its name.
 #[inline(never)]
-pub(crate) fn base_core(name: Name, values: &mut Stack<Value>) -> Product
+pub(crate) fn base_core(name: Name, values: &mut Stack<Value>) -> Value
     requires { fits (shapes.Place ∷ []) values.old ≡ true }
-    ensures { making (does.BaseCore name) values.old ≡ record { product = result; vals = values.new } }
+    ensures { making (does.BaseCore name) values.old ≡ record { product = makes.Value result; vals = values.new } }
 {
     let at = pop_place(values);
-    Product::Value(Value::Core(OpenCore::Base { name, at }))
+    Value::Core(OpenCore::Base { name, at })
 }
 
 /// The type of statuses.
 #[inline(never)]
-pub(crate) fn status_core(values: &mut Stack<Value>) -> Product
+pub(crate) fn status_core(values: &mut Stack<Value>) -> Value
     requires { fits (shapes.Place ∷ []) values.old ≡ true }
-    ensures { making does.StatusCore values.old ≡ record { product = result; vals = values.new } }
+    ensures { making does.StatusCore values.old ≡ record { product = makes.Value result; vals = values.new } }
 {
     let at = pop_place(values);
-    Product::Value(Value::Core(OpenCore::Status { at }))
+    Value::Core(OpenCore::Status { at })
 }
 
 /// The bounds of a refined type.
 #[inline(never)]
-pub(crate) fn some_bounds(values: &mut Stack<Value>) -> Product
+pub(crate) fn some_bounds(values: &mut Stack<Value>) -> Value
     requires { fits (shapes.Expr ∷ shapes.Part ∷ []) values.old ≡ true }
-    ensures { making does.SomeBounds values.old ≡ record { product = result; vals = values.new } }
+    ensures { making does.SomeBounds values.old ≡ record { product = makes.Value result; vals = values.new } }
 {
     let high = pop_expr(values);
     let low = pop_part(values);
-    Product::Value(Value::Bounds(Some(Bounds { low, high })))
+    Value::Bounds(Some(Bounds { low, high }))
 }
 
 /// A type that ends with a type of the language.
 #[inline(never)]
-pub(crate) fn finish_type(values: &mut Stack<Value>) -> Product
+pub(crate) fn finish_type(values: &mut Stack<Value>) -> Value
     requires { fits (shapes.Bounds ∷ shapes.Core ∷ shapes.Prefixes ∷ []) values.old ≡ true }
-    ensures { making does.FinishType values.old ≡ record { product = result; vals = values.new } }
+    ensures { making does.FinishType values.old ≡ record { product = makes.Value result; vals = values.new } }
 {
     let bounds = pop_bounds(values);
     let core = pop_core(values);
     let prefixes = pop_prefixes(values);
-    Product::Value(Value::Type(TypeExpr {
+    Value::Type(TypeExpr {
         prefixes,
         core: closed_core(core),
         bounds,
-    }))
+    })
 }

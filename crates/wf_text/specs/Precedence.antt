@@ -62,13 +62,13 @@ is_before r s =
     then_by r.at.file s.at.file
     (then_by r.at.line s.at.line (then_by r.at.col s.at.col (nat_lt (rank r.rule) (rank s.rule))))
 
--- What decides of what was found so far and what is found now.
+-- The first refusal of what was found so far and what is found now.
 abbrev pub sooner : Option Refusal → Option Refusal → Option Refusal
 sooner found None = found
 sooner None (Some s) = Some s
 sooner (Some r) (Some s) = if is_before s r then Some s else Some r
 
--- What decides of what was found so far and a whole list.
+-- The first refusal of what was found so far and a whole list.
 abbrev pub soonest : Option Refusal → List (Option Refusal) → Option Refusal
 soonest found [] = found
 soonest found (r ∷ rs) = soonest (sooner found r) rs

@@ -29,7 +29,7 @@ pub fn is_before(first: Refusal, second: Refusal) -> bool
     }
 }
 
-/// What decides of what was found so far and what is found now.
+/// The first refusal of what was found so far and what is found now.
 pub fn sooner(found: Option<Refusal>, now: Option<Refusal>) -> Option<Refusal>
     ensures { result ≡ sooner_of found now }
 {

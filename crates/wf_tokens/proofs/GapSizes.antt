@@ -43,7 +43,7 @@ next_byte due inside goes bytes n h =
       size = gap_size-goes_on due inside goes (drop n bytes) e ∙ ap (λ rest. suc (gap_size due goes rest)) (drop-drop 1 n bytes);
     }
 
--- So many bytes in front are the gap.
+-- So many bytes at the front are the gap.
 pub gap_size-is : (due inside : Bool) (bytes : List ℕ) → IsGapFrom due inside (take (gap_size due inside bytes) bytes) (drop (gap_size due inside bytes) bytes)
 gap_size-is due inside [] = refl
 gap_size-is due inside (byte ∷ rest) = by_answer (λ goes. gap_size-is due goes rest) (gap_goes_on due inside (byte ∷ rest)) refl

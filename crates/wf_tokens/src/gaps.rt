@@ -14,7 +14,7 @@ fn is_blank(due: bool, byte: u8) -> bool
     }
 }
 
-/// Whether two slashes stand in front.
+/// Whether two slashes stand at the front.
 fn begins_comment(bytes: &[u8]) -> bool
     ensures { result ≡ begins_comment bytes.now }
 {
@@ -38,9 +38,9 @@ fn gap_goes_on(due: bool, inside: bool, bytes: &[u8]) -> Option<bool>
     }
 }
 
-/// How many bytes in front are a gap: all blanks and comments. `due` tells that a line end adds a semicolon,
+/// How many bytes at the front are a gap: all blanks and comments. `due` tells that a line end adds a semicolon,
 /// which ends the gap.
-pub fn gap_len(due: bool, bytes: &[u8]) -> usize
+pub(crate) fn gap_len(due: bool, bytes: &[u8]) -> usize
     ensures within { result ≤ length bytes.now }
     ensures gap { IsGap due (take result bytes.now) (drop result bytes.now) }
 {
@@ -53,7 +53,7 @@ pub fn gap_len(due: bool, bytes: &[u8]) -> usize
     len
 }
 
-/// Whether a line feed or nothing stands in front.
+/// Whether a line feed or nothing stands at the front.
 pub fn ends_line(bytes: &[u8]) -> bool
     ensures { result ≡ ends_line bytes.now }
 {

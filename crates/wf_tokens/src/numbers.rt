@@ -27,7 +27,7 @@ fn is_digit_of(base: u64, byte: u8) -> bool
     digit_value(byte) < base
 }
 
-/// Whether a digit of the base stands in front.
+/// Whether a digit of the base stands at the front.
 fn begins_with_digit(base: u64, text: &[u8]) -> bool
     ensures { result ≡ begins (is_digit_of base) text.now }
 {
@@ -99,7 +99,7 @@ fn digits_value(base: u64, digits: &[u8]) -> Result<u64, Rule>
     }
 }
 
-/// The base that `0x`, `0X`, `0b` or `0B` in front tells.
+/// The base that `0x`, `0X`, `0b` or `0B` at the front tells.
 fn marked_base(text: &[u8]) -> Option<u64>
     ensures base { result ≡ marked_base text.now }
     ensures marked { IfSome result (λ base. (0 < base) × (2 ≤ length text.now)) }

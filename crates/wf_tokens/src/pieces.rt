@@ -1,4 +1,4 @@
-// Pieces: the bytes of one token, the longest that can stand in front.
+// Pieces: the bytes of one token, the longest that can stand at the front.
 
 ghost use Rattle.std.specs.Prelude.{◌≡◌, ◌≤◌, ◌<◌, true, false, length, take, drop, IfOk, IfErr, ℕ};
 ghost use Rattle.std.specs.List.{list_all};
@@ -14,14 +14,14 @@ use wf_text::Rule;
 
 /// A piece: the kind of its token, and how many bytes it has.
 #[derive(Clone, Copy)]
-pub struct Piece {
+pub(crate) struct Piece {
     pub kind: TokenKind,
     pub len: usize,
 }
 
 /// The piece before the bytes. Where none can stand there: S2 where they begin with a quote, S3 or S4
 /// where they begin with a digit, else S1.
-pub fn first_piece(bytes: &[u8]) -> Result<Piece, Rule>
+pub(crate) fn first_piece(bytes: &[u8]) -> Result<Piece, Rule>
     ensures piece { IfOk result (λ piece. IsFrontPiece piece.kind piece.len bytes.now) }
     ensures none { IfErr result (λ rule. IsRefused rule bytes.now) }
 {
@@ -32,7 +32,7 @@ pub fn first_piece(bytes: &[u8]) -> Result<Piece, Rule>
     }
 }
 
-/// The text in front. S2 where it isn't closed on its line.
+/// The text at the front. S2 where it isn't closed on its line.
 fn text_piece(bytes: &[u8]) -> Result<Piece, Rule>
     requires { begins is_quote bytes.now ≡ true }
     ensures piece { IfOk result (λ piece. IsFrontPiece piece.kind piece.len bytes.now) }
@@ -50,7 +50,7 @@ fn text_piece(bytes: &[u8]) -> Result<Piece, Rule>
     }
 }
 
-/// The name, word or number in front. S3 where a number is misspelt, S4 where it is 2^64 or more.
+/// The name, word or number at the front. S3 where a number is misspelt, S4 where it is 2^64 or more.
 fn run_piece(bytes: &[u8]) -> Result<Piece, Rule>
     requires { begins is_run bytes.now ≡ true }
     ensures piece { IfOk result (λ piece. IsFrontPiece piece.kind piece.len bytes.now) }
@@ -78,7 +78,7 @@ fn run_kind(text: &[u8]) -> Result<TokenKind, Rule>
     }
 }
 
-/// The symbol in front. S1 where there is none.
+/// The symbol at the front. S1 where there is none.
 fn symbol_piece(bytes: &[u8]) -> Result<Piece, Rule>
     requires run { begins is_run bytes.now ≡ false }
     requires quote { begins is_quote bytes.now ≡ false }

@@ -1,4 +1,4 @@
-// Classes of bytes, and how many bytes of a class stand in front.
+// Classes of bytes, and how many bytes of a class stand at the front.
 
 ghost use Rattle.std.specs.Prelude.{◌≡◌, ◌≤◌, length, take, drop, true, false};
 ghost use Rattle.std.specs.List.{list_all};
@@ -42,8 +42,8 @@ pub(crate) fn first_byte(bytes: &[u8]) -> u8
     }
 }
 
-/// Whether a quote stands in front.
-pub fn begins_with_quote(bytes: &[u8]) -> bool
+/// Whether a quote stands at the front.
+pub(crate) fn begins_with_quote(bytes: &[u8]) -> bool
     ensures { result ≡ begins is_quote bytes.now }
 {
     match bytes.first() {
@@ -52,8 +52,8 @@ pub fn begins_with_quote(bytes: &[u8]) -> bool
     }
 }
 
-/// How many letters, digits and `_` stand in front.
-pub fn run_len(bytes: &[u8]) -> usize
+/// How many letters, digits and `_` stand at the front.
+pub(crate) fn run_len(bytes: &[u8]) -> usize
     ensures within { result ≤ length bytes.now }
     ensures run { list_all is_run (take result bytes.now) ≡ true }
     ensures whole { begins is_run (drop result bytes.now) ≡ false }
@@ -65,8 +65,8 @@ pub fn run_len(bytes: &[u8]) -> usize
     len
 }
 
-/// How many bytes that may stand inside a text stand in front.
-pub fn text_len(bytes: &[u8]) -> usize
+/// How many bytes that may stand inside a text stand at the front.
+pub(crate) fn text_len(bytes: &[u8]) -> usize
     ensures within { result ≤ length bytes.now }
     ensures plain { list_all is_text_byte (take result bytes.now) ≡ true }
     ensures whole { begins is_text_byte (drop result bytes.now) ≡ false }

@@ -106,7 +106,7 @@ pub enum Symbol {
 }
 
 /// The operator as it is written, in ASCII.
-pub fn text_of_operator(operator: Operator) -> &'static str
+pub(crate) fn text_of_operator(operator: Operator) -> &'static str
     ensures { result.now ≡ operator_text operator }
 {
     match operator {
@@ -130,7 +130,7 @@ pub fn text_of_operator(operator: Operator) -> &'static str
 }
 
 /// The assignment by an operator as it is written, in ASCII.
-pub fn text_of_assign(operator: Operator) -> &'static str
+pub(crate) fn text_of_assign(operator: Operator) -> &'static str
     ensures { result.now ≡ assign_text operator }
 {
     match operator {
@@ -154,7 +154,7 @@ pub fn text_of_assign(operator: Operator) -> &'static str
 }
 
 /// The comparison as it is written, in ASCII.
-pub fn text_of_comparison(comparison: Comparison) -> &'static str
+pub(crate) fn text_of_comparison(comparison: Comparison) -> &'static str
     ensures { result.now ≡ comparison_text comparison }
 {
     match comparison {
@@ -168,7 +168,7 @@ pub fn text_of_comparison(comparison: Comparison) -> &'static str
 }
 
 /// The symbol as it is written, in ASCII.
-pub fn text_of_symbol(symbol: Symbol) -> &'static str
+pub(crate) fn text_of_symbol(symbol: Symbol) -> &'static str
     ensures { result.now ≡ symbol_text symbol }
 {
     match symbol {
@@ -289,7 +289,7 @@ fn find_symbol(bytes: &[u8]) -> Option<Symbol>
 }
 
 /// The longest symbol with which the bytes begin, if they begin with one.
-pub fn longest_symbol(bytes: &[u8]) -> Option<Symbol>
+pub(crate) fn longest_symbol(bytes: &[u8]) -> Option<Symbol>
     ensures found { IfSome result (λ symbol. IsLongestSymbol symbol bytes.now) }
     ensures none { IfNone result (BeginsNoSymbol bytes.now) }
 {

@@ -46,7 +46,7 @@ pub enum Word {
 }
 
 /// The word as it is written, in ASCII.
-pub fn text_of_word(word: Word) -> &'static str
+pub(crate) fn text_of_word(word: Word) -> &'static str
     ensures { result.now ≡ word_text word }
 {
     match word {

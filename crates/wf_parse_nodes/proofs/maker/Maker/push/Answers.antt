@@ -1,6 +1,6 @@
 use Rattle.std.proofs.lemmas.Result.{on_ok_weaker}
 use Rattle.std.proofs.Common.{◌≡◌, ◌∙◌}
-use Rattle.wf_parse_nodes.specs.declared.products.Product.TheVariants as makes
+use Rattle.wf_parse_nodes.specs.Products as makes
 use Rattle.wf_parse_nodes.specs.Makers.{made}
 use Rattle.wf_parse_nodes.proofs.Performing.{put_on, push_performed, push_parts}
 use Rattle.wf_parse_nodes.proofs.maker.Maker.push.Goals as goal

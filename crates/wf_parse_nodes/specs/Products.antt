@@ -1,0 +1,11 @@
+-- What an action makes: a value, or a node of the tree.
+use Rattle.wf_ast.specs.declared.parsed.DeclNode.{DeclNode}
+use Rattle.wf_ast.specs.declared.parsed.ExprNode.{ExprNode}
+use Rattle.wf_ast.specs.declared.parsed.StmtNode.{StmtNode}
+use Rattle.wf_parse_nodes.specs.declared.values.Value as values
+
+pub data Product : Type 0 where
+  Value : (value : values.Value) → Product
+  Expr : (node : ExprNode) → Product
+  Stmt : (node : StmtNode) → Product
+  Decl : (node : DeclNode) → Product
