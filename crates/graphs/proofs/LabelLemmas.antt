@@ -417,7 +417,7 @@ all-given n step order labels queue leaving h = record { len = h.given.len; fall
         let P : ℕ → Type 0 = AreTied step b in
         tied-both step a b r.0 r.1.1 (subst P same q.1.1)
 
--- Who goes to a number with its own label stands on a circle.
+-- Who goes to a number with its own label stands on a cycle.
 module _ (rows : List (List ℕ)) (labels : List ℕ) (h : AreLabels (length rows) (goes rows) labels) where
   pub stays-sound : (a b : ℕ) → a < length rows → b < length rows → goes rows a b ≡ true → label labels b ≡ label labels a → Path (goes rows) a a
   stays-sound a b l m g e = by_tie (h.tied b a m l e)

@@ -8,7 +8,7 @@ use Rattle.graphs.specs.Graphs.{Path, last, more, holds, goes}
 use Rattle.graphs.proofs.NumberLemmas.{same_number, number_self, numbers_equivalence}
 use Rattle.graphs.specs.declared.walk.Walk.{Walk}
 use Rattle.graphs.specs.Leaving.{IsLeaving}
-use Rattle.graphs.specs.Orders.{IsOrder, IsOrderOffCircles, HasCircle}
+use Rattle.graphs.specs.Orders.{IsOrder, IsOrderOffCycles, HasCycle}
 use Rattle.graphs.specs.Walking.{Walks, has_begun}
 use Rattle.graphs.proofs.WalkLemmas.{either, found-at, take-at, one-place, holds-pushed, walk-few}
 
@@ -99,7 +99,7 @@ module _ (rows : List (List ℕ)) (order : List ℕ) (h : IsOrder rows order) wh
   has-all : (a : ℕ) → a < length rows → holds order a ≡ true
   has-all = all-held (length rows) order h.whole h.within h.once
 
-  -- What a way leads to stands in front.
+  -- What a way leads to stands before it.
   way-behind : (i a b : ℕ) → slice_get order i ≡ Some a → Path (goes rows) a b → holds (take i order) b ≡ true
   way-behind i _ _ at (last a b s) = h.behind i a b at s
   way-behind i _ _ at (more a b c s p) =
@@ -107,8 +107,8 @@ module _ (rows : List (List ℕ)) (order : List ℕ) (h : IsOrder rows order) wh
       let q = take-at order r.0 c (way-behind r.0 b c r.1.1 p) in
       at-take order i q.0 c (omega (arith, q.1.0, r.1.0)) q.1.1
 
-  pub no-circle : HasCircle rows → ⊥
-  no-circle c =
+  pub no-cycle : HasCycle rows → ⊥
+  no-cycle c =
       let r = found-at order c.0 (has-all c.0 (begins c.0 c.0 c.1)) in
       once-apart order r.0 c.0 h.once r.1 (way-behind r.0 c.0 c.0 r.1 c.1)
     where
@@ -117,8 +117,8 @@ module _ (rows : List (List ℕ)) (order : List ℕ) (h : IsOrder rows order) wh
       begins _ _ (more a b c s p) = goes-below rows a b s
 
 -- In the order in which a walk left the numbers each stands after those that it goes to and that have no way back.
-pub leaving-off-circles : (rows : List (List ℕ)) (order : List ℕ) → IsLeaving (length rows) (goes rows) order → IsOrderOffCircles rows order
-leaving-off-circles rows order leaving = record {
+pub leaving-off-cycles : (rows : List (List ℕ)) (order : List ℕ) → IsLeaving (length rows) (goes rows) order → IsOrderOffCycles rows order
+leaving-off-cycles rows order leaving = record {
   whole = leaving.whole;
   every = all-held (length rows) order leaving.whole leaving.within leaving.once;
   within = leaving.within;
@@ -127,7 +127,7 @@ leaving-off-circles rows order leaving = record {
 }
 
 -- Where no number has a way back to itself that is an order.
-pub order-open : (rows : List (List ℕ)) (order : List ℕ) → IsOrderOffCircles rows order → (HasCircle rows → ⊥) → IsOrder rows order
+pub order-open : (rows : List (List ℕ)) (order : List ℕ) → IsOrderOffCycles rows order → (HasCycle rows → ⊥) → IsOrder rows order
 order-open rows order h open_ = record {
   whole = h.whole;
   within = h.within;

@@ -27,7 +27,7 @@ abbrev pub AreWithin : List (List ℕ) → ℕ → Type 0
 AreWithin rows n = (a b : ℕ) → goes rows a b ≡ true → b < n
 
 -- Flags of the first k numbers: whether a way leads from the number back to itself.
-pub record AreCircles (rows : List (List ℕ)) (flags : List Bool) (k : ℕ) : Type 0 where
+pub record AreCycles (rows : List (List ℕ)) (flags : List Bool) (k : ℕ) : Type 0 where
   pub len : length flags ≡ k
   pub sound : (a : ℕ) → slice_get flags a ≡ Some true → Path (goes rows) a a
   pub complete : (a : ℕ) → a < k → Path (goes rows) a a → slice_get flags a ≡ Some true

@@ -12,7 +12,7 @@ pub record IsOrder (rows : List (List ℕ)) (order : List ℕ) : Type 0 where
 
 -- Every number of the graph stands in the order once, and all that it goes to stand before it, apart from those that
 -- have a way back to it.
-pub record IsOrderOffCircles (rows : List (List ℕ)) (order : List ℕ) : Type 0 where
+pub record IsOrderOffCycles (rows : List (List ℕ)) (order : List ℕ) : Type 0 where
   pub whole : length order ≡ length rows
   pub every : (a : ℕ) → a < length rows → holds order a ≡ true
   pub within : (a : ℕ) → holds order a ≡ true → a < length rows
@@ -20,5 +20,5 @@ pub record IsOrderOffCircles (rows : List (List ℕ)) (order : List ℕ) : Type 
   pub behind : (i a b : ℕ) → slice_get order i ≡ Some a → goes rows a b ≡ true → (holds (take i order) b ≡ true) ⊎ Path (goes rows) b a
 
 -- A way leads from some number back to it.
-abbrev pub HasCircle : List (List ℕ) → Type 0
-HasCircle rows = (a : ℕ) × Path (goes rows) a a
+abbrev pub HasCycle : List (List ℕ) → Type 0
+HasCycle rows = (a : ℕ) × Path (goes rows) a a

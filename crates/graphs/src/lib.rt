@@ -2,7 +2,7 @@
 // numbers that have a way back to themselves.
 #![tactic(auto)]
 
-pub mod circles;
+pub mod cycles;
 mod labels;
 pub mod laws;
 pub mod rows;

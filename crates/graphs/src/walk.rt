@@ -71,7 +71,7 @@ pub(crate) fn first_left(row: &[usize], flags: &Vec<bool>, from: usize) -> usize
 }
 
 /// Sets the flag of a number.
-pub fn set_flag(flags: &mut Vec<bool>, a: usize)
+pub(crate) fn set_flag(flags: &mut Vec<bool>, a: usize)
     requires { a < vec_len flags.old }
     ensures len { length flags.new.items ≡ length flags.old.items }
     ensures set { (b d : _) → b < length flags.old.items → slice_index_or flags.new.items b d ≡ (nat_eq b a || slice_index_or flags.old.items b d) }
@@ -80,7 +80,7 @@ pub fn set_flag(flags: &mut Vec<bool>, a: usize)
 }
 
 /// Sets the number of a number.
-pub fn set_number(numbers: &mut Vec<usize>, a: usize, number: usize)
+pub(crate) fn set_number(numbers: &mut Vec<usize>, a: usize, number: usize)
     requires { a < vec_len numbers.old }
     ensures len { length numbers.new.items ≡ length numbers.old.items }
     ensures set { (b d : _) → b < length numbers.old.items → slice_index_or numbers.new.items b d ≡ (if nat_eq b a then number else slice_index_or numbers.old.items b d) }
@@ -105,7 +105,7 @@ pub(crate) fn falses(alloc: Global, count: usize) -> Result<Vec<bool>, NoMemory>
 }
 
 /// So many zeros. `Err` where memory was refused.
-pub fn zeros(alloc: Global, count: usize) -> Result<Vec<usize>, NoMemory>
+pub(crate) fn zeros(alloc: Global, count: usize) -> Result<Vec<usize>, NoMemory>
     ensures len { IfOk result (λ numbers. length numbers.items ≡ count) }
     ensures zero { IfOk result (λ numbers. (b d : _) → b < count → slice_index_or numbers.items b d ≡ 0) }
 {

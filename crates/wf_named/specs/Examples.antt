@@ -147,13 +147,13 @@ no_struct = package_with (counter ∷ []) (count (Read ReadU8) breaking (through
 abbrev pub no_local : NamedPackageTree
 no_local = package_with (counter ∷ []) (count (Read ReadU8) breaking (own 1) (more_args (path (local 1 (at 15 24))) no_arg)) (step step_body) (1 ∷ 0 ∷ [])
 
--- In an order in which the caller stands in front.
+-- In an order in which the caller comes first.
 abbrev pub caller_first : NamedPackageTree
 caller_first = package_with (counter ∷ []) (count (Read ReadU8) breaking (own 1) one_arg) (step step_body) (0 ∷ 1 ∷ [])
 
 -- With a method that calls itself, for which there is no order.
-abbrev pub circle : NamedPackageTree
-circle = package_with (counter ∷ []) (count (Read ReadU8) breaking (own 1) one_arg) (step (more_stmts (do_call (call (own 1) (at 19 10) Impure one_arg) (at 19 5)) (close (at 20 1)))) (1 ∷ 0 ∷ [])
+abbrev pub cycle : NamedPackageTree
+cycle = package_with (counter ∷ []) (count (Read ReadU8) breaking (own 1) one_arg) (step (more_stmts (do_call (call (own 1) (at 19 10) Impure one_arg) (at 19 5)) (close (at 20 1)))) (1 ∷ 0 ∷ [])
 
 -- With a struct that holds itself.
 abbrev pub holding_itself : NamedPackageTree

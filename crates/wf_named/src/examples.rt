@@ -5,7 +5,7 @@ ghost use Rattle.std.specs.Prelude.{◌≡◌, true, false, length};
 ghost use Rattle.wf_named.specs.NamedParts.{named_package, NamedExprsOrdered, NamedStmtsOrdered};
 ghost use Rattle.wf_named.specs.WellNamed.{well_named};
 ghost use Rattle.wf_named.specs.ExampleNodes.{counting_nodes};
-ghost use Rattle.wf_named.specs.Examples.{counting, leaving_two, wrong_kind, no_argument, no_struct, no_local, caller_first, circle, holding_itself};
+ghost use Rattle.wf_named.specs.Examples.{counting, leaving_two, wrong_kind, no_argument, no_struct, no_local, caller_first, cycle, holding_itself};
 
 /// A package whose numbers all name something, and packages that differ from it in one place.
 pub fn packages_by_the_rules_of_names()
@@ -16,7 +16,7 @@ pub fn packages_by_the_rules_of_names()
     ensures no_struct { well_named no_struct ≡ false }
     ensures no_local { well_named no_local ≡ false }
     ensures caller_first { well_named caller_first ≡ false }
-    ensures circle { well_named circle ≡ false }
+    ensures cycle { well_named cycle ≡ false }
     ensures holding_itself { well_named holding_itself ≡ false }
 {}
 

@@ -12,30 +12,30 @@ use Rattle.wf_named.specs.WellNamed.{well_named}
 use Rattle.wf_named.specs.Grammar.{package_by_grammar}
 use Rattle.wf_named.specs.NamedStatementPlaces.{named_bodies_rise}
 use Rattle.wf_names_rules.specs.Declarations.{Declared, declared}
-use Rattle.wf_names_rules.specs.NameRules.{Breaks, by_use, by_circle}
+use Rattle.wf_names_rules.specs.NameRules.{Breaks, by_use, by_cycle}
 use Rattle.wf_names_scopes.specs.Agreeing.{package_of}
-use Rattle.wf_names_cycles.specs.Called.{AreRows}
-use Rattle.wf_names_cycles.specs.Circling.{IsCallOrder}
+use Rattle.wf_names_scopes.specs.CallRows.{AreRows}
+use Rattle.wf_names_cycles.specs.CyclesFound.{IsCallOrder}
 use Rattle.wf_names_resolve.specs.Package.{resolved_package}
-use Rattle.graphs.specs.Orders.{IsOrder, HasCircle}
+use Rattle.graphs.specs.Orders.{IsOrder, HasCycle}
 use Rattle.graphs.proofs.OrderLemmas.{order-open}
-use Rattle.wf_names_laws.proofs.FrontLemmas.{calls-open, circle-breaks, order-front, order-long}
+use Rattle.wf_names_laws.proofs.FrontLemmas.{calls-open, cycle-breaks, order-front, order-long}
 use Rattle.wf_names_laws.specs.Ordered.{HasOrder}
 use Rattle.wf_names_laws.proofs.PackageLaws.{package-named}
 use Rattle.wf_names_laws.proofs.PackageKept.{resolving_keeps_form}
 use Rattle.wf_names_laws.proofs.ResolvedOrder.{resolving_keeps_order}
 use Rattle.wf_names.specs.Naming.{IsResolved}
 
--- The graph of its calls has no circle.
-pub no-circle : (d : Declared) (rows : List (List ℕ)) → Decides (Breaks d) None → AreRows d rows (length d.methods) → HasCircle rows → ⊥
-no-circle d rows kept made circle = let broken = circle-breaks d rows made circle in kept broken.0 (by_circle broken.0 broken.1)
+-- The graph of its calls has no cycle.
+pub no-cycle : (d : Declared) (rows : List (List ℕ)) → Decides (Breaks d) None → AreRows d rows (length d.methods) → HasCycle rows → ⊥
+no-cycle d rows kept made cycle = let broken = cycle-breaks d rows made cycle in kept broken.0 (by_cycle broken.0 broken.1)
 
 -- So an order of the calls is one of the resolved package.
 pub order-kept : (name : List ℕ) (texts : List (List ℕ)) (decls : List DeclTree) (order : List ℕ) → Decides (Breaks (declared texts decls)) None
     → IsCallOrder (declared texts decls) order → HasOrder (resolved_package name texts decls order)
 order-kept name texts decls order kept calls =
     let d = declared texts decls in
-    let ordered : IsOrder calls.rows order = order-open calls.rows order calls.order_of (no-circle d calls.rows kept calls.made) in
+    let ordered : IsOrder calls.rows order = order-open calls.rows order calls.order_of (no-cycle d calls.rows kept calls.made) in
     record {
       long = order-long texts decls name order calls.rows calls.made ordered;
       in_front = order-front texts decls name order calls.rows calls.made ordered (calls-open d (λ s broken. kept s (by_use s broken)));

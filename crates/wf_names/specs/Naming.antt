@@ -10,7 +10,7 @@ use Rattle.wf_named.specs.NamedParts.{NamedParts, named_package}
 use Rattle.wf_names_rules.specs.Declarations.{Declared}
 use Rattle.wf_names_rules.specs.NameRules.{Breaks}
 use Rattle.wf_names_scopes.specs.Agreeing.{package_of, TellsPackage}
-use Rattle.wf_names_cycles.specs.Circling.{IsCallOrder}
+use Rattle.wf_names_cycles.specs.CyclesFound.{IsCallOrder}
 use Rattle.wf_names_resolve.specs.Package.{resolved_package}
 use Rattle.wf_names_laws.specs.Ordered.{HasOrder}
 use Rattle.wf_names.specs.declared.findings.Findings.{Findings}

@@ -10,7 +10,6 @@ use std::alloc::Global;
 use wf_ast::{Package, PackageNodes};
 use wf_named::{Named, NamedNodes};
 use wf_names_nodes::packages::resolve_package;
-use wf_names_numbers::packages::number_package;
 use wf_text::faults::{NoMemory, PhaseFault};
 
 // The nodes of the resolved package of one that breaks no rule, by what was found of it.
@@ -28,8 +27,7 @@ fn resolved_nodes(
         tables,
         order,
     } = found;
-    let numbers = number_package(alloc, parsed, tables)?;
-    resolve_package(alloc, parsed, &numbers, order)
+    resolve_package(alloc, parsed, &tables, order)
 }
 
 // The same as a package that is known to be well named.

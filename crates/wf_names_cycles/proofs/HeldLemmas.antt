@@ -20,10 +20,10 @@ use Rattle.wf_names_rules.specs.Found.{RecursName}
 use Rattle.wf_names_rules.specs.Sizes.{struct_held, is_the, fields_at as fields_in_struct, holds_struct}
 use Rattle.graphs.proofs.NumberLemmas.{same_number}
 use Rattle.wf_names_rules.proofs.WalkLemmas.{drop-one}
-use Rattle.wf_names_cycles.specs.Circling.{DecidesWith, HoldsItself}
+use Rattle.wf_names_cycles.specs.CyclesFound.{DecidesWith, HoldsItself}
 use Rattle.wf_names_cycles.specs.StructRows.{AreStructRows}
-use Rattle.wf_names_cycles.specs.Held.{number_of, names_of, one_number, held_by, held_in, held_rows}
-use Rattle.wf_names_cycles.proofs.CircleLemmas.{DecidesWith-map, path-map}
+use Rattle.wf_names_cycles.specs.Held.{names_of, one_number, held_by, held_in, held_rows}
+use Rattle.wf_names_cycles.proofs.CycleLemmas.{DecidesWith-map, path-map}
 
 pub append-assoc : {X : Type 0} (xs ys zs : List X) → (xs ++ ys) ++ zs ≡ xs ++ (ys ++ zs)
 append-assoc [] ys zs = refl
@@ -73,11 +73,6 @@ field-step es f fields i x is h old new e =
     let split : drop i fields ≡ x ∷ drop (i + 1) fields = drop-one fields i x h ∙ ap (λ y. y ∷ drop (i + 1) fields) (sym is) in
     ap (λ l. l ++ others) e ∙ append-assoc old (held_by f (type_at es x.of)) others
     ∙ ap (λ l. old ++ held_in f (variables (fields_at es l))) (sym split)
-
--- Numbers of names.
-number-struct : (text k : ℕ) (ss : List Structure) → position_from (is_spelt text) k (names_of ss) ≡ position_from (λ s. is_spelt text s.name) k ss
-number-struct text k [] = refl
-number-struct text k (s ∷ ss) = ap (λ r. cond (is_spelt text s.name) (Some k) r) (number-struct text (k + 1) ss)
 
 pub position-below : {X : Type 0} (test : X → Bool) (k : ℕ) (xs : List X) (a : ℕ) → position_from test k xs ≡ Some a → a < k + length xs
 position-below test k [] a e = absurd (cc e)
@@ -179,17 +174,13 @@ name-at [] i s e = absurd (cc e)
 name-at (t ∷ ss) zero s e = let same : t ≡ s = cc e in ap (λ (x : Structure). Some x.name) same
 name-at (t ∷ ss) (suc i) s e = name-at ss i s e
 
-module _ (d : Declared) (names : List Name) (f : ℕ → Option ℕ) (rows : List (List ℕ)) (named : names ≡ names_of d.structs)
-    (numbered : (text : ℕ) → f text ≡ number_of names text) (made : rows ≡ held_rows f d.structs) where
-  f-is : (text : ℕ) → f text ≡ struct_named d text
-  f-is text = numbered text ∙ ap (λ ns. number_of ns text) named ∙ number-struct text 0 d.structs
-
+module _ (d : Declared) (f : ℕ → Option ℕ) (rows : List (List ℕ)) (numbered : (text : ℕ) → f text ≡ struct_named d text) (made : rows ≡ held_rows f d.structs) where
   goes-is : (a b : ℕ) → goes rows a b ≡ holds_struct d a b
-  goes-is a b = ap (λ rs. goes rs a b) made ∙ row-held d f f-is b d.structs a
+  goes-is a b = ap (λ rs. goes rs a b) made ∙ row-held d f numbered b d.structs a
 
   pub structs-within : AreWithin rows (length rows)
   structs-within a b h =
-      let below : b < length d.structs = row-below f (length d.structs) (λ text a e. let first : a < 0 + length d.structs = position-below (λ s. is_spelt text s.name) 0 d.structs a (sym (f-is text) ∙ e) in omega (arith, first)) b d.structs a (ap (λ rs. goes rs a b) (sym made) ∙ h) in
+      let below : b < length d.structs = row-below f (length d.structs) (λ text a e. let first : a < 0 + length d.structs = position-below (λ s. is_spelt text s.name) 0 d.structs a (sym (numbered text) ∙ e) in omega (arith, first)) b d.structs a (ap (λ rs. goes rs a b) (sym made) ∙ h) in
       omega (arith, below, ap length made, rows-long f d.structs)
 
   pub rows-are : length rows < 2 ^ 32 - 1 → AreStructRows d rows
@@ -221,24 +212,19 @@ module _ (d : Declared) (names : List Name) (rows : List (List ℕ)) (named : na
   pub structs-decided : (found all : Option Refusal) → DecidesWith (RecursName rows names) found all → DecidesWith (HoldsItself d) found all
   structs-decided found all h = DecidesWith-map (RecursName rows names) (HoldsItself d) found all holds-from holds-to h
 
-pub rows-few : (f : ℕ → Option ℕ) (es : List ExprTree) (ts : List StmtTree) (nodes : List DeclNode) (rows : List (List ℕ)) (n : ℕ)
+rows-few : (f : ℕ → Option ℕ) (es : List ExprTree) (ts : List StmtTree) (nodes : List DeclNode) (rows : List (List ℕ)) (n : ℕ)
     → rows ≡ held_rows f (structs_of (decls_made es ts nodes)) → length nodes < n → length rows < n
 rows-few f es ts nodes rows n e h =
     omega (arith, h, ap length e, rows-long f (structs_of (decls_made es ts nodes)), structs-few es ts nodes)
 
 -- The same of the names and rows that are made of a package's nodes.
-module _ (texts : List (List ℕ)) (exprs : List ExprNode) (stmts : List StmtNode) (nodes : List DeclNode) (names : List Name) (f : ℕ → Option ℕ) (rows : List (List ℕ))
-    (named : (es : List ExprTree) (ts : List StmtTree) → names ≡ names_of (structs_of (decls_made es ts nodes)))
-    (numbered : (text : ℕ) → f text ≡ number_of names text)
-    (made : (es : List ExprTree) (ts : List StmtTree) → rows ≡ held_rows f (structs_of (decls_made es ts nodes))) where
-  pub graph-few : (n : ℕ) → length nodes < n → length rows < n
-  graph-few n h = rows-few f [] [] nodes rows n (made [] []) h
-
-  pub rows-made : length nodes < 2 ^ 32 - 1 → AreStructRows (declared texts (decl_trees exprs stmts nodes)) rows
+module _ (texts : List (List ℕ)) (exprs : List ExprNode) (stmts : List StmtNode) (nodes : List DeclNode) where
+  pub rows-made : (f : ℕ → Option ℕ) (rows : List (List ℕ)) → ((text : ℕ) → f text ≡ struct_named (declared texts (decl_trees exprs stmts nodes)) text)
+      → ((es : List ExprTree) (ts : List StmtTree) → rows ≡ held_rows f (structs_of (decls_made es ts nodes))) → length nodes < 2 ^ 32 - 1 → AreStructRows (declared texts (decl_trees exprs stmts nodes)) rows
   unfolding decl_trees
-  rows-made few =
-      rows-are (declared texts (decl_trees exprs stmts nodes)) names f rows (named (expr_trees exprs) (stmt_trees exprs stmts)) numbered (made (expr_trees exprs) (stmt_trees exprs stmts)) (graph-few _ few)
+  rows-made f rows numbered made few =
+      rows-are (declared texts (decl_trees exprs stmts nodes)) f rows numbered (made (expr_trees exprs) (stmt_trees exprs stmts)) (rows-few f [] [] nodes rows _ (made [] []) few)
 
-  pub names-made : names ≡ names_of (declared texts (decl_trees exprs stmts nodes)).structs
+  pub names-made : (names : List Name) → ((es : List ExprTree) (ts : List StmtTree) → names ≡ names_of (structs_of (decls_made es ts nodes))) → names ≡ names_of (declared texts (decl_trees exprs stmts nodes)).structs
   unfolding decl_trees
-  names-made = named (expr_trees exprs) (stmt_trees exprs stmts)
+  names-made names named = named (expr_trees exprs) (stmt_trees exprs stmts)

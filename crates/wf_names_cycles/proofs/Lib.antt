@@ -1,6 +1,4 @@
-pub mod CallLemmas
-pub mod CircleLemmas
+pub mod CycleLemmas
 pub mod HeldLemmas
 pub mod MethodLemmas
 pub mod SectionLemmas
-pub mod RowLemmas

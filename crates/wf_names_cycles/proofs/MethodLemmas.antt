@@ -1,36 +1,18 @@
--- The rows and the names of the methods, by the nodes of a package.
-use Rattle.std.proofs.Common.{◌≡◌, ℕ, zero, suc, ◌+◌, ◌<◌, ◌≤◌, List, [], ◌∷◌, ◌++◌, length, drop, slice_index_or, refl, sym, ap, ◌∙◌, subst, arith}
+-- The names of the methods, by the nodes of a package.
+use Rattle.std.proofs.Common.{◌≡◌, ℕ, suc, ◌+◌, ◌<◌, ◌≤◌, List, [], ◌∷◌, ◌++◌, length, drop, slice_index_or, refl, sym, ap, ◌∙◌, arith}
 use Rattle.wf_ast.specs.declared.parsed.DeclNode.{DeclNode}
 use Rattle.wf_ast.specs.declared.parsed.ExprNode.{ExprNode}
-use Rattle.wf_ast.specs.declared.parsed.Field.{Field}
 use Rattle.wf_ast.specs.declared.parsed.Name.{Name}
 use Rattle.wf_ast.specs.declared.parsed.StmtNode.{StmtNode}
 use Rattle.wf_ast.specs.ParsedTree as tree
 use Rattle.wf_ast.specs.ParsedTree.{ExprTree, StmtTree, DeclTree}
-use Rattle.wf_ast.specs.ParsedTrees.{type_at, fields_at, expr_trees, stmt_trees, decl_made, decls_made, decl_trees}
-use Rattle.wf_ast.specs.ParsedParts.{TypeBelow, FieldsBelow}
-use Rattle.wf_names_rules.specs.Declarations.{declared, variables, methods_of}
-use Rattle.wf_names_rules.specs.Uses.{type_uses, variable_uses}
-use Rattle.wf_names_rules.specs.Meanings.{Known}
+use Rattle.wf_ast.specs.ParsedTrees.{expr_trees, stmt_trees, decl_made, decls_made, decl_trees}
+use Rattle.wf_names_rules.specs.Declarations.{declared, methods_of}
 use Rattle.wf_names_rules.proofs.WalkLemmas.{drop-one}
-use Rattle.wf_names_cycles.specs.Called.{with_calls, AreRows, method_names}
-use Rattle.wf_names_cycles.proofs.CallLemmas.{rows_append}
+use Rattle.wf_names_scopes.specs.CallRows.{AreRows}
+use Rattle.wf_names_cycles.specs.CyclesFound.{method_names}
 use Rattle.wf_names_cycles.proofs.HeldLemmas.{append-assoc}
 use Rattle.wf_names_cycles.proofs.SectionLemmas.{methods-long}
-
--- Arguments one by one.
-pub field-step : (k : Known) (row next : List ℕ) (es : List ExprTree) (fields : List Field) (i : ℕ) (x : Field) → x ≡ slice_index_or fields i x → i < length fields
-    → next ≡ with_calls k row (type_uses (type_at es x.of))
-    → with_calls k next (variable_uses (variables (fields_at es (drop (i + 1) fields)))) ≡ with_calls k row (variable_uses (variables (fields_at es (drop i fields))))
-field-step k row next es fields i x is h e =
-    let split : drop i fields ≡ x ∷ drop (i + 1) fields = drop-one fields i x h ∙ ap (λ y. y ∷ drop (i + 1) fields) (sym is) in
-    rows_append k row next (type_uses (type_at es x.of)) (variable_uses (variables (fields_at es (drop (i + 1) fields)))) e
-    ∙ sym (ap (λ l. with_calls k row (variable_uses (variables (fields_at es l)))) split)
-
-pub field-at-place : (e : ℕ) (fields : List Field) (i : ℕ) (x : Field) → x ≡ slice_index_or fields i x → i < length fields → FieldsBelow e fields → TypeBelow e x.of
-field-at-place e [] i x is h b = absurd (omega (arith, h))
-field-at-place e (f ∷ fs) zero x is h b = let P : Field → Type 0 = λ y. TypeBelow e y.of in subst P (sym is) b.0
-field-at-place e (f ∷ fs) (suc i) x is h b = field-at-place e fs i x is (omega (arith, h)) b.1
 
 -- Declarations one by one.
 names-split : (d : DeclTree) (ds : List DeclTree) → method_names (methods_of (d ∷ ds)) ≡ method_names (methods_of (d ∷ [])) ++ method_names (methods_of ds)

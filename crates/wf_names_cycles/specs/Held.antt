@@ -1,14 +1,10 @@
 -- The graph of the structs, as lists of numbers.
-use Rattle.std.specs.Prelude.{◌≡◌, ℕ, List, [], ◌∷◌, map, drop, Option, Some, None}
-use Rattle.std.specs.List.{flat_map, position_from}
+use Rattle.std.specs.Prelude.{ℕ, List, [], ◌∷◌, map, Option, Some, None}
+use Rattle.std.specs.List.{flat_map}
 use Rattle.wf_ast.specs.declared.parsed.Name.{Name}
 use Rattle.wf_ast.specs.ParsedTree as tree
 use Rattle.wf_ast.specs.ParsedTree.{TypeTree}
-use Rattle.wf_names_rules.specs.Declarations.{Variable, Structure, is_spelt}
-
--- The number of the first of these names that is spelt so.
-abbrev pub number_of : List Name → ℕ → Option ℕ
-number_of names text = position_from (is_spelt text) 0 names
+use Rattle.wf_names_rules.specs.Declarations.{Variable, Structure}
 
 abbrev pub names_of : List Structure → List Name
 names_of structs = map (λ s. s.name) structs
@@ -29,12 +25,3 @@ held_in number variables = flat_map (λ v. held_by number v.of) variables
 -- The structs that each struct holds.
 abbrev pub held_rows : (number : ℕ → Option ℕ) → List Structure → List (List ℕ)
 held_rows number structs = map (λ s. held_in number s.fields) structs
-
--- A table that has the numbers of the first names, those below `index`.
-abbrev pub or_number : Option ℕ → Option ℕ → Option ℕ
-or_number (Some a) other = Some a
-or_number None other = other
-
-pub record Numbers (find : ℕ → Option ℕ) (names : List Name) (number index : ℕ) : Type 0 where
-  pub same : number ≡ index
-  pub finds : (text : ℕ) → or_number (find text) (position_from (is_spelt text) index (drop index names)) ≡ number_of names text

@@ -1,4 +1,3 @@
-pub mod Called
-pub mod Circling
+pub mod CyclesFound
 pub mod Held
 pub mod StructRows

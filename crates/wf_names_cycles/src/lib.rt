@@ -2,10 +2,7 @@
 // graphs of the structs and of the methods of a parsed package.
 #![tactic(auto)]
 
-mod calls;
-pub mod circling;
-mod collect_exprs;
-mod collect_stmts;
+pub mod cycles_found;
 pub mod laws;
 pub mod methods;
 pub mod structs;

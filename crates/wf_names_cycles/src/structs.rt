@@ -1,20 +1,20 @@
 // The graph of the structs of a package: which holds which, by the types of their fields.
 
-ghost use Rattle.std.specs.Prelude.{◌≡◌, ◌<◌, ◌-◌, ◌^◌, ◌++◌, [], ◌∷◌, ℕ, length, nat_eq, IfOk, OnOk};
-ghost use Rattle.indexmap.specs.IndexMap.{get};
+ghost use Rattle.std.specs.Prelude.{◌≡◌, ◌<◌, ◌-◌, ◌^◌, ◌++◌, [], ◌∷◌, length, IfOk, OnOk};
 ghost use Rattle.wf_ast.specs.ParsedTrees.{type_at, core_at, fields_at, decl_made, decls_made};
 ghost use Rattle.wf_names_rules.specs.Declarations.{variables, structs_of};
-ghost use Rattle.wf_names_scopes.specs.Agreeing.{package_of};
-ghost use Rattle.wf_names_cycles.specs.Circling.{AreStructCycles};
-ghost use Rattle.wf_names_cycles.specs.Held.{number_of, names_of, one_number, held_by, held_in, held_rows};
+ghost use Rattle.wf_names_rules.specs.Tables.{number_at};
+ghost use Rattle.wf_names_scopes.specs.Agreeing.{TellsNumbers, package_of};
+ghost use Rattle.wf_names_cycles.specs.CyclesFound.{AreStructCycles};
+ghost use Rattle.wf_names_cycles.specs.Held.{names_of, one_number, held_by, held_in, held_rows};
 
-use crate::circling::NamedCycles;
-use graphs::circles::find_cycles;
+use crate::cycles_found::NamedCycles;
+use graphs::cycles::find_cycles;
 use graphs::rows::Row;
-use indexmap::IndexMap;
 use std::alloc::Global;
-use wf_ast::PackageNodes;
 use wf_ast::parsed::{Core, Decl, DeclNode, Field, Name, TypeExpr};
+use wf_ast::{PackageNodes, TextId};
+use wf_names_rules::tables::Numbers;
 use wf_text::faults::NoMemory;
 
 fn add_name(names: &mut Vec<Name>, decl: &Decl) -> Result<(), NoMemory>
@@ -42,29 +42,22 @@ fn struct_names(alloc: Global, decls: &[DeclNode]) -> Result<Vec<Name>, NoMemory
     Ok(names)
 }
 
-// The number of each name, from 0, by its text; of names that are spelt alike that of the first. `Err` where
-// memory was refused.
-fn numbered(alloc: Global, names: &[Name]) -> Result<IndexMap<u32, usize>, NoMemory>
-    ensures { IfOk result (λ table. (text : ℕ) → get nat_eq table text ≡ number_of names.now text) }
+fn number(structs: &Numbers, name: TextId) -> Option<usize>
+    ensures { result ≡ number_at structs.now name.0 }
 {
-    let mut table = IndexMap::new(alloc);
-    let mut number = 0;
-    for name in names {
-        if !table.contains_key(&name.text.0) {
-            table.insert(name.text.0, number)?;
-        }
-        number += 1;
+    match structs.numbers.get(&name.0) {
+        Some(number) => Some(*number as usize),
+        None => None,
     }
-    Ok(table)
 }
 
 // The struct that a type is.
-fn held(numbers: &IndexMap<u32, usize>, of: &TypeExpr) -> Option<usize>
-    ensures { (es : _) → one_number result ≡ held_by (get nat_eq numbers.now) (type_at es of.now) }
+fn held(structs: &Numbers, of: &TypeExpr) -> Option<usize>
+    ensures { (es : _) → one_number result ≡ held_by (number_at structs.now) (type_at es of.now) }
 {
     match of.prefixes.as_slice() {
         [] => match of.core {
-            Core::Struct(name) => numbers.get(&name.text.0).copied(),
+            Core::Struct(name) => number(structs, name.text),
             Core::Base { .. } => None,
             Core::BaseStatus { .. } => None,
         },
@@ -86,16 +79,12 @@ fn add_number(row: &mut Row, number: Option<usize>) -> Result<(), NoMemory>
 }
 
 // The structs that fields hold.
-fn struct_row(
-    alloc: Global,
-    numbers: &IndexMap<u32, usize>,
-    fields: &[Field],
-) -> Result<Row, NoMemory>
-    ensures { IfOk result (λ row. (es : _) → row ≡ held_in (get nat_eq numbers.now) (variables (fields_at es fields.now))) }
+fn struct_row(alloc: Global, structs: &Numbers, fields: &[Field]) -> Result<Row, NoMemory>
+    ensures { IfOk result (λ row. (es : _) → row ≡ held_in (number_at structs.now) (variables (fields_at es fields.now))) }
 {
     let mut row = Row::new(alloc);
     for field in fields {
-        add_number(&mut row, held(numbers, &field.of))?;
+        add_number(&mut row, held(structs, &field.of))?;
     }
     Ok(row)
 }
@@ -103,14 +92,14 @@ fn struct_row(
 fn add_row(
     alloc: Global,
     rows: &mut Vec<Row>,
-    numbers: &IndexMap<u32, usize>,
+    structs: &Numbers,
     decl: &Decl,
 ) -> Result<(), NoMemory>
-    ensures { OnOk result ((es : _) (ts : _) (public : _) (at : _) → rows.new.items ≡ rows.old.items ++ held_rows (get nat_eq numbers.now) (structs_of (decl_made es ts public decl.now at ∷ []))) }
+    ensures { OnOk result ((es : _) (ts : _) (public : _) (at : _) → rows.new.items ≡ rows.old.items ++ held_rows (number_at structs.now) (structs_of (decl_made es ts public decl.now at ∷ []))) }
 {
     match decl {
         Decl::Struct { fields, .. } => {
-            let row = struct_row(alloc, numbers, fields.as_slice())?;
+            let row = struct_row(alloc, structs, fields.as_slice())?;
             rows.push(row)?;
             Ok(())
         }
@@ -120,18 +109,14 @@ fn add_row(
     }
 }
 
-// For each struct that is declared, in order, the structs that its fields hold, by their numbers; `numbers` has
-// those of their names. `Err` where memory was refused.
-fn struct_rows(
-    alloc: Global,
-    numbers: &IndexMap<u32, usize>,
-    decls: &[DeclNode],
-) -> Result<Vec<Row>, NoMemory>
-    ensures { IfOk result (λ rows. (es : _) (ts : _) → rows.items ≡ held_rows (get nat_eq numbers.now) (structs_of (decls_made es ts decls.now))) }
+// For each struct that is declared, in order, the structs that its fields hold, by their numbers. `Err` where
+// memory was refused.
+fn struct_rows(alloc: Global, structs: &Numbers, decls: &[DeclNode]) -> Result<Vec<Row>, NoMemory>
+    ensures { IfOk result (λ rows. (es : _) (ts : _) → rows.items ≡ held_rows (number_at structs.now) (structs_of (decls_made es ts decls.now))) }
 {
     let mut rows = Vec::new(alloc);
     for node in decls {
-        add_row(alloc, &mut rows, numbers, &node.decl)?;
+        add_row(alloc, &mut rows, structs, &node.decl)?;
     }
     Ok(rows)
 }
@@ -139,13 +124,17 @@ fn struct_rows(
 /// The structs that are declared, and the cycles of their graph, which lists for each those that it holds: the structs that
 /// are the whole types of its fields. `Err` where memory was refused. The time is in proportion to the structs and all
 /// their fields.
-pub fn struct_cycles(alloc: Global, parsed: &PackageNodes) -> Result<NamedCycles, NoMemory>
-    requires { length parsed.now.decls < 2 ^ 32 - 1 }
+pub fn struct_cycles(
+    alloc: Global,
+    parsed: &PackageNodes,
+    structs: &Numbers,
+) -> Result<NamedCycles, NoMemory>
+    requires few { length parsed.now.decls < 2 ^ 32 - 1 }
+    requires numbers { TellsNumbers 0 (λ s. s.name) (package_of parsed.now).structs structs.now }
     ensures { IfOk result (AreStructCycles (package_of parsed.now)) }
 {
     let names = struct_names(alloc, parsed.decls())?;
-    let numbers = numbered(alloc, names.as_slice())?;
-    let rows = struct_rows(alloc, &numbers, parsed.decls())?;
+    let rows = struct_rows(alloc, structs, parsed.decls())?;
     let cycles = find_cycles(alloc, rows.as_slice())?;
     Ok(NamedCycles { names, cycles })
 }

@@ -1,5 +1,7 @@
 -- Passes over the declarations of a package, one by one.
-use Rattle.std.proofs.Common.{◌≡◌, ℕ, zero, suc, ◌+◌, ◌<◌, ◌≤◌, List, [], ◌∷◌, ◌++◌, fold, length, drop, map, slice_get, slice_index_or, Some, refl, sym, ap, ◌∙◌, subst, arith}
+use Rattle.std.proofs.Common.{◌≡◌, ℕ, zero, suc, ◌+◌, ◌<◌, ◌≤◌, List, [], ◌∷◌, ◌++◌, fold, length, drop, map, slice_get, slice_index_or, Option, Some, Result, IfOk, refl, sym, ap, ◌∙◌, subst, arith}
+use Rattle.wf_text.specs.declared.faults.NoMemory.{NoMemory}
+use Rattle.wf_text.specs.declared.rules.Refusal.{Refusal}
 use Rattle.wf_ast.specs.declared.parsed.DeclNode.{DeclNode}
 use Rattle.wf_ast.specs.declared.parsed.Name.{Name}
 use Rattle.wf_ast.specs.declared.parsed.ExprNode.{ExprNode}
@@ -130,3 +132,7 @@ gather-end {X} g none es ts decls i over names r h =
 pub fields-same : (es : List ExprTree) (fs : List Field) → variable_names (variables (fields_at es fs)) ≡ field_names fs
 fields-same es [] = refl
 fields-same es (f ∷ fs) = ap (λ names. f.name ∷ names) (fields-same es fs)
+
+-- An answer that is told of one value is told of what is the same.
+pub ok_same : (r : Result (Option Refusal) NoMemory) (s t : Option Refusal) → s ≡ t → IfOk r (λ all. all ≡ s) → IfOk r (λ all. all ≡ t)
+ok_same r s t e h = let P : Option Refusal → Type 0 = λ u. IfOk r (λ all. all ≡ u) in subst P e h

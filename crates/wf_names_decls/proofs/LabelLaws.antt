@@ -7,10 +7,9 @@ use Rattle.wf_text.proofs.PrecedenceLaws.{Decides-map, Decides-sooner}
 use Rattle.wf_names_rules.specs.Declarations.{Method, Declared, text_of}
 use Rattle.wf_names_rules.specs.Passes.{refused_if, reserved_item}
 use Rattle.wf_names_rules.specs.Reserved.{is_reserved}
-use Rattle.wf_names_rules.specs.Jumps.{Jump, labelled, to_label, to_innermost, has_label, block_jumps, jump_judged, jumped}
+use Rattle.wf_names_rules.specs.Jumps.{Jump, labelled, to_label, to_innermost, has_label, block_jumps, jump_judged, jumped, method_labels, labels_found}
 use Rattle.wf_names_rules.specs.NameRules as rules
 use Rattle.wf_names_rules.specs.NameRules.{Jumps, LabelBreaks}
-use Rattle.wf_names_decls.specs.LabelPass.{method_labels, labels_found}
 use Rattle.wf_names_decls.proofs.PassLaws.{refused-cause, Each, fold-decides}
 
 -- What a labelled loop or a jump gives cause for.

@@ -2,6 +2,5 @@ pub mod ConstantTables
 pub mod DeclSteps
 pub mod DeclarationLaws
 pub mod LabelLaws
-pub mod LabelSteps
 pub mod OwnedLaws
 pub mod PassLaws

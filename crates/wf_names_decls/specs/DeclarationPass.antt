@@ -17,7 +17,7 @@ use Rattle.wf_names_decls.specs.Gathering.{constant_names, struct_names, owned_m
 abbrev pub names_judged : (texts : List (List ℕ)) → Option Refusal → List Name → Option Refusal
 names_judged texts found names = soonest (soonest found (doubles_of [] names)) (reserved_of texts names)
 
--- Methods of a struct that are declared twice; `seen` are those in front, by their struct's name and their own, each
+-- Methods of a struct that are declared twice; `seen` are those before it, by their struct's name and their own, each
 -- once.
 abbrev pub pair_of : Owned → Pair
 pair_of m = (m.owner.text.0, m.name.text.0)
@@ -57,7 +57,7 @@ struct_judged texts found s = names_judged texts found (variable_names s.fields)
 abbrev pub method_judged : (constant : ℕ → Option Name) → (texts : List (List ℕ)) → Option Refusal → Method → Option Refusal
 method_judged constant texts found m = locals_judged constant texts (args_judged texts found (variable_names m.args)) (variable_names m.locals)
 
--- What decides of what was found before and the names of the package: statuses, constants, structs and methods.
+-- The first refusal of what was found before and the names of the package: statuses, constants, structs and methods.
 abbrev pub statuses_found : Declared → Option Refusal → Option Refusal
 statuses_found d found = soonest found (doubles_of [] d.statuses)
 

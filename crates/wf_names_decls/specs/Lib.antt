@@ -1,4 +1,3 @@
 pub mod DeclarationPass
 pub mod FirstSpelt
 pub mod Gathering
-pub mod LabelPass

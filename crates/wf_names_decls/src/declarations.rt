@@ -217,7 +217,7 @@ fn judge_methods_within(
     judge_all_variables(alloc, found, parsed, &constants)
 }
 
-/// What decides of what was found before and what the declarations of a package break: a name that is declared twice,
+/// The first refusal of what was found before and what the declarations of a package break: a name that is declared twice,
 /// a local of the name of a constant, a reserved name, and more methods than 1,024, or locals than 256 or arguments
 /// than 64 of a method. `Err` only where memory was refused.
 pub fn declarations(

@@ -14,7 +14,7 @@ use wf_text::faults::NoMemory;
 
 /// A method by its name and that of the struct that it is declared for.
 #[derive(Clone, Copy, PartialEq, Eq)]
-pub struct Owned {
+pub(crate) struct Owned {
     pub owner: Name,
     pub name: Name,
 }
@@ -132,7 +132,7 @@ pub(crate) fn constant_names(alloc: Global, parsed: &PackageNodes) -> Result<Vec
 }
 
 /// The names of the structs, in order.
-pub fn struct_names(alloc: Global, parsed: &PackageNodes) -> Result<Vec<Name>, NoMemory>
+pub(crate) fn struct_names(alloc: Global, parsed: &PackageNodes) -> Result<Vec<Name>, NoMemory>
     ensures { IfOk result (λ names. names.items ≡ structs_in (declared parsed.now.texts (decl_trees parsed.now.exprs parsed.now.stmts parsed.now.decls))) }
 {
     let mut names = Vec::new(alloc);
@@ -176,7 +176,7 @@ pub(crate) fn field_names(alloc: Global, fields: &[Field]) -> Result<Vec<Name>, 
 }
 
 /// The names of the locals that the statements of a body declare, in order.
-pub fn local_names(
+pub(crate) fn local_names(
     alloc: Global,
     parsed: &PackageNodes,
     body: &Block,

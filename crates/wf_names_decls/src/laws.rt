@@ -5,7 +5,7 @@ ghost use Rattle.wf_text.specs.Precedence.{Decides};
 ghost use Rattle.wf_names_rules.specs.Declarations.{Declared};
 ghost use Rattle.wf_names_rules.specs.NameRules.{DeclarationBreaks, LabelBreaks};
 ghost use Rattle.wf_names_decls.specs.DeclarationPass.{declarations_found};
-ghost use Rattle.wf_names_decls.specs.LabelPass.{labels_found};
+ghost use Rattle.wf_names_rules.specs.Jumps.{labels_found};
 
 /// Of what the declarations of a package break by their names and their number the pass finds what decides, and
 /// nothing exactly where they break nothing.

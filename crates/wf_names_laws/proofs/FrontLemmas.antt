@@ -17,7 +17,7 @@ use Rattle.wf_names_rules.specs.Declarations.{Method, Declared, declared, method
 use Rattle.wf_names_rules.specs.Uses as uses
 use Rattle.wf_names_rules.specs.Uses.{Use, Scope, block_uses, result_uses, variable_uses, method_uses, method_scope, constant_sites, struct_sites, method_sites, sites}
 use Rattle.wf_names_rules.specs.Meanings.{known_at, callee_of}
-use Rattle.wf_names_rules.specs.NameRules.{DeclarationBreaks, too_many_methods, UseBreaks, CircleBreaks, recursion, IsUsed, is_callee, calls_it, method_calls, calls}
+use Rattle.wf_names_rules.specs.NameRules.{DeclarationBreaks, too_many_methods, UseBreaks, CycleBreaks, recursion, IsUsed, is_callee, calls_it, method_calls, calls}
 use Rattle.graphs.specs.Graphs.{Path, last, more, holds, goes}
 use Rattle.graphs.proofs.NumberLemmas.{number_self, holds_at}
 use Rattle.wf_names_uses.specs.Fitting.{is_open}
@@ -25,11 +25,11 @@ use Rattle.wf_names_scopes.specs.UsesFound.{uses_found}
 use Rattle.wf_names_uses.proofs.UseLaws.{uses_found-decides}
 use Rattle.wf_names_uses.proofs.MeaningLaws.{calls-fit}
 use Rattle.wf_names_uses.proofs.ClosedUses.{In, in-behind, in-place, place-in, in-flat, in-scope, site}
-use Rattle.wf_names_cycles.specs.Called.{AreRows}
+use Rattle.wf_names_scopes.specs.CallRows.{AreRows}
 use Rattle.wf_names_resolve.specs.Standing.{standing_at}
 use Rattle.wf_names_resolve.specs.Resolved.{resolved_block}
 use Rattle.wf_names_resolve.specs.Package.{method_in, resolved_methods, resolved_package}
-use Rattle.graphs.specs.Orders.{IsOrder, HasCircle}
+use Rattle.graphs.specs.Orders.{IsOrder, HasCycle}
 use Rattle.wf_names_laws.specs.Calling.{AreOpen}
 use Rattle.graphs.proofs.WalkLemmas.{holds-pushed}
 use Rattle.graphs.proofs.OrderLemmas.{once-apart, goes-below}
@@ -175,9 +175,9 @@ calls-open d none scope c used = (calls-fit d (nothing-found (uses_found d None)
     nothing-found None h = refl
     nothing-found (Some r) h = absurd (none r h.breaks)
 
--- A circle of the graph of calls breaks a rule, and where no rule of declarations is broken the graph is small.
-pub circle-breaks : (d : Declared) (rows : List (List ℕ)) → AreRows d rows (length d.methods) → HasCircle rows → (s : Refusal) × CircleBreaks d s
-circle-breaks d rows made c =
+-- A cycle of the graph of calls breaks a rule, and where no rule of declarations is broken the graph is small.
+pub cycle-breaks : (d : Declared) (rows : List (List ℕ)) → AreRows d rows (length d.methods) → HasCycle rows → (s : Refusal) × CycleBreaks d s
+cycle-breaks d rows made c =
     let begun : c.0 < length rows = begins c.0 c.0 c.1 in
     let m = there d.methods c.0 (omega (arith, begun, made.len)) in
     (record { rule = N4; at = m.0.name.at }, recursion c.0 m.0 m.1 (way c.0 c.0 c.1))

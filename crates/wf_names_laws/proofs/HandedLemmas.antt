@@ -20,14 +20,14 @@ use Rattle.wf_ast.specs.ParsedTree.{ExprTree, GivenTrees}
 use Rattle.wf_named.specs.declared.nodes.Variable.TheVariants as variables
 use Rattle.wf_named.specs.NamedTree.{NamedTypeTree, NamedArgTrees, no_arg}
 use Rattle.wf_named.specs.WellNamed.{Scope as NamedScope, type_of_variable, kind_of, is_io, io_named, io_handed, is_that, hands_on, never_again, named_expr, named_args}
-use Rattle.wf_names_rules.specs.Declarations.{Variable, Method, Declared, is_spelt, text_of}
+use Rattle.wf_names_rules.specs.Declarations.{Variable, Method, Declared, is_spelt, text_of, place_in}
 use Rattle.wf_names_rules.specs.Uses.{Scope, uses_of, given_uses}
 use Rattle.wf_names_rules.specs.Meanings.{GivenValue, given_values, args_in, sort_of, sort_in, sort_at, known_at, passed_at, passed_arg, is_io_arg}
 use Rattle.wf_names_rules.specs.Meanings as meanings
 use Rattle.graphs.proofs.NumberLemmas.{same_number, numbers_equivalence}
 use Rattle.wf_names_uses.specs.Fitting.{Fits}
 use Rattle.wf_names_uses.proofs.FoundLemmas.{both-so}
-use Rattle.wf_names_resolve.specs.Standing.{standing_at, place_in}
+use Rattle.wf_names_resolve.specs.Standing.{standing_at}
 use Rattle.wf_names_resolve.specs.Resolved.{NamedGiven, number_or, bare_variable, variable_at, with_arg, args_named, args_spelt, resolved_expr, resolved_type, resolved_given}
 use Rattle.wf_names_laws.specs.Kept.{IsKept, AreKept}
 use Rattle.wf_names_laws.specs.ResolvedScopes.{IsScopeOf}

@@ -33,7 +33,7 @@ constant-of [] i v e = absurd (cc e)
 constant-of (c ∷ cs) zero v e = (c, (refl, (let same : as_variable c ≡ v = cc e in same)))
 constant-of (c ∷ cs) (suc i) v e = constant-of cs i v e
 
--- An item in front is one of the whole list.
+-- An item at the front is one of the whole list.
 get-front : {X : Type 0} (xs ys : List X) (i : ℕ) (x : X) → slice_get xs i ≡ Some x → (i < length xs) × (slice_get (xs ++ ys) i ≡ Some x)
 get-front [] ys i x e = absurd (cc e)
 get-front (y ∷ xs) ys zero x e = (omega arith, e)

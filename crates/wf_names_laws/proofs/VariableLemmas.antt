@@ -8,10 +8,10 @@ use Rattle.wf_named.specs.declared.nodes.Variable.TheVariants as variables
 use Rattle.wf_named.specs.NamedTree.{NamedTypeTree}
 use Rattle.wf_named.specs.WellNamed.{Scope as NamedScope, type_of_variable, is_there}
 use Rattle.wf_names_rules.specs.declared.sorts.Sort.{Sort}
-use Rattle.wf_names_rules.specs.Declarations.{Variable, Declared, is_spelt, text_of}
+use Rattle.wf_names_rules.specs.Declarations.{Variable, Declared, is_spelt, text_of, place_in}
 use Rattle.wf_names_rules.specs.Uses.{Scope}
 use Rattle.wf_names_rules.specs.Meanings.{sort_of, sort_in, fields_known, known_at, or_sort, sort_at, path_sort}
-use Rattle.wf_names_resolve.specs.Standing.{standing_at, place_in}
+use Rattle.wf_names_resolve.specs.Standing.{standing_at}
 use Rattle.wf_names_resolve.specs.Resolved.{number_or, bare_variable, variable_at, resolved_path, resolved_type}
 use Rattle.wf_names_laws.specs.ResolvedScopes.{IsScopeOf}
 use Rattle.wf_names_laws.proofs.ListLemmas.{same-inner, FoundAt, FoundNowhere, found-or-not, place-of}

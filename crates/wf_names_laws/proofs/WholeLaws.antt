@@ -15,7 +15,7 @@ use Rattle.wf_names_rules.specs.Declarations.{Variable, Structure, Declared, dec
 use Rattle.wf_names_rules.specs.Uses.{type_uses, struct_scope}
 use Rattle.graphs.specs.Graphs.{Path, last, holds}
 use Rattle.wf_names_rules.specs.Sizes.{struct_held, is_the, fields_at, holds_struct}
-use Rattle.wf_names_rules.specs.NameRules.{Breaks, by_circle, holds_itself}
+use Rattle.wf_names_rules.specs.NameRules.{Breaks, by_cycle, holds_itself}
 use Rattle.graphs.proofs.NumberLemmas.{same_number, number_self, numbers_equivalence, path-push}
 use Rattle.wf_names_uses.proofs.FoundLemmas.{both-so}
 use Rattle.wf_names_resolve.specs.Standing.{Standing, standing_at}
@@ -60,8 +60,8 @@ module _ (name : List ℕ) (texts : List (List ℕ)) (decls : List DeclTree) (or
   abbrev made : NamedPackageTree
   made = resolved_by given name decls order
 
-  no-circle : (a : ℕ) (it : Structure) → slice_get given.structs a ≡ Some it → Path (holds_struct given) a a → ⊥
-  no-circle a it e p = h (record { rule = N4; at = it.name.at }) (by_circle (record { rule = N4; at = it.name.at }) (holds_itself a it e p))
+  no-cycle : (a : ℕ) (it : Structure) → slice_get given.structs a ≡ Some it → Path (holds_struct given) a a → ⊥
+  no-cycle a it e p = h (record { rule = N4; at = it.name.at }) (by_cycle (record { rule = N4; at = it.name.at }) (holds_itself a it e p))
 
   -- Structs that hold the one with the number n, each once.
   record Hold (n : ℕ) (holders : List ℕ) : Type 0 where
@@ -73,7 +73,7 @@ module _ (name : List ℕ) (texts : List (List ℕ)) (decls : List DeclTree) (or
     where
       by_test : (t : Bool) → holds holders n ≡ t → t ≡ false
       by_test false k = refl
-      by_test true k = absurd (no-circle n it e (all.each n k).1)
+      by_test true k = absurd (no-cycle n it e (all.each n k).1)
 
   with-it : (n : ℕ) (it : Structure) (holders : List ℕ) → slice_get given.structs n ≡ Some it → Hold n holders → IsDistinct nat_eq (holders ++ n ∷ [])
   with-it n it holders e all = IsDistinct-push numbers_equivalence holders n all.distinct (not-holding n it holders e all)

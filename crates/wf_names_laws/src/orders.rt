@@ -8,18 +8,18 @@ ghost use Rattle.wf_ast.specs.ParsedTree.{DeclTree};
 ghost use Rattle.wf_named.specs.WellNamed.{calls_in_front};
 ghost use Rattle.wf_names_rules.specs.Declarations.{Declared, declared, methods_of};
 ghost use Rattle.graphs.specs.Graphs.{AreWithin};
-ghost use Rattle.wf_names_rules.specs.NameRules.{DeclarationBreaks, UseBreaks, CircleBreaks};
-ghost use Rattle.wf_names_cycles.specs.Called.{AreRows};
+ghost use Rattle.wf_names_rules.specs.NameRules.{DeclarationBreaks, UseBreaks, CycleBreaks};
+ghost use Rattle.wf_names_scopes.specs.CallRows.{AreRows};
 ghost use Rattle.wf_names_resolve.specs.Package.{resolved_package};
 ghost use Rattle.wf_names_laws.specs.Calling.{AreOpen};
-ghost use Rattle.graphs.specs.Orders.{IsOrder, HasCircle};
+ghost use Rattle.graphs.specs.Orders.{IsOrder, HasCycle};
 
 /// The rows of the calls of a package are a graph over their own numbers (clause `within`), which is small where no rule
-/// of declarations is broken (clause `few`), and a circle in it breaks a rule (clause `circle`).
+/// of declarations is broken (clause `few`), and a cycle in it breaks a rule (clause `cycle`).
 pub fn rows_of_calls_are_a_graph()
     ensures within { (d : Declared) (rows : List (List ℕ)) → AreRows d rows (length d.methods) → AreWithin rows (length rows) }
     ensures few { (d : Declared) (rows : List (List ℕ)) → AreRows d rows (length d.methods) → Decides (DeclarationBreaks d) None → length rows ≤ 1024 }
-    ensures circle { (d : Declared) (rows : List (List ℕ)) → AreRows d rows (length d.methods) → HasCircle rows → (s : Refusal) × CircleBreaks d s }
+    ensures cycle { (d : Declared) (rows : List (List ℕ)) → AreRows d rows (length d.methods) → HasCycle rows → (s : Refusal) × CycleBreaks d s }
 {}
 
 /// Where the uses of names break no rule every call is of a method that may be called there.

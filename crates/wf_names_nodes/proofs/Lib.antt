@@ -1,2 +1,3 @@
 pub mod DeclaringLemmas
 pub mod PackageLemmas
+pub mod StandingLemmas

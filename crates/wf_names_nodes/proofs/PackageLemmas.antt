@@ -1,9 +1,7 @@
 -- The resolved package while declarations are added.
-use Rattle.std.proofs.Common.{◌≡◌, ℕ, ◌+◌, ◌≤◌, List, [], ◌∷◌, ◌++◌, map, length, drop, slice_get, Some, Result, Ok, Err, OnOk, refl, sym, ap, ◌∙◌, subst, arith, append_assoc, append-nil, length-append}
-use Rattle.std.proofs.lemmas.List.{map-append, length-map}
+use Rattle.std.proofs.Common.{◌≡◌, ℕ, ◌+◌, ◌≤◌, List, [], ◌∷◌, ◌++◌, map, length, drop, slice_get, Some, Result, Ok, Err, OnOk, refl, sym, ap, ◌∙◌, subst, append_assoc, append-nil}
+use Rattle.std.proofs.lemmas.List.{map-append}
 use Rattle.wf_text.specs.declared.faults.NoMemory.{NoMemory}
-use Rattle.wf_ast.specs.declared.parsed.Decl.{Decl}
-use Rattle.wf_ast.specs.declared.parsed.Decl.TheVariants as decls
 use Rattle.wf_ast.specs.declared.parsed.DeclNode.{DeclNode}
 use Rattle.wf_ast.specs.ParsedParts.{Parsed}
 use Rattle.wf_ast.specs.ParsedTree as tree
@@ -11,13 +9,12 @@ use Rattle.wf_ast.specs.ParsedTree.{ExprTree, StmtTree, DeclTree}
 use Rattle.wf_ast.specs.ParsedTrees.{expr_trees, stmt_trees, decl_trees, decl_made, decls_made}
 use Rattle.wf_named.specs.NamedTree.{Word, ConstTree, NamedStructTree, NamedMethodTree, NamedPackageTree}
 use Rattle.wf_named.specs.NamedParts.{NamedParts, named_package}
+use Rattle.wf_names_rules.specs.declared.tables.Scope.{Scope as ScopeTables}
 use Rattle.wf_names_rules.specs.Declarations.{Variable, Constant, Method, Declared, variables, locals_of, as_variable, constants_of, statuses_of, text_of}
 use Rattle.wf_names_rules.specs.Uses.{constant_scope}
-use Rattle.wf_names_scopes.specs.Agreeing.{package_of}
+use Rattle.wf_names_scopes.specs.Agreeing.{package_of, TellsScope, TellsConstants}
 use Rattle.wf_names_scopes.proofs.PackageLemmas.{constants_append, statuses_append, trees_made}
 use Rattle.wf_names_scopes.proofs.UseLemmas.{drop_at, past_end}
-use Rattle.wf_names_numbers.specs.Numbered.{TellsPlaces, TellsAllConstants}
-use Rattle.wf_names_resolve.specs.declared.numbers.ScopeNumbers.{ScopeNumbers}
 use Rattle.wf_names_resolve.specs.Standing.{standing_at}
 use Rattle.wf_names_resolve.specs.Resolved.{word_of}
 use Rattle.wf_names_resolve.specs.Package.{resolved_const, resolved_consts, struct_in, method_in, resolved_structs, resolved_methods, resolved_by}
@@ -97,32 +94,29 @@ pub only_methods : (t : NamedPackageTree) (ms : List NamedMethodTree) → with_m
 only_methods t ms = ap (λ u. with_methods u ms) (no_statuses t ∙ no_structs (with_statuses t []))
 
 -- What the loop keeps over constants: those that are added, and those that are left, `rest`, are all.
-pub record ConstsAdded (d : Declared) (began now : NamedPackageTree) (place : ℕ) (rest : List Constant) (s : ScopeNumbers) : Type 0 where
+pub record ConstsAdded (d : Declared) (began now : NamedPackageTree) (rest : List Constant) (s : ScopeTables) : Type 0 where
   pub known : List Variable
-  pub count : place ≡ length known
-  pub tells : TellsPlaces d (constant_scope known) s
+  pub tells : TellsScope d (constant_scope known) s
   pub split : known ++ map as_variable rest ≡ map as_variable d.constants
   pub same : with_consts now (resolved_consts d known rest) ≡ with_consts began (resolved_consts d [] d.constants)
 
-consts_passed : (d : Declared) (began now next : NamedPackageTree) (place behind : ℕ) (xs ys : List Constant) (old new : ScopeNumbers) → ConstsAdded d began now place (xs ++ ys) old
-    → ((known : List Variable) → TellsPlaces d (constant_scope known) old → next ≡ with_consts now (resolved_consts d known xs))
-    → ((known : List Variable) → place ≡ length known → TellsPlaces d (constant_scope known) old → TellsPlaces d (constant_scope (known ++ map as_variable xs)) new)
-    → behind ≡ place + length xs → ConstsAdded d began next behind ys new
-consts_passed d began now next place behind xs ys old new a step tells more =
+consts_passed : (d : Declared) (began now next : NamedPackageTree) (xs ys : List Constant) (old new : ScopeTables) → ConstsAdded d began now (xs ++ ys) old
+    → ((known : List Variable) → TellsScope d (constant_scope known) old → next ≡ with_consts now (resolved_consts d known xs))
+    → ((known : List Variable) → TellsScope d (constant_scope known) old → TellsScope d (constant_scope (known ++ map as_variable xs)) new) → ConstsAdded d began next ys new
+consts_passed d began now next xs ys old new a step tells =
     let known = a.known ++ map as_variable xs in record {
       known = known;
-      count = omega (arith, more, a.count, length-append a.known (map as_variable xs), length-map xs as_variable);
-      tells = tells a.known a.count a.tells;
+      tells = tells a.known a.tells;
       split = append_assoc a.known (map as_variable xs) (map as_variable ys) ∙ ap (λ r. a.known ++ r) (sym (map-append as_variable xs ys)) ∙ a.split;
       same = ap (λ t. with_consts t (resolved_consts d known ys)) (step a.known a.tells) ∙ consts_behind now (resolved_consts d a.known xs) (resolved_consts d known ys)
           ∙ ap (λ cs. with_consts now cs) (sym (consts_append d a.known xs ys)) ∙ a.same;
     }
 
-pub consts_begun : (p : Parsed) (t : NamedPackageTree) (s : ScopeNumbers) → TellsPlaces (package_of p) (constant_scope []) s
-    → ConstsAdded (package_of p) t t 0 (constants_of (decls_made (expr_trees p.exprs) (stmt_trees p.exprs p.stmts) p.decls)) s
+pub consts_begun : (p : Parsed) (t : NamedPackageTree) (s : ScopeTables) → TellsScope (package_of p) (constant_scope []) s
+    → ConstsAdded (package_of p) t t (constants_of (decls_made (expr_trees p.exprs) (stmt_trees p.exprs p.stmts) p.decls)) s
 consts_begun p t s h =
-    let P : List DeclTree → Type 0 = λ ds. ConstsAdded (package_of p) t t 0 (constants_of ds) s in
-    subst P (trees_made p) (record { known = []; count = refl; tells = h; split = refl; same = refl })
+    let P : List DeclTree → Type 0 = λ ds. ConstsAdded (package_of p) t t (constants_of ds) s in
+    subst P (trees_made p) (record { known = []; tells = h; split = refl; same = refl })
 
 module _ (es : List ExprTree) (ts : List StmtTree) (decls : List DeclNode) (i : ℕ) (n : DeclNode) (at : slice_get decls i ≡ Some n) where
   abbrev made : DeclTree
@@ -134,27 +128,26 @@ module _ (es : List ExprTree) (ts : List StmtTree) (decls : List DeclNode) (i : 
   from_here : decls_made es ts (drop i decls) ≡ made ∷ rest
   from_here = ap (decls_made es ts) (drop_at decls i n at)
 
-  pub const_next : (d : Declared) (began now next : NamedPackageTree) (place behind : ℕ) (old new : ScopeNumbers) → ConstsAdded d began now place (constants_of (decls_made es ts (drop i decls))) old
-      → ((known : List Variable) → TellsPlaces d (constant_scope known) old → next ≡ with_consts now (resolved_consts d known (constants_of (made ∷ []))))
-      → ((known : List Variable) → place ≡ length known → TellsPlaces d (constant_scope known) old → TellsPlaces d (constant_scope (known ++ map as_variable (constants_of (made ∷ [])))) new)
-      → behind ≡ place + length (constants_of (made ∷ [])) → ConstsAdded d began next behind (constants_of rest) new
-  const_next d began now next place behind old new a step tells more =
-      let P : List Constant → Type 0 = λ cs. ConstsAdded d began now place cs old in
-      consts_passed d began now next place behind (constants_of (made ∷ [])) (constants_of rest) old new (subst P (ap constants_of from_here ∙ constants_append (made ∷ []) rest) a) step tells more
+  pub const_next : (d : Declared) (began now next : NamedPackageTree) (old new : ScopeTables) → ConstsAdded d began now (constants_of (decls_made es ts (drop i decls))) old
+      → ((known : List Variable) → TellsScope d (constant_scope known) old → next ≡ with_consts now (resolved_consts d known (constants_of (made ∷ []))))
+      → ((known : List Variable) → TellsScope d (constant_scope known) old → TellsScope d (constant_scope (known ++ map as_variable (constants_of (made ∷ [])))) new) → ConstsAdded d began next (constants_of rest) new
+  const_next d began now next old new a step tells =
+      let P : List Constant → Type 0 = λ cs. ConstsAdded d began now cs old in
+      consts_passed d began now next (constants_of (made ∷ [])) (constants_of rest) old new (subst P (ap constants_of from_here ∙ constants_append (made ∷ []) rest) a) step tells
 
   pub other_next : (d : Declared) (now next : NamedPackageTree) → next ≡ with_others d now (made ∷ [])
       → with_others d next rest ≡ with_others d now (decls_made es ts (drop i decls))
   other_next d now next e = ap (λ t. with_others d t rest) e ∙ others_behind d now (made ∷ []) rest ∙ sym (ap (λ ds. with_others d now ds) from_here)
 
-pub consts_done : (d : Declared) (began now : NamedPackageTree) (place : ℕ) (es : List ExprTree) (ts : List StmtTree) (decls : List DeclNode) (i : ℕ) (s : ScopeNumbers) → length decls ≤ i
-    → ConstsAdded d began now place (constants_of (decls_made es ts (drop i decls))) s → (now ≡ with_consts began (resolved_consts d [] d.constants)) × TellsAllConstants d s
-consts_done d began now place es ts decls i s h a =
-    let P : List DeclNode → Type 0 = λ ns. ConstsAdded d began now place (constants_of (decls_made es ts ns)) s in
+pub consts_done : (d : Declared) (began now : NamedPackageTree) (es : List ExprTree) (ts : List StmtTree) (decls : List DeclNode) (i : ℕ) (s : ScopeTables) → length decls ≤ i
+    → ConstsAdded d began now (constants_of (decls_made es ts (drop i decls))) s → (now ≡ with_consts began (resolved_consts d [] d.constants)) × TellsConstants d s
+consts_done d began now es ts decls i s h a =
+    let P : List DeclNode → Type 0 = λ ns. ConstsAdded d began now (constants_of (decls_made es ts ns)) s in
     let b = subst P (past_end decls i h) a in
     let all : b.known ≡ map as_variable d.constants = sym (append-nil b.known) ∙ b.split in
-    let Q : List Variable → Type 0 = λ vs. TellsPlaces d (constant_scope vs) s in
+    let Q : List Variable → Type 0 = λ vs. TellsScope d (constant_scope vs) s in
     let tells = subst Q all b.tells in
-    (no_consts now ∙ b.same, record { tables = tells.tables.constants; places = tells.constants })
+    (no_consts now ∙ b.same, tells.constants)
 
 pub others_done : (d : Declared) (now : NamedPackageTree) (es : List ExprTree) (ts : List StmtTree) (decls : List DeclNode) (i : ℕ) → length decls ≤ i
     → now ≡ with_others d now (decls_made es ts (drop i decls))
@@ -167,19 +160,10 @@ unfolding named_package
 package_new p name e = ap named_package e
 
 -- After a declaration that declares no constant.
-pub no_const_known : (d : Declared) (place : ℕ) (s : ScopeNumbers) (known : List Variable) → place ≡ length known → TellsPlaces d (constant_scope known) s → TellsPlaces d (constant_scope (known ++ [])) s
-no_const_known d place s known e h =
-    let P : List Variable → Type 0 = λ vs. TellsPlaces d (constant_scope vs) s in
+pub no_const_known : (d : Declared) (s : ScopeTables) (known : List Variable) → TellsScope d (constant_scope known) s → TellsScope d (constant_scope (known ++ [])) s
+no_const_known d s known h =
+    let P : List Variable → Type 0 = λ vs. TellsScope d (constant_scope vs) s in
     subst P (sym (append-nil known)) h
-
-pub at_most_one : (es : List ExprTree) (ts : List StmtTree) (n : DeclNode) → length (constants_of (decl_made es ts n.public n.decl n.at ∷ [])) ≤ 1
-at_most_one es ts n = by n.decl
-  where
-    by : (x : Decl) → length (constants_of (decl_made es ts n.public x n.at ∷ [])) ≤ 1
-    by (decls.Status text) = omega arith
-    by (decls.Const name of value) = omega arith
-    by (decls.Struct name mark fields) = omega arith
-    by (decls.Method owner name mark args result body) = omega arith
 
 -- An answer that is the same.
 pub ok_equal_more : {X : Type 0} (r : Result (Unit {0}) NoMemory) (a s t : X) → s ≡ t → OnOk r (a ≡ s) → OnOk r (a ≡ t)

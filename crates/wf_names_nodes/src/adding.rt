@@ -17,24 +17,24 @@ use std::alloc::Global;
 use wf_ast::PackageNodes;
 use wf_ast::parsed::{Field, Name};
 use wf_named::NamedNodes;
-use wf_names_resolve::numbers::{PackageNumbers, ScopeNumbers};
 use wf_names_resolve::words::named_word;
+use wf_names_rules::tables::{Scope, Tables};
 use wf_text::faults::NoMemory;
 
-/// Adds a constant; `around` knows those before it.
+/// Adds a constant; `scope` knows those before it.
 pub(crate) fn put_const(
     alloc: Global,
     nodes: &mut NamedNodes,
     parsed: &PackageNodes,
-    numbers: &PackageNumbers,
-    around: &ScopeNumbers,
+    tables: &Tables,
+    scope: &Scope,
     constant: WrittenConst<'_>,
 ) -> Result<(), NoMemory>
     requires of { TypeBelow (length parsed.now.exprs) constant.of.now }
     requires value { constant.value.0 < length parsed.now.exprs }
-    ensures { OnOk result (named_package nodes.new ≡ with_consts (named_package nodes.old) (resolved_const (standing_by parsed.now.texts numbers.now around.now) constant.entry.name (parsed_type_at (expr_trees parsed.now.exprs) constant.entry.of.now) (parsed_expr_at (expr_trees parsed.now.exprs) constant.entry.value) ∷ [])) }
+    ensures { OnOk result (named_package nodes.new ≡ with_consts (named_package nodes.old) (resolved_const (standing_by parsed.now.texts tables.now scope.now) constant.entry.name (parsed_type_at (expr_trees parsed.now.exprs) constant.entry.of.now) (parsed_expr_at (expr_trees parsed.now.exprs) constant.entry.value) ∷ [])) }
 {
-    let made = resolve_const(alloc, nodes, parsed, numbers, around, constant)?;
+    let made = resolve_const(alloc, nodes, parsed, tables, scope, constant)?;
     nodes.push_const(made)?;
     Ok(())
 }
@@ -57,36 +57,36 @@ pub(crate) fn put_struct(
     alloc: Global,
     nodes: &mut NamedNodes,
     parsed: &PackageNodes,
-    numbers: &PackageNumbers,
-    around: &ScopeNumbers,
+    tables: &Tables,
+    scope: &Scope,
     public: bool,
     name: Name,
     fields: &[Field],
 ) -> Result<(), NoMemory>
     requires { FieldsBelow (length parsed.now.exprs) fields.now }
-    ensures { OnOk result (named_package nodes.new ≡ with_structs (named_package nodes.old) (resolved_struct (standing_by parsed.now.texts numbers.now around.now) public name (variables (parsed_fields_at (expr_trees parsed.now.exprs) fields.now)) ∷ [])) }
+    ensures { OnOk result (named_package nodes.new ≡ with_structs (named_package nodes.old) (resolved_struct (standing_by parsed.now.texts tables.now scope.now) public name (variables (parsed_fields_at (expr_trees parsed.now.exprs) fields.now)) ∷ [])) }
 {
-    let structure = resolve_struct(alloc, nodes, parsed, numbers, around, public, name, fields)?;
+    let structure = resolve_struct(alloc, nodes, parsed, tables, scope, public, name, fields)?;
     nodes.push_struct(structure)?;
     Ok(())
 }
 
-/// Adds a method; `around` knows its arguments and its locals.
+/// Adds a method; `scope` knows its arguments and its locals.
 pub(crate) fn put_method(
     alloc: Global,
     nodes: &mut NamedNodes,
     parsed: &PackageNodes,
-    numbers: &PackageNumbers,
-    around: &ScopeNumbers,
+    tables: &Tables,
+    scope: &Scope,
     method: WrittenMethod<'_>,
 ) -> Result<(), NoMemory>
     requires args { FieldsBelow (length parsed.now.exprs) method.args.now }
     requires gives { ResultBelow (length parsed.now.exprs) method.gives.now }
     requires body { BlockBelow (length parsed.now.stmts) method.body.now }
-    ensures { OnOk result (named_package nodes.new ≡ with_methods (named_package nodes.old) (resolved_method (standing_by parsed.now.texts numbers.now around.now) method.entry.mark
+    ensures { OnOk result (named_package nodes.new ≡ with_methods (named_package nodes.old) (resolved_method (standing_by parsed.now.texts tables.now scope.now) method.entry.mark
         (method_parsed (expr_trees parsed.now.exprs) (stmt_trees parsed.now.exprs parsed.now.stmts) method.entry.public method.entry.owner method.entry.name method.entry.args.now method.entry.gives.now method.entry.body.now) ∷ [])) }
 {
-    let made = resolve_method(alloc, nodes, parsed, numbers, around, method)?;
+    let made = resolve_method(alloc, nodes, parsed, tables, scope, method)?;
     nodes.push_method(made)?;
     Ok(())
 }

@@ -1,13 +1,13 @@
 // Single declarations: what each makes in its own scope.
 
-ghost use Rattle.std.specs.Prelude.{◌≡◌, ◌<◌, [], length, map, option_map, nat_eq, IfOk, OnOk};
+ghost use Rattle.std.specs.Prelude.{◌≡◌, ◌<◌, [], length, map, option_map, IfOk, OnOk};
 ghost use Rattle.std.specs.List.{AllByRecursion};
-ghost use Rattle.indexmap.specs.IndexMap.{get};
 ghost use Rattle.wf_ast.specs.ParsedTrees.{expr_trees, stmt_trees, expr_at as parsed_expr_at, block_at as parsed_block_at, type_at as parsed_type_at, fields_at as parsed_fields_at, result_at as parsed_result_at};
 ghost use Rattle.wf_ast.specs.ParsedParts.{TypeBelow, FieldsBelow, ResultBelow, BlockBelow};
 ghost use Rattle.wf_named.specs.NamedParts.{exprs_of, stmts_of, NamedConstBelow, NamedStructBelow, NamedMethodBelow, NamedVarBelow, NamedResultBelow};
 ghost use Rattle.wf_named.specs.NamedTrees.{type_at, block_at, word_at, var_made, const_made, struct_made, method_made};
 ghost use Rattle.wf_names_rules.specs.Declarations.{bytes_of, variables, locals_of};
+ghost use Rattle.wf_names_rules.specs.Tables.{number_at};
 ghost use Rattle.wf_names_resolve.specs.Standing.{standing_by};
 ghost use Rattle.wf_names_resolve.specs.Resolved.{number_or as or_zero, word_of, resolved_block};
 ghost use Rattle.wf_names_resolve.specs.Package.{resolved_variable, resolved_const, resolved_struct, resolved_result, resolved_method};
@@ -20,11 +20,11 @@ use wf_ast::parsed::{Block, Field, Name, TypeExpr, WrittenMark};
 use wf_ast::{ExprId, PackageNodes, Sequence, StructId};
 use wf_named::nodes::NamedType;
 use wf_named::{NamedConst, NamedMethod, NamedNodes, NamedStruct, NamedVar};
-use wf_names_resolve::numbers::{PackageNumbers, ScopeNumbers};
 use wf_names_resolve::parts::{mark, number_or};
 use wf_names_resolve::resolve_exprs::resolve_expr;
 use wf_names_resolve::resolve_stmts::resolve_body;
 use wf_names_resolve::words::named_word;
+use wf_names_rules::tables::{Scope, Tables};
 use wf_text::faults::NoMemory;
 
 /// What a constant's declaration says.
@@ -40,26 +40,26 @@ pub(crate) fn resolve_const(
     alloc: Global,
     nodes: &mut NamedNodes,
     parsed: &PackageNodes,
-    numbers: &PackageNumbers,
-    around: &ScopeNumbers,
+    tables: &Tables,
+    scope: &Scope,
     constant: WrittenConst<'_>,
 ) -> Result<NamedConst, NoMemory>
     requires of { TypeBelow (length parsed.now.exprs) constant.of.now }
     requires value { constant.value.0 < length parsed.now.exprs }
     ensures grows { OnOk result (Grows nodes.old nodes.new) }
     ensures below { IfOk result (NamedConstBelow (length nodes.new.texts) (length nodes.new.exprs)) }
-    ensures made { IfOk result (λ r. const_made nodes.new.texts (exprs_of nodes.new) r ≡ resolved_const (standing_by parsed.now.texts numbers.now around.now) constant.entry.name (parsed_type_at (expr_trees parsed.now.exprs) constant.entry.of.now) (parsed_expr_at (expr_trees parsed.now.exprs) constant.entry.value)) }
+    ensures made { IfOk result (λ r. const_made nodes.new.texts (exprs_of nodes.new) r ≡ resolved_const (standing_by parsed.now.texts tables.now scope.now) constant.entry.name (parsed_type_at (expr_trees parsed.now.exprs) constant.entry.of.now) (parsed_expr_at (expr_trees parsed.now.exprs) constant.entry.value)) }
 {
     let declared = resolve_variable(
         alloc,
         nodes,
         parsed,
-        numbers,
-        around,
+        tables,
+        scope,
         constant.name,
         constant.of,
     )?;
-    let value = resolve_expr(alloc, nodes, parsed, numbers, around, constant.value)?;
+    let value = resolve_expr(alloc, nodes, parsed, tables, scope, constant.value)?;
     Ok(NamedConst {
         name: declared.name,
         of: declared.of,
@@ -72,8 +72,8 @@ fn resolve_named(
     alloc: Global,
     nodes: &mut NamedNodes,
     parsed: &PackageNodes,
-    numbers: &PackageNumbers,
-    around: &ScopeNumbers,
+    tables: &Tables,
+    scope: &Scope,
     name: Name,
     fields: &[Field],
 ) -> Result<(Name, Sequence<NamedVar>), NoMemory>
@@ -81,10 +81,10 @@ fn resolve_named(
     ensures grows { OnOk result (Grows nodes.old nodes.new) }
     ensures below { IfOk result (λ r. (r.0.text.0 < length nodes.new.texts) × AllByRecursion (NamedVarBelow (length nodes.new.texts) (length nodes.new.exprs)) r.1) }
     ensures word { IfOk result (λ r. word_at nodes.new.texts r.0 ≡ word_of (bytes_of parsed.now.texts) name) }
-    ensures fields { IfOk result (λ r. map (var_made nodes.new.texts (exprs_of nodes.new)) r.1 ≡ map (resolved_variable (standing_by parsed.now.texts numbers.now around.now)) (variables (parsed_fields_at (expr_trees parsed.now.exprs) fields.now))) }
+    ensures fields { IfOk result (λ r. map (var_made nodes.new.texts (exprs_of nodes.new)) r.1 ≡ map (resolved_variable (standing_by parsed.now.texts tables.now scope.now)) (variables (parsed_fields_at (expr_trees parsed.now.exprs) fields.now))) }
 {
     let name = named_word(nodes, parsed, name)?;
-    let fields = resolve_fields(alloc, nodes, parsed, numbers, around, fields)?;
+    let fields = resolve_fields(alloc, nodes, parsed, tables, scope, fields)?;
     Ok((name, fields))
 }
 
@@ -93,8 +93,8 @@ pub(crate) fn resolve_struct(
     alloc: Global,
     nodes: &mut NamedNodes,
     parsed: &PackageNodes,
-    numbers: &PackageNumbers,
-    around: &ScopeNumbers,
+    tables: &Tables,
+    scope: &Scope,
     public: bool,
     name: Name,
     fields: &[Field],
@@ -102,9 +102,9 @@ pub(crate) fn resolve_struct(
     requires { FieldsBelow (length parsed.now.exprs) fields.now }
     ensures grows { OnOk result (Grows nodes.old nodes.new) }
     ensures below { IfOk result (NamedStructBelow (length nodes.new.texts) (length nodes.new.exprs)) }
-    ensures made { IfOk result (λ r. struct_made nodes.new.texts (exprs_of nodes.new) r ≡ resolved_struct (standing_by parsed.now.texts numbers.now around.now) public name (variables (parsed_fields_at (expr_trees parsed.now.exprs) fields.now))) }
+    ensures made { IfOk result (λ r. struct_made nodes.new.texts (exprs_of nodes.new) r ≡ resolved_struct (standing_by parsed.now.texts tables.now scope.now) public name (variables (parsed_fields_at (expr_trees parsed.now.exprs) fields.now))) }
 {
-    let (name, fields) = resolve_named(alloc, nodes, parsed, numbers, around, name, fields)?;
+    let (name, fields) = resolve_named(alloc, nodes, parsed, tables, scope, name, fields)?;
     Ok(NamedStruct {
         name,
         public,
@@ -117,18 +117,18 @@ fn resolve_inside(
     alloc: Global,
     nodes: &mut NamedNodes,
     parsed: &PackageNodes,
-    numbers: &PackageNumbers,
-    around: &ScopeNumbers,
+    tables: &Tables,
+    scope: &Scope,
     body: &Block,
 ) -> Result<(Sequence<NamedVar>, Block), NoMemory>
     requires { BlockBelow (length parsed.now.stmts) body.now }
     ensures grows { OnOk result (Grows nodes.old nodes.new) }
     ensures below { IfOk result (λ r. AllByRecursion (NamedVarBelow (length nodes.new.texts) (length nodes.new.exprs)) r.0 × BlockBelow (length nodes.new.stmts) r.1) }
-    ensures locals { IfOk result (λ r. map (var_made nodes.new.texts (exprs_of nodes.new)) r.0 ≡ map (resolved_variable (standing_by parsed.now.texts numbers.now around.now)) (locals_of (parsed_block_at (stmt_trees parsed.now.exprs parsed.now.stmts) body.now))) }
-    ensures body { IfOk result (λ r. block_at (stmts_of nodes.new) r.1 ≡ resolved_block (standing_by parsed.now.texts numbers.now around.now) [] (parsed_block_at (stmt_trees parsed.now.exprs parsed.now.stmts) body.now)) }
+    ensures locals { IfOk result (λ r. map (var_made nodes.new.texts (exprs_of nodes.new)) r.0 ≡ map (resolved_variable (standing_by parsed.now.texts tables.now scope.now)) (locals_of (parsed_block_at (stmt_trees parsed.now.exprs parsed.now.stmts) body.now))) }
+    ensures body { IfOk result (λ r. block_at (stmts_of nodes.new) r.1 ≡ resolved_block (standing_by parsed.now.texts tables.now scope.now) [] (parsed_block_at (stmt_trees parsed.now.exprs parsed.now.stmts) body.now)) }
 {
-    let locals = resolve_locals(alloc, nodes, parsed, numbers, around, body)?;
-    let body = resolve_body(alloc, nodes, parsed, numbers, around, body)?;
+    let locals = resolve_locals(alloc, nodes, parsed, tables, scope, body)?;
+    let body = resolve_body(alloc, nodes, parsed, tables, scope, body)?;
     Ok((locals, body))
 }
 
@@ -137,8 +137,8 @@ fn resolve_behind(
     alloc: Global,
     nodes: &mut NamedNodes,
     parsed: &PackageNodes,
-    numbers: &PackageNumbers,
-    around: &ScopeNumbers,
+    tables: &Tables,
+    scope: &Scope,
     gives: &Option<TypeExpr>,
     body: &Block,
 ) -> Result<(Option<NamedType>, Sequence<NamedVar>, Block), NoMemory>
@@ -146,20 +146,20 @@ fn resolve_behind(
     requires body { BlockBelow (length parsed.now.stmts) body.now }
     ensures grows { OnOk result (Grows nodes.old nodes.new) }
     ensures below { IfOk result (λ r. NamedResultBelow (length nodes.new.exprs) r.0 × AllByRecursion (NamedVarBelow (length nodes.new.texts) (length nodes.new.exprs)) r.1 × BlockBelow (length nodes.new.stmts) r.2) }
-    ensures gives { IfOk result (λ r. option_map (type_at (exprs_of nodes.new)) r.0 ≡ resolved_result (standing_by parsed.now.texts numbers.now around.now) (parsed_result_at (expr_trees parsed.now.exprs) gives.now)) }
-    ensures locals { IfOk result (λ r. map (var_made nodes.new.texts (exprs_of nodes.new)) r.1 ≡ map (resolved_variable (standing_by parsed.now.texts numbers.now around.now)) (locals_of (parsed_block_at (stmt_trees parsed.now.exprs parsed.now.stmts) body.now))) }
-    ensures body { IfOk result (λ r. block_at (stmts_of nodes.new) r.2 ≡ resolved_block (standing_by parsed.now.texts numbers.now around.now) [] (parsed_block_at (stmt_trees parsed.now.exprs parsed.now.stmts) body.now)) }
+    ensures gives { IfOk result (λ r. option_map (type_at (exprs_of nodes.new)) r.0 ≡ resolved_result (standing_by parsed.now.texts tables.now scope.now) (parsed_result_at (expr_trees parsed.now.exprs) gives.now)) }
+    ensures locals { IfOk result (λ r. map (var_made nodes.new.texts (exprs_of nodes.new)) r.1 ≡ map (resolved_variable (standing_by parsed.now.texts tables.now scope.now)) (locals_of (parsed_block_at (stmt_trees parsed.now.exprs parsed.now.stmts) body.now))) }
+    ensures body { IfOk result (λ r. block_at (stmts_of nodes.new) r.2 ≡ resolved_block (standing_by parsed.now.texts tables.now scope.now) [] (parsed_block_at (stmt_trees parsed.now.exprs parsed.now.stmts) body.now)) }
 {
-    let gives = resolve_result(alloc, nodes, parsed, numbers, around, gives)?;
-    let (locals, body) = resolve_inside(alloc, nodes, parsed, numbers, around, body)?;
+    let gives = resolve_result(alloc, nodes, parsed, tables, scope, gives)?;
+    let (locals, body) = resolve_inside(alloc, nodes, parsed, tables, scope, body)?;
     Ok((gives, locals, body))
 }
 
 // The struct that a method's declaration names, by number.
-fn owned_by(numbers: &PackageNumbers, owner: Name) -> StructId
-    ensures { result.0 ≡ or_zero (get nat_eq numbers.now.structs owner.text.0) }
+fn owned_by(tables: &Tables, owner: Name) -> StructId
+    ensures { result.0 ≡ or_zero (number_at tables.now.structs owner.text.0) }
 {
-    StructId(number_or(numbers.structs.get(&owner.text.0).copied()))
+    StructId(number_or(tables.structs.numbers.get(&owner.text.0).copied()))
 }
 
 /// What a method's declaration says.
@@ -174,14 +174,14 @@ pub(crate) struct WrittenMethod<'a> {
     pub body: &'a Block,
 }
 
-/// Adds the nodes of a method's types and of its body, and answers the method. `around` knows its arguments and its
+/// Adds the nodes of a method's types and of its body, and answers the method. `scope` knows its arguments and its
 /// locals.
 pub(crate) fn resolve_method(
     alloc: Global,
     nodes: &mut NamedNodes,
     parsed: &PackageNodes,
-    numbers: &PackageNumbers,
-    around: &ScopeNumbers,
+    tables: &Tables,
+    scope: &Scope,
     method: WrittenMethod<'_>,
 ) -> Result<NamedMethod, NoMemory>
     requires args { FieldsBelow (length parsed.now.exprs) method.args.now }
@@ -189,15 +189,15 @@ pub(crate) fn resolve_method(
     requires body { BlockBelow (length parsed.now.stmts) method.body.now }
     ensures grows { OnOk result (Grows nodes.old nodes.new) }
     ensures below { IfOk result (NamedMethodBelow (length nodes.new.texts) (length nodes.new.exprs) (length nodes.new.stmts)) }
-    ensures made { IfOk result (λ r. method_made nodes.new.texts (exprs_of nodes.new) (stmts_of nodes.new) r ≡ resolved_method (standing_by parsed.now.texts numbers.now around.now) method.entry.mark
+    ensures made { IfOk result (λ r. method_made nodes.new.texts (exprs_of nodes.new) (stmts_of nodes.new) r ≡ resolved_method (standing_by parsed.now.texts tables.now scope.now) method.entry.mark
         (method_parsed (expr_trees parsed.now.exprs) (stmt_trees parsed.now.exprs parsed.now.stmts) method.entry.public method.entry.owner method.entry.name method.entry.args.now method.entry.gives.now method.entry.body.now)) }
 {
     let (name, args) = resolve_named(
         alloc,
         nodes,
         parsed,
-        numbers,
-        around,
+        tables,
+        scope,
         method.name,
         method.args,
     )?;
@@ -205,14 +205,14 @@ pub(crate) fn resolve_method(
         alloc,
         nodes,
         parsed,
-        numbers,
-        around,
+        tables,
+        scope,
         method.gives,
         method.body,
     )?;
     Ok(NamedMethod {
         name,
-        of: owned_by(numbers, method.owner),
+        of: owned_by(tables, method.owner),
         public: method.public,
         mark: mark(method.mark),
         args,

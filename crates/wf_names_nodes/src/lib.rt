@@ -3,5 +3,6 @@
 
 pub mod adding;
 pub mod declarations;
+pub mod laws;
 pub mod packages;
 pub mod variables;

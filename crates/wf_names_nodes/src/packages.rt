@@ -1,14 +1,13 @@
 // The declarations of a package: constants in order, each where those before it are known, then all others, where
 // all constants are.
 
-ghost use Rattle.std.specs.Prelude.{◌≡◌, ◌<◌, ◌+◌, ◌-◌, ◌^◌, ◌++◌, [], ◌∷◌, List, map, length, IfOk, OnOk};
+ghost use Rattle.std.specs.Prelude.{◌≡◌, ◌<◌, ◌++◌, [], ◌∷◌, List, map, length, IfOk, OnOk};
 ghost use Rattle.wf_ast.specs.ParsedTrees.{expr_trees, stmt_trees, decl_trees, expr_at, type_at, fields_at, decl_made};
 ghost use Rattle.wf_ast.specs.ParsedParts.{TypeBelow, FieldsBelow, ResultBelow, BlockBelow, DeclParts};
 ghost use Rattle.wf_named.specs.NamedParts.{named_package};
 ghost use Rattle.wf_names_rules.specs.Declarations.{Variable, variables, as_variable, constants_of};
 ghost use Rattle.wf_names_rules.specs.Uses.{constant_scope};
-ghost use Rattle.wf_names_scopes.specs.Agreeing.{package_of};
-ghost use Rattle.wf_names_numbers.specs.Numbered.{TellsNumbers, TellsPlaces, TellsAllConstants};
+ghost use Rattle.wf_names_scopes.specs.Agreeing.{package_of, TellsPackage, TellsScope, TellsConstants};
 ghost use Rattle.wf_names_resolve.specs.Package.{resolved_consts, struct_in, method_in, resolved_by};
 ghost use Rattle.wf_names_nodes.specs.Declaring.{method_parsed, with_consts, with_structs, with_methods, with_others};
 
@@ -18,50 +17,46 @@ use std::alloc::Global;
 use wf_ast::PackageNodes;
 use wf_ast::parsed::{Decl, DeclNode, Field, Name};
 use wf_named::NamedNodes;
-use wf_names_numbers::scopes::{add_constant, enter_method, enter_struct, outside};
-use wf_names_resolve::numbers::{PackageNumbers, ScopeNumbers};
+use wf_names_rules::tables::{Scope, Tables};
+use wf_names_scopes::scopes::{add_constant, enter_method, enter_struct, outside};
 use wf_text::faults::NoMemory;
 
-// A constant, which is known after its declaration; `place` is how many are known before it.
+// A constant, which is known after its declaration.
 fn next_const(
     alloc: Global,
     nodes: &mut NamedNodes,
     parsed: &PackageNodes,
-    numbers: &PackageNumbers,
-    around: &mut ScopeNumbers,
+    tables: &Tables,
+    scope: &mut Scope,
     constant: WrittenConst<'_>,
-    place: usize,
 ) -> Result<(), NoMemory>
     requires of { TypeBelow (length parsed.now.exprs) constant.of.now }
     requires value { constant.value.0 < length parsed.now.exprs }
-    requires numbers { TellsNumbers (package_of parsed.now) numbers.now }
-    ensures added { OnOk result ((known : List Variable) → TellsPlaces (package_of parsed.now) (constant_scope known) around.old
+    requires tables { TellsPackage (package_of parsed.now) tables.now }
+    ensures added { OnOk result ((known : List Variable) → TellsScope (package_of parsed.now) (constant_scope known) scope.old
         → named_package nodes.new ≡ with_consts (named_package nodes.old) (resolved_consts (package_of parsed.now) known (record { name = constant.entry.name; of = type_at (expr_trees parsed.now.exprs) constant.entry.of.now; value = expr_at (expr_trees parsed.now.exprs) constant.entry.value } ∷ []))) }
-    ensures known { OnOk result ((known : List Variable) → place ≡ length known → TellsPlaces (package_of parsed.now) (constant_scope known) around.old
-        → TellsPlaces (package_of parsed.now) (constant_scope (known ++ record { name = constant.entry.name; of = type_at (expr_trees parsed.now.exprs) constant.entry.of.now } ∷ [])) around.new) }
+    ensures known { OnOk result ((known : List Variable) → TellsScope (package_of parsed.now) (constant_scope known) scope.old
+        → TellsScope (package_of parsed.now) (constant_scope (known ++ record { name = constant.entry.name; of = type_at (expr_trees parsed.now.exprs) constant.entry.of.now } ∷ [])) scope.new) }
 {
-    put_const(alloc, nodes, parsed, numbers, around, constant)?;
-    add_constant(around, parsed, constant.name, constant.of, place)
+    put_const(alloc, nodes, parsed, tables, scope, constant)?;
+    add_constant(scope, parsed, constant.name, constant.of)
 }
 
-// A declaration, which may be of a constant; how many constants are known after it.
+// A declaration, which may be of a constant.
 fn const_decl(
     alloc: Global,
     nodes: &mut NamedNodes,
     parsed: &PackageNodes,
-    numbers: &PackageNumbers,
-    around: &mut ScopeNumbers,
+    tables: &Tables,
+    scope: &mut Scope,
     node: &DeclNode,
-    place: usize,
-) -> Result<usize, NoMemory>
+) -> Result<(), NoMemory>
     requires parts { DeclParts (length parsed.now.exprs) (length parsed.now.stmts) node.now.decl }
-    requires numbers { TellsNumbers (package_of parsed.now) numbers.now }
-    requires room { place < 2 ^ 64 - 1 }
-    ensures added { OnOk result ((known : List Variable) → TellsPlaces (package_of parsed.now) (constant_scope known) around.old
+    requires tables { TellsPackage (package_of parsed.now) tables.now }
+    ensures added { OnOk result ((known : List Variable) → TellsScope (package_of parsed.now) (constant_scope known) scope.old
         → named_package nodes.new ≡ with_consts (named_package nodes.old) (resolved_consts (package_of parsed.now) known (constants_of (decl_made (expr_trees parsed.now.exprs) (stmt_trees parsed.now.exprs parsed.now.stmts) node.now.public node.now.decl node.now.at ∷ [])))) }
-    ensures known { OnOk result ((known : List Variable) → place ≡ length known → TellsPlaces (package_of parsed.now) (constant_scope known) around.old
-        → TellsPlaces (package_of parsed.now) (constant_scope (known ++ map as_variable (constants_of (decl_made (expr_trees parsed.now.exprs) (stmt_trees parsed.now.exprs parsed.now.stmts) node.now.public node.now.decl node.now.at ∷ [])))) around.new) }
-    ensures count { IfOk result (λ next. next ≡ place + length (constants_of (decl_made (expr_trees parsed.now.exprs) (stmt_trees parsed.now.exprs parsed.now.stmts) node.now.public node.now.decl node.now.at ∷ []))) }
+    ensures known { OnOk result ((known : List Variable) → TellsScope (package_of parsed.now) (constant_scope known) scope.old
+        → TellsScope (package_of parsed.now) (constant_scope (known ++ map as_variable (constants_of (decl_made (expr_trees parsed.now.exprs) (stmt_trees parsed.now.exprs parsed.now.stmts) node.now.public node.now.decl node.now.at ∷ [])))) scope.new) }
 {
     match &node.decl {
         Decl::Const { name, of, value } => {
@@ -70,40 +65,30 @@ fn const_decl(
                 of,
                 value: *value,
             };
-            next_const(alloc, nodes, parsed, numbers, around, constant, place)?;
-            Ok(place + 1)
+            next_const(alloc, nodes, parsed, tables, scope, constant)
         }
-        Decl::Status(_) => Ok(place),
-        Decl::Struct { .. } => Ok(place),
-        Decl::Method { .. } => Ok(place),
+        Decl::Status(_) => Ok(()),
+        Decl::Struct { .. } => Ok(()),
+        Decl::Method { .. } => Ok(()),
     }
 }
 
-// The constants of a package. After them `around`, which knew nothing, knows all of them.
+// The constants of a package. After them `scope`, which knew nothing, knows all of them.
 fn all_consts(
     alloc: Global,
     nodes: &mut NamedNodes,
     parsed: &PackageNodes,
-    numbers: &PackageNumbers,
-    around: &mut ScopeNumbers,
+    tables: &Tables,
+    scope: &mut Scope,
 ) -> Result<(), NoMemory>
-    requires numbers { TellsNumbers (package_of parsed.now) numbers.now }
-    requires outside { TellsPlaces (package_of parsed.now) (constant_scope []) around.old }
+    requires tables { TellsPackage (package_of parsed.now) tables.now }
+    requires outside { TellsScope (package_of parsed.now) (constant_scope []) scope.old }
     ensures added { OnOk result (named_package nodes.new ≡ with_consts (named_package nodes.old) (resolved_consts (package_of parsed.now) [] (package_of parsed.now).constants)) }
-    ensures known { OnOk result (TellsAllConstants (package_of parsed.now) around.new) }
+    ensures known { OnOk result (TellsConstants (package_of parsed.now) scope.new) }
 {
-    let mut place = 0;
     let mut number = 0;
     while number < parsed.decls().len() {
-        place = const_decl(
-            alloc,
-            nodes,
-            parsed,
-            numbers,
-            around,
-            parsed.decl(number),
-            place,
-        )?;
+        const_decl(alloc, nodes, parsed, tables, scope, parsed.decl(number))?;
         number += 1;
     }
     Ok(())
@@ -114,20 +99,20 @@ fn next_struct(
     alloc: Global,
     nodes: &mut NamedNodes,
     parsed: &PackageNodes,
-    numbers: &PackageNumbers,
-    around: &mut ScopeNumbers,
+    tables: &Tables,
+    scope: &mut Scope,
     public: bool,
     name: Name,
     fields: &[Field],
 ) -> Result<(), NoMemory>
     requires fields { FieldsBelow (length parsed.now.exprs) fields.now }
-    requires numbers { TellsNumbers (package_of parsed.now) numbers.now }
-    requires constants { TellsAllConstants (package_of parsed.now) around.old }
+    requires tables { TellsPackage (package_of parsed.now) tables.now }
+    requires constants { TellsConstants (package_of parsed.now) scope.old }
     ensures added { OnOk result (named_package nodes.new ≡ with_structs (named_package nodes.old) (struct_in (package_of parsed.now) public (record { name = name; fields = variables (fields_at (expr_trees parsed.now.exprs) fields.now) }) ∷ [])) }
-    ensures known { OnOk result (TellsAllConstants (package_of parsed.now) around.new) }
+    ensures known { OnOk result (TellsConstants (package_of parsed.now) scope.new) }
 {
-    enter_struct(alloc, around, name);
-    put_struct(alloc, nodes, parsed, numbers, around, public, name, fields)
+    enter_struct(alloc, scope, name);
+    put_struct(alloc, nodes, parsed, tables, scope, public, name, fields)
 }
 
 // A method, in its own scope.
@@ -135,28 +120,21 @@ fn next_method(
     alloc: Global,
     nodes: &mut NamedNodes,
     parsed: &PackageNodes,
-    numbers: &PackageNumbers,
-    around: &mut ScopeNumbers,
+    tables: &Tables,
+    scope: &mut Scope,
     method: WrittenMethod<'_>,
 ) -> Result<(), NoMemory>
     requires args { FieldsBelow (length parsed.now.exprs) method.args.now }
     requires gives { ResultBelow (length parsed.now.exprs) method.gives.now }
     requires body { BlockBelow (length parsed.now.stmts) method.body.now }
-    requires numbers { TellsNumbers (package_of parsed.now) numbers.now }
-    requires constants { TellsAllConstants (package_of parsed.now) around.old }
+    requires tables { TellsPackage (package_of parsed.now) tables.now }
+    requires constants { TellsConstants (package_of parsed.now) scope.old }
     ensures added { OnOk result (named_package nodes.new ≡ with_methods (named_package nodes.old) (method_in (package_of parsed.now) method.entry.mark
         (method_parsed (expr_trees parsed.now.exprs) (stmt_trees parsed.now.exprs parsed.now.stmts) method.entry.public method.entry.owner method.entry.name method.entry.args.now method.entry.gives.now method.entry.body.now) ∷ [])) }
-    ensures known { OnOk result (TellsAllConstants (package_of parsed.now) around.new) }
+    ensures known { OnOk result (TellsConstants (package_of parsed.now) scope.new) }
 {
-    enter_method(
-        alloc,
-        around,
-        parsed,
-        method.owner,
-        method.args,
-        method.body,
-    )?;
-    put_method(alloc, nodes, parsed, numbers, around, method)
+    enter_method(alloc, scope, parsed, method.owner, method.args, method.body)?;
+    put_method(alloc, nodes, parsed, tables, scope, method)
 }
 
 // A declaration, where all constants are known; those of constants are passed.
@@ -164,15 +142,15 @@ fn other_decl(
     alloc: Global,
     nodes: &mut NamedNodes,
     parsed: &PackageNodes,
-    numbers: &PackageNumbers,
-    around: &mut ScopeNumbers,
+    tables: &Tables,
+    scope: &mut Scope,
     node: &DeclNode,
 ) -> Result<(), NoMemory>
     requires parts { DeclParts (length parsed.now.exprs) (length parsed.now.stmts) node.now.decl }
-    requires numbers { TellsNumbers (package_of parsed.now) numbers.now }
-    requires constants { TellsAllConstants (package_of parsed.now) around.old }
+    requires tables { TellsPackage (package_of parsed.now) tables.now }
+    requires constants { TellsConstants (package_of parsed.now) scope.old }
     ensures added { OnOk result (named_package nodes.new ≡ with_others (package_of parsed.now) (named_package nodes.old) (decl_made (expr_trees parsed.now.exprs) (stmt_trees parsed.now.exprs parsed.now.stmts) node.now.public node.now.decl node.now.at ∷ [])) }
-    ensures known { OnOk result (TellsAllConstants (package_of parsed.now) around.new) }
+    ensures known { OnOk result (TellsConstants (package_of parsed.now) scope.new) }
 {
     match &node.decl {
         Decl::Status(text) => put_status(nodes, parsed, *text),
@@ -181,8 +159,8 @@ fn other_decl(
             alloc,
             nodes,
             parsed,
-            numbers,
-            around,
+            tables,
+            scope,
             node.public,
             *name,
             fields.as_slice(),
@@ -204,7 +182,7 @@ fn other_decl(
                 gives,
                 body,
             };
-            next_method(alloc, nodes, parsed, numbers, around, method)
+            next_method(alloc, nodes, parsed, tables, scope, method)
         }
     }
 }
@@ -214,16 +192,16 @@ fn all_others(
     alloc: Global,
     nodes: &mut NamedNodes,
     parsed: &PackageNodes,
-    numbers: &PackageNumbers,
-    around: &mut ScopeNumbers,
+    tables: &Tables,
+    scope: &mut Scope,
 ) -> Result<(), NoMemory>
-    requires numbers { TellsNumbers (package_of parsed.now) numbers.now }
-    requires constants { TellsAllConstants (package_of parsed.now) around.old }
+    requires tables { TellsPackage (package_of parsed.now) tables.now }
+    requires constants { TellsConstants (package_of parsed.now) scope.old }
     ensures { OnOk result (named_package nodes.new ≡ with_others (package_of parsed.now) (named_package nodes.old) (decl_trees parsed.now.exprs parsed.now.stmts parsed.now.decls)) }
 {
     let mut number = 0;
     while number < parsed.decls().len() {
-        other_decl(alloc, nodes, parsed, numbers, around, parsed.decl(number))?;
+        other_decl(alloc, nodes, parsed, tables, scope, parsed.decl(number))?;
         number += 1;
     }
     Ok(())
@@ -234,29 +212,29 @@ fn all_decls(
     alloc: Global,
     nodes: &mut NamedNodes,
     parsed: &PackageNodes,
-    numbers: &PackageNumbers,
+    tables: &Tables,
 ) -> Result<(), NoMemory>
-    requires { TellsNumbers (package_of parsed.now) numbers.now }
+    requires { TellsPackage (package_of parsed.now) tables.now }
     ensures { OnOk result (named_package nodes.new ≡ with_others (package_of parsed.now) (with_consts (named_package nodes.old) (resolved_consts (package_of parsed.now) [] (package_of parsed.now).constants)) (decl_trees parsed.now.exprs parsed.now.stmts parsed.now.decls)) }
 {
-    let mut around = outside(alloc);
-    all_consts(alloc, nodes, parsed, numbers, &mut around)?;
-    all_others(alloc, nodes, parsed, numbers, &mut around)
+    let mut scope = outside(alloc);
+    all_consts(alloc, nodes, parsed, tables, &mut scope)?;
+    all_others(alloc, nodes, parsed, tables, &mut scope)
 }
 
-/// The nodes of the resolved package. `numbers` are those of what the package declares; `order` has the numbers of all
+/// The nodes of the resolved package. `tables` are those of what the package declares; `order` has the numbers of all
 /// methods, each after those that it calls. `Err` where memory was refused or no number is left.
 pub fn resolve_package(
     alloc: Global,
     parsed: &PackageNodes,
-    numbers: &PackageNumbers,
+    tables: &Tables,
     order: Vec<u32>,
 ) -> Result<NamedNodes, NoMemory>
-    requires { TellsNumbers (package_of parsed.now) numbers.now }
+    requires { TellsPackage (package_of parsed.now) tables.now }
     ensures { IfOk result (λ nodes. named_package nodes ≡ resolved_by (package_of parsed.now) parsed.now.name (decl_trees parsed.now.exprs parsed.now.stmts parsed.now.decls) order.items) }
 {
     let mut nodes = NamedNodes::new(alloc, parsed.name())?;
-    all_decls(alloc, &mut nodes, parsed, numbers)?;
+    all_decls(alloc, &mut nodes, parsed, tables)?;
     nodes.set_order(order);
     Ok(nodes)
 }

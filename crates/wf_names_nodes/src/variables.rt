@@ -17,9 +17,9 @@ use wf_ast::parsed::{Block, Field, Name, Stmt, TypeExpr};
 use wf_ast::{PackageNodes, Sequence, StmtId};
 use wf_named::nodes::NamedType;
 use wf_named::{NamedNodes, NamedVar};
-use wf_names_resolve::numbers::{PackageNumbers, ScopeNumbers};
 use wf_names_resolve::resolve_exprs::resolve_type;
 use wf_names_resolve::words::named_word;
+use wf_names_rules::tables::{Scope, Tables};
 use wf_text::faults::NoMemory;
 
 /// Adds the nodes of a variable's type, and answers the variable.
@@ -27,18 +27,18 @@ pub(crate) fn resolve_variable(
     alloc: Global,
     nodes: &mut NamedNodes,
     parsed: &PackageNodes,
-    numbers: &PackageNumbers,
-    around: &ScopeNumbers,
+    tables: &Tables,
+    scope: &Scope,
     name: Name,
     of: &TypeExpr,
 ) -> Result<NamedVar, NoMemory>
     requires { TypeBelow (length parsed.now.exprs) of.now }
     ensures grows { OnOk result (Grows nodes.old nodes.new) }
     ensures below { IfOk result (NamedVarBelow (length nodes.new.texts) (length nodes.new.exprs)) }
-    ensures made { IfOk result (λ r. var_made nodes.new.texts (exprs_of nodes.new) r ≡ resolved_variable (standing_by parsed.now.texts numbers.now around.now) (record { name = name; of = parsed_type_at (expr_trees parsed.now.exprs) of.now })) }
+    ensures made { IfOk result (λ r. var_made nodes.new.texts (exprs_of nodes.new) r ≡ resolved_variable (standing_by parsed.now.texts tables.now scope.now) (record { name = name; of = parsed_type_at (expr_trees parsed.now.exprs) of.now })) }
 {
     let name = named_word(nodes, parsed, name)?;
-    let of = resolve_type(alloc, nodes, parsed, numbers, around, of)?;
+    let of = resolve_type(alloc, nodes, parsed, tables, scope, of)?;
     Ok(NamedVar { name, of })
 }
 
@@ -47,18 +47,18 @@ pub(crate) fn resolve_fields(
     alloc: Global,
     nodes: &mut NamedNodes,
     parsed: &PackageNodes,
-    numbers: &PackageNumbers,
-    around: &ScopeNumbers,
+    tables: &Tables,
+    scope: &Scope,
     fields: &[Field],
 ) -> Result<Sequence<NamedVar>, NoMemory>
     requires { FieldsBelow (length parsed.now.exprs) fields.now }
     ensures grows { OnOk result (Grows nodes.old nodes.new) }
     ensures below { IfOk result (λ r. AllByRecursion (NamedVarBelow (length nodes.new.texts) (length nodes.new.exprs)) r) }
-    ensures made { IfOk result (λ r. map (var_made nodes.new.texts (exprs_of nodes.new)) r ≡ map (resolved_variable (standing_by parsed.now.texts numbers.now around.now)) (variables (parsed_fields_at (expr_trees parsed.now.exprs) fields.now))) }
+    ensures made { IfOk result (λ r. map (var_made nodes.new.texts (exprs_of nodes.new)) r ≡ map (resolved_variable (standing_by parsed.now.texts tables.now scope.now)) (variables (parsed_fields_at (expr_trees parsed.now.exprs) fields.now))) }
 {
     let mut made = Sequence::new(alloc);
     for field in fields {
-        let one = resolve_variable(alloc, nodes, parsed, numbers, around, field.name, &field.of)?;
+        let one = resolve_variable(alloc, nodes, parsed, tables, scope, field.name, &field.of)?;
         made.push(one)?;
     }
     Ok(made)
@@ -69,18 +69,18 @@ fn resolve_local(
     alloc: Global,
     nodes: &mut NamedNodes,
     parsed: &PackageNodes,
-    numbers: &PackageNumbers,
-    around: &ScopeNumbers,
+    tables: &Tables,
+    scope: &Scope,
     s: StmtId,
 ) -> Result<Option<NamedVar>, NoMemory>
     requires { s.0 < length parsed.now.stmts }
     ensures grows { OnOk result (Grows nodes.old nodes.new) }
     ensures below { IfOk result (λ r. AllByRecursion (NamedVarBelow (length nodes.new.texts) (length nodes.new.exprs)) (listed r)) }
-    ensures made { IfOk result (λ r. map (var_made nodes.new.texts (exprs_of nodes.new)) (listed r) ≡ map (resolved_variable (standing_by parsed.now.texts numbers.now around.now)) (local_of (parsed_stmt_at (stmt_trees parsed.now.exprs parsed.now.stmts) s))) }
+    ensures made { IfOk result (λ r. map (var_made nodes.new.texts (exprs_of nodes.new)) (listed r) ≡ map (resolved_variable (standing_by parsed.now.texts tables.now scope.now)) (local_of (parsed_stmt_at (stmt_trees parsed.now.exprs parsed.now.stmts) s))) }
 {
     match &parsed.stmt(s).stmt {
         Stmt::Var { name, of } => {
-            let one = resolve_variable(alloc, nodes, parsed, numbers, around, *name, of)?;
+            let one = resolve_variable(alloc, nodes, parsed, tables, scope, *name, of)?;
             Ok(Some(one))
         }
         _ => Ok(None),
@@ -105,18 +105,18 @@ pub(crate) fn resolve_locals(
     alloc: Global,
     nodes: &mut NamedNodes,
     parsed: &PackageNodes,
-    numbers: &PackageNumbers,
-    around: &ScopeNumbers,
+    tables: &Tables,
+    scope: &Scope,
     body: &Block,
 ) -> Result<Sequence<NamedVar>, NoMemory>
     requires { BlockBelow (length parsed.now.stmts) body.now }
     ensures grows { OnOk result (Grows nodes.old nodes.new) }
     ensures below { IfOk result (λ r. AllByRecursion (NamedVarBelow (length nodes.new.texts) (length nodes.new.exprs)) r) }
-    ensures made { IfOk result (λ r. map (var_made nodes.new.texts (exprs_of nodes.new)) r ≡ map (resolved_variable (standing_by parsed.now.texts numbers.now around.now)) (locals_of (parsed_block_at (stmt_trees parsed.now.exprs parsed.now.stmts) body.now))) }
+    ensures made { IfOk result (λ r. map (var_made nodes.new.texts (exprs_of nodes.new)) r ≡ map (resolved_variable (standing_by parsed.now.texts tables.now scope.now)) (locals_of (parsed_block_at (stmt_trees parsed.now.exprs parsed.now.stmts) body.now))) }
 {
     let mut made = Sequence::new(alloc);
     for s in body.items.as_slice() {
-        let one = resolve_local(alloc, nodes, parsed, numbers, around, *s)?;
+        let one = resolve_local(alloc, nodes, parsed, tables, scope, *s)?;
         add_variable(&mut made, one)?;
     }
     Ok(made)
@@ -127,18 +127,18 @@ pub(crate) fn resolve_result(
     alloc: Global,
     nodes: &mut NamedNodes,
     parsed: &PackageNodes,
-    numbers: &PackageNumbers,
-    around: &ScopeNumbers,
+    tables: &Tables,
+    scope: &Scope,
     gives: &Option<TypeExpr>,
 ) -> Result<Option<NamedType>, NoMemory>
     requires { ResultBelow (length parsed.now.exprs) gives.now }
     ensures grows { OnOk result (Grows nodes.old nodes.new) }
     ensures below { IfOk result (NamedResultBelow (length nodes.new.exprs)) }
-    ensures made { IfOk result (λ r. option_map (type_at (exprs_of nodes.new)) r ≡ resolved_result (standing_by parsed.now.texts numbers.now around.now) (parsed_result_at (expr_trees parsed.now.exprs) gives.now)) }
+    ensures made { IfOk result (λ r. option_map (type_at (exprs_of nodes.new)) r ≡ resolved_result (standing_by parsed.now.texts tables.now scope.now) (parsed_result_at (expr_trees parsed.now.exprs) gives.now)) }
 {
     match gives {
         Some(of) => {
-            let of = resolve_type(alloc, nodes, parsed, numbers, around, of)?;
+            let of = resolve_type(alloc, nodes, parsed, tables, scope, of)?;
             Ok(Some(of))
         }
         None => Ok(None),

@@ -1,15 +1,13 @@
 -- What names stand for, by number.
-use Rattle.std.specs.Prelude.{◌+◌, ℕ, List, Option, Some, None, option_map, nat_eq}
-use Rattle.std.specs.List.{position_from}
-use Rattle.indexmap.specs.IndexMap.{get}
+use Rattle.std.specs.Prelude.{◌+◌, ℕ, List, Option, Some, None, option_map}
 use Rattle.wf_ast.specs.declared.parsed.Receiver.{Receiver}
 use Rattle.wf_names_rules.specs.declared.callees.Callee.{Callee}
-use Rattle.wf_names_rules.specs.Declarations.{Variable, Declared, is_spelt, text_of, status_named, struct_named}
+use Rattle.wf_names_rules.specs.declared.tables.Tables.{Tables}
+use Rattle.wf_names_rules.specs.declared.tables.Scope.{Scope as ScopeTables}
+use Rattle.wf_names_rules.specs.Declarations.{Declared, text_of, status_named, struct_named, place_in}
 use Rattle.wf_names_rules.specs.Uses.{Scope}
 use Rattle.wf_names_rules.specs.Meanings.{fields_known, known_at, callee_on}
-use Rattle.wf_names_rules.specs.Tables.{same_pair, known_by, args_at}
-use Rattle.wf_names_resolve.specs.declared.numbers.PackageNumbers.{PackageNumbers}
-use Rattle.wf_names_resolve.specs.declared.numbers.ScopeNumbers.{ScopeNumbers}
+use Rattle.wf_names_rules.specs.Tables.{same_pair, known_by, args_at, number_at, place_by, place_at}
 
 -- What is looked up at a place; names and quoted texts stand by the numbers of their texts.
 pub record Standing : Type 0 where
@@ -29,9 +27,6 @@ pub record Standing : Type 0 where
   -- the names of a method's arguments, each once
   pub args : (m : ℕ) → List ℕ
 
-abbrev pub place_in : List Variable → ℕ → Option ℕ
-place_in variables text = position_from (λ v. is_spelt text v.name) 0 variables
-
 -- By the declarations of a package, in a scope.
 abbrev pub standing_at : Declared → Scope → Standing
 standing_at d scope = record {
@@ -47,19 +42,19 @@ standing_at d scope = record {
 }
 
 -- By tables; `texts` are those of the package.
-abbrev pub field_numbered : PackageNumbers → (this : Option ℕ) → ℕ → Option ℕ
-field_numbered p None text = None
-field_numbered p (Some owner) text = get same_pair p.fields (owner, text)
+abbrev pub field_numbered : Tables → (this : Option ℕ) → ℕ → Option ℕ
+field_numbered t None text = None
+field_numbered t (Some owner) text = place_by same_pair t.fields (owner, text)
 
-abbrev pub standing_by : (texts : List (List ℕ)) → PackageNumbers → ScopeNumbers → Standing
-standing_by texts p s = record {
-  bytes = (known_by texts p.tables s.scope).bytes;
-  status = get nat_eq p.statuses;
-  structure = get nat_eq p.structs;
-  local = get nat_eq s.locals;
-  constant = get nat_eq s.constants;
-  field = field_numbered p s.scope.this;
-  arg = get nat_eq s.args;
-  callee = callee_on (known_by texts p.tables s.scope);
-  args = args_at p.tables;
+abbrev pub standing_by : (texts : List (List ℕ)) → Tables → ScopeTables → Standing
+standing_by texts t s = record {
+  bytes = (known_by texts t s).bytes;
+  status = number_at t.statuses;
+  structure = number_at t.structs;
+  local = place_at s.locals;
+  constant = place_at s.constants;
+  field = field_numbered t s.this;
+  arg = place_at s.args;
+  callee = callee_on (known_by texts t s);
+  args = args_at t;
 }

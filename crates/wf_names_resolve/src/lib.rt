@@ -4,7 +4,6 @@
 
 pub mod arguments;
 pub mod examples;
-pub mod numbers;
 pub mod parts;
 pub mod resolve_exprs;
 pub mod resolve_stmts;

@@ -1,16 +1,14 @@
 // What single names stand for, and marks.
 
-ghost use Rattle.std.specs.Prelude.{◌≡◌, nat_eq, bytes_eq, drop, IfOk};
+ghost use Rattle.std.specs.Prelude.{◌≡◌, bytes_eq, drop, IfOk};
 ghost use Rattle.std.specs.List.{position_from};
-ghost use Rattle.indexmap.specs.IndexMap.{get};
 ghost use Rattle.wf_names_rules.specs.Meanings.{base_status_texts, callee_on as callee_of_name};
-ghost use Rattle.wf_names_rules.specs.Tables.{known_by};
+ghost use Rattle.wf_names_rules.specs.Tables.{same_pair, known_by, number_at, place_by, place_at};
 ghost use Rattle.wf_names_rules.specs.Declarations.{bytes_of};
 ghost use Rattle.wf_names_resolve.specs.Prefixes.{resolved_core};
 ghost use Rattle.wf_names_resolve.specs.Standing.{standing_by, field_numbered};
 ghost use Rattle.wf_names_resolve.specs.Resolved.{number_or as or_zero, base_status_number, bare_variable, variable_at, resolved_path, callee_at, resolved_mark, plain_type_named, base_type_named};
 
-use crate::numbers::{PackageNumbers, ScopeNumbers};
 use wf_ast::parsed::{Core, Path, Receiver, Root, WrittenMark};
 use wf_ast::{
     ArgId, ConstId, FieldId, LocalId, MethodId, PackageNodes, StatusId, StructId, TextId,
@@ -19,7 +17,7 @@ use wf_base::Mark;
 use wf_base::base_methods::BaseSig;
 use wf_named::{BaseType, NamedCallee, NamedCore, NamedPath, Variable};
 use wf_names_rules::callees::Callee;
-use wf_names_rules::tables::{callee_on, text_bytes};
+use wf_names_rules::tables::{Scope, Tables, Variables, callee_on, text_bytes};
 use wf_names_rules::types::width_named;
 use wf_text::faults::NoMemory;
 
@@ -37,10 +35,10 @@ pub fn number_or(number: Option<u32>) -> u32
 }
 
 /// The number of a status of the package.
-pub fn own_status(numbers: &PackageNumbers, text: TextId) -> StatusId
-    ensures { result.0 ≡ or_zero (get nat_eq numbers.now.statuses text.0) }
+pub fn own_status(tables: &Tables, text: TextId) -> StatusId
+    ensures { result.0 ≡ or_zero (number_at tables.now.statuses text.0) }
 {
-    StatusId(number_or(numbers.statuses.get(&text.0).copied()))
+    StatusId(number_or(tables.statuses.numbers.get(&text.0).copied()))
 }
 
 // The number of an error of the language.
@@ -79,40 +77,58 @@ pub fn base_status(text: &[u8]) -> StatusId
     }
 }
 
-fn field(numbers: &PackageNumbers, around: &ScopeNumbers, text: TextId) -> Option<u32>
-    ensures { result ≡ field_numbered numbers.now around.now.scope.this text.0 }
+fn field_of(tables: &Tables, owner: u32, text: TextId) -> Option<u32>
+    ensures { result ≡ place_by same_pair tables.now.fields (owner, text.0) }
 {
-    match around.scope.this {
-        Some(owner) => numbers.fields.get(&(owner, text.0)).copied(),
+    match tables.fields.get(&(owner, text.0)) {
+        Some(entry) => Some(entry.place),
         None => None,
     }
 }
 
-fn bare(around: &ScopeNumbers, text: TextId) -> Variable
-    ensures { result ≡ bare_variable (get nat_eq around.now.locals text.0) (get nat_eq around.now.constants text.0) }
+fn field(tables: &Tables, scope: &Scope, text: TextId) -> Option<u32>
+    ensures { result ≡ field_numbered tables.now scope.now.this text.0 }
 {
-    match around.locals.get(&text.0) {
-        Some(n) => Variable::Local(LocalId(*n)),
-        None => Variable::Const(ConstId(number_or(around.constants.get(&text.0).copied()))),
+    match scope.this {
+        Some(owner) => field_of(tables, owner, text),
+        None => None,
     }
 }
 
-fn variable(numbers: &PackageNumbers, around: &ScopeNumbers, root: Root, text: TextId) -> Variable
-    ensures { (texts : _) → result ≡ variable_at (standing_by texts numbers.now around.now) root text.0 }
+fn place(variables: &Variables, text: TextId) -> Option<u32>
+    ensures { result ≡ place_at variables.now text.0 }
+{
+    match variables.entries.get(&text.0) {
+        Some(entry) => Some(entry.place),
+        None => None,
+    }
+}
+
+fn bare(scope: &Scope, text: TextId) -> Variable
+    ensures { result ≡ bare_variable (place_at scope.now.locals text.0) (place_at scope.now.constants text.0) }
+{
+    match place(&scope.locals, text) {
+        Some(n) => Variable::Local(LocalId(n)),
+        None => Variable::Const(ConstId(number_or(place(&scope.constants, text)))),
+    }
+}
+
+fn variable(tables: &Tables, scope: &Scope, root: Root, text: TextId) -> Variable
+    ensures { (texts : _) → result ≡ variable_at (standing_by texts tables.now scope.now) root text.0 }
 {
     match root {
-        Root::Bare => bare(around, text),
-        Root::This => Variable::Field(FieldId(number_or(field(numbers, around, text)))),
-        Root::Args => Variable::Arg(ArgId(number_or(around.args.get(&text.0).copied()))),
+        Root::Bare => bare(scope, text),
+        Root::This => Variable::Field(FieldId(number_or(field(tables, scope, text)))),
+        Root::Args => Variable::Arg(ArgId(number_or(place(&scope.args, text)))),
     }
 }
 
 /// What a path stands for.
-pub fn path(numbers: &PackageNumbers, around: &ScopeNumbers, path: Path) -> NamedPath
-    ensures { (texts : _) → result ≡ resolved_path (standing_by texts numbers.now around.now) path }
+pub fn path(tables: &Tables, scope: &Scope, path: Path) -> NamedPath
+    ensures { (texts : _) → result ≡ resolved_path (standing_by texts tables.now scope.now) path }
 {
     NamedPath {
-        of: variable(numbers, around, path.root, path.name.text),
+        of: variable(tables, scope, path.root, path.name.text),
         at: path.at,
     }
 }
@@ -120,14 +136,14 @@ pub fn path(numbers: &PackageNumbers, around: &ScopeNumbers, path: Path) -> Name
 /// What the method name of a call stands for, as the rules of names say it.
 pub(crate) fn callee(
     parsed: &PackageNodes,
-    numbers: &PackageNumbers,
-    around: &ScopeNumbers,
+    tables: &Tables,
+    scope: &Scope,
     on: Receiver,
     text: TextId,
 ) -> Callee
-    ensures { result ≡ callee_of_name (known_by parsed.now.texts numbers.now.tables around.now.scope) on text.0 }
+    ensures { result ≡ callee_of_name (known_by parsed.now.texts tables.now scope.now) on text.0 }
 {
-    callee_on(parsed, &numbers.tables, &around.scope, on, text)
+    callee_on(parsed, tables, scope, on, text)
 }
 
 // A number as nodes have it.
@@ -142,31 +158,26 @@ fn numbered(m: usize) -> Result<u32, NoMemory>
 }
 
 // A method of the package on what its call is made on.
-fn method(numbers: &PackageNumbers, around: &ScopeNumbers, on: Receiver, m: u32) -> NamedCallee
-    ensures { (texts : _) → result ≡ callee_at (standing_by texts numbers.now around.now) on (Callee.Own m) }
+fn method(tables: &Tables, scope: &Scope, on: Receiver, m: u32) -> NamedCallee
+    ensures { (texts : _) → result ≡ callee_at (standing_by texts tables.now scope.now) on (Callee.Own m) }
 {
     match on {
         Receiver::This(_) => NamedCallee::Own(MethodId(m)),
         Receiver::Path(path) => NamedCallee::Sub {
-            field: FieldId(number_or(field(numbers, around, path.name.text))),
+            field: FieldId(number_or(field(tables, scope, path.name.text))),
             method: MethodId(m),
         },
     }
 }
 
 // A base method on what its call is made on.
-fn base_method(
-    numbers: &PackageNumbers,
-    around: &ScopeNumbers,
-    on: Receiver,
-    sig: BaseSig,
-) -> NamedCallee
-    ensures { (texts : _) → result ≡ callee_at (standing_by texts numbers.now around.now) on (Callee.Base sig) }
+fn base_method(tables: &Tables, scope: &Scope, on: Receiver, sig: BaseSig) -> NamedCallee
+    ensures { (texts : _) → result ≡ callee_at (standing_by texts tables.now scope.now) on (Callee.Base sig) }
 {
     match on {
         Receiver::This(_) => NamedCallee::Own(MethodId(0)),
         Receiver::Path(of) => NamedCallee::Base {
-            on: path(numbers, around, of),
+            on: path(tables, scope, of),
             sig,
         },
     }
@@ -174,19 +185,19 @@ fn base_method(
 
 /// What is called. `Err` where a method of the package has no number.
 pub(crate) fn named_callee(
-    numbers: &PackageNumbers,
-    around: &ScopeNumbers,
+    tables: &Tables,
+    scope: &Scope,
     on: Receiver,
     callee: Callee,
 ) -> Result<NamedCallee, NoMemory>
-    ensures { IfOk result (λ c. (texts : _) → c ≡ callee_at (standing_by texts numbers.now around.now) on callee) }
+    ensures { IfOk result (λ c. (texts : _) → c ≡ callee_at (standing_by texts tables.now scope.now) on callee) }
 {
     match callee {
         Callee::Own(m) => {
             let m = numbered(m)?;
-            Ok(method(numbers, around, on, m))
+            Ok(method(tables, scope, on, m))
         }
-        Callee::Base(sig) => Ok(base_method(numbers, around, on, sig)),
+        Callee::Base(sig) => Ok(base_method(tables, scope, on, sig)),
         Callee::Hidden(_) => Ok(NamedCallee::Own(MethodId(0))),
         Callee::Foreign => Ok(NamedCallee::Own(MethodId(0))),
         Callee::Missing => Ok(NamedCallee::Own(MethodId(0))),
@@ -229,8 +240,8 @@ fn base_type(name: &[u8]) -> Option<BaseType>
 }
 
 /// What a type ends with, after its prefixes and before its bounds.
-pub fn core(parsed: &PackageNodes, numbers: &PackageNumbers, of: Core) -> NamedCore
-    ensures { result ≡ resolved_core (bytes_of parsed.now.texts) (get nat_eq numbers.now.structs) of }
+pub(crate) fn core(parsed: &PackageNodes, tables: &Tables, of: Core) -> NamedCore
+    ensures { result ≡ resolved_core (bytes_of parsed.now.texts) (number_at tables.now.structs) of }
 {
     match of {
         Core::Base { name, at } => NamedCore::Base {
@@ -242,7 +253,7 @@ pub fn core(parsed: &PackageNodes, numbers: &PackageNumbers, of: Core) -> NamedC
             at,
         },
         Core::Struct(name) => NamedCore::Struct {
-            of: StructId(number_or(numbers.structs.get(&name.text.0).copied())),
+            of: StructId(number_or(tables.structs.numbers.get(&name.text.0).copied())),
             at: name.at,
         },
     }

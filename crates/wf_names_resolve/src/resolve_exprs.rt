@@ -13,13 +13,12 @@ ghost use Rattle.wf_names_resolve.specs.Growth.{Grows};
 ghost use Rattle.wf_names_resolve.specs.Prefixes.{ResolvesPrefix, ResolvesPrefixes};
 
 use crate::arguments::values;
-use crate::numbers::{PackageNumbers, ScopeNumbers};
 use crate::parts::{base_status, callee, core, mark, named_callee, own_status, path};
 use std::alloc::Global;
 use wf_ast::parsed::{Bounds, Call, Expr, Given, Link, Prefix, TypeExpr};
 use wf_ast::{ExprId, PackageNodes, Sequence, StatusId};
 use wf_named::{NamedCall, NamedExpr, NamedExprNode, NamedNodes, NamedType};
-use wf_names_rules::tables::text_bytes;
+use wf_names_rules::tables::{Scope, Tables, text_bytes};
 use wf_text::faults::NoMemory;
 
 // Adds an expression whose parts are there.
@@ -40,16 +39,16 @@ pub fn resolve_expr(
     alloc: Global,
     nodes: &mut NamedNodes,
     parsed: &PackageNodes,
-    numbers: &PackageNumbers,
-    around: &ScopeNumbers,
+    tables: &Tables,
+    scope: &Scope,
     e: ExprId,
 ) -> Result<ExprId, NoMemory>
     requires { e.0 < length parsed.now.exprs }
     ensures grows { OnOk result (Grows nodes.old nodes.new) }
     ensures below { IfOk result (λ r. r.0 < length nodes.new.exprs) }
-    ensures made { IfOk result (λ r. expr_at (exprs_of nodes.new) r ≡ resolved_expr (standing_by parsed.now.texts numbers.now around.now) (parsed_expr_at (expr_trees parsed.now.exprs) e)) }
+    ensures made { IfOk result (λ r. expr_at (exprs_of nodes.new) r ≡ resolved_expr (standing_by parsed.now.texts tables.now scope.now) (parsed_expr_at (expr_trees parsed.now.exprs) e)) }
 {
-    let node = resolve_node(alloc, nodes, parsed, numbers, around, e)?;
+    let node = resolve_node(alloc, nodes, parsed, tables, scope, e)?;
     put(nodes, node)
 }
 
@@ -59,14 +58,14 @@ fn resolve_node(
     alloc: Global,
     nodes: &mut NamedNodes,
     parsed: &PackageNodes,
-    numbers: &PackageNumbers,
-    around: &ScopeNumbers,
+    tables: &Tables,
+    scope: &Scope,
     e: ExprId,
 ) -> Result<NamedExprNode, NoMemory>
     requires { e.0 < length parsed.now.exprs }
     ensures grows { OnOk result (Grows nodes.old nodes.new) }
     ensures below { IfOk result (λ n. NamedExprParts (length nodes.new.exprs) n.expr) }
-    ensures made { IfOk result (λ n. expr_made (exprs_of nodes.new) n.expr n.at ≡ resolved_expr (standing_by parsed.now.texts numbers.now around.now) (parsed_expr_at (expr_trees parsed.now.exprs) e)) }
+    ensures made { IfOk result (λ n. expr_made (exprs_of nodes.new) n.expr n.at ≡ resolved_expr (standing_by parsed.now.texts tables.now scope.now) (parsed_expr_at (expr_trees parsed.now.exprs) e)) }
 {
     let node = parsed.expr(e);
     match &node.expr {
@@ -75,7 +74,7 @@ fn resolve_node(
             at: node.at,
         }),
         Expr::OwnStatus(text) => Ok(NamedExprNode {
-            expr: NamedExpr::Status(own_status(numbers, text.text)),
+            expr: NamedExpr::Status(own_status(tables, text.text)),
             at: text.at,
         }),
         Expr::BaseStatus(text) => Ok(NamedExprNode {
@@ -91,20 +90,20 @@ fn resolve_node(
             at: node.at,
         }),
         Expr::Path(of) => Ok(NamedExprNode {
-            expr: NamedExpr::Path(path(numbers, around, *of)),
+            expr: NamedExpr::Path(path(tables, scope, *of)),
             at: node.at,
         }),
         Expr::Index { base, index } => {
-            let array = path(numbers, around, *base);
-            let index = resolve_expr(alloc, nodes, parsed, numbers, around, *index)?;
+            let array = path(tables, scope, *base);
+            let index = resolve_expr(alloc, nodes, parsed, tables, scope, *index)?;
             Ok(NamedExprNode {
                 expr: NamedExpr::Index { base: array, index },
                 at: node.at,
             })
         }
         Expr::Slice { base, from, to } => {
-            let whole = path(numbers, around, *base);
-            let (from, to) = resolve_parts(alloc, nodes, parsed, numbers, around, *from, *to)?;
+            let whole = path(tables, scope, *base);
+            let (from, to) = resolve_parts(alloc, nodes, parsed, tables, scope, *from, *to)?;
             Ok(NamedExprNode {
                 expr: NamedExpr::Slice {
                     base: whole,
@@ -115,7 +114,7 @@ fn resolve_node(
             })
         }
         Expr::Call(call) => {
-            let call = resolve_call(alloc, nodes, parsed, numbers, around, call)?;
+            let call = resolve_call(alloc, nodes, parsed, tables, scope, call)?;
             Ok(NamedExprNode {
                 expr: NamedExpr::Call(call),
                 at: node.at,
@@ -126,8 +125,8 @@ fn resolve_node(
                 alloc,
                 nodes,
                 parsed,
-                numbers,
-                around,
+                tables,
+                scope,
                 *first,
                 links.as_slice(),
             )?;
@@ -141,14 +140,14 @@ fn resolve_node(
             })
         }
         Expr::Convert { of, to } => {
-            let (of, to) = resolve_convert(alloc, nodes, parsed, numbers, around, *of, to)?;
+            let (of, to) = resolve_convert(alloc, nodes, parsed, tables, scope, *of, to)?;
             Ok(NamedExprNode {
                 expr: NamedExpr::Convert { of, to },
                 at: node.at,
             })
         }
         Expr::Not(of) => {
-            let of = resolve_expr(alloc, nodes, parsed, numbers, around, *of)?;
+            let of = resolve_expr(alloc, nodes, parsed, tables, scope, *of)?;
             Ok(NamedExprNode {
                 expr: NamedExpr::Not(of),
                 at: node.at,
@@ -163,18 +162,18 @@ pub(crate) fn resolve_part(
     alloc: Global,
     nodes: &mut NamedNodes,
     parsed: &PackageNodes,
-    numbers: &PackageNumbers,
-    around: &ScopeNumbers,
+    tables: &Tables,
+    scope: &Scope,
     part: Option<ExprId>,
 ) -> Result<Option<ExprId>, NoMemory>
     requires { IsBelow (length parsed.now.exprs) part }
     ensures grows { OnOk result (Grows nodes.old nodes.new) }
     ensures below { IfOk result (λ r. IsBelow (length nodes.new.exprs) r) }
-    ensures made { IfOk result (λ r. part_at (exprs_of nodes.new) r ≡ resolved_part (standing_by parsed.now.texts numbers.now around.now) (parsed_part_at (expr_trees parsed.now.exprs) part)) }
+    ensures made { IfOk result (λ r. part_at (exprs_of nodes.new) r ≡ resolved_part (standing_by parsed.now.texts tables.now scope.now) (parsed_part_at (expr_trees parsed.now.exprs) part)) }
 {
     match part {
         Some(e) => {
-            let e = resolve_expr(alloc, nodes, parsed, numbers, around, e)?;
+            let e = resolve_expr(alloc, nodes, parsed, tables, scope, e)?;
             Ok(Some(e))
         }
         None => Ok(None),
@@ -186,8 +185,8 @@ fn resolve_parts(
     alloc: Global,
     nodes: &mut NamedNodes,
     parsed: &PackageNodes,
-    numbers: &PackageNumbers,
-    around: &ScopeNumbers,
+    tables: &Tables,
+    scope: &Scope,
     from: Option<ExprId>,
     to: Option<ExprId>,
 ) -> Result<(Option<ExprId>, Option<ExprId>), NoMemory>
@@ -195,11 +194,11 @@ fn resolve_parts(
     requires to { IsBelow (length parsed.now.exprs) to }
     ensures grows { OnOk result (Grows nodes.old nodes.new) }
     ensures below { IfOk result (λ r. IsBelow (length nodes.new.exprs) r.0 × IsBelow (length nodes.new.exprs) r.1) }
-    ensures from { IfOk result (λ r. part_at (exprs_of nodes.new) r.0 ≡ resolved_part (standing_by parsed.now.texts numbers.now around.now) (parsed_part_at (expr_trees parsed.now.exprs) from)) }
-    ensures to { IfOk result (λ r. part_at (exprs_of nodes.new) r.1 ≡ resolved_part (standing_by parsed.now.texts numbers.now around.now) (parsed_part_at (expr_trees parsed.now.exprs) to)) }
+    ensures from { IfOk result (λ r. part_at (exprs_of nodes.new) r.0 ≡ resolved_part (standing_by parsed.now.texts tables.now scope.now) (parsed_part_at (expr_trees parsed.now.exprs) from)) }
+    ensures to { IfOk result (λ r. part_at (exprs_of nodes.new) r.1 ≡ resolved_part (standing_by parsed.now.texts tables.now scope.now) (parsed_part_at (expr_trees parsed.now.exprs) to)) }
 {
-    let from = resolve_part(alloc, nodes, parsed, numbers, around, from)?;
-    let to = resolve_part(alloc, nodes, parsed, numbers, around, to)?;
+    let from = resolve_part(alloc, nodes, parsed, tables, scope, from)?;
+    let to = resolve_part(alloc, nodes, parsed, tables, scope, to)?;
     Ok((from, to))
 }
 
@@ -208,8 +207,8 @@ fn resolve_chain(
     alloc: Global,
     nodes: &mut NamedNodes,
     parsed: &PackageNodes,
-    numbers: &PackageNumbers,
-    around: &ScopeNumbers,
+    tables: &Tables,
+    scope: &Scope,
     first: ExprId,
     links: &[Link],
 ) -> Result<(ExprId, Sequence<Link>), NoMemory>
@@ -217,11 +216,11 @@ fn resolve_chain(
     requires links { LinksBelow (length parsed.now.exprs) links.now }
     ensures grows { OnOk result (Grows nodes.old nodes.new) }
     ensures below { IfOk result (λ r. (r.0.0 < length nodes.new.exprs) × LinksBelow (length nodes.new.exprs) r.1) }
-    ensures first { IfOk result (λ r. expr_at (exprs_of nodes.new) r.0 ≡ resolved_expr (standing_by parsed.now.texts numbers.now around.now) (parsed_expr_at (expr_trees parsed.now.exprs) first)) }
-    ensures links { IfOk result (λ r. links_at (exprs_of nodes.new) r.1 ≡ resolved_links (standing_by parsed.now.texts numbers.now around.now) (parsed_links_at (expr_trees parsed.now.exprs) links.now)) }
+    ensures first { IfOk result (λ r. expr_at (exprs_of nodes.new) r.0 ≡ resolved_expr (standing_by parsed.now.texts tables.now scope.now) (parsed_expr_at (expr_trees parsed.now.exprs) first)) }
+    ensures links { IfOk result (λ r. links_at (exprs_of nodes.new) r.1 ≡ resolved_links (standing_by parsed.now.texts tables.now scope.now) (parsed_links_at (expr_trees parsed.now.exprs) links.now)) }
 {
-    let first = resolve_expr(alloc, nodes, parsed, numbers, around, first)?;
-    let links = resolve_links(alloc, nodes, parsed, numbers, around, links)?;
+    let first = resolve_expr(alloc, nodes, parsed, tables, scope, first)?;
+    let links = resolve_links(alloc, nodes, parsed, tables, scope, links)?;
     Ok((first, links))
 }
 
@@ -230,8 +229,8 @@ fn resolve_convert(
     alloc: Global,
     nodes: &mut NamedNodes,
     parsed: &PackageNodes,
-    numbers: &PackageNumbers,
-    around: &ScopeNumbers,
+    tables: &Tables,
+    scope: &Scope,
     of: ExprId,
     to: &TypeExpr,
 ) -> Result<(ExprId, NamedType), NoMemory>
@@ -239,11 +238,11 @@ fn resolve_convert(
     requires to { TypeBelow (length parsed.now.exprs) to.now }
     ensures grows { OnOk result (Grows nodes.old nodes.new) }
     ensures below { IfOk result (λ r. (r.0.0 < length nodes.new.exprs) × NamedTypeBelow (length nodes.new.exprs) r.1) }
-    ensures of { IfOk result (λ r. expr_at (exprs_of nodes.new) r.0 ≡ resolved_expr (standing_by parsed.now.texts numbers.now around.now) (parsed_expr_at (expr_trees parsed.now.exprs) of)) }
-    ensures to { IfOk result (λ r. type_at (exprs_of nodes.new) r.1 ≡ resolved_type (standing_by parsed.now.texts numbers.now around.now) (parsed_type_at (expr_trees parsed.now.exprs) to.now)) }
+    ensures of { IfOk result (λ r. expr_at (exprs_of nodes.new) r.0 ≡ resolved_expr (standing_by parsed.now.texts tables.now scope.now) (parsed_expr_at (expr_trees parsed.now.exprs) of)) }
+    ensures to { IfOk result (λ r. type_at (exprs_of nodes.new) r.1 ≡ resolved_type (standing_by parsed.now.texts tables.now scope.now) (parsed_type_at (expr_trees parsed.now.exprs) to.now)) }
 {
-    let of = resolve_expr(alloc, nodes, parsed, numbers, around, of)?;
-    let to = resolve_type(alloc, nodes, parsed, numbers, around, to)?;
+    let of = resolve_expr(alloc, nodes, parsed, tables, scope, of)?;
+    let to = resolve_type(alloc, nodes, parsed, tables, scope, to)?;
     Ok((of, to))
 }
 
@@ -252,18 +251,18 @@ fn resolve_links(
     alloc: Global,
     nodes: &mut NamedNodes,
     parsed: &PackageNodes,
-    numbers: &PackageNumbers,
-    around: &ScopeNumbers,
+    tables: &Tables,
+    scope: &Scope,
     links: &[Link],
 ) -> Result<Sequence<Link>, NoMemory>
     requires { LinksBelow (length parsed.now.exprs) links.now }
     ensures grows { OnOk result (Grows nodes.old nodes.new) }
     ensures below { IfOk result (λ r. LinksBelow (length nodes.new.exprs) r) }
-    ensures made { IfOk result (λ r. links_at (exprs_of nodes.new) r ≡ resolved_links (standing_by parsed.now.texts numbers.now around.now) (parsed_links_at (expr_trees parsed.now.exprs) links.now)) }
+    ensures made { IfOk result (λ r. links_at (exprs_of nodes.new) r ≡ resolved_links (standing_by parsed.now.texts tables.now scope.now) (parsed_links_at (expr_trees parsed.now.exprs) links.now)) }
 {
     let mut made = Sequence::new(alloc);
     for link in links {
-        let operand = resolve_expr(alloc, nodes, parsed, numbers, around, link.operand)?;
+        let operand = resolve_expr(alloc, nodes, parsed, tables, scope, link.operand)?;
         made.push(Link {
             sign: link.sign,
             operand,
@@ -278,18 +277,18 @@ pub(crate) fn resolve_given(
     alloc: Global,
     nodes: &mut NamedNodes,
     parsed: &PackageNodes,
-    numbers: &PackageNumbers,
-    around: &ScopeNumbers,
+    tables: &Tables,
+    scope: &Scope,
     given: &[Given],
 ) -> Result<Sequence<Given>, NoMemory>
     requires { GivenBelow (length parsed.now.exprs) given.now }
     ensures grows { OnOk result (Grows nodes.old nodes.new) }
     ensures below { IfOk result (λ r. GivenBelow (length nodes.new.exprs) r) }
-    ensures made { IfOk result (λ r. given_trees (exprs_of nodes.new) r ≡ resolved_given (standing_by parsed.now.texts numbers.now around.now) (parsed_given_at (expr_trees parsed.now.exprs) given.now)) }
+    ensures made { IfOk result (λ r. given_trees (exprs_of nodes.new) r ≡ resolved_given (standing_by parsed.now.texts tables.now scope.now) (parsed_given_at (expr_trees parsed.now.exprs) given.now)) }
 {
     let mut made = Sequence::new(alloc);
     for one in given {
-        let value = resolve_expr(alloc, nodes, parsed, numbers, around, one.value)?;
+        let value = resolve_expr(alloc, nodes, parsed, tables, scope, one.value)?;
         made.push(Given {
             name: one.name,
             value,
@@ -302,17 +301,17 @@ pub(crate) fn resolve_given(
 fn finish_call(
     alloc: Global,
     parsed: &PackageNodes,
-    numbers: &PackageNumbers,
-    around: &ScopeNumbers,
+    tables: &Tables,
+    scope: &Scope,
     call: &Call,
     given: &Sequence<Given>,
 ) -> Result<NamedCall, NoMemory>
     ensures below { (n : _) → GivenBelow n given.now → IfOk result (λ r. ArgsBelow n r.args) }
-    ensures made { (ts : _) (es : _) → given_trees ts given.now ≡ resolved_given (standing_by parsed.now.texts numbers.now around.now) (parsed_given_at es call.now.args) → IfOk result (λ r. call_at ts r ≡ resolved_call (standing_by parsed.now.texts numbers.now around.now) (parsed_call_at es call.now)) }
+    ensures made { (ts : _) (es : _) → given_trees ts given.now ≡ resolved_given (standing_by parsed.now.texts tables.now scope.now) (parsed_given_at es call.now.args) → IfOk result (λ r. call_at ts r ≡ resolved_call (standing_by parsed.now.texts tables.now scope.now) (parsed_call_at es call.now)) }
 {
-    let on = callee(parsed, numbers, around, call.on, call.method.text);
-    let args = values(alloc, parsed, &numbers.tables, on, given.as_slice())?;
-    let callee = named_callee(numbers, around, call.on, on)?;
+    let on = callee(parsed, tables, scope, call.on, call.method.text);
+    let args = values(alloc, parsed, tables, on, given.as_slice())?;
+    let callee = named_callee(tables, scope, call.on, on)?;
     Ok(NamedCall {
         callee,
         at: call.method.at,
@@ -327,17 +326,17 @@ pub(crate) fn resolve_call(
     alloc: Global,
     nodes: &mut NamedNodes,
     parsed: &PackageNodes,
-    numbers: &PackageNumbers,
-    around: &ScopeNumbers,
+    tables: &Tables,
+    scope: &Scope,
     call: &Call,
 ) -> Result<NamedCall, NoMemory>
     requires { GivenBelow (length parsed.now.exprs) call.now.args }
     ensures grows { OnOk result (Grows nodes.old nodes.new) }
     ensures below { IfOk result (λ r. ArgsBelow (length nodes.new.exprs) r.args) }
-    ensures made { IfOk result (λ r. call_at (exprs_of nodes.new) r ≡ resolved_call (standing_by parsed.now.texts numbers.now around.now) (parsed_call_at (expr_trees parsed.now.exprs) call.now)) }
+    ensures made { IfOk result (λ r. call_at (exprs_of nodes.new) r ≡ resolved_call (standing_by parsed.now.texts tables.now scope.now) (parsed_call_at (expr_trees parsed.now.exprs) call.now)) }
 {
-    let given = resolve_given(alloc, nodes, parsed, numbers, around, call.args.as_slice())?;
-    finish_call(alloc, parsed, numbers, around, call, &given)
+    let given = resolve_given(alloc, nodes, parsed, tables, scope, call.args.as_slice())?;
+    finish_call(alloc, parsed, tables, scope, call, &given)
 }
 
 #[cycle(resolve_exprs)]
@@ -345,19 +344,19 @@ fn resolve_prefix(
     alloc: Global,
     nodes: &mut NamedNodes,
     parsed: &PackageNodes,
-    numbers: &PackageNumbers,
-    around: &ScopeNumbers,
+    tables: &Tables,
+    scope: &Scope,
     prefix: Prefix,
 ) -> Result<Prefix, NoMemory>
     requires { PrefixBelow (length parsed.now.exprs) prefix }
     ensures grows { OnOk result (Grows nodes.old nodes.new) }
     ensures below { IfOk result (λ r. PrefixBelow (length nodes.new.exprs) r) }
-    ensures made { IfOk result (λ r. ResolvesPrefix (standing_by parsed.now.texts numbers.now around.now) (expr_trees parsed.now.exprs) prefix (exprs_of nodes.new) r) }
+    ensures made { IfOk result (λ r. ResolvesPrefix (standing_by parsed.now.texts tables.now scope.now) (expr_trees parsed.now.exprs) prefix (exprs_of nodes.new) r) }
 {
     match prefix {
         Prefix::Slice(at) => Ok(Prefix::Slice(at)),
         Prefix::Array { length, at } => {
-            let length = resolve_expr(alloc, nodes, parsed, numbers, around, length)?;
+            let length = resolve_expr(alloc, nodes, parsed, tables, scope, length)?;
             Ok(Prefix::Array { length, at })
         }
     }
@@ -368,18 +367,18 @@ fn resolve_prefixes(
     alloc: Global,
     nodes: &mut NamedNodes,
     parsed: &PackageNodes,
-    numbers: &PackageNumbers,
-    around: &ScopeNumbers,
+    tables: &Tables,
+    scope: &Scope,
     prefixes: &[Prefix],
 ) -> Result<Sequence<Prefix>, NoMemory>
     requires { AllByRecursion (PrefixBelow (length parsed.now.exprs)) prefixes.now }
     ensures grows { OnOk result (Grows nodes.old nodes.new) }
     ensures below { IfOk result (λ r. AllByRecursion (PrefixBelow (length nodes.new.exprs)) r) }
-    ensures made { IfOk result (λ r. ResolvesPrefixes (standing_by parsed.now.texts numbers.now around.now) (expr_trees parsed.now.exprs) prefixes.now (exprs_of nodes.new) r) }
+    ensures made { IfOk result (λ r. ResolvesPrefixes (standing_by parsed.now.texts tables.now scope.now) (expr_trees parsed.now.exprs) prefixes.now (exprs_of nodes.new) r) }
 {
     let mut made = Sequence::new(alloc);
     for prefix in prefixes {
-        let next = resolve_prefix(alloc, nodes, parsed, numbers, around, *prefix)?;
+        let next = resolve_prefix(alloc, nodes, parsed, tables, scope, *prefix)?;
         made.push(next)?;
     }
     Ok(made)
@@ -390,19 +389,19 @@ fn resolve_bounds(
     alloc: Global,
     nodes: &mut NamedNodes,
     parsed: &PackageNodes,
-    numbers: &PackageNumbers,
-    around: &ScopeNumbers,
+    tables: &Tables,
+    scope: &Scope,
     bounds: Option<Bounds>,
 ) -> Result<Option<Bounds>, NoMemory>
     requires { BoundsBelow (length parsed.now.exprs) bounds }
     ensures grows { OnOk result (Grows nodes.old nodes.new) }
     ensures below { IfOk result (λ r. BoundsBelow (length nodes.new.exprs) r) }
-    ensures made { IfOk result (λ r. bounds_at (exprs_of nodes.new) r ≡ resolved_bounds (standing_by parsed.now.texts numbers.now around.now) (parsed_bounds_at (expr_trees parsed.now.exprs) bounds)) }
+    ensures made { IfOk result (λ r. bounds_at (exprs_of nodes.new) r ≡ resolved_bounds (standing_by parsed.now.texts tables.now scope.now) (parsed_bounds_at (expr_trees parsed.now.exprs) bounds)) }
 {
     match bounds {
         Some(bounds) => {
-            let low = resolve_part(alloc, nodes, parsed, numbers, around, bounds.low)?;
-            let high = resolve_expr(alloc, nodes, parsed, numbers, around, bounds.high)?;
+            let low = resolve_part(alloc, nodes, parsed, tables, scope, bounds.low)?;
+            let high = resolve_expr(alloc, nodes, parsed, tables, scope, bounds.high)?;
             Ok(Some(Bounds { low, high }))
         }
         None => Ok(None),
@@ -415,27 +414,20 @@ pub fn resolve_type(
     alloc: Global,
     nodes: &mut NamedNodes,
     parsed: &PackageNodes,
-    numbers: &PackageNumbers,
-    around: &ScopeNumbers,
+    tables: &Tables,
+    scope: &Scope,
     of: &TypeExpr,
 ) -> Result<NamedType, NoMemory>
     requires { TypeBelow (length parsed.now.exprs) of.now }
     ensures grows { OnOk result (Grows nodes.old nodes.new) }
     ensures below { IfOk result (λ r. NamedTypeBelow (length nodes.new.exprs) r) }
-    ensures made { IfOk result (λ r. type_at (exprs_of nodes.new) r ≡ resolved_type (standing_by parsed.now.texts numbers.now around.now) (parsed_type_at (expr_trees parsed.now.exprs) of.now)) }
+    ensures made { IfOk result (λ r. type_at (exprs_of nodes.new) r ≡ resolved_type (standing_by parsed.now.texts tables.now scope.now) (parsed_type_at (expr_trees parsed.now.exprs) of.now)) }
 {
-    let prefixes = resolve_prefixes(
-        alloc,
-        nodes,
-        parsed,
-        numbers,
-        around,
-        of.prefixes.as_slice(),
-    )?;
-    let bounds = resolve_bounds(alloc, nodes, parsed, numbers, around, of.bounds)?;
+    let prefixes = resolve_prefixes(alloc, nodes, parsed, tables, scope, of.prefixes.as_slice())?;
+    let bounds = resolve_bounds(alloc, nodes, parsed, tables, scope, of.bounds)?;
     Ok(NamedType {
         prefixes,
-        core: core(parsed, numbers, of.core),
+        core: core(parsed, tables, of.core),
         bounds,
     })
 }

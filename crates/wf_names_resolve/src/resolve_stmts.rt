@@ -13,7 +13,6 @@ ghost use Rattle.wf_names_resolve.specs.Resolved.{resolved_expr, resolved_clause
 ghost use Rattle.wf_names_resolve.specs.Growth.{Grows};
 ghost use Rattle.wf_names_resolve.specs.Statements.{listed, stmt_in, made_in, PartsBelow, IsStmtBelow, ArmsBelow};
 
-use crate::numbers::{PackageNumbers, ScopeNumbers};
 use crate::resolve_exprs::resolve_expr;
 use crate::simple_stmts::resolve_simple;
 use crate::stmt_parts::resolve_head;
@@ -21,6 +20,7 @@ use std::alloc::Global;
 use wf_ast::parsed::{Arm, Block, LoopClause, Name, Stmt};
 use wf_ast::{ExprId, PackageNodes, Sequence, StmtId};
 use wf_named::{NamedNodes, NamedStmt, NamedStmtNode};
+use wf_names_rules::tables::{Scope, Tables};
 use wf_text::Place;
 use wf_text::faults::NoMemory;
 
@@ -74,8 +74,8 @@ fn resolve_stmt(
     alloc: Global,
     nodes: &mut NamedNodes,
     parsed: &PackageNodes,
-    numbers: &PackageNumbers,
-    around: &ScopeNumbers,
+    tables: &Tables,
+    scope: &Scope,
     labels: &mut Vec<Option<Name>>,
     s: StmtId,
 ) -> Result<Option<StmtId>, NoMemory>
@@ -83,10 +83,10 @@ fn resolve_stmt(
     ensures grows { OnOk result (Grows nodes.old nodes.new) }
     ensures labels { OnOk result (labels.new.items ≡ labels.old.items) }
     ensures below { IfOk result (λ r. IsStmtBelow (length nodes.new.stmts) r) }
-    ensures made { IfOk result (λ r. stmt_in (stmts_of nodes.new) r ≡ resolved_stmt (standing_by parsed.now.texts numbers.now around.now) labels.old.items (parsed_stmt_at (stmt_trees parsed.now.exprs parsed.now.stmts) s)) }
+    ensures made { IfOk result (λ r. stmt_in (stmts_of nodes.new) r ≡ resolved_stmt (standing_by parsed.now.texts tables.now scope.now) labels.old.items (parsed_stmt_at (stmt_trees parsed.now.exprs parsed.now.stmts) s)) }
 {
     let node = parsed.stmt(s);
-    let stmt = resolve_parts(alloc, nodes, parsed, numbers, around, labels, &node.stmt)?;
+    let stmt = resolve_parts(alloc, nodes, parsed, tables, scope, labels, &node.stmt)?;
     put_made(nodes, stmt, node.at)
 }
 
@@ -96,8 +96,8 @@ fn resolve_parts(
     alloc: Global,
     nodes: &mut NamedNodes,
     parsed: &PackageNodes,
-    numbers: &PackageNumbers,
-    around: &ScopeNumbers,
+    tables: &Tables,
+    scope: &Scope,
     labels: &mut Vec<Option<Name>>,
     stmt: &Stmt,
 ) -> Result<Option<NamedStmt>, NoMemory>
@@ -105,7 +105,7 @@ fn resolve_parts(
     ensures grows { OnOk result (Grows nodes.old nodes.new) }
     ensures labels { OnOk result (labels.new.items ≡ labels.old.items) }
     ensures below { IfOk result (λ r. PartsBelow (length nodes.new.texts) (length nodes.new.exprs) (length nodes.new.stmts) r) }
-    ensures made { IfOk result (λ r. (at : _) → made_in nodes.new.texts (exprs_of nodes.new) (stmts_of nodes.new) r at ≡ resolved_stmt (standing_by parsed.now.texts numbers.now around.now) labels.old.items (parsed_stmt_made (expr_trees parsed.now.exprs) (stmt_trees parsed.now.exprs parsed.now.stmts) stmt.now at)) }
+    ensures made { IfOk result (λ r. (at : _) → made_in nodes.new.texts (exprs_of nodes.new) (stmts_of nodes.new) r at ≡ resolved_stmt (standing_by parsed.now.texts tables.now scope.now) labels.old.items (parsed_stmt_made (expr_trees parsed.now.exprs) (stmt_trees parsed.now.exprs parsed.now.stmts) stmt.now at)) }
 {
     match stmt {
         Stmt::If { arms, otherwise } => {
@@ -113,8 +113,8 @@ fn resolve_parts(
                 alloc,
                 nodes,
                 parsed,
-                numbers,
-                around,
+                tables,
+                scope,
                 labels,
                 arms.as_slice(),
                 otherwise,
@@ -133,18 +133,10 @@ fn resolve_parts(
                 clauses: clauses.as_slice(),
                 body,
             };
-            let stmt = resolve_loop(alloc, nodes, parsed, numbers, around, labels, it)?;
+            let stmt = resolve_loop(alloc, nodes, parsed, tables, scope, labels, it)?;
             Ok(Some(stmt))
         }
-        _ => resolve_simple(
-            alloc,
-            nodes,
-            parsed,
-            numbers,
-            around,
-            labels.as_slice(),
-            stmt,
-        ),
+        _ => resolve_simple(alloc, nodes, parsed, tables, scope, labels.as_slice(), stmt),
     }
 }
 
@@ -153,8 +145,8 @@ fn resolve_block(
     alloc: Global,
     nodes: &mut NamedNodes,
     parsed: &PackageNodes,
-    numbers: &PackageNumbers,
-    around: &ScopeNumbers,
+    tables: &Tables,
+    scope: &Scope,
     labels: &mut Vec<Option<Name>>,
     block: &Block,
 ) -> Result<Block, NoMemory>
@@ -162,11 +154,11 @@ fn resolve_block(
     ensures grows { OnOk result (Grows nodes.old nodes.new) }
     ensures labels { OnOk result (labels.new.items ≡ labels.old.items) }
     ensures below { IfOk result (λ r. BlockBelow (length nodes.new.stmts) r) }
-    ensures made { IfOk result (λ r. block_at (stmts_of nodes.new) r ≡ resolved_block (standing_by parsed.now.texts numbers.now around.now) labels.old.items (parsed_block_at (stmt_trees parsed.now.exprs parsed.now.stmts) block.now)) }
+    ensures made { IfOk result (λ r. block_at (stmts_of nodes.new) r ≡ resolved_block (standing_by parsed.now.texts tables.now scope.now) labels.old.items (parsed_block_at (stmt_trees parsed.now.exprs parsed.now.stmts) block.now)) }
 {
     let mut made = Sequence::new(alloc);
     for s in block.items.as_slice() {
-        let one = resolve_stmt(alloc, nodes, parsed, numbers, around, labels, *s)?;
+        let one = resolve_stmt(alloc, nodes, parsed, tables, scope, labels, *s)?;
         add_stmt(&mut made, one)?;
     }
     Ok(Block {
@@ -180,8 +172,8 @@ fn resolve_arm(
     alloc: Global,
     nodes: &mut NamedNodes,
     parsed: &PackageNodes,
-    numbers: &PackageNumbers,
-    around: &ScopeNumbers,
+    tables: &Tables,
+    scope: &Scope,
     labels: &mut Vec<Option<Name>>,
     arm: &Arm,
 ) -> Result<Arm, NoMemory>
@@ -190,11 +182,11 @@ fn resolve_arm(
     ensures grows { OnOk result (Grows nodes.old nodes.new) }
     ensures labels { OnOk result (labels.new.items ≡ labels.old.items) }
     ensures below { IfOk result (λ r. (r.condition.0 < length nodes.new.exprs) × BlockBelow (length nodes.new.stmts) r.body) }
-    ensures condition { IfOk result (λ r. expr_at (exprs_of nodes.new) r.condition ≡ resolved_expr (standing_by parsed.now.texts numbers.now around.now) (parsed_expr_at (expr_trees parsed.now.exprs) arm.now.condition)) }
-    ensures body { IfOk result (λ r. block_at (stmts_of nodes.new) r.body ≡ resolved_block (standing_by parsed.now.texts numbers.now around.now) labels.old.items (parsed_block_at (stmt_trees parsed.now.exprs parsed.now.stmts) arm.now.body)) }
+    ensures condition { IfOk result (λ r. expr_at (exprs_of nodes.new) r.condition ≡ resolved_expr (standing_by parsed.now.texts tables.now scope.now) (parsed_expr_at (expr_trees parsed.now.exprs) arm.now.condition)) }
+    ensures body { IfOk result (λ r. block_at (stmts_of nodes.new) r.body ≡ resolved_block (standing_by parsed.now.texts tables.now scope.now) labels.old.items (parsed_block_at (stmt_trees parsed.now.exprs parsed.now.stmts) arm.now.body)) }
 {
-    let condition = resolve_expr(alloc, nodes, parsed, numbers, around, arm.condition)?;
-    let body = resolve_block(alloc, nodes, parsed, numbers, around, labels, &arm.body)?;
+    let condition = resolve_expr(alloc, nodes, parsed, tables, scope, arm.condition)?;
+    let body = resolve_block(alloc, nodes, parsed, tables, scope, labels, &arm.body)?;
     Ok(Arm { condition, body })
 }
 
@@ -204,8 +196,8 @@ fn resolve_arms(
     alloc: Global,
     nodes: &mut NamedNodes,
     parsed: &PackageNodes,
-    numbers: &PackageNumbers,
-    around: &ScopeNumbers,
+    tables: &Tables,
+    scope: &Scope,
     labels: &mut Vec<Option<Name>>,
     arms: &[Arm],
 ) -> Result<Sequence<Arm>, NoMemory>
@@ -213,11 +205,11 @@ fn resolve_arms(
     ensures grows { OnOk result (Grows nodes.old nodes.new) }
     ensures labels { OnOk result (labels.new.items ≡ labels.old.items) }
     ensures below { IfOk result (λ r. ArmsBelow (length nodes.new.exprs) (length nodes.new.stmts) r) }
-    ensures made { IfOk result (λ r. (last : _) → arms_at (exprs_of nodes.new) (stmts_of nodes.new) r (resolved_arms (standing_by parsed.now.texts numbers.now around.now) labels.old.items last) ≡ resolved_arms (standing_by parsed.now.texts numbers.now around.now) labels.old.items (parsed_arms_at (expr_trees parsed.now.exprs) (stmt_trees parsed.now.exprs parsed.now.stmts) arms.now last)) }
+    ensures made { IfOk result (λ r. (last : _) → arms_at (exprs_of nodes.new) (stmts_of nodes.new) r (resolved_arms (standing_by parsed.now.texts tables.now scope.now) labels.old.items last) ≡ resolved_arms (standing_by parsed.now.texts tables.now scope.now) labels.old.items (parsed_arms_at (expr_trees parsed.now.exprs) (stmt_trees parsed.now.exprs parsed.now.stmts) arms.now last)) }
 {
     let mut made = Sequence::new(alloc);
     for arm in arms {
-        let one = resolve_arm(alloc, nodes, parsed, numbers, around, labels, arm)?;
+        let one = resolve_arm(alloc, nodes, parsed, tables, scope, labels, arm)?;
         made.push(one)?;
     }
     Ok(made)
@@ -228,8 +220,8 @@ fn resolve_else(
     alloc: Global,
     nodes: &mut NamedNodes,
     parsed: &PackageNodes,
-    numbers: &PackageNumbers,
-    around: &ScopeNumbers,
+    tables: &Tables,
+    scope: &Scope,
     labels: &mut Vec<Option<Name>>,
     otherwise: &Option<Block>,
 ) -> Result<Option<Block>, NoMemory>
@@ -237,11 +229,11 @@ fn resolve_else(
     ensures grows { OnOk result (Grows nodes.old nodes.new) }
     ensures labels { OnOk result (labels.new.items ≡ labels.old.items) }
     ensures below { IfOk result (λ r. ElseBelow (length nodes.new.stmts) r) }
-    ensures made { IfOk result (λ r. else_at (stmts_of nodes.new) r ≡ resolved_arms (standing_by parsed.now.texts numbers.now around.now) labels.old.items (parsed_else_at (stmt_trees parsed.now.exprs parsed.now.stmts) otherwise.now)) }
+    ensures made { IfOk result (λ r. else_at (stmts_of nodes.new) r ≡ resolved_arms (standing_by parsed.now.texts tables.now scope.now) labels.old.items (parsed_else_at (stmt_trees parsed.now.exprs parsed.now.stmts) otherwise.now)) }
 {
     match otherwise {
         Some(block) => {
-            let block = resolve_block(alloc, nodes, parsed, numbers, around, labels, block)?;
+            let block = resolve_block(alloc, nodes, parsed, tables, scope, labels, block)?;
             Ok(Some(block))
         }
         None => Ok(None),
@@ -254,8 +246,8 @@ fn resolve_if(
     alloc: Global,
     nodes: &mut NamedNodes,
     parsed: &PackageNodes,
-    numbers: &PackageNumbers,
-    around: &ScopeNumbers,
+    tables: &Tables,
+    scope: &Scope,
     labels: &mut Vec<Option<Name>>,
     arms: &[Arm],
     otherwise: &Option<Block>,
@@ -265,10 +257,10 @@ fn resolve_if(
     ensures grows { OnOk result (Grows nodes.old nodes.new) }
     ensures labels { OnOk result (labels.new.items ≡ labels.old.items) }
     ensures below { IfOk result (λ r. NamedStmtParts (length nodes.new.texts) (length nodes.new.exprs) (length nodes.new.stmts) r) }
-    ensures made { IfOk result (λ r. (at : _) → stmt_made nodes.new.texts (exprs_of nodes.new) (stmts_of nodes.new) r at ≡ named_tree.branch (resolved_arms (standing_by parsed.now.texts numbers.now around.now) labels.old.items (parsed_arms_at (expr_trees parsed.now.exprs) (stmt_trees parsed.now.exprs parsed.now.stmts) arms.now (parsed_else_at (stmt_trees parsed.now.exprs parsed.now.stmts) otherwise.now))) at) }
+    ensures made { IfOk result (λ r. (at : _) → stmt_made nodes.new.texts (exprs_of nodes.new) (stmts_of nodes.new) r at ≡ named_tree.branch (resolved_arms (standing_by parsed.now.texts tables.now scope.now) labels.old.items (parsed_arms_at (expr_trees parsed.now.exprs) (stmt_trees parsed.now.exprs parsed.now.stmts) arms.now (parsed_else_at (stmt_trees parsed.now.exprs parsed.now.stmts) otherwise.now))) at) }
 {
-    let arms = resolve_arms(alloc, nodes, parsed, numbers, around, labels, arms)?;
-    let otherwise = resolve_else(alloc, nodes, parsed, numbers, around, labels, otherwise)?;
+    let arms = resolve_arms(alloc, nodes, parsed, tables, scope, labels, arms)?;
+    let otherwise = resolve_else(alloc, nodes, parsed, tables, scope, labels, otherwise)?;
     Ok(NamedStmt::If { arms, otherwise })
 }
 
@@ -278,8 +270,8 @@ fn resolve_inside(
     alloc: Global,
     nodes: &mut NamedNodes,
     parsed: &PackageNodes,
-    numbers: &PackageNumbers,
-    around: &ScopeNumbers,
+    tables: &Tables,
+    scope: &Scope,
     labels: &mut Vec<Option<Name>>,
     label: Option<Name>,
     body: &Block,
@@ -288,10 +280,10 @@ fn resolve_inside(
     ensures grows { OnOk result (Grows nodes.old nodes.new) }
     ensures labels { OnOk result (labels.new.items ≡ labels.old.items) }
     ensures below { IfOk result (λ r. BlockBelow (length nodes.new.stmts) r) }
-    ensures made { IfOk result (λ r. block_at (stmts_of nodes.new) r ≡ resolved_block (standing_by parsed.now.texts numbers.now around.now) (labels.old.items ++ label ∷ []) (parsed_block_at (stmt_trees parsed.now.exprs parsed.now.stmts) body.now)) }
+    ensures made { IfOk result (λ r. block_at (stmts_of nodes.new) r ≡ resolved_block (standing_by parsed.now.texts tables.now scope.now) (labels.old.items ++ label ∷ []) (parsed_block_at (stmt_trees parsed.now.exprs parsed.now.stmts) body.now)) }
 {
     labels.push(label)?;
-    let block = resolve_block(alloc, nodes, parsed, numbers, around, labels, body)?;
+    let block = resolve_block(alloc, nodes, parsed, tables, scope, labels, body)?;
     labels.pop();
     Ok(block)
 }
@@ -311,8 +303,8 @@ fn resolve_loop(
     alloc: Global,
     nodes: &mut NamedNodes,
     parsed: &PackageNodes,
-    numbers: &PackageNumbers,
-    around: &ScopeNumbers,
+    tables: &Tables,
+    scope: &Scope,
     labels: &mut Vec<Option<Name>>,
     it: Loop<'_>,
 ) -> Result<NamedStmt, NoMemory>
@@ -322,19 +314,19 @@ fn resolve_loop(
     ensures grows { OnOk result (Grows nodes.old nodes.new) }
     ensures labels { OnOk result (labels.new.items ≡ labels.old.items) }
     ensures below { IfOk result (λ r. NamedStmtParts (length nodes.new.texts) (length nodes.new.exprs) (length nodes.new.stmts) r) }
-    ensures made { IfOk result (λ r. (at : _) → stmt_made nodes.new.texts (exprs_of nodes.new) (stmts_of nodes.new) r at ≡ named_tree.loop (resolved_expr (standing_by parsed.now.texts numbers.now around.now) (parsed_expr_at (expr_trees parsed.now.exprs) it.entry.condition)) (resolved_clauses (standing_by parsed.now.texts numbers.now around.now) (parsed_clauses_at (expr_trees parsed.now.exprs) it.entry.clauses.now)) (resolved_block (standing_by parsed.now.texts numbers.now around.now) (labels.old.items ++ it.entry.label ∷ []) (parsed_block_at (stmt_trees parsed.now.exprs parsed.now.stmts) it.entry.body.now)) at) }
+    ensures made { IfOk result (λ r. (at : _) → stmt_made nodes.new.texts (exprs_of nodes.new) (stmts_of nodes.new) r at ≡ named_tree.loop (resolved_expr (standing_by parsed.now.texts tables.now scope.now) (parsed_expr_at (expr_trees parsed.now.exprs) it.entry.condition)) (resolved_clauses (standing_by parsed.now.texts tables.now scope.now) (parsed_clauses_at (expr_trees parsed.now.exprs) it.entry.clauses.now)) (resolved_block (standing_by parsed.now.texts tables.now scope.now) (labels.old.items ++ it.entry.label ∷ []) (parsed_block_at (stmt_trees parsed.now.exprs parsed.now.stmts) it.entry.body.now)) at) }
 {
     let (condition, clauses) = resolve_head(
         alloc,
         nodes,
         parsed,
-        numbers,
-        around,
+        tables,
+        scope,
         it.condition,
         it.clauses,
     )?;
     let body = resolve_inside(
-        alloc, nodes, parsed, numbers, around, labels, it.label, it.body,
+        alloc, nodes, parsed, tables, scope, labels, it.label, it.body,
     )?;
     Ok(NamedStmt::While {
         condition,
@@ -348,21 +340,21 @@ pub fn resolve_body(
     alloc: Global,
     nodes: &mut NamedNodes,
     parsed: &PackageNodes,
-    numbers: &PackageNumbers,
-    around: &ScopeNumbers,
+    tables: &Tables,
+    scope: &Scope,
     body: &Block,
 ) -> Result<Block, NoMemory>
     requires { BlockBelow (length parsed.now.stmts) body.now }
     ensures grows { OnOk result (Grows nodes.old nodes.new) }
     ensures below { IfOk result (λ r. BlockBelow (length nodes.new.stmts) r) }
-    ensures made { IfOk result (λ r. block_at (stmts_of nodes.new) r ≡ resolved_block (standing_by parsed.now.texts numbers.now around.now) [] (parsed_block_at (stmt_trees parsed.now.exprs parsed.now.stmts) body.now)) }
+    ensures made { IfOk result (λ r. block_at (stmts_of nodes.new) r ≡ resolved_block (standing_by parsed.now.texts tables.now scope.now) [] (parsed_block_at (stmt_trees parsed.now.exprs parsed.now.stmts) body.now)) }
 {
     resolve_block(
         alloc,
         nodes,
         parsed,
-        numbers,
-        around,
+        tables,
+        scope,
         &mut Vec::new(alloc),
         body,
     )

@@ -9,7 +9,6 @@ ghost use Rattle.wf_names_resolve.specs.Resolved.{resolved_stmt};
 ghost use Rattle.wf_names_resolve.specs.Growth.{Grows};
 ghost use Rattle.wf_names_resolve.specs.Statements.{is_simple, made_in, PartsBelow};
 
-use crate::numbers::{PackageNumbers, ScopeNumbers};
 use crate::resolve_exprs::{resolve_call, resolve_expr, resolve_part};
 use crate::stmt_parts::{outwards, resolve_assign, resolve_keep};
 use crate::words::resolve_assert;
@@ -17,6 +16,7 @@ use std::alloc::Global;
 use wf_ast::PackageNodes;
 use wf_ast::parsed::{Name, Stmt};
 use wf_named::{NamedNodes, NamedStmt};
+use wf_names_rules::tables::{Scope, Tables};
 use wf_text::faults::NoMemory;
 
 /// Adds the nodes of a statement's parts and answers what it makes, None where it declares a local. `labels` are those
@@ -25,8 +25,8 @@ pub(crate) fn resolve_simple(
     alloc: Global,
     nodes: &mut NamedNodes,
     parsed: &PackageNodes,
-    numbers: &PackageNumbers,
-    around: &ScopeNumbers,
+    tables: &Tables,
+    scope: &Scope,
     labels: &[Option<Name>],
     stmt: &Stmt,
 ) -> Result<Option<NamedStmt>, NoMemory>
@@ -34,7 +34,7 @@ pub(crate) fn resolve_simple(
     requires parts { StmtParts (length parsed.now.exprs) (length parsed.now.stmts) stmt.now }
     ensures grows { OnOk result (Grows nodes.old nodes.new) }
     ensures below { IfOk result (λ r. PartsBelow (length nodes.new.texts) (length nodes.new.exprs) (length nodes.new.stmts) r) }
-    ensures made { IfOk result (λ r. (ts : _) (at : _) → made_in nodes.new.texts (exprs_of nodes.new) (stmts_of nodes.new) r at ≡ resolved_stmt (standing_by parsed.now.texts numbers.now around.now) labels.now (parsed_stmt_made (expr_trees parsed.now.exprs) ts stmt.now at)) }
+    ensures made { IfOk result (λ r. (ts : _) (at : _) → made_in nodes.new.texts (exprs_of nodes.new) (stmts_of nodes.new) r at ≡ resolved_stmt (standing_by parsed.now.texts tables.now scope.now) labels.now (parsed_stmt_made (expr_trees parsed.now.exprs) ts stmt.now at)) }
 {
     match stmt {
         Stmt::Var { .. } => Ok(None),
@@ -45,7 +45,7 @@ pub(crate) fn resolve_simple(
             value,
         } => {
             let (target, value) = resolve_assign(
-                alloc, nodes, parsed, numbers, around, *target, *value,
+                alloc, nodes, parsed, tables, scope, *target, *value,
             )?;
             Ok(Some(NamedStmt::Assign {
                 target,
@@ -55,13 +55,11 @@ pub(crate) fn resolve_simple(
             }))
         }
         Stmt::Keep { target, call } => {
-            let (target, call) = resolve_keep(
-                alloc, nodes, parsed, numbers, around, *target, call,
-            )?;
+            let (target, call) = resolve_keep(alloc, nodes, parsed, tables, scope, *target, call)?;
             Ok(Some(NamedStmt::Keep { target, call }))
         }
         Stmt::Call(call) => {
-            let call = resolve_call(alloc, nodes, parsed, numbers, around, call)?;
+            let call = resolve_call(alloc, nodes, parsed, tables, scope, call)?;
             Ok(Some(NamedStmt::Call(call)))
         }
         Stmt::Break(label) => {
@@ -73,15 +71,15 @@ pub(crate) fn resolve_simple(
             Ok(Some(NamedStmt::Continue(count)))
         }
         Stmt::Return(value) => {
-            let value = resolve_part(alloc, nodes, parsed, numbers, around, *value)?;
+            let value = resolve_part(alloc, nodes, parsed, tables, scope, *value)?;
             Ok(Some(NamedStmt::Return(value)))
         }
         Stmt::Yield(value) => {
-            let value = resolve_expr(alloc, nodes, parsed, numbers, around, *value)?;
+            let value = resolve_expr(alloc, nodes, parsed, tables, scope, *value)?;
             Ok(Some(NamedStmt::Yield(value)))
         }
         Stmt::Assert { goal, via } => {
-            let (goal, via) = resolve_assert(alloc, nodes, parsed, numbers, around, *goal, via)?;
+            let (goal, via) = resolve_assert(alloc, nodes, parsed, tables, scope, *goal, via)?;
             Ok(Some(NamedStmt::Assert { goal, via }))
         }
         _ => unreachable!(),

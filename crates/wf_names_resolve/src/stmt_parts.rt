@@ -10,13 +10,13 @@ ghost use Rattle.wf_names_resolve.specs.Standing.{standing_by};
 ghost use Rattle.wf_names_resolve.specs.Resolved.{resolved_expr, resolved_call, resolved_target, resolved_clauses, is_label as has_label, loops_behind, outwards as outwards_by_labels};
 ghost use Rattle.wf_names_resolve.specs.Growth.{Grows};
 
-use crate::numbers::{PackageNumbers, ScopeNumbers};
 use crate::parts::path;
 use crate::resolve_exprs::{resolve_call, resolve_expr};
 use std::alloc::Global;
 use wf_ast::parsed::{Call, LoopClause, Name, Target};
 use wf_ast::{ExprId, PackageNodes, Sequence};
 use wf_named::{NamedCall, NamedNodes, NamedTarget};
+use wf_names_rules::tables::{Scope, Tables};
 use wf_text::faults::NoMemory;
 
 // How many numbers there are.
@@ -68,20 +68,20 @@ pub(crate) fn resolve_target(
     alloc: Global,
     nodes: &mut NamedNodes,
     parsed: &PackageNodes,
-    numbers: &PackageNumbers,
-    around: &ScopeNumbers,
+    tables: &Tables,
+    scope: &Scope,
     target: Target,
 ) -> Result<NamedTarget, NoMemory>
     requires { TargetBelow (length parsed.now.exprs) target }
     ensures grows { OnOk result (Grows nodes.old nodes.new) }
     ensures below { IfOk result (λ r. NamedTargetBelow (length nodes.new.exprs) r) }
-    ensures made { IfOk result (λ r. target_at (exprs_of nodes.new) r ≡ resolved_target (standing_by parsed.now.texts numbers.now around.now) (parsed_target_at (expr_trees parsed.now.exprs) target)) }
+    ensures made { IfOk result (λ r. target_at (exprs_of nodes.new) r ≡ resolved_target (standing_by parsed.now.texts tables.now scope.now) (parsed_target_at (expr_trees parsed.now.exprs) target)) }
 {
     match target {
-        Target::Path(of) => Ok(NamedTarget::Path(path(numbers, around, of))),
+        Target::Path(of) => Ok(NamedTarget::Path(path(tables, scope, of))),
         Target::Element { base, index, at } => {
-            let array = path(numbers, around, base);
-            let index = resolve_expr(alloc, nodes, parsed, numbers, around, index)?;
+            let array = path(tables, scope, base);
+            let index = resolve_expr(alloc, nodes, parsed, tables, scope, index)?;
             Ok(NamedTarget::Element {
                 base: array,
                 index,
@@ -96,18 +96,18 @@ pub(crate) fn resolve_clauses(
     alloc: Global,
     nodes: &mut NamedNodes,
     parsed: &PackageNodes,
-    numbers: &PackageNumbers,
-    around: &ScopeNumbers,
+    tables: &Tables,
+    scope: &Scope,
     clauses: &[LoopClause],
 ) -> Result<Sequence<LoopClause>, NoMemory>
     requires { AllByRecursion (λ c. c.condition.0 < length parsed.now.exprs) clauses.now }
     ensures grows { OnOk result (Grows nodes.old nodes.new) }
     ensures below { IfOk result (λ r. AllByRecursion (λ c. c.condition.0 < length nodes.new.exprs) r) }
-    ensures made { IfOk result (λ r. clauses_at (exprs_of nodes.new) r ≡ resolved_clauses (standing_by parsed.now.texts numbers.now around.now) (parsed_clauses_at (expr_trees parsed.now.exprs) clauses.now)) }
+    ensures made { IfOk result (λ r. clauses_at (exprs_of nodes.new) r ≡ resolved_clauses (standing_by parsed.now.texts tables.now scope.now) (parsed_clauses_at (expr_trees parsed.now.exprs) clauses.now)) }
 {
     let mut made = Sequence::new(alloc);
     for clause in clauses {
-        let condition = resolve_expr(alloc, nodes, parsed, numbers, around, clause.condition)?;
+        let condition = resolve_expr(alloc, nodes, parsed, tables, scope, clause.condition)?;
         made.push(LoopClause {
             kind: clause.kind,
             condition,
@@ -122,8 +122,8 @@ pub(crate) fn resolve_assign(
     alloc: Global,
     nodes: &mut NamedNodes,
     parsed: &PackageNodes,
-    numbers: &PackageNumbers,
-    around: &ScopeNumbers,
+    tables: &Tables,
+    scope: &Scope,
     target: Target,
     value: ExprId,
 ) -> Result<(NamedTarget, ExprId), NoMemory>
@@ -131,11 +131,11 @@ pub(crate) fn resolve_assign(
     requires value { value.0 < length parsed.now.exprs }
     ensures grows { OnOk result (Grows nodes.old nodes.new) }
     ensures below { IfOk result (λ r. NamedTargetBelow (length nodes.new.exprs) r.0 × (r.1.0 < length nodes.new.exprs)) }
-    ensures target { IfOk result (λ r. target_at (exprs_of nodes.new) r.0 ≡ resolved_target (standing_by parsed.now.texts numbers.now around.now) (parsed_target_at (expr_trees parsed.now.exprs) target)) }
-    ensures value { IfOk result (λ r. expr_at (exprs_of nodes.new) r.1 ≡ resolved_expr (standing_by parsed.now.texts numbers.now around.now) (parsed_expr_at (expr_trees parsed.now.exprs) value)) }
+    ensures target { IfOk result (λ r. target_at (exprs_of nodes.new) r.0 ≡ resolved_target (standing_by parsed.now.texts tables.now scope.now) (parsed_target_at (expr_trees parsed.now.exprs) target)) }
+    ensures value { IfOk result (λ r. expr_at (exprs_of nodes.new) r.1 ≡ resolved_expr (standing_by parsed.now.texts tables.now scope.now) (parsed_expr_at (expr_trees parsed.now.exprs) value)) }
 {
-    let target = resolve_target(alloc, nodes, parsed, numbers, around, target)?;
-    let value = resolve_expr(alloc, nodes, parsed, numbers, around, value)?;
+    let target = resolve_target(alloc, nodes, parsed, tables, scope, target)?;
+    let value = resolve_expr(alloc, nodes, parsed, tables, scope, value)?;
     Ok((target, value))
 }
 
@@ -144,8 +144,8 @@ pub(crate) fn resolve_keep(
     alloc: Global,
     nodes: &mut NamedNodes,
     parsed: &PackageNodes,
-    numbers: &PackageNumbers,
-    around: &ScopeNumbers,
+    tables: &Tables,
+    scope: &Scope,
     target: Target,
     call: &Call,
 ) -> Result<(NamedTarget, NamedCall), NoMemory>
@@ -153,11 +153,11 @@ pub(crate) fn resolve_keep(
     requires call { GivenBelow (length parsed.now.exprs) call.now.args }
     ensures grows { OnOk result (Grows nodes.old nodes.new) }
     ensures below { IfOk result (λ r. NamedTargetBelow (length nodes.new.exprs) r.0 × ArgsBelow (length nodes.new.exprs) r.1.args) }
-    ensures target { IfOk result (λ r. target_at (exprs_of nodes.new) r.0 ≡ resolved_target (standing_by parsed.now.texts numbers.now around.now) (parsed_target_at (expr_trees parsed.now.exprs) target)) }
-    ensures call { IfOk result (λ r. call_at (exprs_of nodes.new) r.1 ≡ resolved_call (standing_by parsed.now.texts numbers.now around.now) (parsed_call_at (expr_trees parsed.now.exprs) call.now)) }
+    ensures target { IfOk result (λ r. target_at (exprs_of nodes.new) r.0 ≡ resolved_target (standing_by parsed.now.texts tables.now scope.now) (parsed_target_at (expr_trees parsed.now.exprs) target)) }
+    ensures call { IfOk result (λ r. call_at (exprs_of nodes.new) r.1 ≡ resolved_call (standing_by parsed.now.texts tables.now scope.now) (parsed_call_at (expr_trees parsed.now.exprs) call.now)) }
 {
-    let target = resolve_target(alloc, nodes, parsed, numbers, around, target)?;
-    let call = resolve_call(alloc, nodes, parsed, numbers, around, call)?;
+    let target = resolve_target(alloc, nodes, parsed, tables, scope, target)?;
+    let call = resolve_call(alloc, nodes, parsed, tables, scope, call)?;
     Ok((target, call))
 }
 
@@ -166,8 +166,8 @@ pub(crate) fn resolve_head(
     alloc: Global,
     nodes: &mut NamedNodes,
     parsed: &PackageNodes,
-    numbers: &PackageNumbers,
-    around: &ScopeNumbers,
+    tables: &Tables,
+    scope: &Scope,
     condition: ExprId,
     clauses: &[LoopClause],
 ) -> Result<(ExprId, Sequence<LoopClause>), NoMemory>
@@ -175,10 +175,10 @@ pub(crate) fn resolve_head(
     requires clauses { AllByRecursion (λ c. c.condition.0 < length parsed.now.exprs) clauses.now }
     ensures grows { OnOk result (Grows nodes.old nodes.new) }
     ensures below { IfOk result (λ r. (r.0.0 < length nodes.new.exprs) × AllByRecursion (λ c. c.condition.0 < length nodes.new.exprs) r.1) }
-    ensures condition { IfOk result (λ r. expr_at (exprs_of nodes.new) r.0 ≡ resolved_expr (standing_by parsed.now.texts numbers.now around.now) (parsed_expr_at (expr_trees parsed.now.exprs) condition)) }
-    ensures clauses { IfOk result (λ r. clauses_at (exprs_of nodes.new) r.1 ≡ resolved_clauses (standing_by parsed.now.texts numbers.now around.now) (parsed_clauses_at (expr_trees parsed.now.exprs) clauses.now)) }
+    ensures condition { IfOk result (λ r. expr_at (exprs_of nodes.new) r.0 ≡ resolved_expr (standing_by parsed.now.texts tables.now scope.now) (parsed_expr_at (expr_trees parsed.now.exprs) condition)) }
+    ensures clauses { IfOk result (λ r. clauses_at (exprs_of nodes.new) r.1 ≡ resolved_clauses (standing_by parsed.now.texts tables.now scope.now) (parsed_clauses_at (expr_trees parsed.now.exprs) clauses.now)) }
 {
-    let condition = resolve_expr(alloc, nodes, parsed, numbers, around, condition)?;
-    let clauses = resolve_clauses(alloc, nodes, parsed, numbers, around, clauses)?;
+    let condition = resolve_expr(alloc, nodes, parsed, tables, scope, condition)?;
+    let clauses = resolve_clauses(alloc, nodes, parsed, tables, scope, clauses)?;
     Ok((condition, clauses))
 }

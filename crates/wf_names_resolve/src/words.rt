@@ -12,13 +12,12 @@ ghost use Rattle.wf_names_resolve.specs.Ordered.{given_trees};
 ghost use Rattle.wf_names_resolve.specs.Growth.{Grows};
 ghost use Rattle.wf_names_resolve.specs.Letters.{letters_by};
 
-use crate::numbers::{PackageNumbers, ScopeNumbers};
 use crate::resolve_exprs::{resolve_expr, resolve_given};
 use std::alloc::Global;
 use wf_ast::parsed::{Given, Name, Via};
 use wf_ast::{ExprId, PackageNodes, Sequence};
 use wf_named::NamedNodes;
-use wf_names_rules::tables::text_bytes;
+use wf_names_rules::tables::{Scope, Tables, text_bytes};
 use wf_text::faults::NoMemory;
 
 /// A name whose text is one of the resolved package, which it joins where it isn't.
@@ -81,16 +80,16 @@ fn resolve_named(
     alloc: Global,
     nodes: &mut NamedNodes,
     parsed: &PackageNodes,
-    numbers: &PackageNumbers,
-    around: &ScopeNumbers,
+    tables: &Tables,
+    scope: &Scope,
     via: &Via,
 ) -> Result<Option<Via>, NoMemory>
     requires { GivenBelow (length parsed.now.exprs) via.now.given }
     ensures grows { OnOk result (Grows nodes.old nodes.new) }
     ensures below { IfOk result (λ r. AxiomBelow (length nodes.new.texts) (length nodes.new.exprs) r) }
-    ensures made { IfOk result (λ r. via_at nodes.new.texts (exprs_of nodes.new) r ≡ resolved_via (standing_by parsed.now.texts numbers.now around.now) (parsed_via_at (expr_trees parsed.now.exprs) (Some via.now))) }
+    ensures made { IfOk result (λ r. via_at nodes.new.texts (exprs_of nodes.new) r ≡ resolved_via (standing_by parsed.now.texts tables.now scope.now) (parsed_via_at (expr_trees parsed.now.exprs) (Some via.now))) }
 {
-    let given = resolve_given(alloc, nodes, parsed, numbers, around, via.given.as_slice())?;
+    let given = resolve_given(alloc, nodes, parsed, tables, scope, via.given.as_slice())?;
     let via = finish_via(alloc, nodes, parsed, via.axiom, &given)?;
     Ok(Some(via))
 }
@@ -100,17 +99,17 @@ pub(crate) fn resolve_via(
     alloc: Global,
     nodes: &mut NamedNodes,
     parsed: &PackageNodes,
-    numbers: &PackageNumbers,
-    around: &ScopeNumbers,
+    tables: &Tables,
+    scope: &Scope,
     via: &Option<Via>,
 ) -> Result<Option<Via>, NoMemory>
     requires { ViaBelow (length parsed.now.exprs) via.now }
     ensures grows { OnOk result (Grows nodes.old nodes.new) }
     ensures below { IfOk result (λ r. AxiomBelow (length nodes.new.texts) (length nodes.new.exprs) r) }
-    ensures made { IfOk result (λ r. via_at nodes.new.texts (exprs_of nodes.new) r ≡ resolved_via (standing_by parsed.now.texts numbers.now around.now) (parsed_via_at (expr_trees parsed.now.exprs) via.now)) }
+    ensures made { IfOk result (λ r. via_at nodes.new.texts (exprs_of nodes.new) r ≡ resolved_via (standing_by parsed.now.texts tables.now scope.now) (parsed_via_at (expr_trees parsed.now.exprs) via.now)) }
 {
     match via {
-        Some(via) => resolve_named(alloc, nodes, parsed, numbers, around, via),
+        Some(via) => resolve_named(alloc, nodes, parsed, tables, scope, via),
         None => Ok(None),
     }
 }
@@ -120,8 +119,8 @@ pub(crate) fn resolve_assert(
     alloc: Global,
     nodes: &mut NamedNodes,
     parsed: &PackageNodes,
-    numbers: &PackageNumbers,
-    around: &ScopeNumbers,
+    tables: &Tables,
+    scope: &Scope,
     goal: ExprId,
     via: &Option<Via>,
 ) -> Result<(ExprId, Option<Via>), NoMemory>
@@ -129,10 +128,10 @@ pub(crate) fn resolve_assert(
     requires via { ViaBelow (length parsed.now.exprs) via.now }
     ensures grows { OnOk result (Grows nodes.old nodes.new) }
     ensures below { IfOk result (λ r. (r.0.0 < length nodes.new.exprs) × AxiomBelow (length nodes.new.texts) (length nodes.new.exprs) r.1) }
-    ensures goal { IfOk result (λ r. expr_at (exprs_of nodes.new) r.0 ≡ resolved_expr (standing_by parsed.now.texts numbers.now around.now) (parsed_expr_at (expr_trees parsed.now.exprs) goal)) }
-    ensures via { IfOk result (λ r. via_at nodes.new.texts (exprs_of nodes.new) r.1 ≡ resolved_via (standing_by parsed.now.texts numbers.now around.now) (parsed_via_at (expr_trees parsed.now.exprs) via.now)) }
+    ensures goal { IfOk result (λ r. expr_at (exprs_of nodes.new) r.0 ≡ resolved_expr (standing_by parsed.now.texts tables.now scope.now) (parsed_expr_at (expr_trees parsed.now.exprs) goal)) }
+    ensures via { IfOk result (λ r. via_at nodes.new.texts (exprs_of nodes.new) r.1 ≡ resolved_via (standing_by parsed.now.texts tables.now scope.now) (parsed_via_at (expr_trees parsed.now.exprs) via.now)) }
 {
-    let goal = resolve_expr(alloc, nodes, parsed, numbers, around, goal)?;
-    let via = resolve_via(alloc, nodes, parsed, numbers, around, via)?;
+    let goal = resolve_expr(alloc, nodes, parsed, tables, scope, goal)?;
+    let via = resolve_via(alloc, nodes, parsed, tables, scope, via)?;
     Ok((goal, via))
 }

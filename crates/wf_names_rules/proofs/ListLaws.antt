@@ -1,6 +1,5 @@
 -- The passes over lists of names find what the rules say.
 use Rattle.std.proofs.Common.{◌≡◌, ◌⊎◌, ℕ, zero, suc, ◌+◌, ◌<◌, Bool, true, false, List, [], ◌∷◌, map, length, Option, Some, None, slice_get, nat_eq, refl, sym, ap, ◌∙◌, subst, inl, inr, arith}
-use Rattle.std.specs.List.{list_any}
 use Rattle.indexmap.specs.IndexSet.{insert_key}
 use Rattle.wf_text.specs.declared.place.Place.{Place}
 use Rattle.wf_text.specs.declared.rules.Rule.{Rule}
@@ -8,10 +7,10 @@ use Rattle.wf_text.specs.declared.rules.Rule.TheVariants.{N2, N3, N4}
 use Rattle.wf_text.specs.declared.rules.Refusal.{Refusal}
 use Rattle.wf_ast.specs.declared.numbers.TextId.{TextId}
 use Rattle.wf_ast.specs.declared.parsed.Name.{Name}
-use Rattle.graphs.specs.Graphs.{Path, holds, goes, AreCircles}
+use Rattle.graphs.specs.Graphs.{holds, AreCycles}
 use Rattle.wf_names_rules.specs.Reserved.{is_reserved, is_initialize}
 use Rattle.wf_names_rules.specs.Passes.{refused_if, doubles_of, bytes_at, reserved_item, reserved_of, initialize_item, initializes_of, is_flagged, flagged_from}
-use Rattle.wf_names_rules.specs.NameRules.{IsRepeated, twice}
+use Rattle.wf_names_rules.specs.NameRules.{twice}
 use Rattle.wf_names_rules.specs.Found.{Finds, RepeatsName, ReservesName, InitializesName, RecursName}
 use Rattle.wf_names_rules.proofs.InsertLemmas.{insert-keeps, insert-has, insert-only}
 
@@ -166,7 +165,7 @@ within [] i n e = absurd (cc e)
 within (m ∷ ms) zero n e = omega arith
 within (m ∷ ms) (suc i) n e = omega (arith, within ms i n e)
 
-pub flagged-sound : (rows : List (List ℕ)) (flags : List Bool) (names : List Name) (s : Refusal) → AreCircles rows flags (length names) → Finds (flagged_from 0 flags names) s → RecursName rows names s
+pub flagged-sound : (rows : List (List ℕ)) (flags : List Bool) (names : List Name) (s : Refusal) → AreCycles rows flags (length names) → Finds (flagged_from 0 flags names) s → RecursName rows names s
 unfolding refusal
 flagged-sound rows flags names s h f =
     let r = flagged_cause 0 flags names f.0 s f.1 in
@@ -174,7 +173,7 @@ flagged-sound rows flags names s h f =
     let P : ℕ → Type 0 = λ b. is_flagged (slice_get flags b) ≡ true in
     record { number = f.0; name = r.0; is = r.1.0; path = h.sound f.0 (flag_true (slice_get flags f.0) (subst P spot r.1.1.0)); refused = r.1.1.1 }
 
-pub flagged-complete : (rows : List (List ℕ)) (flags : List Bool) (names : List Name) (s : Refusal) → AreCircles rows flags (length names) → RecursName rows names s → Finds (flagged_from 0 flags names) s
+pub flagged-complete : (rows : List (List ℕ)) (flags : List Bool) (names : List Name) (s : Refusal) → AreCycles rows flags (length names) → RecursName rows names s → Finds (flagged_from 0 flags names) s
 unfolding refusal
 flagged-complete rows flags names s h r =
     let flag : slice_get flags r.number ≡ Some true = h.complete r.number (within names r.number r.name r.is) r.path in

@@ -1,10 +1,9 @@
 -- The values of constant expressions: numbers and names of constants with operators between them.
-use Rattle.std.specs.Prelude.{ℕ, ◌+◌, ◌-◌, ◌*◌, ◌/◌, ◌%◌, ◌^◌, min, Bool, true, false, not, ◌&&◌, ◌||◌, if◌then◌else◌, List, [], ◌∷◌, ◌++◌, Option, Some, None, nat_eq, nat_lt, nat_le, bit_and, bit_or, bit_xor}
+use Rattle.std.specs.Prelude.{ℕ, ◌+◌, ◌-◌, ◌*◌, ◌/◌, ◌%◌, ◌^◌, min, Bool, true, false, ◌&&◌, if◌then◌else◌, List, [], ◌∷◌, ◌++◌, Option, Some, None, nat_eq, nat_lt, nat_le, bit_and, bit_or, bit_xor}
 use Rattle.std.specs.List.{find}
 use Rattle.wf_base.specs.declared.widths.Width.{Width}
 use Rattle.wf_base.specs.BaseTable.{bits_of}
 use Rattle.wf_ast.specs.declared.parsed.Name.{Name}
-use Rattle.wf_ast.specs.declared.parsed.Path.{Path}
 use Rattle.wf_ast.specs.declared.parsed.Root.TheVariants as roots
 use Rattle.wf_ast.specs.declared.parsed.Root.{Root}
 use Rattle.wf_ast.specs.declared.operators.Op.{Op}
@@ -69,10 +68,6 @@ is_shift ops.Shl = true
 is_shift ops.Shr = true
 is_shift ops.ModShl = true
 is_shift _ = false
-
-abbrev pub fitted_number : Option ℕ → Option ℕ → Option Sized
-fitted_number bits None = None
-fitted_number bits (Some n) = fitted bits n
 
 -- A chain so far: the one width of its operands, the largest of them, and the number.
 pub record Running : Type 0 where

@@ -1,5 +1,5 @@
 -- What a package declares, and what a name stands for.
-use Rattle.std.specs.Prelude.{◌+◌, ℕ, Bool, true, false, ◌&&◌, List, [], ◌∷◌, ◌++◌, map, Option, Some, None, slice_get, nat_eq}
+use Rattle.std.specs.Prelude.{ℕ, Bool, ◌&&◌, List, [], ◌∷◌, ◌++◌, Option, Some, None, slice_get, nat_eq}
 use Rattle.std.specs.List.{find, position_from}
 use Rattle.wf_ast.specs.declared.parsed.Name.{Name}
 use Rattle.wf_ast.specs.ParsedTree as tree
@@ -106,6 +106,10 @@ method_named d owner text = position_from (λ m. is_spelt owner m.owner && is_sp
 
 abbrev pub variable_named : List Variable → ℕ → Option Variable
 variable_named variables text = find (λ v. is_spelt text v.name) variables
+
+-- The place of that variable.
+abbrev pub place_in : List Variable → ℕ → Option ℕ
+place_in variables text = position_from (λ v. is_spelt text v.name) 0 variables
 
 abbrev pub as_variable : Constant → Variable
 as_variable c = record { name = c.name; of = c.of }

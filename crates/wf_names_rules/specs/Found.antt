@@ -1,7 +1,7 @@
 -- What a pass over a list finds, by the rules.
 use Rattle.std.specs.Prelude.{◌≡◌, ℕ, true, List, Option, Some, slice_get}
 use Rattle.wf_text.specs.declared.rules.Refusal.{Refusal}
-use Rattle.wf_text.specs.declared.rules.Rule.TheVariants.{N2, N3, N4}
+use Rattle.wf_text.specs.declared.rules.Rule.TheVariants.{N3, N4}
 use Rattle.wf_ast.specs.declared.parsed.Name.{Name}
 use Rattle.wf_names_rules.specs.Reserved.{is_reserved, is_initialize}
 use Rattle.graphs.specs.Graphs.{Path, goes}

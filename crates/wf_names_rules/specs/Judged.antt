@@ -1,10 +1,9 @@
--- What the uses of names break, one after the other: what decides of what was found before and what a use breaks.
-use Rattle.std.specs.Prelude.{ℕ, Bool, true, false, not, ◌&&◌, if◌then◌else◌, List, [], ◌∷◌, map, Option, Some, None, nat_eq}
-use Rattle.std.specs.List.{list_any, list_all}
+-- What the uses of names break, one after the other: the first refusal of what was found before and what a use breaks.
+use Rattle.std.specs.Prelude.{ℕ, Bool, true, false, not, ◌&&◌, List, [], ◌∷◌, map, Option, Some, None, nat_eq}
+use Rattle.std.specs.List.{list_any}
 use Rattle.indexmap.specs.IndexSet.{insert_key}
 use Rattle.wf_text.specs.declared.place.Place.{Place}
 use Rattle.wf_text.specs.declared.rules.Refusal.{Refusal}
-use Rattle.wf_text.specs.declared.rules.Rule.{Rule}
 use Rattle.wf_text.specs.declared.rules.Rule.TheVariants.{N1, N2, N6, N7, N8}
 use Rattle.wf_text.specs.Precedence.{sooner, soonest}
 use Rattle.wf_ast.specs.declared.parsed.Name.{Name}
@@ -18,8 +17,8 @@ use Rattle.wf_names_rules.specs.declared.callees.Callee.TheVariants as callees
 use Rattle.wf_names_rules.specs.declared.seen.Seen.{Seen}
 use Rattle.wf_names_rules.specs.declared.sorts.Sort.{Sort}
 use Rattle.wf_names_rules.specs.Passes.{refused_if, doubles_of}
-use Rattle.wf_names_rules.specs.Uses.{Use, own_status, base_status, variable, structure, method, given_uses}
-use Rattle.wf_names_rules.specs.Meanings.{Known, GivenValue, Parameters, given_values, call_name, call_args, callee_of, is_known, has_meaning, call_has_meaning, parameters_of, is_parameter, lacks_one, is_io_arg}
+use Rattle.wf_names_rules.specs.Uses.{Use, own_status, base_status, variable, structure, method}
+use Rattle.wf_names_rules.specs.Meanings.{Known, GivenValue, Parameters, call_name, call_args, callee_of, is_known, has_meaning, call_has_meaning, parameters_of, is_parameter, lacks_one, is_io_arg}
 
 -- What a call's method name breaks.
 abbrev pub callee_refusal : Callee → Name → Option Refusal
@@ -37,7 +36,7 @@ abbrev pub arg_path : ExprTree → Option Path
 arg_path (tree.path path) = arg_path_at path.root path
 arg_path _ = None
 
--- Readers and writers passed twice; `seen` are the arguments in front, each once.
+-- Readers and writers passed twice; `seen` are the arguments before it, each once.
 abbrev pub passed_item : (arg : ℕ → Option Sort) → (seen : List ℕ) → Option Path → Option Refusal
 passed_item arg seen None = None
 passed_item arg seen (Some path) = refused_if (is_io_arg arg path.name.text.0 && list_any (nat_eq path.name.text.0) seen) N2 path.at

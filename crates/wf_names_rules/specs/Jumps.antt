@@ -1,5 +1,5 @@
 -- The loops of a body, and what jumps out of them or to their heads.
-use Rattle.std.specs.Prelude.{ℕ, Bool, false, not, List, [], ◌∷◌, ◌++◌, Option, Some, None}
+use Rattle.std.specs.Prelude.{ℕ, Bool, false, not, List, [], ◌∷◌, ◌++◌, fold, Option, Some, None}
 use Rattle.std.specs.List.{list_any}
 use Rattle.wf_text.specs.declared.rules.Refusal.{Refusal}
 use Rattle.wf_text.specs.declared.rules.Rule.TheVariants.{N2, N5}
@@ -8,7 +8,7 @@ use Rattle.wf_text.specs.declared.place.Place.{Place}
 use Rattle.wf_ast.specs.declared.parsed.Name.{Name}
 use Rattle.wf_ast.specs.ParsedTree as tree
 use Rattle.wf_ast.specs.ParsedTree.{StmtTree, BlockTree, ArmTrees}
-use Rattle.wf_names_rules.specs.Declarations.{is_spelt}
+use Rattle.wf_names_rules.specs.Declarations.{Declared, Method, is_spelt}
 use Rattle.wf_names_rules.specs.Passes.{refused_if, reserved_item}
 
 -- A loop that has a label, or a `break` or `continue`; `loops` are the loops that it stands in, the outermost first,
@@ -51,7 +51,7 @@ is_labelled text (Some label) = is_spelt text label
 abbrev pub has_label : List (Option Name) → ℕ → Bool
 has_label loops text = list_any (is_labelled text) loops
 
--- What decides of what was found before and what a labelled loop or a jump breaks; `texts` are those of the package.
+-- The first refusal of what was found before and what a labelled loop or a jump breaks; `texts` are those of the package.
 abbrev pub jump_judged : (texts : List (List ℕ)) → Option Refusal → Jump → Option Refusal
 jump_judged texts found (labelled loops label) = sooner (sooner found (refused_if (has_label loops label.text.0) N2 label.at)) (reserved_item texts label)
 jump_judged texts found (to_label loops label) = sooner found (refused_if (not (has_label loops label.text.0)) N5 label.at)
@@ -61,3 +61,11 @@ jump_judged texts found (to_innermost (loop ∷ loops) at) = found
 abbrev pub jumped : (texts : List (List ℕ)) → Option Refusal → List Jump → Option Refusal
 jumped texts found [] = found
 jumped texts found (j ∷ js) = jumped texts (jump_judged texts found j) js
+
+-- The first refusal of what was found before and what the loops and jumps of a method break.
+abbrev pub method_labels : (texts : List (List ℕ)) → Option Refusal → Method → Option Refusal
+method_labels texts found m = jumped texts found (block_jumps [] m.body)
+
+-- The same of all methods.
+abbrev pub labels_found : Declared → Option Refusal → Option Refusal
+labels_found d found = fold (method_labels d.texts) found d.methods

@@ -1,7 +1,9 @@
 pub mod Above
+pub mod Called
 pub mod ConstantValues
 pub mod Declarations
 pub mod Found
+pub mod Here
 pub mod Jumps
 pub mod Judged
 pub mod Meanings

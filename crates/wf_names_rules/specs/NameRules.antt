@@ -1,5 +1,5 @@
 -- The rules of names, as one table in five sections: what a package breaks, each rule with its place.
-use Rattle.std.specs.Prelude.{◌≡◌, ℕ, ◌+◌, ◌<◌, ◌≤◌, Bool, true, false, not, ◌&&◌, List, [], ◌∷◌, ◌++◌, map, Option, Some, None, length, slice_get, nat_eq, if◌then◌else◌}
+use Rattle.std.specs.Prelude.{◌≡◌, ℕ, ◌<◌, ◌≤◌, Bool, true, false, List, [], ◌∷◌, ◌++◌, map, Option, Some, None, slice_get, nat_eq, if◌then◌else◌}
 use Rattle.std.specs.List.{list_any, flat_map}
 use Rattle.wf_text.specs.declared.place.Place.{Place}
 use Rattle.wf_text.specs.declared.rules.Refusal.{Refusal}
@@ -10,7 +10,7 @@ use Rattle.wf_ast.specs.declared.parsed.Path.{Path as NamePath}
 use Rattle.wf_ast.specs.declared.parsed.Root.TheVariants as roots
 use Rattle.wf_ast.specs.ParsedTree as tree
 use Rattle.wf_ast.specs.ParsedTree.{CallTree}
-use Rattle.wf_names_rules.specs.Declarations.{Variable, Constant, Structure, Method, Declared, is_spelt, text_of, status_named, struct_named, variable_named, as_variable}
+use Rattle.wf_names_rules.specs.Declarations.{Variable, Constant, Structure, Method, Declared, is_spelt, text_of, status_named, struct_named}
 use Rattle.wf_names_rules.specs.Uses as uses
 use Rattle.wf_names_rules.specs.Uses.{Use, Scope, Site, sites, method_uses, method_scope}
 use Rattle.wf_names_rules.specs.Meanings.{GivenValue, is_base_status, known_at, path_sort, call_name, call_args, callee_of, call_has_meaning, parameters_of, is_parameter, lacks_one, passed_arg, is_io_arg}
@@ -41,9 +41,6 @@ pub record IsRepeated (names : List Name) (later : Name) : Type 0 where
   pub at_first : slice_get names first ≡ Some earlier
   pub at_second : slice_get names second ≡ Some later
   pub same : earlier.text ≡ later.text
-
-abbrev pub IsAmongNames : List Name → Name → Type 0
-IsAmongNames names name = (i : ℕ) × (slice_get names i ≡ Some name)
 
 abbrev pub variable_names : List Variable → List Name
 variable_names variables = map (λ v. v.name) variables
@@ -198,11 +195,11 @@ pub data LabelBreaks (d : Declared) : Refusal → Type 0 where
   outside_loops : (at : Place) → Jumps d (to_innermost [] at) → LabelBreaks d (record { rule = N5; at = at })
 
 -- What the graphs of methods and of structs break.
-pub data CircleBreaks (d : Declared) : Refusal → Type 0 where
+pub data CycleBreaks (d : Declared) : Refusal → Type 0 where
   -- N4: a method that can reach itself by calls, at its name
-  recursion : (a : ℕ) (m : Method) → slice_get d.methods a ≡ Some m → Path (calls d) a a → CircleBreaks d (record { rule = N4; at = m.name.at })
+  recursion : (a : ℕ) (m : Method) → slice_get d.methods a ≡ Some m → Path (calls d) a a → CycleBreaks d (record { rule = N4; at = m.name.at })
   -- N4: a struct that holds itself through fields, at its name
-  holds_itself : (a : ℕ) (s : Structure) → slice_get d.structs a ≡ Some s → Path (holds_struct d) a a → CircleBreaks d (record { rule = N4; at = s.name.at })
+  holds_itself : (a : ℕ) (s : Structure) → slice_get d.structs a ≡ Some s → Path (holds_struct d) a a → CycleBreaks d (record { rule = N4; at = s.name.at })
 
 -- What the lengths of arrays and the sizes of structs break.
 pub data SizeBreaks (d : Declared) : Refusal → Type 0 where
@@ -217,5 +214,5 @@ pub data Breaks (d : Declared) : Refusal → Type 0 where
   by_declaration : (s : Refusal) → DeclarationBreaks d s → Breaks d s
   by_use : (s : Refusal) → UseBreaks d s → Breaks d s
   by_label : (s : Refusal) → LabelBreaks d s → Breaks d s
-  by_circle : (s : Refusal) → CircleBreaks d s → Breaks d s
+  by_cycle : (s : Refusal) → CycleBreaks d s → Breaks d s
   by_size : (s : Refusal) → SizeBreaks d s → Breaks d s

@@ -1,12 +1,12 @@
 -- What each pass over a list of names finds, item by item. The laws of the passes tell that these are what the
 -- table of rules says.
-use Rattle.std.specs.Prelude.{ℕ, ◌+◌, Bool, true, false, List, [], ◌∷◌, map, Option, Some, None, slice_get, nat_eq, if◌then◌else◌}
+use Rattle.std.specs.Prelude.{ℕ, ◌+◌, Bool, true, false, List, [], ◌∷◌, map, Option, Some, None, slice_get, nat_eq}
 use Rattle.std.specs.List.{list_any}
 use Rattle.indexmap.specs.IndexSet.{insert_key}
 use Rattle.wf_text.specs.declared.place.Place.{Place}
 use Rattle.wf_text.specs.declared.rules.Rule.{Rule}
 use Rattle.wf_text.specs.declared.rules.Refusal.{Refusal}
-use Rattle.wf_text.specs.declared.rules.Rule.TheVariants.{N1, N2, N3, N4, L7}
+use Rattle.wf_text.specs.declared.rules.Rule.TheVariants.{N2, N3, N4}
 use Rattle.wf_ast.specs.declared.parsed.Name.{Name}
 use Rattle.wf_names_rules.specs.Declarations.{bytes_in}
 use Rattle.wf_names_rules.specs.Reserved.{is_reserved, is_initialize}
@@ -16,7 +16,7 @@ abbrev pub refused_if : Bool → Rule → Place → Option Refusal
 refused_if true rule at = Some (record { rule = rule; at = at })
 refused_if false rule at = None
 
--- Names declared twice; `seen` are those in front, each once.
+-- Names declared twice; `seen` are those before it, each once.
 abbrev pub doubles_of : (seen : List ℕ) → List Name → List (Option Refusal)
 doubles_of seen [] = []
 doubles_of seen (name ∷ names) = refused_if (list_any (nat_eq name.text.0) seen) N2 name.at ∷ doubles_of (insert_key nat_eq seen name.text.0) names

@@ -16,7 +16,7 @@ abbrev pub begins_with_underscore : List ℕ → Bool
 begins_with_underscore [] = false
 begins_with_underscore (byte ∷ bytes) = is_underscore byte
 
--- Whether the last byte is an underscore, where `last` tells it of the byte in front.
+-- Whether the last byte is an underscore, where `last` tells it of the byte before it.
 abbrev pub ends_behind : (last : Bool) → List ℕ → Bool
 ends_behind last [] = last
 ends_behind last (byte ∷ bytes) = ends_behind (is_underscore byte) bytes
@@ -24,7 +24,7 @@ ends_behind last (byte ∷ bytes) = ends_behind (is_underscore byte) bytes
 abbrev pub ends_with_underscore : List ℕ → Bool
 ends_with_underscore name = ends_behind false name
 
--- Whether two underscores stand in a row, where `last` tells whether the byte in front is one.
+-- Whether two underscores stand in a row, where `last` tells whether the byte before it is one.
 abbrev pub doubles_behind : (last : Bool) → List ℕ → Bool
 doubles_behind last [] = false
 doubles_behind last (byte ∷ bytes) = (last && is_underscore byte) || doubles_behind (is_underscore byte) bytes

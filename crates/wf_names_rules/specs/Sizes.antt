@@ -1,13 +1,13 @@
 -- How long arrays are, and how many bytes the fields of a struct take.
-use Rattle.std.specs.Prelude.{◌≡◌, ℕ, ◌+◌, ◌*◌, ◌/◌, Bool, true, false, ◌||◌, List, [], ◌∷◌, ◌++◌, map, Option, Some, None, slice_get, nat_eq, nat_lt, is_some, codes, if◌then◌else◌}
+use Rattle.std.specs.Prelude.{◌≡◌, ℕ, ◌+◌, ◌*◌, ◌/◌, Bool, true, false, ◌||◌, List, [], ◌∷◌, Option, Some, None, slice_get, nat_eq, nat_lt, is_some, codes}
 use Rattle.std.specs.List.{list_any}
 use Rattle.std.specs.Str.{bytes_eq}
 use Rattle.wf_base.specs.declared.widths.Width.{Width}
 use Rattle.wf_base.specs.BaseTable.{bits_of}
 use Rattle.wf_ast.specs.ParsedTree as tree
 use Rattle.wf_ast.specs.ParsedTree.{TypeTree}
-use Rattle.wf_names_rules.specs.Declarations.{Variable, Structure, Declared, is_spelt, text_of, struct_named, variable_named}
-use Rattle.wf_names_rules.specs.Meanings.{width_named, width_of}
+use Rattle.wf_names_rules.specs.Declarations.{Variable, Structure, Declared, text_of, struct_named, variable_named}
+use Rattle.wf_names_rules.specs.Meanings.{width_of}
 use Rattle.wf_names_rules.specs.ConstantValues.{Sized, value_of, known_constants}
 use Rattle.graphs.specs.Graphs.{Path}
 
@@ -67,4 +67,4 @@ pub data Take (d : Declared) : List Variable → ℕ → Type 0 where
   plain : (v : Variable) (vs : List Variable) (n : ℕ) → struct_held d v.of ≡ None → Take d vs n → Take d (v ∷ vs) (plain_bytes d v.of + n)
   part : (v : Variable) (vs : List Variable) (s : ℕ) (inner n : ℕ) → struct_held d v.of ≡ Some s → (Path (holds_struct d) s s → ⊥)
       → Take d (fields_at (slice_get d.structs s)) inner → Take d vs n → Take d (v ∷ vs) (8 + inner + n)
-  circle : (v : Variable) (vs : List Variable) (s n : ℕ) → struct_held d v.of ≡ Some s → Path (holds_struct d) s s → Take d vs n → Take d (v ∷ vs) (8 + n)
+  cycle : (v : Variable) (vs : List Variable) (s n : ℕ) → struct_held d v.of ≡ Some s → Path (holds_struct d) s s → Take d vs n → Take d (v ∷ vs) (8 + n)

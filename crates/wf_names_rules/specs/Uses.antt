@@ -1,7 +1,6 @@
 -- The places of a package that use a name, each with what is known there.
 use Rattle.std.specs.Prelude.{ℕ, List, [], ◌∷◌, ◌++◌, map, Option, Some, None}
 use Rattle.std.specs.List.{flat_map}
-use Rattle.wf_text.specs.declared.place.Place.{Place}
 use Rattle.wf_ast.specs.declared.parsed.Name.{Name}
 use Rattle.wf_ast.specs.declared.parsed.Path.{Path}
 use Rattle.wf_ast.specs.declared.parsed.Receiver.{Receiver}
@@ -140,7 +139,7 @@ pub record Site : Type 0 where
 abbrev pub sites_in : Scope → List Use → List Site
 sites_in scope uses = map (λ usage. record { scope = scope; usage = usage }) uses
 
--- `known` are the constants in front.
+-- `known` are the constants before it.
 abbrev pub constant_sites : List Variable → List Constant → List Site
 constant_sites known [] = []
 constant_sites known (c ∷ cs) = sites_in (constant_scope known) (type_uses c.of ++ uses_of c.value) ++ constant_sites (known ++ as_variable c ∷ []) cs

@@ -2,22 +2,23 @@
 
 ghost use Rattle.std.specs.Prelude.{◌≡◌, ◌<◌, not, ℕ, List, [], length, map, slice_get, nat_eq, bytes_eq, IfOk, OnOk};
 ghost use Rattle.std.specs.List.{list_any};
-ghost use Rattle.indexmap.specs.IndexMap.{get};
 ghost use Rattle.indexmap.specs.IndexSet.{insert_all};
 ghost use Rattle.wf_text.specs.Precedence.{soonest};
 ghost use Rattle.wf_base.specs.BaseTable.{row_of};
 ghost use Rattle.wf_ast.specs.ParsedTrees.{expr_trees, expr_at, given_at};
 ghost use Rattle.wf_ast.specs.ParsedParts.{GivenBelow};
 ghost use Rattle.wf_names_rules.specs.Declarations.{bytes_in, bytes_of};
-ghost use Rattle.wf_names_rules.specs.Tables.{known_by, args_at};
+ghost use Rattle.wf_names_rules.specs.Tables.{args_at, sort_at};
+ghost use Rattle.wf_names_rules.specs.Here.{known_here};
 ghost use Rattle.wf_names_rules.specs.Meanings.{given_values, of_base, of_method, parameters_of, is_parameter as has_parameter, lacks_one as lacks, is_io as reads_or_writes};
 ghost use Rattle.wf_names_rules.specs.Passes.{refused_if as refuses_if};
 ghost use Rattle.wf_names_rules.specs.Judged.{arg_path, arg_path_at, passed_item, passed_seen, passed_of, unknown_item, unknown_of, args_judged};
 
 use crate::callees::Callee;
+use crate::here::Here;
 use crate::lists::{doubles, refused_if};
 use crate::sorts::Sort;
-use crate::tables::{Scope, Tables, text_bytes};
+use crate::tables::{Scope, Tables, text_bytes, variable};
 use indexmap::IndexSet;
 use std::alloc::Global;
 use wf_ast::parsed::{Expr, Given, Name, Path, Root};
@@ -48,9 +49,9 @@ fn is_io(sort: Option<Sort>) -> bool
 }
 
 fn is_io_arg(scope: &Scope, text: TextId) -> bool
-    ensures { result ≡ reads_or_writes (get nat_eq scope.now.args text.0) }
+    ensures { result ≡ reads_or_writes (sort_at scope.now.args text.0) }
 {
-    is_io(scope.args.get(&text.0).copied())
+    is_io(variable(&scope.args, text))
 }
 
 // The argument of the calling method that a value is, where it is nothing else.
@@ -80,7 +81,7 @@ fn passed_again(
     seen: &mut IndexSet<u32>,
     path: Option<Path>,
 ) -> Result<Option<Refusal>, NoMemory>
-    ensures item { IfOk result (λ now. now ≡ passed_item (get nat_eq scope.now.args) seen.old.keys path) }
+    ensures item { IfOk result (λ now. now ≡ passed_item (sort_at scope.now.args) seen.old.keys path) }
     ensures seen { OnOk result (seen.new.keys ≡ passed_seen seen.old.keys path) }
 {
     match path {
@@ -104,7 +105,7 @@ fn passed_twice(
     args: &[Given],
 ) -> Result<Option<Refusal>, NoMemory>
     requires { GivenBelow (length parsed.now.exprs) args.now }
-    ensures { IfOk result (λ all. all ≡ soonest found (passed_of (get nat_eq scope.now.args) [] (given_values (given_at (expr_trees parsed.now.exprs) args.now)))) }
+    ensures { IfOk result (λ all. all ≡ soonest found (passed_of (sort_at scope.now.args) [] (given_values (given_at (expr_trees parsed.now.exprs) args.now)))) }
 {
     let mut found = found;
     let mut seen = IndexSet::new(alloc);
@@ -275,23 +276,21 @@ fn lacks_one(
 }
 
 /// What the arguments of a call break, and what decides of that and of what was found before.
-pub fn arguments(
+pub(crate) fn arguments(
     alloc: Global,
     found: Option<Refusal>,
-    parsed: &PackageNodes,
-    tables: &Tables,
-    scope: &Scope,
+    here: &Here<'_>,
     callee: Callee,
     name: Name,
     args: &[Given],
 ) -> Result<Option<Refusal>, NoMemory>
-    requires { GivenBelow (length parsed.now.exprs) args.now }
-    ensures { IfOk result (λ all. all ≡ args_judged (known_by parsed.now.texts tables.now scope.now) found (parameters_of (args_at tables.now) callee) name (map (λ g. g.name) args.now) (given_values (given_at (expr_trees parsed.now.exprs) args.now))) }
+    requires { GivenBelow (length here.now.parsed.now.exprs) args.now }
+    ensures { IfOk result (λ all. all ≡ args_judged (known_here here.now) found (parameters_of (args_at here.now.tables.now) callee) name (map (λ g. g.name) args.now) (given_values (given_at (expr_trees here.now.parsed.now.exprs) args.now))) }
 {
     let names = given_names(alloc, args)?;
     let doubled = doubles(alloc, found, names.as_slice())?;
-    let passed = passed_twice(alloc, doubled, parsed, scope, args)?;
-    let unknown = unknown_args(passed, parsed, tables, callee, names.as_slice());
-    let lacking = lacks_one(alloc, parsed, tables, callee, names.as_slice())?;
+    let passed = passed_twice(alloc, doubled, here.parsed, here.scope, args)?;
+    let unknown = unknown_args(passed, here.parsed, here.tables, callee, names.as_slice());
+    let lacking = lacks_one(alloc, here.parsed, here.tables, callee, names.as_slice())?;
     Ok(sooner(unknown, refused_if(lacking, Rule::N7, name.at)))
 }

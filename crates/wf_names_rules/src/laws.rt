@@ -3,7 +3,7 @@
 ghost use Rattle.std.specs.Prelude.{◌≡◌, ℕ, Bool, List, [], length};
 ghost use Rattle.wf_text.specs.declared.rules.Refusal.{Refusal};
 ghost use Rattle.wf_ast.specs.declared.parsed.Name.{Name};
-ghost use Rattle.graphs.specs.Graphs.{AreCircles};
+ghost use Rattle.graphs.specs.Graphs.{AreCycles};
 ghost use Rattle.wf_names_rules.specs.Passes.{doubles_of, reserved_of, initializes_of, flagged_from};
 ghost use Rattle.wf_names_rules.specs.Found.{Finds, RepeatsName, ReservesName, InitializesName, RecursName};
 
@@ -27,9 +27,9 @@ pub fn finds_are_the_initializing_names()
 
 /// Recursion: with the flags that the search gives, what the pass finds are the names of the numbers that have a way
 /// back to themselves, and all of these.
-pub fn finds_are_the_names_on_circles()
-    ensures sound { (rows : List (List ℕ)) (flags : List Bool) (names : List Name) (s : Refusal) → AreCircles rows flags (length names)
+pub fn finds_are_the_names_on_cycles()
+    ensures sound { (rows : List (List ℕ)) (flags : List Bool) (names : List Name) (s : Refusal) → AreCycles rows flags (length names)
         → Finds (flagged_from 0 flags names) s → RecursName rows names s }
-    ensures complete { (rows : List (List ℕ)) (flags : List Bool) (names : List Name) (s : Refusal) → AreCircles rows flags (length names)
+    ensures complete { (rows : List (List ℕ)) (flags : List Bool) (names : List Name) (s : Refusal) → AreCycles rows flags (length names)
         → RecursName rows names s → Finds (flagged_from 0 flags names) s }
 {}

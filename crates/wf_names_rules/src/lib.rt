@@ -4,6 +4,8 @@
 
 pub mod arguments;
 pub mod callees;
+pub mod here;
+pub mod labels;
 pub mod laws;
 pub mod lists;
 pub mod reserved;

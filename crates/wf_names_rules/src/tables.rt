@@ -1,12 +1,11 @@
 // What is known of a package and at a place in it, in tables: each name is looked up once.
 
 ghost use Rattle.std.specs.Prelude.{◌≡◌, slice_get, nat_eq};
-ghost use Rattle.indexmap.specs.IndexMap.{get};
 ghost use Rattle.indexmap.specs.IndexSet.{contains};
 ghost use Rattle.wf_base.specs.BaseTable.{method_named};
 ghost use Rattle.wf_names_rules.specs.Declarations.{bytes_in};
 ghost use Rattle.wf_names_rules.specs.Meanings.{or_sort, path_sort as sort_of_path, this_callee as callee_here, public_callee as callee_if_public, struct_callee as callee_in_struct, found_base, part_callee as callee_in_part, sorted_callee as callee_by_sort, callee_on as callee_of_name};
-ghost use Rattle.wf_names_rules.specs.Tables.{known_by, public_at, field_at, own_method_at};
+ghost use Rattle.wf_names_rules.specs.Tables.{known_by, public_at, same_pair, sort_by, sort_at, field_at, own_method_at};
 
 use crate::callees::Callee;
 use crate::sorts::Sort;
@@ -15,12 +14,52 @@ use wf_ast::parsed::{Path, Receiver, Root};
 use wf_ast::{PackageNodes, TextId};
 use wf_base::base_methods::{Kind, base_method};
 
+/// Numbers by the names that stand for them. Each name is declared under the next one; a name that is declared again
+/// keeps its first.
+pub struct Numbers {
+    pub numbers: IndexMap<u32, u32>,
+    pub next: u32,
+}
+
+impl Drop for Numbers {
+    fn drop(self) {
+        let Numbers {
+            numbers: _,
+            next: _,
+        } = self;
+    }
+}
+
+/// A variable: what may be called on it, and its place among those that are declared with it, from 0.
+#[derive(Clone, Copy)]
+pub struct Entry {
+    pub sort: Sort,
+    pub place: u32,
+}
+
+/// Variables by their names. Each is declared at the next place; a name that is declared again keeps its first.
+pub struct Variables {
+    pub entries: IndexMap<u32, Entry>,
+    pub next: u32,
+}
+
+impl Drop for Variables {
+    fn drop(self) {
+        let Variables {
+            entries: _,
+            next: _,
+        } = self;
+    }
+}
+
 /// What the whole package knows. Names stand by their texts, methods by their numbers in order.
 pub struct Tables {
-    pub statuses: IndexSet<u32>,
-    pub structs: IndexSet<u32>,
-    /// What may be called on a field, by its struct's name and its own.
-    pub fields: IndexMap<(u32, u32), Sort>,
+    /// The statuses, from 10 on: the numbers below are those of the language's own.
+    pub statuses: Numbers,
+    /// The structs, from 0.
+    pub structs: Numbers,
+    /// A field, by its struct's name and its own.
+    pub fields: IndexMap<(u32, u32), Entry>,
     /// The number of a method, by its struct's name and its own.
     pub methods: IndexMap<(u32, u32), usize>,
     pub method_names: IndexSet<u32>,
@@ -46,10 +85,10 @@ impl Drop for Tables {
 
 /// What is known at a place besides: constants, the struct of `this` by its name, arguments and locals.
 pub struct Scope {
-    pub constants: IndexMap<u32, Sort>,
+    pub constants: Variables,
     pub this: Option<u32>,
-    pub args: IndexMap<u32, Sort>,
-    pub locals: IndexMap<u32, Sort>,
+    pub args: Variables,
+    pub locals: Variables,
 }
 
 impl Drop for Scope {
@@ -83,21 +122,40 @@ fn is_public(tables: &Tables, m: usize) -> bool
     }
 }
 
+fn field_of(tables: &Tables, owner: u32, text: TextId) -> Option<Sort>
+    ensures { result ≡ sort_by same_pair tables.now.fields (owner, text.0) }
+{
+    match tables.fields.get(&(owner, text.0)) {
+        Some(entry) => Some(entry.sort),
+        None => None,
+    }
+}
+
 fn field(tables: &Tables, scope: &Scope, text: TextId) -> Option<Sort>
     ensures { result ≡ field_at tables.now scope.now.this text.0 }
 {
     match scope.this {
-        Some(owner) => tables.fields.get(&(owner, text.0)).copied(),
+        Some(owner) => field_of(tables, owner, text),
+        None => None,
+    }
+}
+
+/// What may be called on the variable of this name.
+pub(crate) fn variable(variables: &Variables, text: TextId) -> Option<Sort>
+    ensures { result ≡ sort_at variables.now text.0 }
+{
+    match variables.entries.get(&text.0) {
+        Some(entry) => Some(entry.sort),
         None => None,
     }
 }
 
 fn bare(scope: &Scope, text: TextId) -> Option<Sort>
-    ensures { result ≡ or_sort (get nat_eq scope.now.locals text.0) (get nat_eq scope.now.constants text.0) }
+    ensures { result ≡ or_sort (sort_at scope.now.locals text.0) (sort_at scope.now.constants text.0) }
 {
-    match scope.locals.get(&text.0) {
-        Some(sort) => Some(*sort),
-        None => scope.constants.get(&text.0).copied(),
+    match variable(&scope.locals, text) {
+        Some(sort) => Some(sort),
+        None => variable(&scope.constants, text),
     }
 }
 
@@ -113,7 +171,7 @@ pub(crate) fn path_sort(
     match path.root {
         Root::Bare => bare(scope, path.name.text),
         Root::This => field(tables, scope, path.name.text),
-        Root::Args => scope.args.get(&path.name.text.0).copied(),
+        Root::Args => variable(&scope.args, path.name.text),
     }
 }
 
@@ -150,7 +208,7 @@ fn struct_callee(
 ) -> Callee
     ensures { result ≡ callee_in_struct (known_by parsed.now.texts tables.now scope.now) owner.0 text.0 }
 {
-    if !tables.structs.contains(&owner.0) {
+    if !tables.structs.numbers.contains_key(&owner.0) {
         return Callee::Baseless;
     }
     match tables.methods.get(&(owner.0, text.0)) {

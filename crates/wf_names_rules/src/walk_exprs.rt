@@ -1,20 +1,24 @@
-// The walk over expressions, types and calls: what their uses of names break.
+// The walk over expressions, types and calls: what their uses of names break, and the row of the methods that they call.
 
-ghost use Rattle.std.specs.Prelude.{◌≡◌, ◌<◌, ◌++◌, ◌&&◌, true, length, bytes_eq, IfOk};
+ghost use Rattle.std.specs.Prelude.{◌≡◌, ◌<◌, ◌++◌, ◌&&◌, true, length, bytes_eq, IfOk, OnOk};
 ghost use Rattle.std.specs.List.{list_any, flat_map, AllByRecursion};
 ghost use Rattle.wf_ast.specs.ParsedTrees.{expr_trees, expr_at, part_at, links_at, given_at, call_at, type_at, core_at, bounds_at};
 ghost use Rattle.wf_ast.specs.ParsedParts.{GivenBelow, LinksBelow, IsBelow, TypeBelow, BoundsBelow, PrefixBelow};
 ghost use Rattle.wf_names_rules.specs.Uses.{Use, own_status, base_status, variable, structure, receiver_uses, uses_of, part_uses, link_uses, given_uses, call_uses, type_uses, bounds_uses};
 ghost use Rattle.wf_names_rules.specs.NodeUses.{prefix_uses};
 ghost use Rattle.wf_names_rules.specs.Tables.{known_by, args_at};
-ghost use Rattle.wf_names_rules.specs.Meanings.{given_values, parameters_of, is_base_status as is_of_language, is_known as knows};
+ghost use Rattle.wf_names_rules.specs.Here.{known_here};
+ghost use Rattle.wf_names_rules.specs.Meanings.{given_values, parameters_of, callee_of, is_base_status as is_of_language, is_known as knows};
 ghost use Rattle.wf_names_rules.specs.Judged.{callee_refusal as refuses_callee, used_so, walked, walked_one, args_judged_if, call_finished};
+ghost use Rattle.wf_names_rules.specs.Called.{with_callee, with_calls};
 
 use crate::arguments::arguments;
-use crate::callees::Callee;
+use crate::callees::{Callee, add_callee};
+use crate::here::Here;
 use crate::lists::refused_if;
 use crate::seen::Seen;
-use crate::tables::{Scope, Tables, callee_on, path_sort, text_bytes};
+use crate::tables::{Tables, callee_on, path_sort, text_bytes};
+use graphs::rows::Row;
 use std::alloc::Global;
 use wf_ast::parsed::{
     Bounds, Call, Core, Expr, Given, Link, Name, Path, Prefix, Receiver, TypeExpr,
@@ -63,7 +67,11 @@ fn used(seen: Seen, has_meaning: bool, at: Place) -> Seen
 fn walk_own_status(seen: Seen, tables: &Tables, text: Name) -> Seen
     ensures { (texts : _) (scope : _) → result ≡ walked_one (known_by texts tables.now scope) seen (own_status text) }
 {
-    used(seen, tables.statuses.contains(&text.text.0), text.at)
+    used(
+        seen,
+        tables.statuses.numbers.contains_key(&text.text.0),
+        text.at,
+    )
 }
 
 fn walk_base_status(seen: Seen, parsed: &PackageNodes, text: Name) -> Seen
@@ -73,18 +81,12 @@ fn walk_base_status(seen: Seen, parsed: &PackageNodes, text: Name) -> Seen
 }
 
 /// A use of a path.
-pub(crate) fn walk_path(
-    seen: Seen,
-    parsed: &PackageNodes,
-    tables: &Tables,
-    scope: &Scope,
-    path: Path,
-) -> Seen
-    ensures { result ≡ walked_one (known_by parsed.now.texts tables.now scope.now) seen (variable path) }
+pub(crate) fn walk_path(seen: Seen, here: &Here<'_>, path: Path) -> Seen
+    ensures { result ≡ walked_one (known_here here.now) seen (variable path) }
 {
     used(
         seen,
-        path_sort(parsed, tables, scope, path).is_some(),
+        path_sort(here.parsed, here.tables, here.scope, path).is_some(),
         path.name.at,
     )
 }
@@ -93,21 +95,19 @@ pub(crate) fn walk_path(
 pub fn walk_struct(seen: Seen, tables: &Tables, name: Name) -> Seen
     ensures { (texts : _) (scope : _) → result ≡ walked_one (known_by texts tables.now scope) seen (structure name) }
 {
-    used(seen, tables.structs.contains(&name.text.0), name.at)
+    used(
+        seen,
+        tables.structs.numbers.contains_key(&name.text.0),
+        name.at,
+    )
 }
 
-fn walk_receiver(
-    seen: Seen,
-    parsed: &PackageNodes,
-    tables: &Tables,
-    scope: &Scope,
-    on: Receiver,
-) -> Seen
-    ensures { result ≡ walked (known_by parsed.now.texts tables.now scope.now) seen (receiver_uses on) }
+fn walk_receiver(seen: Seen, here: &Here<'_>, on: Receiver) -> Seen
+    ensures { result ≡ walked (known_here here.now) seen (receiver_uses on) }
 {
     match on {
         Receiver::This(_) => seen,
-        Receiver::Path(path) => walk_path(seen, parsed, tables, scope, path),
+        Receiver::Path(path) => walk_path(seen, here, path),
     }
 }
 
@@ -157,22 +157,18 @@ fn arguments_if(
     alloc: Global,
     known: bool,
     found: Option<Refusal>,
-    parsed: &PackageNodes,
-    tables: &Tables,
-    scope: &Scope,
+    here: &Here<'_>,
     callee: Callee,
     call: &Call,
 ) -> Result<Option<Refusal>, NoMemory>
-    requires { GivenBelow (length parsed.now.exprs) call.now.args }
-    ensures { IfOk result (λ all. all ≡ args_judged_if known (known_by parsed.now.texts tables.now scope.now) found (parameters_of (args_at tables.now) callee) call.now.method (given_values (given_at (expr_trees parsed.now.exprs) call.now.args))) }
+    requires { GivenBelow (length here.now.parsed.now.exprs) call.now.args }
+    ensures { IfOk result (λ all. all ≡ args_judged_if known (known_here here.now) found (parameters_of (args_at here.now.tables.now) callee) call.now.method (given_values (given_at (expr_trees here.now.parsed.now.exprs) call.now.args))) }
 {
     if known {
         arguments(
             alloc,
             found,
-            parsed,
-            tables,
-            scope,
+            here,
             callee,
             call.method,
             call.args.as_slice(),
@@ -183,64 +179,72 @@ fn arguments_if(
 }
 
 // A call after what it is made on and its arguments' values; `given` tells what these broke, and whether all in them
-// has a meaning.
+// has a meaning. Its method joins the row.
 fn finish_call(
     alloc: Global,
     given: Seen,
-    parsed: &PackageNodes,
-    tables: &Tables,
-    scope: &Scope,
+    row: &mut Row,
+    here: &Here<'_>,
     call: &Call,
 ) -> Result<Seen, NoMemory>
-    requires { GivenBelow (length parsed.now.exprs) call.now.args }
-    ensures { IfOk result (λ seen. seen ≡ call_finished (known_by parsed.now.texts tables.now scope.now) given (call_at (expr_trees parsed.now.exprs) call.now)) }
+    requires { GivenBelow (length here.now.parsed.now.exprs) call.now.args }
+    ensures seen { IfOk result (λ seen. seen ≡ call_finished (known_here here.now) given (call_at (expr_trees here.now.parsed.now.exprs) call.now)) }
+    ensures row { OnOk result (row.new ≡ with_callee row.old (callee_of (known_here here.now) (call_at (expr_trees here.now.parsed.now.exprs) call.now))) }
 {
-    let callee = callee_on(parsed, tables, scope, call.on, call.method.text);
+    let callee = callee_on(
+        here.parsed,
+        here.tables,
+        here.scope,
+        call.on,
+        call.method.text,
+    );
+    add_callee(row, callee)?;
     let found = sooner(given.found, callee_refusal(callee, call.method));
     let known = both(is_known(callee), given.known);
-    let found = arguments_if(alloc, known, found, parsed, tables, scope, callee, call)?;
+    let found = arguments_if(alloc, known, found, here, callee, call)?;
     Ok(Seen { found, known })
 }
 
-/// A walk past an expression.
+/// A walk past an expression. The methods that it calls join the row at its end, by their numbers, in order and each as
+/// often as it is called. `Err` where memory was refused; the row may then have some of them.
 #[cycle(walk_exprs)]
 pub fn walk_expr(
     alloc: Global,
     seen: Seen,
-    parsed: &PackageNodes,
-    tables: &Tables,
-    scope: &Scope,
+    row: &mut Row,
+    here: &Here<'_>,
     e: ExprId,
 ) -> Result<Seen, NoMemory>
-    requires { e.0 < length parsed.now.exprs }
-    ensures { IfOk result (λ all. all ≡ walked (known_by parsed.now.texts tables.now scope.now) seen (uses_of (expr_at (expr_trees parsed.now.exprs) e))) }
+    requires { e.0 < length here.now.parsed.now.exprs }
+    ensures seen { IfOk result (λ all. all ≡ walked (known_here here.now) seen (uses_of (expr_at (expr_trees here.now.parsed.now.exprs) e))) }
+    ensures row { OnOk result (row.new ≡ with_calls (known_here here.now) row.old (uses_of (expr_at (expr_trees here.now.parsed.now.exprs) e))) }
 {
-    let node = parsed.expr(e);
+    let node = here.parsed.expr(e);
     match &node.expr {
         Expr::Number(_) => Ok(seen),
-        Expr::OwnStatus(text) => Ok(walk_own_status(seen, tables, *text)),
-        Expr::BaseStatus(text) => Ok(walk_base_status(seen, parsed, *text)),
+        Expr::OwnStatus(text) => Ok(walk_own_status(seen, here.tables, *text)),
+        Expr::BaseStatus(text) => Ok(walk_base_status(seen, here.parsed, *text)),
         Expr::Fine => Ok(seen),
         Expr::Truth(_) => Ok(seen),
-        Expr::Path(path) => Ok(walk_path(seen, parsed, tables, scope, *path)),
+        Expr::Path(path) => Ok(walk_path(seen, here, *path)),
         Expr::Index { base, index } => {
-            let seen = walk_path(seen, parsed, tables, scope, *base);
-            walk_expr(alloc, seen, parsed, tables, scope, *index)
+            let seen = walk_path(seen, here, *base);
+            walk_expr(alloc, seen, row, here, *index)
         }
         Expr::Slice { base, from, to } => {
-            let seen = walk_path(seen, parsed, tables, scope, *base);
-            walk_parts(alloc, seen, parsed, tables, scope, *from, *to)
+            let seen = walk_path(seen, here, *base);
+            walk_parts(alloc, seen, row, here, *from, *to)
         }
-        Expr::Call(call) => walk_call(alloc, seen, parsed, tables, scope, call),
+        Expr::Call(call) => walk_call(alloc, seen, row, here, call),
         Expr::Chain { first, links, .. } => {
-            let seen = walk_expr(alloc, seen, parsed, tables, scope, *first)?;
-            walk_links(alloc, seen, parsed, tables, scope, links.as_slice())
+            let seen = walk_expr(alloc, seen, row, here, *first)?;
+            walk_links(alloc, seen, row, here, links.as_slice())
         }
         Expr::Convert { of, to } => {
-            let seen = walk_expr(alloc, seen, parsed, tables, scope, *of)?;
-            walk_type(alloc, seen, parsed, tables, scope, to)
+            let seen = walk_expr(alloc, seen, row, here, *of)?;
+            walk_type(alloc, seen, row, here, to)
         }
-        Expr::Not(of) => walk_expr(alloc, seen, parsed, tables, scope, *of),
+        Expr::Not(of) => walk_expr(alloc, seen, row, here, *of),
     }
 }
 
@@ -249,16 +253,16 @@ pub fn walk_expr(
 pub(crate) fn walk_part(
     alloc: Global,
     seen: Seen,
-    parsed: &PackageNodes,
-    tables: &Tables,
-    scope: &Scope,
+    row: &mut Row,
+    here: &Here<'_>,
     part: Option<ExprId>,
 ) -> Result<Seen, NoMemory>
-    requires { IsBelow (length parsed.now.exprs) part }
-    ensures { IfOk result (λ all. all ≡ walked (known_by parsed.now.texts tables.now scope.now) seen (part_uses (part_at (expr_trees parsed.now.exprs) part))) }
+    requires { IsBelow (length here.now.parsed.now.exprs) part }
+    ensures seen { IfOk result (λ all. all ≡ walked (known_here here.now) seen (part_uses (part_at (expr_trees here.now.parsed.now.exprs) part))) }
+    ensures row { OnOk result (row.new ≡ with_calls (known_here here.now) row.old (part_uses (part_at (expr_trees here.now.parsed.now.exprs) part))) }
 {
     match part {
-        Some(e) => walk_expr(alloc, seen, parsed, tables, scope, e),
+        Some(e) => walk_expr(alloc, seen, row, here, e),
         None => Ok(seen),
     }
 }
@@ -267,35 +271,35 @@ pub(crate) fn walk_part(
 fn walk_parts(
     alloc: Global,
     seen: Seen,
-    parsed: &PackageNodes,
-    tables: &Tables,
-    scope: &Scope,
+    row: &mut Row,
+    here: &Here<'_>,
     from: Option<ExprId>,
     to: Option<ExprId>,
 ) -> Result<Seen, NoMemory>
-    requires from { IsBelow (length parsed.now.exprs) from }
-    requires to { IsBelow (length parsed.now.exprs) to }
-    ensures { IfOk result (λ all. all ≡ walked (known_by parsed.now.texts tables.now scope.now) seen (part_uses (part_at (expr_trees parsed.now.exprs) from) ++ part_uses (part_at (expr_trees parsed.now.exprs) to))) }
+    requires from { IsBelow (length here.now.parsed.now.exprs) from }
+    requires to { IsBelow (length here.now.parsed.now.exprs) to }
+    ensures seen { IfOk result (λ all. all ≡ walked (known_here here.now) seen (part_uses (part_at (expr_trees here.now.parsed.now.exprs) from) ++ part_uses (part_at (expr_trees here.now.parsed.now.exprs) to))) }
+    ensures row { OnOk result (row.new ≡ with_calls (known_here here.now) row.old (part_uses (part_at (expr_trees here.now.parsed.now.exprs) from) ++ part_uses (part_at (expr_trees here.now.parsed.now.exprs) to))) }
 {
-    let seen = walk_part(alloc, seen, parsed, tables, scope, from)?;
-    walk_part(alloc, seen, parsed, tables, scope, to)
+    let seen = walk_part(alloc, seen, row, here, from)?;
+    walk_part(alloc, seen, row, here, to)
 }
 
 #[cycle(walk_exprs)]
 fn walk_links(
     alloc: Global,
     seen: Seen,
-    parsed: &PackageNodes,
-    tables: &Tables,
-    scope: &Scope,
+    row: &mut Row,
+    here: &Here<'_>,
     links: &[Link],
 ) -> Result<Seen, NoMemory>
-    requires { LinksBelow (length parsed.now.exprs) links.now }
-    ensures { IfOk result (λ all. all ≡ walked (known_by parsed.now.texts tables.now scope.now) seen (link_uses (links_at (expr_trees parsed.now.exprs) links.now))) }
+    requires { LinksBelow (length here.now.parsed.now.exprs) links.now }
+    ensures seen { IfOk result (λ all. all ≡ walked (known_here here.now) seen (link_uses (links_at (expr_trees here.now.parsed.now.exprs) links.now))) }
+    ensures row { OnOk result (row.new ≡ with_calls (known_here here.now) row.old (link_uses (links_at (expr_trees here.now.parsed.now.exprs) links.now))) }
 {
     let mut seen = seen;
     for link in links {
-        seen = walk_expr(alloc, seen, parsed, tables, scope, link.operand)?;
+        seen = walk_expr(alloc, seen, row, here, link.operand)?;
     }
     Ok(seen)
 }
@@ -305,17 +309,17 @@ fn walk_links(
 pub(crate) fn walk_given(
     alloc: Global,
     seen: Seen,
-    parsed: &PackageNodes,
-    tables: &Tables,
-    scope: &Scope,
+    row: &mut Row,
+    here: &Here<'_>,
     args: &[Given],
 ) -> Result<Seen, NoMemory>
-    requires { GivenBelow (length parsed.now.exprs) args.now }
-    ensures { IfOk result (λ all. all ≡ walked (known_by parsed.now.texts tables.now scope.now) seen (given_uses (given_at (expr_trees parsed.now.exprs) args.now))) }
+    requires { GivenBelow (length here.now.parsed.now.exprs) args.now }
+    ensures seen { IfOk result (λ all. all ≡ walked (known_here here.now) seen (given_uses (given_at (expr_trees here.now.parsed.now.exprs) args.now))) }
+    ensures row { OnOk result (row.new ≡ with_calls (known_here here.now) row.old (given_uses (given_at (expr_trees here.now.parsed.now.exprs) args.now))) }
 {
     let mut seen = seen;
     for given in args {
-        seen = walk_expr(alloc, seen, parsed, tables, scope, given.value)?;
+        seen = walk_expr(alloc, seen, row, here, given.value)?;
     }
     Ok(seen)
 }
@@ -325,24 +329,17 @@ pub(crate) fn walk_given(
 pub(crate) fn walk_call(
     alloc: Global,
     seen: Seen,
-    parsed: &PackageNodes,
-    tables: &Tables,
-    scope: &Scope,
+    row: &mut Row,
+    here: &Here<'_>,
     call: &Call,
 ) -> Result<Seen, NoMemory>
-    requires { GivenBelow (length parsed.now.exprs) call.now.args }
-    ensures { IfOk result (λ all. all ≡ walked (known_by parsed.now.texts tables.now scope.now) seen (call_uses (call_at (expr_trees parsed.now.exprs) call.now))) }
+    requires { GivenBelow (length here.now.parsed.now.exprs) call.now.args }
+    ensures seen { IfOk result (λ all. all ≡ walked (known_here here.now) seen (call_uses (call_at (expr_trees here.now.parsed.now.exprs) call.now))) }
+    ensures row { OnOk result (row.new ≡ with_calls (known_here here.now) row.old (call_uses (call_at (expr_trees here.now.parsed.now.exprs) call.now))) }
 {
-    let on = walk_receiver(seen, parsed, tables, scope, call.on);
-    let given = walk_given(
-        alloc,
-        afresh(on),
-        parsed,
-        tables,
-        scope,
-        call.args.as_slice(),
-    )?;
-    let all = finish_call(alloc, given, parsed, tables, scope, call)?;
+    let on = walk_receiver(seen, here, call.on);
+    let given = walk_given(alloc, afresh(on), row, here, call.args.as_slice())?;
+    let all = finish_call(alloc, given, row, here, call)?;
     Ok(joined(on, all))
 }
 
@@ -370,17 +367,17 @@ fn joined(before: Seen, since: Seen) -> Seen
 fn walk_prefix(
     alloc: Global,
     seen: Seen,
-    parsed: &PackageNodes,
-    tables: &Tables,
-    scope: &Scope,
+    row: &mut Row,
+    here: &Here<'_>,
     prefix: Prefix,
 ) -> Result<Seen, NoMemory>
-    requires { PrefixBelow (length parsed.now.exprs) prefix }
-    ensures { IfOk result (λ all. all ≡ walked (known_by parsed.now.texts tables.now scope.now) seen (prefix_uses (expr_trees parsed.now.exprs) prefix)) }
+    requires { PrefixBelow (length here.now.parsed.now.exprs) prefix }
+    ensures seen { IfOk result (λ all. all ≡ walked (known_here here.now) seen (prefix_uses (expr_trees here.now.parsed.now.exprs) prefix)) }
+    ensures row { OnOk result (row.new ≡ with_calls (known_here here.now) row.old (prefix_uses (expr_trees here.now.parsed.now.exprs) prefix)) }
 {
     match prefix {
         Prefix::Slice(_) => Ok(seen),
-        Prefix::Array { length, .. } => walk_expr(alloc, seen, parsed, tables, scope, length),
+        Prefix::Array { length, .. } => walk_expr(alloc, seen, row, here, length),
     }
 }
 
@@ -388,17 +385,17 @@ fn walk_prefix(
 fn walk_prefixes(
     alloc: Global,
     seen: Seen,
-    parsed: &PackageNodes,
-    tables: &Tables,
-    scope: &Scope,
+    row: &mut Row,
+    here: &Here<'_>,
     prefixes: &[Prefix],
 ) -> Result<Seen, NoMemory>
-    requires { AllByRecursion (PrefixBelow (length parsed.now.exprs)) prefixes.now }
-    ensures { IfOk result (λ all. all ≡ walked (known_by parsed.now.texts tables.now scope.now) seen (flat_map (prefix_uses (expr_trees parsed.now.exprs)) prefixes.now)) }
+    requires { AllByRecursion (PrefixBelow (length here.now.parsed.now.exprs)) prefixes.now }
+    ensures seen { IfOk result (λ all. all ≡ walked (known_here here.now) seen (flat_map (prefix_uses (expr_trees here.now.parsed.now.exprs)) prefixes.now)) }
+    ensures row { OnOk result (row.new ≡ with_calls (known_here here.now) row.old (flat_map (prefix_uses (expr_trees here.now.parsed.now.exprs)) prefixes.now)) }
 {
     let mut seen = seen;
     for prefix in prefixes {
-        seen = walk_prefix(alloc, seen, parsed, tables, scope, *prefix)?;
+        seen = walk_prefix(alloc, seen, row, here, *prefix)?;
     }
     Ok(seen)
 }
@@ -407,24 +404,16 @@ fn walk_prefixes(
 fn walk_bounds(
     alloc: Global,
     seen: Seen,
-    parsed: &PackageNodes,
-    tables: &Tables,
-    scope: &Scope,
+    row: &mut Row,
+    here: &Here<'_>,
     bounds: Option<Bounds>,
 ) -> Result<Seen, NoMemory>
-    requires { BoundsBelow (length parsed.now.exprs) bounds }
-    ensures { IfOk result (λ all. all ≡ walked (known_by parsed.now.texts tables.now scope.now) seen (bounds_uses (bounds_at (expr_trees parsed.now.exprs) bounds))) }
+    requires { BoundsBelow (length here.now.parsed.now.exprs) bounds }
+    ensures seen { IfOk result (λ all. all ≡ walked (known_here here.now) seen (bounds_uses (bounds_at (expr_trees here.now.parsed.now.exprs) bounds))) }
+    ensures row { OnOk result (row.new ≡ with_calls (known_here here.now) row.old (bounds_uses (bounds_at (expr_trees here.now.parsed.now.exprs) bounds))) }
 {
     match bounds {
-        Some(bounds) => walk_parts(
-            alloc,
-            seen,
-            parsed,
-            tables,
-            scope,
-            bounds.low,
-            Some(bounds.high),
-        ),
+        Some(bounds) => walk_parts(alloc, seen, row, here, bounds.low, Some(bounds.high)),
         None => Ok(seen),
     }
 }
@@ -433,19 +422,19 @@ fn walk_bounds(
 fn walk_core(
     alloc: Global,
     seen: Seen,
-    parsed: &PackageNodes,
-    tables: &Tables,
-    scope: &Scope,
+    row: &mut Row,
+    here: &Here<'_>,
     core: Core,
     bounds: Option<Bounds>,
 ) -> Result<Seen, NoMemory>
-    requires { BoundsBelow (length parsed.now.exprs) bounds }
-    ensures { IfOk result (λ all. all ≡ walked (known_by parsed.now.texts tables.now scope.now) seen (type_uses (core_at (expr_trees parsed.now.exprs) core bounds))) }
+    requires { BoundsBelow (length here.now.parsed.now.exprs) bounds }
+    ensures seen { IfOk result (λ all. all ≡ walked (known_here here.now) seen (type_uses (core_at (expr_trees here.now.parsed.now.exprs) core bounds))) }
+    ensures row { OnOk result (row.new ≡ with_calls (known_here here.now) row.old (type_uses (core_at (expr_trees here.now.parsed.now.exprs) core bounds))) }
 {
     match core {
-        Core::Base { .. } => walk_bounds(alloc, seen, parsed, tables, scope, bounds),
-        Core::BaseStatus { .. } => walk_bounds(alloc, seen, parsed, tables, scope, bounds),
-        Core::Struct(name) => Ok(walk_struct(seen, tables, name)),
+        Core::Base { .. } => walk_bounds(alloc, seen, row, here, bounds),
+        Core::BaseStatus { .. } => walk_bounds(alloc, seen, row, here, bounds),
+        Core::Struct(name) => Ok(walk_struct(seen, here.tables, name)),
     }
 }
 
@@ -454,14 +443,14 @@ fn walk_core(
 pub fn walk_type(
     alloc: Global,
     seen: Seen,
-    parsed: &PackageNodes,
-    tables: &Tables,
-    scope: &Scope,
+    row: &mut Row,
+    here: &Here<'_>,
     of: &TypeExpr,
 ) -> Result<Seen, NoMemory>
-    requires { TypeBelow (length parsed.now.exprs) of.now }
-    ensures { IfOk result (λ all. all ≡ walked (known_by parsed.now.texts tables.now scope.now) seen (type_uses (type_at (expr_trees parsed.now.exprs) of.now))) }
+    requires { TypeBelow (length here.now.parsed.now.exprs) of.now }
+    ensures seen { IfOk result (λ all. all ≡ walked (known_here here.now) seen (type_uses (type_at (expr_trees here.now.parsed.now.exprs) of.now))) }
+    ensures row { OnOk result (row.new ≡ with_calls (known_here here.now) row.old (type_uses (type_at (expr_trees here.now.parsed.now.exprs) of.now))) }
 {
-    let seen = walk_prefixes(alloc, seen, parsed, tables, scope, of.prefixes.as_slice())?;
-    walk_core(alloc, seen, parsed, tables, scope, of.core, of.bounds)
+    let seen = walk_prefixes(alloc, seen, row, here, of.prefixes.as_slice())?;
+    walk_core(alloc, seen, row, here, of.core, of.bounds)
 }

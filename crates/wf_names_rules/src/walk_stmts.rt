@@ -1,37 +1,42 @@
-// The walk over statements and their blocks: what their uses of names break.
+// The walk over statements and their blocks: what their uses of names, their loops and their jumps break, and the row of
+// the methods that they call.
 
-ghost use Rattle.std.specs.Prelude.{◌≡◌, ◌<◌, ◌++◌, length, IfOk};
+ghost use Rattle.std.specs.Prelude.{◌≡◌, ◌<◌, ◌++◌, ◌∷◌, [], length, IfOk, OnOk};
 ghost use Rattle.std.specs.List.{AllByRecursion};
 ghost use Rattle.wf_ast.specs.ParsedTrees.{expr_trees, expr_at, stmt_trees, stmt_at, block_at, else_at, arms_at, clauses_at, target_at, via_at};
 ghost use Rattle.wf_ast.specs.ParsedParts.{BlockBelow, ElseBelow, TargetBelow, ViaBelow};
 ghost use Rattle.wf_names_rules.specs.Uses.{uses_of, stmt_uses, block_uses, arm_uses, clause_uses, target_uses, via_uses};
-ghost use Rattle.wf_names_rules.specs.Tables.{known_by};
+ghost use Rattle.wf_names_rules.specs.Here.{known_here};
+ghost use Rattle.wf_names_rules.specs.Jumps.{label_jumps, stmt_jumps, block_jumps, arm_jumps, jumped};
 ghost use Rattle.wf_names_rules.specs.Judged.{walked};
+ghost use Rattle.wf_names_rules.specs.Called.{with_calls};
 
-use crate::seen::Seen;
-use crate::tables::{Scope, Tables};
+use crate::here::Here;
+use crate::labels::{enter_loop, pass_jump};
+use crate::seen::{Gathered, Seen};
 use crate::walk_exprs::{walk_call, walk_expr, walk_given, walk_part, walk_path, walk_type};
+use graphs::rows::Row;
 use std::alloc::Global;
-use wf_ast::parsed::{Arm, Block, LoopClause, Stmt, Target, Via};
-use wf_ast::{ExprId, PackageNodes, StmtId};
+use wf_ast::parsed::{Arm, Block, LoopClause, Name, Stmt, Target, Via};
+use wf_ast::{ExprId, StmtId};
 use wf_text::faults::NoMemory;
 
 fn walk_target(
     alloc: Global,
     seen: Seen,
-    parsed: &PackageNodes,
-    tables: &Tables,
-    scope: &Scope,
+    row: &mut Row,
+    here: &Here<'_>,
     target: Target,
 ) -> Result<Seen, NoMemory>
-    requires { TargetBelow (length parsed.now.exprs) target }
-    ensures { IfOk result (λ all. all ≡ walked (known_by parsed.now.texts tables.now scope.now) seen (target_uses (target_at (expr_trees parsed.now.exprs) target))) }
+    requires { TargetBelow (length here.now.parsed.now.exprs) target }
+    ensures seen { IfOk result (λ all. all ≡ walked (known_here here.now) seen (target_uses (target_at (expr_trees here.now.parsed.now.exprs) target))) }
+    ensures row { OnOk result (row.new ≡ with_calls (known_here here.now) row.old (target_uses (target_at (expr_trees here.now.parsed.now.exprs) target))) }
 {
     match target {
-        Target::Path(path) => Ok(walk_path(seen, parsed, tables, scope, path)),
+        Target::Path(path) => Ok(walk_path(seen, here, path)),
         Target::Element { base, index, .. } => {
-            let seen = walk_path(seen, parsed, tables, scope, base);
-            walk_expr(alloc, seen, parsed, tables, scope, index)
+            let seen = walk_path(seen, here, base);
+            walk_expr(alloc, seen, row, here, index)
         }
     }
 }
@@ -39,17 +44,17 @@ fn walk_target(
 fn walk_clauses(
     alloc: Global,
     seen: Seen,
-    parsed: &PackageNodes,
-    tables: &Tables,
-    scope: &Scope,
+    row: &mut Row,
+    here: &Here<'_>,
     clauses: &[LoopClause],
 ) -> Result<Seen, NoMemory>
-    requires { AllByRecursion (λ c. c.condition.0 < length parsed.now.exprs) clauses.now }
-    ensures { IfOk result (λ all. all ≡ walked (known_by parsed.now.texts tables.now scope.now) seen (clause_uses (clauses_at (expr_trees parsed.now.exprs) clauses.now))) }
+    requires { AllByRecursion (λ c. c.condition.0 < length here.now.parsed.now.exprs) clauses.now }
+    ensures seen { IfOk result (λ all. all ≡ walked (known_here here.now) seen (clause_uses (clauses_at (expr_trees here.now.parsed.now.exprs) clauses.now))) }
+    ensures row { OnOk result (row.new ≡ with_calls (known_here here.now) row.old (clause_uses (clauses_at (expr_trees here.now.parsed.now.exprs) clauses.now))) }
 {
     let mut seen = seen;
     for clause in clauses {
-        seen = walk_expr(alloc, seen, parsed, tables, scope, clause.condition)?;
+        seen = walk_expr(alloc, seen, row, here, clause.condition)?;
     }
     Ok(seen)
 }
@@ -57,16 +62,16 @@ fn walk_clauses(
 fn walk_via(
     alloc: Global,
     seen: Seen,
-    parsed: &PackageNodes,
-    tables: &Tables,
-    scope: &Scope,
+    row: &mut Row,
+    here: &Here<'_>,
     via: &Option<Via>,
 ) -> Result<Seen, NoMemory>
-    requires { ViaBelow (length parsed.now.exprs) via.now }
-    ensures { IfOk result (λ all. all ≡ walked (known_by parsed.now.texts tables.now scope.now) seen (via_uses (via_at (expr_trees parsed.now.exprs) via.now))) }
+    requires { ViaBelow (length here.now.parsed.now.exprs) via.now }
+    ensures seen { IfOk result (λ all. all ≡ walked (known_here here.now) seen (via_uses (via_at (expr_trees here.now.parsed.now.exprs) via.now))) }
+    ensures row { OnOk result (row.new ≡ with_calls (known_here here.now) row.old (via_uses (via_at (expr_trees here.now.parsed.now.exprs) via.now))) }
 {
     match via {
-        Some(via) => walk_given(alloc, seen, parsed, tables, scope, via.given.as_slice()),
+        Some(via) => walk_given(alloc, seen, row, here, via.given.as_slice()),
         None => Ok(seen),
     }
 }
@@ -75,97 +80,129 @@ fn walk_via(
 fn walk_head(
     alloc: Global,
     seen: Seen,
-    parsed: &PackageNodes,
-    tables: &Tables,
-    scope: &Scope,
+    row: &mut Row,
+    here: &Here<'_>,
     condition: ExprId,
     clauses: &[LoopClause],
 ) -> Result<Seen, NoMemory>
-    requires condition { condition.0 < length parsed.now.exprs }
-    requires clauses { AllByRecursion (λ c. c.condition.0 < length parsed.now.exprs) clauses.now }
-    ensures { IfOk result (λ all. all ≡ walked (known_by parsed.now.texts tables.now scope.now) seen (uses_of (expr_at (expr_trees parsed.now.exprs) condition) ++ clause_uses (clauses_at (expr_trees parsed.now.exprs) clauses.now))) }
+    requires condition { condition.0 < length here.now.parsed.now.exprs }
+    requires clauses { AllByRecursion (λ c. c.condition.0 < length here.now.parsed.now.exprs) clauses.now }
+    ensures seen { IfOk result (λ all. all ≡ walked (known_here here.now) seen (uses_of (expr_at (expr_trees here.now.parsed.now.exprs) condition) ++ clause_uses (clauses_at (expr_trees here.now.parsed.now.exprs) clauses.now))) }
+    ensures row { OnOk result (row.new ≡ with_calls (known_here here.now) row.old (uses_of (expr_at (expr_trees here.now.parsed.now.exprs) condition) ++ clause_uses (clauses_at (expr_trees here.now.parsed.now.exprs) clauses.now))) }
 {
-    let seen = walk_expr(alloc, seen, parsed, tables, scope, condition)?;
-    walk_clauses(alloc, seen, parsed, tables, scope, clauses)
+    let seen = walk_expr(alloc, seen, row, here, condition)?;
+    walk_clauses(alloc, seen, row, here, clauses)
+}
+
+// A loop after its condition and its promises: its label among those of the loops round it, then its body with the label
+// among them.
+#[cycle(walk_stmts)]
+fn walk_loop(
+    alloc: Global,
+    seen: Seen,
+    gathered: &mut Gathered,
+    here: &Here<'_>,
+    label: Option<Name>,
+    body: &Block,
+) -> Result<Seen, NoMemory>
+    requires { BlockBelow (length here.now.parsed.now.stmts) body.now }
+    ensures seen { IfOk result (λ all. all ≡ walked (known_here here.now) seen (block_uses (block_at (stmt_trees here.now.parsed.now.exprs here.now.parsed.now.stmts) body.now))) }
+    ensures row { OnOk result (gathered.new.row ≡ with_calls (known_here here.now) gathered.old.row (block_uses (block_at (stmt_trees here.now.parsed.now.exprs here.now.parsed.now.stmts) body.now))) }
+    ensures labels { OnOk result (gathered.new.labels ≡ jumped here.now.parsed.now.texts gathered.old.labels (label_jumps gathered.old.loops.items label ++ block_jumps (gathered.old.loops.items ++ label ∷ []) (block_at (stmt_trees here.now.parsed.now.exprs here.now.parsed.now.stmts) body.now))) }
+    ensures loops { OnOk result (gathered.new.loops.items ≡ gathered.old.loops.items) }
+{
+    enter_loop(gathered, here.parsed, label)?;
+    let seen = walk_block(alloc, seen, gathered, here, body)?;
+    gathered.loops.pop();
+    Ok(seen)
 }
 
 #[cycle(walk_stmts)]
 fn walk_stmt(
     alloc: Global,
     seen: Seen,
-    parsed: &PackageNodes,
-    tables: &Tables,
-    scope: &Scope,
+    gathered: &mut Gathered,
+    here: &Here<'_>,
     s: StmtId,
 ) -> Result<Seen, NoMemory>
-    requires { s.0 < length parsed.now.stmts }
-    ensures { IfOk result (λ all. all ≡ walked (known_by parsed.now.texts tables.now scope.now) seen (stmt_uses (stmt_at (stmt_trees parsed.now.exprs parsed.now.stmts) s))) }
+    requires { s.0 < length here.now.parsed.now.stmts }
+    ensures seen { IfOk result (λ all. all ≡ walked (known_here here.now) seen (stmt_uses (stmt_at (stmt_trees here.now.parsed.now.exprs here.now.parsed.now.stmts) s))) }
+    ensures row { OnOk result (gathered.new.row ≡ with_calls (known_here here.now) gathered.old.row (stmt_uses (stmt_at (stmt_trees here.now.parsed.now.exprs here.now.parsed.now.stmts) s))) }
+    ensures labels { OnOk result (gathered.new.labels ≡ jumped here.now.parsed.now.texts gathered.old.labels (stmt_jumps gathered.old.loops.items (stmt_at (stmt_trees here.now.parsed.now.exprs here.now.parsed.now.stmts) s))) }
+    ensures loops { OnOk result (gathered.new.loops.items ≡ gathered.old.loops.items) }
 {
-    let node = parsed.stmt(s);
+    let node = here.parsed.stmt(s);
     match &node.stmt {
-        Stmt::Var { of, .. } => walk_type(alloc, seen, parsed, tables, scope, of),
+        Stmt::Var { of, .. } => walk_type(alloc, seen, &mut gathered.row, here, of),
         Stmt::Assign { target, value, .. } => {
-            let seen = walk_target(alloc, seen, parsed, tables, scope, *target)?;
-            walk_expr(alloc, seen, parsed, tables, scope, *value)
+            let seen = walk_target(alloc, seen, &mut gathered.row, here, *target)?;
+            walk_expr(alloc, seen, &mut gathered.row, here, *value)
         }
         Stmt::Keep { target, call } => {
-            let seen = walk_target(alloc, seen, parsed, tables, scope, *target)?;
-            walk_call(alloc, seen, parsed, tables, scope, call)
+            let seen = walk_target(alloc, seen, &mut gathered.row, here, *target)?;
+            walk_call(alloc, seen, &mut gathered.row, here, call)
         }
-        Stmt::Call(call) => walk_call(alloc, seen, parsed, tables, scope, call),
+        Stmt::Call(call) => walk_call(alloc, seen, &mut gathered.row, here, call),
         Stmt::If { arms, otherwise } => walk_arms(
             alloc,
             seen,
-            parsed,
-            tables,
-            scope,
+            gathered,
+            here,
             arms.as_slice(),
             otherwise,
         ),
         Stmt::While {
+            label,
             condition,
             clauses,
             body,
-            ..
         } => {
             let seen = walk_head(
                 alloc,
                 seen,
-                parsed,
-                tables,
-                scope,
+                &mut gathered.row,
+                here,
                 *condition,
                 clauses.as_slice(),
             )?;
-            walk_block(alloc, seen, parsed, tables, scope, body)
+            walk_loop(alloc, seen, gathered, here, *label, body)
         }
-        Stmt::Break(_) => Ok(seen),
-        Stmt::Continue(_) => Ok(seen),
-        Stmt::Return(value) => walk_part(alloc, seen, parsed, tables, scope, *value),
-        Stmt::Yield(value) => walk_expr(alloc, seen, parsed, tables, scope, *value),
+        Stmt::Break(label) => {
+            pass_jump(gathered, here.parsed, *label, node.at);
+            Ok(seen)
+        }
+        Stmt::Continue(label) => {
+            pass_jump(gathered, here.parsed, *label, node.at);
+            Ok(seen)
+        }
+        Stmt::Return(value) => walk_part(alloc, seen, &mut gathered.row, here, *value),
+        Stmt::Yield(value) => walk_expr(alloc, seen, &mut gathered.row, here, *value),
         Stmt::Assert { goal, via } => {
-            let seen = walk_expr(alloc, seen, parsed, tables, scope, *goal)?;
-            walk_via(alloc, seen, parsed, tables, scope, via)
+            let seen = walk_expr(alloc, seen, &mut gathered.row, here, *goal)?;
+            walk_via(alloc, seen, &mut gathered.row, here, via)
         }
     }
 }
 
-/// A walk past a block.
+/// A walk past a block. The methods that it calls join the row at its end, and what its loops and jumps break joins that of
+/// those before it.
 #[cycle(walk_stmts)]
 pub fn walk_block(
     alloc: Global,
     seen: Seen,
-    parsed: &PackageNodes,
-    tables: &Tables,
-    scope: &Scope,
+    gathered: &mut Gathered,
+    here: &Here<'_>,
     block: &Block,
 ) -> Result<Seen, NoMemory>
-    requires { BlockBelow (length parsed.now.stmts) block.now }
-    ensures { IfOk result (λ all. all ≡ walked (known_by parsed.now.texts tables.now scope.now) seen (block_uses (block_at (stmt_trees parsed.now.exprs parsed.now.stmts) block.now))) }
+    requires { BlockBelow (length here.now.parsed.now.stmts) block.now }
+    ensures seen { IfOk result (λ all. all ≡ walked (known_here here.now) seen (block_uses (block_at (stmt_trees here.now.parsed.now.exprs here.now.parsed.now.stmts) block.now))) }
+    ensures row { OnOk result (gathered.new.row ≡ with_calls (known_here here.now) gathered.old.row (block_uses (block_at (stmt_trees here.now.parsed.now.exprs here.now.parsed.now.stmts) block.now))) }
+    ensures labels { OnOk result (gathered.new.labels ≡ jumped here.now.parsed.now.texts gathered.old.labels (block_jumps gathered.old.loops.items (block_at (stmt_trees here.now.parsed.now.exprs here.now.parsed.now.stmts) block.now))) }
+    ensures loops { OnOk result (gathered.new.loops.items ≡ gathered.old.loops.items) }
 {
     let mut seen = seen;
     for s in block.items.as_slice() {
-        seen = walk_stmt(alloc, seen, parsed, tables, scope, *s)?;
+        seen = walk_stmt(alloc, seen, gathered, here, *s)?;
     }
     Ok(seen)
 }
@@ -174,33 +211,37 @@ pub fn walk_block(
 fn walk_arm(
     alloc: Global,
     seen: Seen,
-    parsed: &PackageNodes,
-    tables: &Tables,
-    scope: &Scope,
+    gathered: &mut Gathered,
+    here: &Here<'_>,
     arm: &Arm,
 ) -> Result<Seen, NoMemory>
-    requires condition { arm.now.condition.0 < length parsed.now.exprs }
-    requires body { BlockBelow (length parsed.now.stmts) arm.now.body }
-    ensures { IfOk result (λ all. all ≡ walked (known_by parsed.now.texts tables.now scope.now) seen (uses_of (expr_at (expr_trees parsed.now.exprs) arm.now.condition) ++ block_uses (block_at (stmt_trees parsed.now.exprs parsed.now.stmts) arm.now.body))) }
+    requires condition { arm.now.condition.0 < length here.now.parsed.now.exprs }
+    requires body { BlockBelow (length here.now.parsed.now.stmts) arm.now.body }
+    ensures seen { IfOk result (λ all. all ≡ walked (known_here here.now) seen (uses_of (expr_at (expr_trees here.now.parsed.now.exprs) arm.now.condition) ++ block_uses (block_at (stmt_trees here.now.parsed.now.exprs here.now.parsed.now.stmts) arm.now.body))) }
+    ensures row { OnOk result (gathered.new.row ≡ with_calls (known_here here.now) gathered.old.row (uses_of (expr_at (expr_trees here.now.parsed.now.exprs) arm.now.condition) ++ block_uses (block_at (stmt_trees here.now.parsed.now.exprs here.now.parsed.now.stmts) arm.now.body))) }
+    ensures labels { OnOk result (gathered.new.labels ≡ jumped here.now.parsed.now.texts gathered.old.labels (block_jumps gathered.old.loops.items (block_at (stmt_trees here.now.parsed.now.exprs here.now.parsed.now.stmts) arm.now.body))) }
+    ensures loops { OnOk result (gathered.new.loops.items ≡ gathered.old.loops.items) }
 {
-    let seen = walk_expr(alloc, seen, parsed, tables, scope, arm.condition)?;
-    walk_block(alloc, seen, parsed, tables, scope, &arm.body)
+    let seen = walk_expr(alloc, seen, &mut gathered.row, here, arm.condition)?;
+    walk_block(alloc, seen, gathered, here, &arm.body)
 }
 
 #[cycle(walk_stmts)]
 fn walk_else(
     alloc: Global,
     seen: Seen,
-    parsed: &PackageNodes,
-    tables: &Tables,
-    scope: &Scope,
+    gathered: &mut Gathered,
+    here: &Here<'_>,
     otherwise: &Option<Block>,
 ) -> Result<Seen, NoMemory>
-    requires { ElseBelow (length parsed.now.stmts) otherwise.now }
-    ensures { IfOk result (λ all. all ≡ walked (known_by parsed.now.texts tables.now scope.now) seen (arm_uses (else_at (stmt_trees parsed.now.exprs parsed.now.stmts) otherwise.now))) }
+    requires { ElseBelow (length here.now.parsed.now.stmts) otherwise.now }
+    ensures seen { IfOk result (λ all. all ≡ walked (known_here here.now) seen (arm_uses (else_at (stmt_trees here.now.parsed.now.exprs here.now.parsed.now.stmts) otherwise.now))) }
+    ensures row { OnOk result (gathered.new.row ≡ with_calls (known_here here.now) gathered.old.row (arm_uses (else_at (stmt_trees here.now.parsed.now.exprs here.now.parsed.now.stmts) otherwise.now))) }
+    ensures labels { OnOk result (gathered.new.labels ≡ jumped here.now.parsed.now.texts gathered.old.labels (arm_jumps gathered.old.loops.items (else_at (stmt_trees here.now.parsed.now.exprs here.now.parsed.now.stmts) otherwise.now))) }
+    ensures loops { OnOk result (gathered.new.loops.items ≡ gathered.old.loops.items) }
 {
     match otherwise {
-        Some(block) => walk_block(alloc, seen, parsed, tables, scope, block),
+        Some(block) => walk_block(alloc, seen, gathered, here, block),
         None => Ok(seen),
     }
 }
@@ -209,19 +250,21 @@ fn walk_else(
 fn walk_arms(
     alloc: Global,
     seen: Seen,
-    parsed: &PackageNodes,
-    tables: &Tables,
-    scope: &Scope,
+    gathered: &mut Gathered,
+    here: &Here<'_>,
     arms: &[Arm],
     otherwise: &Option<Block>,
 ) -> Result<Seen, NoMemory>
-    requires arms { AllByRecursion (λ a. (a.condition.0 < length parsed.now.exprs) × BlockBelow (length parsed.now.stmts) a.body) arms.now }
-    requires otherwise { ElseBelow (length parsed.now.stmts) otherwise.now }
-    ensures { IfOk result (λ all. all ≡ walked (known_by parsed.now.texts tables.now scope.now) seen (arm_uses (arms_at (expr_trees parsed.now.exprs) (stmt_trees parsed.now.exprs parsed.now.stmts) arms.now (else_at (stmt_trees parsed.now.exprs parsed.now.stmts) otherwise.now)))) }
+    requires arms { AllByRecursion (λ a. (a.condition.0 < length here.now.parsed.now.exprs) × BlockBelow (length here.now.parsed.now.stmts) a.body) arms.now }
+    requires otherwise { ElseBelow (length here.now.parsed.now.stmts) otherwise.now }
+    ensures seen { IfOk result (λ all. all ≡ walked (known_here here.now) seen (arm_uses (arms_at (expr_trees here.now.parsed.now.exprs) (stmt_trees here.now.parsed.now.exprs here.now.parsed.now.stmts) arms.now (else_at (stmt_trees here.now.parsed.now.exprs here.now.parsed.now.stmts) otherwise.now)))) }
+    ensures row { OnOk result (gathered.new.row ≡ with_calls (known_here here.now) gathered.old.row (arm_uses (arms_at (expr_trees here.now.parsed.now.exprs) (stmt_trees here.now.parsed.now.exprs here.now.parsed.now.stmts) arms.now (else_at (stmt_trees here.now.parsed.now.exprs here.now.parsed.now.stmts) otherwise.now)))) }
+    ensures labels { OnOk result (gathered.new.labels ≡ jumped here.now.parsed.now.texts gathered.old.labels (arm_jumps gathered.old.loops.items (arms_at (expr_trees here.now.parsed.now.exprs) (stmt_trees here.now.parsed.now.exprs here.now.parsed.now.stmts) arms.now (else_at (stmt_trees here.now.parsed.now.exprs here.now.parsed.now.stmts) otherwise.now)))) }
+    ensures loops { OnOk result (gathered.new.loops.items ≡ gathered.old.loops.items) }
 {
     let mut seen = seen;
     for arm in arms {
-        seen = walk_arm(alloc, seen, parsed, tables, scope, arm)?;
+        seen = walk_arm(alloc, seen, gathered, here, arm)?;
     }
-    walk_else(alloc, seen, parsed, tables, scope, otherwise)
+    walk_else(alloc, seen, gathered, here, otherwise)
 }

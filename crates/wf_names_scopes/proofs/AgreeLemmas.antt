@@ -1,13 +1,15 @@
 -- Knowledges that agree are the same.
-use Rattle.std.proofs.Common.{◌≡◌, ℕ, zero, suc, List, [], ◌∷◌, map, slice_get, Option, None, Some, refl, ap, ◌∙◌}
+use Rattle.std.proofs.Common.{◌≡◌, ℕ, zero, suc, List, [], ◌∷◌, map, slice_get, Bool, Option, None, Some, is_some, refl, sym, ap, ◌∙◌}
+use Rattle.std.specs.List.{position_from}
 use Rattle.indexmap.specs.IndexSet.{IndexSet}
 use Rattle.wf_names_rules.specs.declared.tables.Tables.{Tables}
 use Rattle.wf_names_rules.specs.declared.tables.Scope.{Scope as ScopeTables}
-use Rattle.wf_names_rules.specs.Declarations.{Method, Declared}
+use Rattle.wf_names_rules.specs.Declarations.{Method, Declared, is_spelt}
 use Rattle.wf_names_rules.specs.Uses.{Scope}
 use Rattle.wf_names_rules.specs.Meanings.{Known, known_at, sort_in, fields_known, method_known, public_in, args_in}
-use Rattle.wf_names_rules.specs.Tables.{known_by, field_at, own_method_at, flag_in, names_in}
+use Rattle.wf_names_rules.specs.Tables.{known_by, number_at, field_at, own_method_at, flag_in, names_in}
 use Rattle.wf_names_scopes.specs.Agreeing.{Agree, TellsPackage, TellsScope}
+use Rattle.wf_names_scopes.proofs.FirstLemmas.{position_any}
 
 -- What each method has, by its number.
 public_at_place : (ms : List Method) (m : ℕ) → flag_in (slice_get (map (λ m. m.public) ms) m) ≡ public_in (slice_get ms m)
@@ -29,16 +31,20 @@ args_at_place [] m = refl
 args_at_place (x ∷ xs) zero = refl
 args_at_place (x ∷ xs) (suc m) = args_at_place xs m
 
+-- A name has a number wherever the first is counted from.
+numbered : {X : Type 0} (p : X → Bool) (first : ℕ) (xs : List X) (o : Option ℕ) → o ≡ position_from p first xs → is_some o ≡ is_some (position_from p 0 xs)
+numbered p first xs o e = ap is_some e ∙ position_any p first xs ∙ sym (position_any p 0 xs)
+
 -- What tables tell that tell the package and the scope.
 pub agree_by : (d : Declared) (scope : Scope) (t : Tables) (s : ScopeTables) → TellsPackage d t → TellsScope d scope s → Agree (known_by d.texts t s) (known_at d scope)
 agree_by d scope t s p q = record {
   bytes = λ text. refl;
-  is_status = p.statuses;
-  is_struct = p.structs;
-  local = q.locals;
-  constant = q.constants;
+  is_status = λ text. numbered (is_spelt text) 10 d.statuses (number_at t.statuses text) (p.statuses.numbers text);
+  is_struct = λ text. ap is_some (p.structs.numbers text);
+  local = q.locals.sorts;
+  constant = q.constants.sorts;
   field = λ text. ap (λ this. field_at t this text) q.this ∙ field scope.this text;
-  arg = q.args;
+  arg = q.args.sorts;
   own_method = λ text. ap (λ this. own_method_at t this text) q.this ∙ own scope.this text;
   struct_method = p.methods;
   is_method = p.method_names;

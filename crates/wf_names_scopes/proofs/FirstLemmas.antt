@@ -1,11 +1,16 @@
 -- Lists of which the first of a name is meant, with one more item at their end.
-use Rattle.std.proofs.Common.{◌≡◌, ℕ, suc, ◌+◌, Bool, true, false, cond, ◌||◌, List, [], ◌∷◌, ◌++◌, map, length, Option, Some, None, is_some, refl, sym, ap, ◌∙◌, arith}
+use Rattle.std.proofs.Common.{◌≡◌, ℕ, suc, ◌+◌, Bool, true, false, cond, ◌||◌, List, [], ◌∷◌, ◌++◌, map, length, Option, Some, None, is_some, option_map, refl, ap, ◌∙◌, arith}
 use Rattle.std.specs.Option.{option_or}
 use Rattle.std.specs.List.{find, position_from, list_any}
 
 pub or_none : {X : Type 0} (o : Option X) → o ≡ option_or o None
 or_none (Some y) = refl
 or_none None = refl
+
+pub mapped : {X Y : Type 0} (f : X → Y) (o : Option X) (b : Bool) (x : X) → option_map f (option_or o (cond b (Some x) None)) ≡ option_or (option_map f o) (cond b (Some (f x)) None)
+mapped f (Some y) b x = refl
+mapped f None true x = refl
+mapped f None false x = refl
 
 module _ {X : Type 0} (p : X → Bool) where
   pub position_pushed : (i : ℕ) (xs : List X) (x : X) → position_from p i (xs ++ x ∷ []) ≡ option_or (position_from p i xs) (cond (p x) (Some (i + length xs)) None)
@@ -55,10 +60,6 @@ module _ {X : Type 0} (p : X → Bool) where
       by : (b : Bool) → list_any p (ys ++ x ∷ []) ≡ (list_any p ys || p x) → (b || list_any p (ys ++ x ∷ [])) ≡ ((b || list_any p ys) || p x)
       by true r = refl
       by false r = r
-
--- Whether a name is declared, after one more declaration.
-pub declared_pushed : {X : Type 0} (p : X → Bool) (xs : List X) (x : X) → is_some (position_from p 0 (xs ++ x ∷ [])) ≡ (is_some (position_from p 0 xs) || p x)
-declared_pushed p xs x = position_any p 0 (xs ++ x ∷ []) ∙ any_pushed p xs x ∙ ap (λ b. b || p x) (sym (position_any p 0 xs))
 
 pub map_pushed : {X Y : Type 0} (f : X → Y) (xs : List X) (x : X) → map f (xs ++ x ∷ []) ≡ map f xs ++ f x ∷ []
 map_pushed f [] x = refl

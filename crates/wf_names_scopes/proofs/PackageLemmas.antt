@@ -2,8 +2,7 @@
 use Rattle.std.proofs.Common.{◌≡◌, ℕ, ◌+◌, ◌<◌, ◌≤◌, Bool, true, false, not, cond, ◌&&◌, ◌||◌, List, [], ◌∷◌, ◌++◌, map, length, take, slice_get, slice_index_or, Option, Some, None, is_some, nat_eq, Result, Ok, Err, OnOk, refl, sym, ap, ◌∙◌, subst, append_assoc, append-nil, length-append, arith, add-one, take-suc, take_all, Vec, vec_len}
 use Rattle.std.specs.Option.{option_or}
 use Rattle.std.specs.List.{find, position_from, list_any}
-use Rattle.indexmap.specs.IndexMap.{get}
-use Rattle.indexmap.specs.IndexSet.{IndexSet, contains, insert_all}
+use Rattle.indexmap.specs.IndexSet.{IndexSet, insert_all}
 use Rattle.wf_text.specs.declared.faults.NoMemory.{NoMemory}
 use Rattle.wf_text.specs.declared.place.Place.{Place}
 use Rattle.wf_ast.specs.declared.parsed.DeclNode.{DeclNode}
@@ -15,15 +14,15 @@ use Rattle.wf_ast.specs.ParsedTree.{ExprTree, StmtTree, TypeTree, FieldTrees, Re
 use Rattle.wf_ast.specs.ParsedParts.{Parsed}
 use Rattle.wf_ast.specs.ParsedTrees.{expr_trees, stmt_trees, decl_trees, decl_made, decls_made, fields_at}
 use Rattle.wf_ast.proofs.TreeLemmas.{slice_get-seam}
-use Rattle.wf_names_rules.specs.declared.sorts.Sort.{Sort}
+use Rattle.wf_names_rules.specs.declared.tables.Numbers.{Numbers}
 use Rattle.wf_names_rules.specs.declared.tables.Tables.{Tables}
-use Rattle.wf_names_rules.specs.Declarations.{Variable, Constant, Structure, Method, Declared, declared, variables, statuses_of, constants_of, structs_of, methods_of, is_spelt, status_named, struct_named, method_named, structure_in, fields_in, fields_of, locals_of}
+use Rattle.wf_names_rules.specs.Declarations.{Variable, Constant, Structure, Method, Declared, declared, variables, statuses_of, constants_of, structs_of, methods_of, is_spelt, struct_named, method_named, structure_in, fields_in, fields_of, locals_of}
 use Rattle.wf_names_rules.specs.Meanings.{args_in}
-use Rattle.wf_names_rules.specs.Tables.{Pair, same_pair}
+use Rattle.wf_names_rules.specs.Tables.{Pair, same_pair, has_number}
 use Rattle.graphs.proofs.NumberLemmas.{same_number}
-use Rattle.wf_names_scopes.specs.Agreeing.{TellsPackage, package_of, sort_among}
+use Rattle.wf_names_scopes.specs.Agreeing.{TellsNumbers, TellsPackage, package_of}
 use Rattle.wf_names_scopes.specs.Growing.{with_first, with_fields, with_status, with_struct, with_method}
-use Rattle.wf_names_scopes.proofs.FirstLemmas.{or_none, position_pushed, position_any, find_any, find_pushed, any_pushed, declared_pushed, map_pushed, map_length}
+use Rattle.wf_names_scopes.proofs.FirstLemmas.{or_none, position_pushed, position_any, find_any, find_pushed, any_pushed, map_pushed, map_length}
 
 -- The struct that a name stands for.
 struct_at : (d : Declared) (p : Structure → Bool) (front xs : List Structure) → d.structs ≡ front ++ xs → structure_in d (position_from p (length front) xs) ≡ find p xs
@@ -44,40 +43,42 @@ fields_found d owner = ap fields_in (struct_at d (λ s. is_spelt owner s.name) [
 named_found : (d : Declared) (owner : ℕ) → is_some (struct_named d owner) ≡ is_some (find (λ s. is_spelt owner s.name) d.structs)
 named_found d owner = position_any (λ s. is_spelt owner s.name) 0 d.structs ∙ sym (find_any (λ s. is_spelt owner s.name) d.structs)
 
-module _ (d : Declared) (t : Tables) (s : Structure) (p : TellsPackage d t) where
+-- What a table of fields answers, of which `among` tells what it answers of the fields of one struct.
+module _ {X : Type 0} (d : Declared) (s : Structure) (known : Numbers) (told : TellsNumbers 0 (λ s. s.name) d.structs known) (among : List Variable → ℕ → Option X) (none : (text : ℕ) → among [] text ≡ None)
+    (old : Pair → Option X) (fields : (owner text : ℕ) → old (owner, text) ≡ among (fields_of d owner) text) where
   -- The fields that are known after one more struct.
-  fields_behind : (owner text : ℕ) → sort_among d.texts (fields_of (with_struct d s) owner) text
-      ≡ sort_among d.texts (fields_in (option_or (find (λ s. is_spelt owner s.name) d.structs) (cond (nat_eq s.name.text.0 owner) (Some s) None))) text
+  fields_behind : (owner text : ℕ) → among (fields_of (with_struct d s) owner) text
+      ≡ among (fields_in (option_or (find (λ s. is_spelt owner s.name) d.structs) (cond (nat_eq s.name.text.0 owner) (Some s) None))) text
   fields_behind owner text =
-      ap (λ vs. sort_among d.texts vs text) (fields_found (with_struct d s) owner ∙ ap fields_in (find_pushed (λ s. is_spelt owner s.name) d.structs s))
+      ap (λ vs. among vs text) (fields_found (with_struct d s) owner ∙ ap fields_in (find_pushed (λ s. is_spelt owner s.name) d.structs s))
 
-  known_before : (owner : ℕ) → nat_eq s.name.text.0 owner ≡ true → is_some (find (λ s. is_spelt owner s.name) d.structs) ≡ contains nat_eq t.structs s.name.text.0
-  known_before owner e = sym (named_found d owner) ∙ sym (p.structs owner) ∙ ap (λ n. contains nat_eq t.structs n) (sym (same_number s.name.text.0 owner e))
+  known_before : (owner : ℕ) → nat_eq s.name.text.0 owner ≡ true → is_some (find (λ s. is_spelt owner s.name) d.structs) ≡ has_number known s.name.text.0
+  known_before owner e = sym (named_found d owner) ∙ sym (ap is_some (told.numbers owner)) ∙ ap (λ n. has_number known n) (sym (same_number s.name.text.0 owner e))
 
-  pub fields_kept : contains nat_eq t.structs s.name.text.0 ≡ true → (owner text : ℕ) → get same_pair t.fields (owner, text) ≡ sort_among d.texts (fields_of (with_struct d s) owner) text
+  pub fields_kept : has_number known s.name.text.0 ≡ true → (owner text : ℕ) → old (owner, text) ≡ among (fields_of (with_struct d s) owner) text
   fields_kept h owner text =
-      p.fields owner text ∙ ap (λ vs. sort_among d.texts vs text) (fields_found d owner)
+      fields owner text ∙ ap (λ vs. among vs text) (fields_found d owner)
       ∙ by (find (λ s. is_spelt owner s.name) d.structs) (nat_eq s.name.text.0 owner) (λ e. known_before owner e ∙ h) ∙ sym (fields_behind owner text)
     where
-      by : (o : Option Structure) (b : Bool) → (b ≡ true → is_some o ≡ true) → sort_among d.texts (fields_in o) text ≡ sort_among d.texts (fields_in (option_or o (cond b (Some s) None))) text
+      by : (o : Option Structure) (b : Bool) → (b ≡ true → is_some o ≡ true) → among (fields_in o) text ≡ among (fields_in (option_or o (cond b (Some s) None))) text
       by (Some u) b k = refl
       by None false k = refl
       by None true k = absurd (cc (k refl))
 
-  pub fields_new : contains nat_eq t.structs s.name.text.0 ≡ false → (new : Pair → Option Sort)
-      → ((owner text : ℕ) → new (owner, text) ≡ with_fields d.texts (get same_pair t.fields) s.name.text.0 s.fields owner text)
-      → (owner text : ℕ) → new (owner, text) ≡ sort_among d.texts (fields_of (with_struct d s) owner) text
+  pub fields_new : has_number known s.name.text.0 ≡ false → (new : Pair → Option X)
+      → ((owner text : ℕ) → new (owner, text) ≡ with_fields old s.name.text.0 among s.fields owner text)
+      → (owner text : ℕ) → new (owner, text) ≡ among (fields_of (with_struct d s) owner) text
   fields_new h new added owner text =
       added owner text
-      ∙ ap (λ o. option_or o (cond (nat_eq s.name.text.0 owner) (sort_among d.texts s.fields text) None)) (p.fields owner text ∙ ap (λ vs. sort_among d.texts vs text) (fields_found d owner))
+      ∙ ap (λ o. option_or o (cond (nat_eq s.name.text.0 owner) (among s.fields text) None)) (fields owner text ∙ ap (λ vs. among vs text) (fields_found d owner))
       ∙ by (find (λ s. is_spelt owner s.name) d.structs) (nat_eq s.name.text.0 owner) (λ e. known_before owner e ∙ h) ∙ sym (fields_behind owner text)
     where
       by : (o : Option Structure) (b : Bool) → (b ≡ true → is_some o ≡ false)
-          → option_or (sort_among d.texts (fields_in o) text) (cond b (sort_among d.texts s.fields text) None) ≡ sort_among d.texts (fields_in (option_or o (cond b (Some s) None))) text
-      by (Some u) false k = sym (or_none (sort_among d.texts u.fields text))
+          → option_or (among (fields_in o) text) (cond b (among s.fields text) None) ≡ among (fields_in (option_or o (cond b (Some s) None))) text
+      by (Some u) false k = sym (or_none (among u.fields text))
       by (Some u) true k = absurd (cc (k refl))
-      by None false k = refl
-      by None true k = refl
+      by None false k = sym (or_none (among [] text))
+      by None true k = ap (λ o. option_or o (among s.fields text)) (none text)
 
 -- The declarations of a package with one more.
 pub statuses_append : (xs ys : List DeclTree) → statuses_of (xs ++ ys) ≡ statuses_of xs ++ statuses_of ys
@@ -143,12 +144,20 @@ module _ (texts : List (List ℕ)) (ds : List DeclTree) where
       let e : declared texts (ds ++ x ∷ []) ≡ with_these (statuses_of ds) (constants_of ds ++ record { name = name; of = of; value = value } ∷ []) (structs_of ds) (methods_of ds) =
       same_declared (statuses_append ds (x ∷ []) ∙ append-nil (statuses_of ds)) (constants_append ds (x ∷ [])) (structs_append ds (x ∷ []) ∙ append-nil (structs_of ds)) (methods_append ds (x ∷ []) ∙ append-nil (methods_of ds)) in
       let P : Declared → Type 0 = λ d. TellsPackage d t in
-      subst P (sym e) (record { statuses = p.statuses; structs = p.structs; fields = p.fields; methods = p.methods; method_names = p.method_names; publics = p.publics; args = p.args })
+      subst P (sym e) (record { statuses = p.statuses; structs = p.structs; fields = p.fields; places = p.places; methods = p.methods; method_names = p.method_names; publics = p.publics; args = p.args })
 
 -- An answer that says more.
 pub on_ok : {P Q : Type 0} (r : Result (Unit {0}) NoMemory) → (P → Q) → OnOk r P → OnOk r Q
 on_ok (Ok u) f h = f h
 on_ok (Err e) f h = h
+
+pub both_ok : {P Q R : Type 0} (r : Result (Unit {0}) NoMemory) → (P → Q → R) → OnOk r P → OnOk r Q → OnOk r R
+both_ok (Ok u) f h k = f h k
+both_ok (Err e) f h k = h
+
+pub all_ok : {P Q R S : Type 0} (r : Result (Unit {0}) NoMemory) → (P → Q → R → S) → OnOk r P → OnOk r Q → OnOk r R → OnOk r S
+all_ok (Ok u) f h k l = f h k l
+all_ok (Err e) f h k l = h
 
 -- A status, a struct and a method after those that the tables tell.
 pub status_more : (texts : List (List ℕ)) (t u : Tables) (public : Bool) (name : Name) (at : Place) → ((d : Declared) → TellsPackage d t → TellsPackage (with_status d name) u)
@@ -173,14 +182,6 @@ method_more texts es t u public owner name mark args result body at step ds p =
     subst P (sym (method_declared texts ds public owner name mark (fields_at es args) result body at)) (step (declared texts ds) m refl refl refl es refl p)
 
 -- The parts of the tables after one more.
-pub status_added : (d : Declared) (name : Name) (old new : ℕ → Bool) → ((text : ℕ) → new text ≡ (old text || nat_eq name.text.0 text)) → ((text : ℕ) → old text ≡ is_some (status_named d text))
-    → (text : ℕ) → new text ≡ is_some (status_named (with_status d name) text)
-status_added d name old new h k text = h text ∙ ap (λ b. b || nat_eq name.text.0 text) (k text) ∙ sym (declared_pushed (is_spelt text) d.statuses name)
-
-pub struct_added : (d : Declared) (s : Structure) (old new : ℕ → Bool) → ((text : ℕ) → new text ≡ (old text || nat_eq s.name.text.0 text)) → ((text : ℕ) → old text ≡ is_some (struct_named d text))
-    → (text : ℕ) → new text ≡ is_some (struct_named (with_struct d s) text)
-struct_added d s old new h k text = h text ∙ ap (λ b. b || nat_eq s.name.text.0 text) (k text) ∙ sym (declared_pushed (λ s. is_spelt text s.name) d.structs s)
-
 pub count : {Z : Type 0} (n : ℕ) (publics : Vec Bool Z) (ms : List Method) → n ≡ vec_len publics → publics.items ≡ map (λ m. m.public) ms → n ≡ length ms
 count n publics ms h e =
     let flag : Method → Bool = λ m. m.public in

@@ -1,7 +1,6 @@
 -- Walks over the uses of declarations, and what they judge.
-use Rattle.std.proofs.Common.{◌≡◌, ℕ, ◌+◌, ◌<◌, ◌≤◌, List, [], ◌∷◌, ◌++◌, map, length, drop, slice_get, slice_index_or, nat_eq, Option, Some, Result, Ok, Err, IfOk, true, refl, sym, ap, ◌∙◌, subst, append_assoc, append-nil, arith, zero, suc}
+use Rattle.std.proofs.Common.{◌≡◌, ℕ, ◌+◌, ◌<◌, ◌≤◌, List, [], ◌∷◌, ◌++◌, map, fold, length, drop, slice_get, slice_index_or, Option, Some, Result, Ok, Err, IfOk, true, refl, sym, ap, ◌∙◌, subst, append_assoc, append-nil, arith, zero, suc}
 use Rattle.std.specs.List.{flat_map}
-use Rattle.indexmap.specs.IndexMap.{get}
 use Rattle.wf_text.specs.declared.faults.NoMemory.{NoMemory}
 use Rattle.wf_text.specs.declared.rules.Refusal.{Refusal}
 use Rattle.wf_ast.specs.declared.parsed.DeclNode.{DeclNode}
@@ -16,9 +15,10 @@ use Rattle.wf_names_rules.specs.Declarations.{Variable, Constant, Structure, Met
 use Rattle.wf_names_rules.specs.Uses.{Use, Scope, Site, sites_in, constant_scope, constant_sites, struct_sites, method_sites, type_uses, uses_of, variable_uses}
 use Rattle.wf_names_rules.specs.Meanings.{Known, known_at}
 use Rattle.wf_names_rules.specs.Tables.{known_by}
+use Rattle.wf_names_rules.specs.Jumps.{method_labels, labels_found}
 use Rattle.wf_names_rules.specs.Judged.{judged, walked, walked_one}
 use Rattle.wf_names_rules.proofs.WalkLemmas.{walked-append, drop-one}
-use Rattle.wf_names_scopes.specs.Agreeing.{TellsPackage, TellsScope, TellsConstants, package_of, sort_among}
+use Rattle.wf_names_scopes.specs.Agreeing.{TellsPackage, TellsVariables, TellsScope, TellsConstants, package_of}
 use Rattle.wf_names_scopes.specs.Growing.{AreConstantsPassed}
 use Rattle.wf_names_scopes.specs.UsesFound.{sites_judged, uses_found}
 use Rattle.wf_names_scopes.proofs.AgreeLemmas.{agree_by, agree_same}
@@ -132,6 +132,17 @@ module _ (es : List ExprTree) (ts : List StmtTree) (decls : List DeclNode) (i : 
       ap (λ f. sites_judged d f others) e ∙ sym (sites_judged-append d found first others)
       ∙ ap (λ s. sites_judged d found s) (sym (ap (λ ds. flat_map (method_sites d) ds) (ap methods_of from_here ∙ methods_append (made ∷ []) rest) ∙ flat_append (method_sites d) (methods_of (made ∷ [])) (methods_of rest)))
 
+  fold_append : {R X : Type 0} (f : R → X → R) (r : R) (xs ys : List X) → fold f r (xs ++ ys) ≡ fold f (fold f r xs) ys
+  fold_append f r [] ys = refl
+  fold_append f r (x ∷ xs) ys = fold_append f (f r x) xs ys
+
+  pub labels_next : (texts : List (List ℕ)) (found all : Option Refusal) → all ≡ fold (method_labels texts) found (methods_of (made ∷ []))
+      → fold (method_labels texts) all (methods_of rest) ≡ fold (method_labels texts) found (methods_of (decls_made es ts (drop i decls)))
+  labels_next texts found all e =
+      let f = method_labels texts in
+      ap (λ r. fold f r (methods_of rest)) e ∙ sym (fold_append f found (methods_of (made ∷ [])) (methods_of rest))
+      ∙ sym (ap (fold f found) (ap methods_of from_here ∙ methods_append (made ∷ []) rest))
+
 -- Where the walk over the declarations begins and ends.
 pub constants_begun : (p : Parsed) (found : Option Refusal) (t : ScopeTables) → TellsScope (package_of p) (constant_scope []) t
     → AreConstantsPassed (package_of p) found found (constants_of (decls_made (expr_trees p.exprs) (stmt_trees p.exprs p.stmts) p.decls)) t
@@ -144,7 +155,7 @@ pub constants_done : (d : Declared) (began found : Option Refusal) (es : List Ex
 constants_done d began found es ts decls i t h a =
     let P : List DeclNode → Type 0 = λ ns. AreConstantsPassed d began found (constants_of (decls_made es ts ns)) t in
     let b = subst P (past_end decls i h) a in
-    let Q : List Variable → Type 0 = λ vs. (text : ℕ) → get nat_eq t.constants text ≡ sort_among d.texts vs text in
+    let Q : List Variable → Type 0 = λ vs. TellsVariables d.texts vs t.constants in
     (b.same, subst Q (sym (append-nil b.known) ∙ b.split) b.tells.constants)
 
 pub structs_begun : (p : Parsed) (found : Option Refusal)
@@ -164,6 +175,10 @@ methods_begun p found = ap (λ ds. sites_judged (package_of p) found (flat_map (
 pub methods_done : (d : Declared) (found : Option Refusal) (es : List ExprTree) (ts : List StmtTree) (decls : List DeclNode) (i : ℕ) → length decls ≤ i
     → found ≡ sites_judged d found (flat_map (method_sites d) (methods_of (decls_made es ts (drop i decls))))
 methods_done d found es ts decls i h = ap (λ ns. sites_judged d found (flat_map (method_sites d) (methods_of (decls_made es ts ns)))) (sym (past_end decls i h))
+
+pub labels_begun : (p : Parsed) (found : Option Refusal)
+    → fold (method_labels p.texts) found (methods_of (decls_made (expr_trees p.exprs) (stmt_trees p.exprs p.stmts) p.decls)) ≡ labels_found (package_of p) found
+labels_begun p found = ap (λ ds. fold (method_labels p.texts) found (methods_of ds)) (sym (trees_made p))
 
 -- A declaration that is a constant, and one that isn't.
 pub constant_alone : (d : Declared) (found all : Option Refusal) (known : List Variable) (c : Constant)

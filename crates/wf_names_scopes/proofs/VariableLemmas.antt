@@ -1,19 +1,21 @@
 -- Tables of variables that grow by one at a time.
-use Rattle.std.proofs.Common.{◌≡◌, ℕ, ◌+◌, ◌<◌, Bool, true, false, cond, List, [], ◌∷◌, ◌++◌, length, drop, slice_index_or, Some, None, nat_eq, option_map, refl, sym, ap, ◌∙◌, subst, append_assoc}
+use Rattle.std.proofs.Common.{◌≡◌, ℕ, ◌+◌, ◌<◌, Bool, true, false, cond, List, [], ◌∷◌, ◌++◌, length, drop, slice_index_or, Some, None, nat_eq, option_map, refl, sym, ap, ◌∙◌, subst, append_assoc, length-append, arith}
 use Rattle.std.specs.Option.{option_or}
 use Rattle.std.specs.List.{find}
-use Rattle.indexmap.specs.IndexMap.{IndexMap, get}
 use Rattle.wf_text.specs.declared.place.Place.{Place}
 use Rattle.wf_ast.specs.declared.numbers.StmtId.{StmtId}
 use Rattle.wf_ast.specs.declared.parsed.Field.{Field}
 use Rattle.wf_ast.specs.ParsedTree.{ExprTree, StmtTree}
 use Rattle.wf_ast.specs.ParsedTrees.{type_at, fields_at, stmt_at, items_at}
 use Rattle.wf_names_rules.specs.declared.sorts.Sort.{Sort}
-use Rattle.wf_names_rules.specs.Declarations.{Variable, variables, local_of, locals_of, bytes_of, is_spelt}
+use Rattle.wf_names_rules.specs.declared.tables.Variables.{Variables}
+use Rattle.wf_names_rules.specs.Declarations.{Variable, variables, local_of, locals_of, bytes_of, is_spelt, place_in}
 use Rattle.wf_names_rules.specs.Meanings.{sort_of}
+use Rattle.wf_names_rules.specs.Tables.{sort_at, place_at}
 use Rattle.wf_names_rules.proofs.WalkLemmas.{drop-one}
 use Rattle.wf_names_scopes.specs.Agreeing.{TellsVariables, sort_among}
 use Rattle.wf_names_scopes.specs.Growing.{with_first, TellsUpTo}
+use Rattle.wf_names_scopes.proofs.FirstLemmas.{position_pushed}
 
 -- What is meant after one more variable.
 pub sort_pushed : (texts : List (List ℕ)) (front : List Variable) (v : Variable) (text : ℕ)
@@ -31,18 +33,27 @@ sort_pushed texts (u ∷ us) v text = by (nat_eq u.name.text.0 text) (sort_pushe
     by true r = refl
     by false r = r
 
-pub variable_added : {S : Type 0} (texts : List (List ℕ)) (old new : IndexMap ℕ Sort S) (v : Variable) (s : Sort) → s ≡ sort_of (bytes_of texts) v.of
-    → ((text : ℕ) → get nat_eq new text ≡ with_first nat_eq (get nat_eq old) v.name.text.0 s text)
+pub variable_added : (texts : List (List ℕ)) (old new : Variables) (v : Variable) (s : Sort) → s ≡ sort_of (bytes_of texts) v.of → new.next ≡ old.next + 1
+    → ((text : ℕ) → sort_at new text ≡ with_first nat_eq (sort_at old) v.name.text.0 s text)
+    → ((text : ℕ) → place_at new text ≡ with_first nat_eq (place_at old) v.name.text.0 old.next text)
     → (front : List Variable) → TellsVariables texts front old → TellsVariables texts (front ++ v ∷ []) new
-variable_added texts old new v s e h front t text =
-    h text ∙ ap (λ o. option_or o (cond (nat_eq v.name.text.0 text) (Some s) None)) (t text)
-    ∙ ap (λ r. option_or (sort_among texts front text) (cond (nat_eq v.name.text.0 text) (Some r) None)) e ∙ sym (sort_pushed texts front v text)
+variable_added texts old new v s e next sorts places front t =
+    let count : old.next ≡ 0 + length front = omega (arith, t.next) in
+    record {
+      next = omega (arith, next, t.next, length-append front (v ∷ []));
+      sorts = λ text.
+          sorts text ∙ ap (λ o. option_or o (cond (nat_eq v.name.text.0 text) (Some s) None)) (t.sorts text)
+          ∙ ap (λ r. option_or (sort_among texts front text) (cond (nat_eq v.name.text.0 text) (Some r) None)) e ∙ sym (sort_pushed texts front v text);
+      places = λ text.
+          places text ∙ ap (λ o. option_or o (cond (nat_eq v.name.text.0 text) (Some old.next) None)) (t.places text)
+          ∙ ap (λ n. option_or (place_in front text) (cond (nat_eq v.name.text.0 text) (Some n) None)) count ∙ sym (position_pushed (λ w. is_spelt text w.name) 0 front v);
+    }
 
-up_to_more : {S : Type 0} (texts : List (List ℕ)) (vs rest whole : List Variable) (old new : IndexMap ℕ Sort S) → TellsUpTo texts (vs ++ rest) whole old
+up_to_more : (texts : List (List ℕ)) (vs rest whole : List Variable) (old new : Variables) → TellsUpTo texts (vs ++ rest) whole old
     → ((front : List Variable) → TellsVariables texts front old → TellsVariables texts (front ++ vs) new) → TellsUpTo texts rest whole new
 up_to_more texts vs rest whole old new u step = record { front = u.front ++ vs; split = append_assoc u.front vs rest ∙ u.split; tells = step u.front u.tells }
 
-pub arg_next : {S : Type 0} (texts : List (List ℕ)) (es : List ExprTree) (fields : List Field) (i : ℕ) (x : Field) (whole : List Variable) (old new : IndexMap ℕ Sort S)
+pub arg_next : (texts : List (List ℕ)) (es : List ExprTree) (fields : List Field) (i : ℕ) (x : Field) (whole : List Variable) (old new : Variables)
     → x ≡ slice_index_or fields i x → i < length fields → TellsUpTo texts (variables (fields_at es (drop i fields))) whole old
     → ((front : List Variable) → TellsVariables texts front old → TellsVariables texts (front ++ record { name = x.name; of = type_at es x.of } ∷ []) new)
     → TellsUpTo texts (variables (fields_at es (drop (i + 1) fields))) whole new
@@ -51,7 +62,7 @@ arg_next texts es fields i x whole old new is h u step =
     let P : List Field → Type 0 = λ fs. TellsUpTo texts (variables (fields_at es fs)) whole old in
     up_to_more texts (record { name = x.name; of = type_at es x.of } ∷ []) (variables (fields_at es (drop (i + 1) fields))) whole old new (subst P split u) step
 
-pub local_next : {S : Type 0} (texts : List (List ℕ)) (ts : List StmtTree) (ss : List StmtId) (close : Place) (i : ℕ) (d : StmtId) (whole : List Variable) (old new : IndexMap ℕ Sort S)
+pub local_next : (texts : List (List ℕ)) (ts : List StmtTree) (ss : List StmtId) (close : Place) (i : ℕ) (d : StmtId) (whole : List Variable) (old new : Variables)
     → i < length ss → TellsUpTo texts (locals_of (items_at ts (drop i ss) close)) whole old
     → ((front : List Variable) → TellsVariables texts front old → TellsVariables texts (front ++ local_of (stmt_at ts (slice_index_or ss i d))) new)
     → TellsUpTo texts (locals_of (items_at ts (drop (i + 1) ss) close)) whole new

@@ -1,16 +1,19 @@
 -- What it is that tables tell what the declarations of a package mean.
-use Rattle.std.specs.Prelude.{◌≡◌, ℕ, List, Option, Some, map, is_some, nat_eq, option_map}
-use Rattle.std.specs.List.{list_any}
-use Rattle.indexmap.specs.IndexMap.{IndexMap, get}
+use Rattle.std.specs.Prelude.{◌≡◌, ◌+◌, ℕ, List, Option, Some, length, map, nat_eq, option_map}
+use Rattle.std.specs.List.{list_any, position_from}
+use Rattle.indexmap.specs.IndexMap.{get}
 use Rattle.indexmap.specs.IndexSet.{contains}
 use Rattle.wf_names_rules.specs.declared.sorts.Sort.{Sort}
+use Rattle.wf_names_rules.specs.declared.tables.Numbers.{Numbers}
+use Rattle.wf_names_rules.specs.declared.tables.Variables.{Variables}
 use Rattle.wf_names_rules.specs.declared.tables.Tables.{Tables}
 use Rattle.wf_names_rules.specs.declared.tables.Scope.{Scope as ScopeTables}
+use Rattle.wf_ast.specs.declared.parsed.Name.{Name}
 use Rattle.wf_ast.specs.ParsedParts.{Parsed}
 use Rattle.wf_ast.specs.ParsedTrees.{decl_trees}
-use Rattle.wf_names_rules.specs.Declarations.{Variable, Declared, declared, as_variable, bytes_of, is_spelt, status_named, struct_named, method_named, variable_named, fields_of}
+use Rattle.wf_names_rules.specs.Declarations.{Variable, Declared, declared, as_variable, bytes_of, is_spelt, method_named, variable_named, place_in, fields_of}
 use Rattle.wf_names_rules.specs.Meanings.{Known, sort_of, sort_in, args_in}
-use Rattle.wf_names_rules.specs.Tables.{same_pair}
+use Rattle.wf_names_rules.specs.Tables.{same_pair, number_at, sort_by, place_by, sort_at, place_at}
 use Rattle.wf_names_rules.specs.Uses.{Scope}
 
 -- The same is known: each look-up answers the same.
@@ -32,11 +35,20 @@ pub record Agree (a b : Known) : Type 0 where
 abbrev pub package_of : Parsed → Declared
 package_of p = declared p.texts (decl_trees p.exprs p.stmts p.decls)
 
--- The tables of a package tell what its declarations mean.
+-- A table tells by which number each of these names stands: by its place, counted from `first`. Of those that are spelt
+-- alike the first is meant.
+pub record TellsNumbers {X : Type 0} (first : ℕ) (name : X → Name) (named : List X) (t : Numbers) : Type 0 where
+  pub next : t.next ≡ first + length named
+  pub numbers : (text : ℕ) → number_at t text ≡ position_from (λ x. is_spelt text (name x)) first named
+
+-- The tables of a package tell what its declarations mean, and by which number each name stands: a status by its place
+-- after the ten of the language, a struct by its place among the structs, a field by its place in its struct. Of two
+-- declarations with one name the first is meant.
 pub record TellsPackage (d : Declared) (t : Tables) : Type 0 where
-  pub statuses : (text : ℕ) → contains nat_eq t.statuses text ≡ is_some (status_named d text)
-  pub structs : (text : ℕ) → contains nat_eq t.structs text ≡ is_some (struct_named d text)
-  pub fields : (owner text : ℕ) → get same_pair t.fields (owner, text) ≡ sort_in d (fields_of d owner) text
+  pub statuses : TellsNumbers 10 (λ name. name) d.statuses t.statuses
+  pub structs : TellsNumbers 0 (λ s. s.name) d.structs t.structs
+  pub fields : (owner text : ℕ) → sort_by same_pair t.fields (owner, text) ≡ sort_in d (fields_of d owner) text
+  pub places : (owner text : ℕ) → place_by same_pair t.fields (owner, text) ≡ place_in (fields_of d owner) text
   pub methods : (owner text : ℕ) → get same_pair t.methods (owner, text) ≡ method_named d owner text
   pub method_names : (text : ℕ) → contains nat_eq t.method_names text ≡ list_any (λ m. is_spelt text m.name) d.methods
   pub publics : t.publics.items ≡ map (λ m. m.public) d.methods
@@ -46,9 +58,11 @@ pub record TellsPackage (d : Declared) (t : Tables) : Type 0 where
 abbrev pub sort_among : (texts : List (List ℕ)) → List Variable → ℕ → Option Sort
 sort_among texts variables text = option_map (λ v. sort_of (bytes_of texts) v.of) (variable_named variables text)
 
--- A table tells what may be called on these variables.
-abbrev pub TellsVariables : {S : Type 0} → (texts : List (List ℕ)) → List Variable → IndexMap ℕ Sort S → Type 0
-TellsVariables texts variables table = (text : ℕ) → get nat_eq table text ≡ sort_among texts variables text
+-- A table tells what may be called on these variables, and their places.
+pub record TellsVariables (texts : List (List ℕ)) (variables : List Variable) (t : Variables) : Type 0 where
+  pub next : t.next ≡ length variables
+  pub sorts : (text : ℕ) → sort_at t text ≡ sort_among texts variables text
+  pub places : (text : ℕ) → place_at t text ≡ place_in variables text
 
 -- The tables of a scope tell what is known there besides.
 pub record TellsScope (d : Declared) (scope : Scope) (t : ScopeTables) : Type 0 where

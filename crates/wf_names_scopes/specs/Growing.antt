@@ -1,27 +1,31 @@
 -- Tables that grow by a name at a time, of which the first declared keeps its place.
 use Rattle.std.specs.Prelude.{◌≡◌, ℕ, Bool, cond, List, [], ◌∷◌, ◌++◌, map, Option, Some, None, nat_eq}
 use Rattle.std.specs.Option.{option_or}
-use Rattle.indexmap.specs.IndexMap.{IndexMap}
+use Rattle.std.specs.List.{position_from}
 use Rattle.wf_text.specs.declared.rules.Refusal.{Refusal}
-use Rattle.wf_names_rules.specs.declared.sorts.Sort.{Sort}
+use Rattle.wf_names_rules.specs.declared.tables.Variables.{Variables}
 use Rattle.wf_names_rules.specs.declared.tables.Scope.{Scope as ScopeTables}
 use Rattle.wf_ast.specs.declared.parsed.Name.{Name}
-use Rattle.wf_names_rules.specs.Declarations.{Variable, Constant, Structure, Method, Declared, as_variable}
+use Rattle.wf_names_rules.specs.Declarations.{Variable, Constant, Structure, Method, Declared, as_variable, is_spelt}
 use Rattle.wf_names_rules.specs.Uses.{Scope, constant_scope, constant_sites}
 use Rattle.wf_names_rules.specs.Tables.{Pair}
-use Rattle.wf_names_scopes.specs.Agreeing.{TellsVariables, TellsScope, sort_among}
+use Rattle.wf_names_scopes.specs.Agreeing.{TellsVariables, TellsScope}
 use Rattle.wf_names_scopes.specs.UsesFound.{sites_judged}
 
--- What a table answers after one more key, where `look` is what it answers in front.
+-- What a table answers after one more key, where `look` is what it answers before it.
 abbrev pub with_first : {K X : Type 0} → (same : K → K → Bool) → (look : K → Option X) → K → X → K → Option X
 with_first same look key value other = option_or (look other) (cond (same key other) (Some value) None)
 
--- What a table of fields answers after the fields of one more struct.
-abbrev pub with_fields : (texts : List (List ℕ)) → (look : Pair → Option Sort) → (owner : ℕ) → List Variable → (other text : ℕ) → Option Sort
-with_fields texts look owner fields other text = option_or (look (other, text)) (cond (nat_eq owner other) (sort_among texts fields text) None)
+-- The place of the first of these variables that has this name, where the first of all is at `place`.
+abbrev pub place_from : (place : ℕ) → List Variable → ℕ → Option ℕ
+place_from place variables text = position_from (λ v. is_spelt text v.name) place variables
+
+-- What a table of fields answers after the fields of one more struct, of which `among` tells what it answers of them.
+abbrev pub with_fields : {X : Type 0} → (look : Pair → Option X) → (owner : ℕ) → (among : List Variable → ℕ → Option X) → List Variable → (other text : ℕ) → Option X
+with_fields look owner among fields other text = option_or (look (other, text)) (cond (nat_eq owner other) (among fields text) None)
 
 -- A table tells the variables before `rest`; with these they are the whole.
-pub record TellsUpTo {S : Type 0} (texts : List (List ℕ)) (rest whole : List Variable) (table : IndexMap ℕ Sort S) : Type 0 where
+pub record TellsUpTo (texts : List (List ℕ)) (rest whole : List Variable) (table : Variables) : Type 0 where
   pub front : List Variable
   pub split : front ++ rest ≡ whole
   pub tells : TellsVariables texts front table

@@ -1,3 +1,4 @@
 pub mod Agreeing
+pub mod CallRows
 pub mod Growing
 pub mod UsesFound

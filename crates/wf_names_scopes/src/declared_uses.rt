@@ -1,18 +1,21 @@
-// The walk over what one declaration uses, where its scope is known.
+// The walk over one declaration, where its scope is known: what it uses, which methods it calls, and its loops and jumps.
 
-ghost use Rattle.std.specs.Prelude.{◌≡◌, ◌<◌, ◌++◌, ◌∷◌, length, IfOk};
+ghost use Rattle.std.specs.Prelude.{◌≡◌, ◌<◌, ◌++◌, ◌∷◌, length, IfOk, OnOk};
 ghost use Rattle.wf_ast.specs.ParsedTrees.{expr_trees, stmt_trees, expr_at, type_at, fields_at, result_at, block_at};
 ghost use Rattle.wf_ast.specs.ParsedParts.{TypeBelow, FieldsBelow, ResultBelow, BlockBelow};
 ghost use Rattle.wf_names_rules.specs.Declarations.{variables};
 ghost use Rattle.wf_names_rules.specs.Uses.{structure, uses_of, type_uses, result_uses, variable_uses, block_uses};
-ghost use Rattle.wf_names_rules.specs.Tables.{known_by};
+ghost use Rattle.wf_names_rules.specs.Here.{known_here};
+ghost use Rattle.wf_names_rules.specs.Jumps.{block_jumps, jumped};
 ghost use Rattle.wf_names_rules.specs.Judged.{walked};
+ghost use Rattle.wf_names_rules.specs.Called.{with_calls};
 
+use graphs::rows::Row;
 use std::alloc::Global;
+use wf_ast::ExprId;
 use wf_ast::parsed::{Block, Field, Name, TypeExpr};
-use wf_ast::{ExprId, PackageNodes};
-use wf_names_rules::seen::Seen;
-use wf_names_rules::tables::{Scope, Tables};
+use wf_names_rules::here::Here;
+use wf_names_rules::seen::{Gathered, Seen};
 use wf_names_rules::walk_exprs::{walk_expr, walk_struct, walk_type};
 use wf_names_rules::walk_stmts::walk_block;
 use wf_text::faults::NoMemory;
@@ -21,17 +24,17 @@ use wf_text::faults::NoMemory;
 pub(crate) fn walk_fields(
     alloc: Global,
     seen: Seen,
-    parsed: &PackageNodes,
-    tables: &Tables,
-    scope: &Scope,
+    row: &mut Row,
+    here: &Here<'_>,
     fields: &[Field],
 ) -> Result<Seen, NoMemory>
-    requires { FieldsBelow (length parsed.now.exprs) fields.now }
-    ensures { IfOk result (λ all. all ≡ walked (known_by parsed.now.texts tables.now scope.now) seen (variable_uses (variables (fields_at (expr_trees parsed.now.exprs) fields.now)))) }
+    requires { FieldsBelow (length here.now.parsed.now.exprs) fields.now }
+    ensures seen { IfOk result (λ all. all ≡ walked (known_here here.now) seen (variable_uses (variables (fields_at (expr_trees here.now.parsed.now.exprs) fields.now)))) }
+    ensures row { OnOk result (row.new ≡ with_calls (known_here here.now) row.old (variable_uses (variables (fields_at (expr_trees here.now.parsed.now.exprs) fields.now)))) }
 {
     let mut seen = seen;
     for field in fields {
-        seen = walk_type(alloc, seen, parsed, tables, scope, &field.of)?;
+        seen = walk_type(alloc, seen, row, here, &field.of)?;
     }
     Ok(seen)
 }
@@ -39,16 +42,16 @@ pub(crate) fn walk_fields(
 fn walk_result(
     alloc: Global,
     seen: Seen,
-    parsed: &PackageNodes,
-    tables: &Tables,
-    scope: &Scope,
+    row: &mut Row,
+    here: &Here<'_>,
     gives: &Option<TypeExpr>,
 ) -> Result<Seen, NoMemory>
-    requires { ResultBelow (length parsed.now.exprs) gives.now }
-    ensures { IfOk result (λ all. all ≡ walked (known_by parsed.now.texts tables.now scope.now) seen (result_uses (result_at (expr_trees parsed.now.exprs) gives.now))) }
+    requires { ResultBelow (length here.now.parsed.now.exprs) gives.now }
+    ensures seen { IfOk result (λ all. all ≡ walked (known_here here.now) seen (result_uses (result_at (expr_trees here.now.parsed.now.exprs) gives.now))) }
+    ensures row { OnOk result (row.new ≡ with_calls (known_here here.now) row.old (result_uses (result_at (expr_trees here.now.parsed.now.exprs) gives.now))) }
 {
     match gives {
-        Some(of) => walk_type(alloc, seen, parsed, tables, scope, of),
+        Some(of) => walk_type(alloc, seen, row, here, of),
         None => Ok(seen),
     }
 }
@@ -57,36 +60,37 @@ fn walk_result(
 pub(crate) fn walk_constant(
     alloc: Global,
     seen: Seen,
-    parsed: &PackageNodes,
-    tables: &Tables,
-    scope: &Scope,
+    row: &mut Row,
+    here: &Here<'_>,
     of: &TypeExpr,
     value: ExprId,
 ) -> Result<Seen, NoMemory>
-    requires of { TypeBelow (length parsed.now.exprs) of.now }
-    requires value { value.0 < length parsed.now.exprs }
-    ensures { IfOk result (λ all. all ≡ walked (known_by parsed.now.texts tables.now scope.now) seen (type_uses (type_at (expr_trees parsed.now.exprs) of.now) ++ uses_of (expr_at (expr_trees parsed.now.exprs) value))) }
+    requires of { TypeBelow (length here.now.parsed.now.exprs) of.now }
+    requires value { value.0 < length here.now.parsed.now.exprs }
+    ensures seen { IfOk result (λ all. all ≡ walked (known_here here.now) seen (type_uses (type_at (expr_trees here.now.parsed.now.exprs) of.now) ++ uses_of (expr_at (expr_trees here.now.parsed.now.exprs) value))) }
+    ensures row { OnOk result (row.new ≡ with_calls (known_here here.now) row.old (type_uses (type_at (expr_trees here.now.parsed.now.exprs) of.now) ++ uses_of (expr_at (expr_trees here.now.parsed.now.exprs) value))) }
 {
-    let seen = walk_type(alloc, seen, parsed, tables, scope, of)?;
-    walk_expr(alloc, seen, parsed, tables, scope, value)
+    let seen = walk_type(alloc, seen, row, here, of)?;
+    walk_expr(alloc, seen, row, here, value)
 }
 
 // A walk past what a method gives and its body.
 fn walk_inside(
     alloc: Global,
     seen: Seen,
-    parsed: &PackageNodes,
-    tables: &Tables,
-    scope: &Scope,
+    gathered: &mut Gathered,
+    here: &Here<'_>,
     gives: &Option<TypeExpr>,
     body: &Block,
 ) -> Result<Seen, NoMemory>
-    requires gives { ResultBelow (length parsed.now.exprs) gives.now }
-    requires body { BlockBelow (length parsed.now.stmts) body.now }
-    ensures { IfOk result (λ all. all ≡ walked (known_by parsed.now.texts tables.now scope.now) seen (result_uses (result_at (expr_trees parsed.now.exprs) gives.now) ++ block_uses (block_at (stmt_trees parsed.now.exprs parsed.now.stmts) body.now))) }
+    requires gives { ResultBelow (length here.now.parsed.now.exprs) gives.now }
+    requires body { BlockBelow (length here.now.parsed.now.stmts) body.now }
+    ensures seen { IfOk result (λ all. all ≡ walked (known_here here.now) seen (result_uses (result_at (expr_trees here.now.parsed.now.exprs) gives.now) ++ block_uses (block_at (stmt_trees here.now.parsed.now.exprs here.now.parsed.now.stmts) body.now))) }
+    ensures row { OnOk result (gathered.new.row ≡ with_calls (known_here here.now) gathered.old.row (result_uses (result_at (expr_trees here.now.parsed.now.exprs) gives.now) ++ block_uses (block_at (stmt_trees here.now.parsed.now.exprs here.now.parsed.now.stmts) body.now))) }
+    ensures labels { OnOk result (gathered.new.labels ≡ jumped here.now.parsed.now.texts gathered.old.labels (block_jumps gathered.old.loops.items (block_at (stmt_trees here.now.parsed.now.exprs here.now.parsed.now.stmts) body.now))) }
 {
-    let seen = walk_result(alloc, seen, parsed, tables, scope, gives)?;
-    walk_block(alloc, seen, parsed, tables, scope, body)
+    let seen = walk_result(alloc, seen, &mut gathered.row, here, gives)?;
+    walk_block(alloc, seen, gathered, here, body)
 }
 
 /// What a method's declaration says of what it uses: the struct that it is a method of, its arguments, its result and its body.
@@ -102,26 +106,20 @@ pub struct WrittenMethod<'a> {
 pub(crate) fn walk_method(
     alloc: Global,
     seen: Seen,
-    parsed: &PackageNodes,
-    tables: &Tables,
-    scope: &Scope,
+    gathered: &mut Gathered,
+    here: &Here<'_>,
     method: WrittenMethod<'_>,
 ) -> Result<Seen, NoMemory>
-    requires args { FieldsBelow (length parsed.now.exprs) method.args.now }
-    requires gives { ResultBelow (length parsed.now.exprs) method.gives.now }
-    requires body { BlockBelow (length parsed.now.stmts) method.body.now }
-    ensures { IfOk result (λ all. all ≡ walked (known_by parsed.now.texts tables.now scope.now) seen (structure method.entry.owner
-        ∷ (variable_uses (variables (fields_at (expr_trees parsed.now.exprs) method.entry.args.now)) ++ (result_uses (result_at (expr_trees parsed.now.exprs) method.entry.gives.now) ++ block_uses (block_at (stmt_trees parsed.now.exprs parsed.now.stmts) method.entry.body.now))))) }
+    requires args { FieldsBelow (length here.now.parsed.now.exprs) method.args.now }
+    requires gives { ResultBelow (length here.now.parsed.now.exprs) method.gives.now }
+    requires body { BlockBelow (length here.now.parsed.now.stmts) method.body.now }
+    ensures seen { IfOk result (λ all. all ≡ walked (known_here here.now) seen (structure method.entry.owner
+        ∷ (variable_uses (variables (fields_at (expr_trees here.now.parsed.now.exprs) method.entry.args.now)) ++ (result_uses (result_at (expr_trees here.now.parsed.now.exprs) method.entry.gives.now) ++ block_uses (block_at (stmt_trees here.now.parsed.now.exprs here.now.parsed.now.stmts) method.entry.body.now))))) }
+    ensures row { OnOk result (gathered.new.row ≡ with_calls (known_here here.now) gathered.old.row (structure method.entry.owner
+        ∷ (variable_uses (variables (fields_at (expr_trees here.now.parsed.now.exprs) method.entry.args.now)) ++ (result_uses (result_at (expr_trees here.now.parsed.now.exprs) method.entry.gives.now) ++ block_uses (block_at (stmt_trees here.now.parsed.now.exprs here.now.parsed.now.stmts) method.entry.body.now))))) }
+    ensures labels { OnOk result (gathered.new.labels ≡ jumped here.now.parsed.now.texts gathered.old.labels (block_jumps gathered.old.loops.items (block_at (stmt_trees here.now.parsed.now.exprs here.now.parsed.now.stmts) method.entry.body.now))) }
 {
-    let owned = walk_struct(seen, tables, method.owner);
-    let seen = walk_fields(alloc, owned, parsed, tables, scope, method.args)?;
-    walk_inside(
-        alloc,
-        seen,
-        parsed,
-        tables,
-        scope,
-        method.gives,
-        method.body,
-    )
+    let owned = walk_struct(seen, here.tables, method.owner);
+    let seen = walk_fields(alloc, owned, &mut gathered.row, here, method.args)?;
+    walk_inside(alloc, seen, gathered, here, method.gives, method.body)
 }

@@ -1,8 +1,10 @@
 // What is known of a package and at a place in it: the tables of its declarations and scopes, which tell what the
-// declarations mean, and the walk over every use of a name by them.
+// declarations mean, and the walk over every use of a name by them, which makes the graph of the calls of its methods.
 #![tactic(auto)]
 
 pub mod declared_uses;
+pub mod laws;
+pub mod numbers;
 pub mod scopes;
 pub mod tables;
 pub mod uses;

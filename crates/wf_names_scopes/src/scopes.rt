@@ -9,8 +9,7 @@ ghost use Rattle.wf_names_rules.specs.Uses.{constant_scope};
 ghost use Rattle.wf_names_scopes.specs.Agreeing.{TellsScope, TellsConstants, package_of};
 ghost use Rattle.wf_names_scopes.specs.Growing.{scope_in};
 
-use crate::variables::{add_variable, arguments, locals};
-use indexmap::IndexMap;
+use crate::variables::{add_variable, arguments, locals, no_variables};
 use std::alloc::Global;
 use wf_ast::PackageNodes;
 use wf_ast::parsed::{Block, Field, Name, TypeExpr};
@@ -22,10 +21,10 @@ pub fn outside(alloc: Global) -> Scope
     ensures { (d : Declared) → TellsScope d (constant_scope []) result }
 {
     Scope {
-        constants: IndexMap::new(alloc),
+        constants: no_variables(alloc),
         this: None,
-        args: IndexMap::new(alloc),
-        locals: IndexMap::new(alloc),
+        args: no_variables(alloc),
+        locals: no_variables(alloc),
     }
 }
 
@@ -47,8 +46,8 @@ pub fn enter_struct(alloc: Global, scope: &mut Scope, name: Name)
     ensures { (d : Declared) → TellsConstants d scope.old → TellsScope d (scope_in d name [] []) scope.new }
 {
     scope.this = Some(name.text.0);
-    scope.args = IndexMap::new(alloc);
-    scope.locals = IndexMap::new(alloc);
+    scope.args = no_variables(alloc);
+    scope.locals = no_variables(alloc);
 }
 
 /// On to a method of the struct with the name `owner`.

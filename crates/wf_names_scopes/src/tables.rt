@@ -1,32 +1,47 @@
 // The tables of a package: what its declarations mean, by their names. Of two declarations with one name the first is
 // meant.
 
-ghost use Rattle.std.specs.Prelude.{◌≡◌, ◌++◌, ◌||◌, not, [], ◌∷◌, ℕ, List, map, nat_eq, IfOk, OnOk};
+ghost use Rattle.std.specs.Prelude.{◌≡◌, ◌++◌, ◌||◌, [], ◌∷◌, ℕ, List, map, nat_eq, IfOk, OnOk};
 ghost use Rattle.indexmap.specs.IndexMap.{get};
 ghost use Rattle.indexmap.specs.IndexSet.{contains, insert_all};
-ghost use Rattle.wf_ast.specs.ParsedTree.{DeclTree};
+ghost use Rattle.wf_ast.specs.declared.parsed.Name.{Name};
+ghost use Rattle.wf_ast.specs.ParsedTree.{ExprTree, DeclTree};
 ghost use Rattle.wf_ast.specs.ParsedTrees.{expr_trees, stmt_trees, fields_at, decl_made};
-ghost use Rattle.wf_names_rules.specs.Declarations.{Declared, Method, declared, variables};
-ghost use Rattle.wf_names_rules.specs.Tables.{same_pair, Pair};
-ghost use Rattle.wf_names_scopes.specs.Agreeing.{TellsPackage, package_of};
-ghost use Rattle.wf_names_scopes.specs.Growing.{with_first, with_fields, with_status, with_struct, with_method};
+ghost use Rattle.wf_names_rules.specs.Declarations.{Declared, Structure, Method, declared, variables};
+ghost use Rattle.wf_names_rules.specs.Tables.{same_pair, sort_by, place_by, Pair};
+ghost use Rattle.wf_names_scopes.specs.Agreeing.{TellsNumbers, TellsPackage, package_of, sort_among};
+ghost use Rattle.wf_names_scopes.specs.Growing.{with_first, with_fields, place_from, with_status, with_struct, with_method};
 
+use crate::numbers::{add_field, add_number, next_number};
 use indexmap::{IndexMap, IndexSet};
 use std::alloc::Global;
 use wf_ast::parsed::{Decl, DeclNode, Field, Name};
 use wf_ast::{PackageNodes, TextId};
-use wf_names_rules::sorts::Sort;
-use wf_names_rules::tables::Tables;
+use wf_names_rules::tables::{Entry, Numbers, Tables};
 use wf_names_rules::types::sort;
 use wf_text::faults::NoMemory;
+
+// How many statuses the language has, with the one that says that all is fine.
+const BASE_STATUSES: u32 = 10;
+
+// No names; the first has the number `next`.
+fn no_names(alloc: Global, next: u32) -> Numbers
+    ensures statuses { TellsNumbers next (λ (name : Name). name) [] result }
+    ensures structs { TellsNumbers next (λ (s : Structure). s.name) [] result }
+{
+    Numbers {
+        numbers: IndexMap::new(alloc),
+        next,
+    }
+}
 
 // The tables of a package that declares nothing.
 fn empty(alloc: Global) -> Tables
     ensures { (texts : List (List ℕ)) → TellsPackage (declared texts []) result }
 {
     Tables {
-        statuses: IndexSet::new(alloc),
-        structs: IndexSet::new(alloc),
+        statuses: no_names(alloc, BASE_STATUSES),
+        structs: no_names(alloc, 0),
         fields: IndexMap::new(alloc),
         methods: IndexMap::new(alloc),
         method_names: IndexSet::new(alloc),
@@ -35,47 +50,39 @@ fn empty(alloc: Global) -> Tables
     }
 }
 
-// Adds a name; whether it is new.
-fn add_name(names: &mut IndexSet<u32>, name: Name) -> Result<bool, NoMemory>
-    ensures fresh { IfOk result (λ fresh. fresh ≡ not (contains nat_eq names.old name.text.0)) }
-    ensures names { OnOk result ((text : ℕ) → contains nat_eq names.new text ≡ (contains nat_eq names.old text || nat_eq name.text.0 text)) }
+// Adds a name.
+fn add_name(names: &mut IndexSet<u32>, name: Name) -> Result<(), NoMemory>
+    ensures { OnOk result ((text : ℕ) → contains nat_eq names.new text ≡ (contains nat_eq names.old text || nat_eq name.text.0 text)) }
 {
-    let fresh = names.insert(name.text.0)?;
-    Ok(fresh)
-}
-
-fn add_field(
-    fields: &mut IndexMap<(u32, u32), Sort>,
-    owner: TextId,
-    name: TextId,
-    sort: Sort,
-) -> Result<(), NoMemory>
-    ensures { OnOk result ((key : Pair) → get same_pair fields.new key ≡ with_first same_pair (get same_pair fields.old) (owner.0, name.0) sort key) }
-{
-    if fields.contains_key(&(owner.0, name.0)) {
-        return Ok(());
-    }
-    fields.insert((owner.0, name.0), sort)?;
+    names.insert(name.text.0)?;
     Ok(())
 }
 
 // The fields of a struct whose name is new.
 fn add_fields(
-    table: &mut IndexMap<(u32, u32), Sort>,
+    table: &mut IndexMap<(u32, u32), Entry>,
     parsed: &PackageNodes,
     owner: TextId,
     fields: &[Field],
 ) -> Result<(), NoMemory>
-    ensures { OnOk result ((other text : ℕ) → get same_pair table.new (other, text)
-        ≡ with_fields parsed.now.texts (get same_pair table.old) owner.0 (variables (fields_at (expr_trees parsed.now.exprs) fields.now)) other text) }
+    ensures sorts { OnOk result ((other text : ℕ) → sort_by same_pair table.new (other, text)
+        ≡ with_fields (sort_by same_pair table.old) owner.0 (sort_among parsed.now.texts) (variables (fields_at (expr_trees parsed.now.exprs) fields.now)) other text) }
+    ensures places { OnOk result ((es : List ExprTree) (other text : ℕ) → place_by same_pair table.new (other, text)
+        ≡ with_fields (place_by same_pair table.old) owner.0 (place_from 0) (variables (fields_at es fields.now)) other text) }
 {
+    let mut place = 0;
     for field in fields {
-        add_field(table, owner, field.name.text, sort(parsed, &field.of))?;
+        let entry = Entry {
+            sort: sort(parsed, &field.of),
+            place,
+        };
+        add_field(table, owner, field.name.text, entry)?;
+        place = next_number(place)?;
     }
     Ok(())
 }
 
-fn add_number(
+fn number_method(
     methods: &mut IndexMap<(u32, u32), usize>,
     owner: TextId,
     name: TextId,
@@ -104,7 +111,7 @@ fn arg_names(alloc: Global, args: &[Field]) -> Result<IndexSet<u32>, NoMemory>
 fn add_status(tables: &mut Tables, name: Name) -> Result<(), NoMemory>
     ensures { OnOk result ((d : Declared) → TellsPackage d tables.old → TellsPackage (with_status d name) tables.new) }
 {
-    add_name(&mut tables.statuses, name)?;
+    add_number(&mut tables.statuses, name.text)?;
     Ok(())
 }
 
@@ -117,7 +124,7 @@ fn add_struct(
     ensures { OnOk result ((d : Declared) → d.texts ≡ parsed.now.texts → TellsPackage d tables.old
         → TellsPackage (with_struct d (record { name = name; fields = variables (fields_at (expr_trees parsed.now.exprs) fields.now) })) tables.new) }
 {
-    if add_name(&mut tables.structs, name)? {
+    if add_number(&mut tables.structs, name.text)? {
         add_fields(&mut tables.fields, parsed, name.text, fields)
     } else {
         Ok(())
@@ -138,7 +145,7 @@ fn add_method(
 {
     let names = arg_names(alloc, args)?;
     let m = tables.publics.len();
-    add_number(&mut tables.methods, owner.text, name.text, m)?;
+    number_method(&mut tables.methods, owner.text, name.text, m)?;
     add_name(&mut tables.method_names, name)?;
     tables.publics.push(public)?;
     tables.args.push(names)?;

@@ -1,5 +1,5 @@
 pub mod ArrayLemmas
-pub mod CircleLemmas
+pub mod CycleLemmas
 pub mod DecidingLaws
 pub mod LargeLaws
 pub mod LongLaws

@@ -4,7 +4,7 @@ use Rattle.std.specs.List.{position_from}
 use Rattle.wf_names_rules.specs.Declarations.{Variable, Structure, Declared, is_spelt}
 use Rattle.graphs.specs.Graphs.{Path}
 use Rattle.wf_names_rules.specs.Passes.{is_flagged}
-use Rattle.wf_names_rules.specs.Sizes.{plain_bytes, struct_held, fields_at, holds_struct, Take, nothing, plain, part, circle}
+use Rattle.wf_names_rules.specs.Sizes.{plain_bytes, struct_held, fields_at, holds_struct, Take, nothing, plain, part, cycle}
 use Rattle.wf_ast.specs.ParsedTree as tree
 use Rattle.wf_ast.specs.ParsedTree.{TypeTree}
 use Rattle.wf_names_sizes.specs.declared.parts.Part.{Part}
@@ -17,15 +17,15 @@ capped-twice : (a b : ℕ) → capped (capped a + capped b) ≡ capped (a + b)
 capped-twice a b = omega arith
 
 module _ (d : Declared) where
-  abbrev OnCircle : ℕ → Type 0
-  OnCircle s = Path (holds_struct d) s s
+  abbrev OnCycle : ℕ → Type 0
+  OnCycle s = Path (holds_struct d) s s
 
   -- What a derivation says of the first field.
   take-nothing : (all : List Variable) (m : ℕ) → all ≡ [] → Take d all m → m ≡ 0
   take-nothing _ _ e nothing = refl
   take-nothing _ _ e (plain v vs n h t) = absurd (cc e)
   take-nothing _ _ e (part v vs s inner n h off t u) = absurd (cc e)
-  take-nothing _ _ e (circle v vs s n h p t) = absurd (cc e)
+  take-nothing _ _ e (cycle v vs s n h p t) = absurd (cc e)
 
   take-plain : (all : List Variable) (m : ℕ) (v : Variable) (vs : List Variable) → all ≡ v ∷ vs → struct_held d v.of ≡ None → Take d all m
       → (n : ℕ) × (Take d vs n × (m ≡ plain_bytes d v.of + n))
@@ -37,13 +37,13 @@ module _ (d : Declared) where
   take-plain _ _ v vs e f (part w ws s inner n h off t u) =
       let first : w ≡ v = cc e in
       absurd (let held : struct_held d w.of ≡ struct_held d v.of = ap (λ (x : Variable). struct_held d x.of) first in cc (h, held, f))
-  take-plain _ _ v vs e f (circle w ws s n h p t) =
+  take-plain _ _ v vs e f (cycle w ws s n h p t) =
       let first : w ≡ v = cc e in
       absurd (let held : struct_held d w.of ≡ struct_held d v.of = ap (λ (x : Variable). struct_held d x.of) first in cc (h, held, f))
 
   -- A field that holds a struct takes the struct's bytes beside its own 8, or its own 8 alone.
   abbrev Inner : ℕ → ℕ → Type 0
-  Inner s inner = ((OnCircle s → ⊥) × Take d (fields_at (slice_get d.structs s)) inner) ⊎ (OnCircle s × (inner ≡ 0))
+  Inner s inner = ((OnCycle s → ⊥) × Take d (fields_at (slice_get d.structs s)) inner) ⊎ (OnCycle s × (inner ≡ 0))
 
   record Held (vs : List Variable) (s m : ℕ) : Type 0 where
     inner : ℕ
@@ -64,18 +64,18 @@ module _ (d : Declared) where
       record {
         inner = inner;
         rest = n;
-        holds = inl (let P : ℕ → Type 0 = λ k. (OnCircle k → ⊥) × Take d (fields_at (slice_get d.structs k)) inner in subst P same (off, t));
+        holds = inl (let P : ℕ → Type 0 = λ k. (OnCycle k → ⊥) × Take d (fields_at (slice_get d.structs k)) inner in subst P same (off, t));
         behind = let P : List Variable → Type 0 = λ xs. Take d xs n in subst P tails u;
         is = refl;
       }
-  take-held _ _ v vs s e f (circle w ws r n h p t) =
+  take-held _ _ v vs s e f (cycle w ws r n h p t) =
       let first : w ≡ v = cc e in
       let tails : ws ≡ vs = cc e in
       let same : r ≡ s = some_same r s (sym h ∙ ap (λ (x : Variable). struct_held d x.of) first ∙ f) in
       record {
         inner = 0;
         rest = n;
-        holds = inr (let P : ℕ → Type 0 = OnCircle in subst P same p, refl);
+        holds = inr (let P : ℕ → Type 0 = OnCycle in subst P same p, refl);
         behind = let P : List Variable → Type 0 = λ xs. Take d xs n in subst P tails t;
         is = refl;
       }
@@ -92,7 +92,7 @@ module _ (d : Declared) where
         | inl k ↦ (let first : inner ≡ r.inner = take-one (fields_at (slice_get d.structs s)) inner r.inner a k.1 in let second : n ≡ r.rest = take-one vs n r.rest b r.behind in omega (arith, first, second, r.is))
         | inr k ↦ absurd (off k.0)
       ]
-  take-one _ _ m (circle v vs s n h p b) t =
+  take-one _ _ m (cycle v vs s n h p b) t =
       let r = take-held (v ∷ vs) m v vs s refl h t in
       elim r.holds [
         | inl k ↦ absurd (k.0 p)
@@ -108,9 +108,9 @@ module _ (d : Declared) where
   take-append _ ys _ m (part v vs s inner n h off a b) u =
       let P : ℕ → Type 0 = Take d (v ∷ (vs ++ ys)) in
       subst P (let e : 8 + inner + (n + m) ≡ 8 + inner + n + m = omega arith in e) (part v (vs ++ ys) s inner (n + m) h off a (take-append vs ys n m b u))
-  take-append _ ys _ m (circle v vs s n h p b) u =
+  take-append _ ys _ m (cycle v vs s n h p b) u =
       let P : ℕ → Type 0 = Take d (v ∷ (vs ++ ys)) in
-      subst P (let e : 8 + (n + m) ≡ 8 + n + m = omega arith in e) (circle v (vs ++ ys) s (n + m) h p (take-append vs ys n m b u))
+      subst P (let e : 8 + (n + m) ≡ 8 + n + m = omega arith in e) (cycle v (vs ++ ys) s (n + m) h p (take-append vs ys n m b u))
 
   -- A struct that is held is there.
   abbrev IsThere : ℕ → Type 0
@@ -164,8 +164,8 @@ module _ (d : Declared) (flags : List Bool) (sizes : List (Option ℕ)) (holding
   held-bytes : (v : Variable) (s : ℕ) → struct_held d v.of ≡ Some s → part_bytes flags sizes (part_of d v) ≡ struct_bytes (is_flagged (slice_get flags s)) (size_in (slice_get sizes s))
   held-bytes v s h = ap (λ x. part_bytes flags sizes (part_with (plain_bytes d v.of) x)) h
 
-  circle-bytes : (v : Variable) (s : ℕ) → struct_held d v.of ≡ Some s → Path (holds_struct d) s s → part_bytes flags sizes (part_of d v) ≡ Some 8
-  circle-bytes v s h p = held-bytes v s h ∙ ap (λ b. struct_bytes b (size_in (slice_get sizes s))) (holding.complete s p)
+  cycle-bytes : (v : Variable) (s : ℕ) → struct_held d v.of ≡ Some s → Path (holds_struct d) s s → part_bytes flags sizes (part_of d v) ≡ Some 8
+  cycle-bytes v s h p = held-bytes v s h ∙ ap (λ b. struct_bytes b (size_in (slice_get sizes s))) (holding.complete s p)
 
   part-known : (v : Variable) (s n : ℕ) → struct_held d v.of ≡ Some s → (Path (holds_struct d) s s → ⊥) → size_in (slice_get sizes s) ≡ Some n
       → part_bytes flags sizes (part_of d v) ≡ Some (capped (8 + n))
@@ -196,8 +196,8 @@ module _ (d : Declared) (flags : List Bool) (sizes : List (Option ℕ)) (holding
         let one : part_bytes flags sizes (part_of d v) ≡ Some (capped (8 + capped inner)) = part-known v s known.0 h off known.1 ∙ ap (λ k. Some (capped (8 + k))) number in
         sum-step a (capped (8 + capped inner)) (a + (8 + inner)) (part_of d v) (map (part_of d) vs) one (let e : capped (capped a + capped (8 + capped inner)) ≡ capped (a + (8 + inner)) = omega arith in e)
         ∙ sum-takes vs n (a + (8 + inner)) u ∙ ap (λ k. Some (capped k)) (let e : a + (8 + inner) + n ≡ a + (8 + inner + n) = omega arith in e)
-    sum-takes _ _ a (circle v vs s n h p t) =
-        sum-step a 8 (a + 8) (part_of d v) (map (part_of d) vs) (circle-bytes v s h p) (let e : capped (capped a + 8) ≡ capped (a + 8) = omega arith in e)
+    sum-takes _ _ a (cycle v vs s n h p t) =
+        sum-step a 8 (a + 8) (part_of d v) (map (part_of d) vs) (cycle-bytes v s h p) (let e : capped (capped a + 8) ≡ capped (a + 8) = omega arith in e)
         ∙ sum-takes vs n (a + 8) t ∙ ap (λ k. Some (capped k)) (let e : a + 8 + n ≡ a + (8 + n) = omega arith in e)
 
   -- What is known of fields is what they take.
@@ -221,8 +221,8 @@ module _ (d : Declared) (flags : List Bool) (sizes : List (Option ℕ)) (holding
       by_flag : (s : ℕ) → struct_held d v.of ≡ Some s → (b : Bool) → is_flagged (slice_get flags s) ≡ b → (whole : ℕ) × (Take d (v ∷ []) whole × (n ≡ capped whole))
       by_flag s e true f =
           let p = holding.sound s f in
-          let same : 8 ≡ n = some_same 8 n (sym (circle-bytes v s e p) ∙ h) in
-          (8 + 0, (circle v [] s 0 e p nothing, omega (arith, same)))
+          let same : 8 ≡ n = some_same 8 n (sym (cycle-bytes v s e p) ∙ h) in
+          (8 + 0, (cycle v [] s 0 e p nothing, omega (arith, same)))
       by_flag s e false f = by_size s e f (size_in (slice_get sizes s)) refl
 
       by_held : (held : Option ℕ) → struct_held d v.of ≡ held → (whole : ℕ) × (Take d (v ∷ []) whole × (n ≡ capped whole))

@@ -1,4 +1,4 @@
--- Values by tables are the values by the list of the constants in front.
+-- Values by tables are the values by the list of the constants before it.
 use Rattle.std.proofs.Common.{◌≡◌, ℕ, ◌+◌, Bool, true, false, if◌then◌else◌, List, [], ◌∷◌, ◌++◌, Option, Some, None, nat_eq, cond, length, Result, Ok, Err, IfOk, OnOk, take, slice_index_or, ◌<◌, ◌≤◌, zero, suc, slice_get, drop, refl, sym, ap, ◌∙◌, subst, arith}
 use Rattle.std.specs.List.{find, list_any}
 use Rattle.std.specs.Map.{lookup}

@@ -22,7 +22,7 @@ is_struct t (parts.Struct s) = nat_eq t s
 abbrev pub has_struct : List Part → ℕ → Bool
 has_struct row t = list_any (is_struct t) row
 
--- The same of rows with flags: every row stands in the order, and each struct in it that isn't flagged stands in front.
+-- The same of rows with flags: every row stands in the order, and each struct in it that isn't flagged stands before it.
 pub record IsSettlingOrder (flags : List Bool) (rows : List (List Part)) (order : List ℕ) : Type 0 where
   pub every : (s : ℕ) → s < length rows → holds order s ≡ true
   pub within : (s : ℕ) → holds order s ≡ true → s < length rows

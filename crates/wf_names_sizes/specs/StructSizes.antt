@@ -1,11 +1,12 @@
 -- The sizes of structs: each struct's size is known once those that it holds are known. Numbers above the limit all
 -- count as the one above it.
-use Rattle.std.specs.Prelude.{◌≡◌, ℕ, ◌+◌, ◌<◌, ◌≤◌, Bool, true, false, not, ◌&&◌, List, [], ◌∷◌, ◌++◌, map, Option, Some, None, slice_get, is_some, nat_lt, nat_eq, min}
+use Rattle.std.specs.Prelude.{◌≡◌, ℕ, ◌+◌, ◌<◌, ◌≤◌, Bool, true, false, not, ◌&&◌, List, [], ◌∷◌, ◌++◌, map, Option, Some, None, slice_get, is_some, nat_lt, min}
 use Rattle.std.specs.List.{position_from}
-use Rattle.indexmap.specs.IndexMap.{IndexMap, get}
 use Rattle.wf_text.specs.declared.rules.Refusal.{Refusal}
 use Rattle.wf_text.specs.declared.rules.Rule.TheVariants.{L7}
+use Rattle.wf_names_rules.specs.declared.tables.Numbers.{Numbers}
 use Rattle.wf_names_rules.specs.Declarations.{Variable, Structure, Declared, is_spelt}
+use Rattle.wf_names_rules.specs.Tables.{number_at}
 use Rattle.wf_names_rules.specs.Sizes.{plain_bytes, struct_held, fields_at, holds_struct, Take}
 use Rattle.graphs.specs.Graphs.{Path}
 use Rattle.wf_names_rules.specs.Passes.{refused_if, is_flagged}
@@ -57,7 +58,7 @@ passes None b = false
 passes (Some a) None = false
 passes (Some a) (Some b) = not (nat_lt 1048576 a) && nat_lt 1048576 b
 
--- The field of a list that passes the limit; `sum` is that of the fields in front.
+-- The field of a list that passes the limit; `sum` is that of the fields before it.
 abbrev pub large_of : Declared → (flags : List Bool) → (sizes : List (Option ℕ)) → (sum : Option ℕ) → List Variable → List (Option Refusal)
 large_of d flags sizes sum [] = []
 large_of d flags sizes sum (v ∷ vs) =
@@ -90,8 +91,8 @@ abbrev pub AreSettled : (flags : List Bool) → (sizes : List (Option ℕ)) → 
 AreSettled flags sizes rows = (s : ℕ) (row : List Part) → slice_get rows s ≡ Some row → IsSettled flags sizes row s
 
 -- The numbers of the structs by their names.
-abbrev pub AreNumbers : {S : Type 0} → IndexMap ℕ ℕ S → List Structure → Type 0
-AreNumbers table structs = (text : ℕ) → get nat_eq table text ≡ position_from (λ s. is_spelt text s.name) 0 structs
+abbrev pub AreNumbers : Numbers → List Structure → Type 0
+AreNumbers table structs = (text : ℕ) → number_at table text ≡ position_from (λ s. is_spelt text s.name) 0 structs
 
 -- What the rule says: the field that passes the limit of a struct's bytes.
 pub record HasLargeField (d : Declared) (s : Refusal) : Type 0 where

@@ -29,7 +29,7 @@ abbrev pub valued : Option Valued → Option (Option Sized)
 valued None = None
 valued (Some k) = Some k.value
 
--- What a table answers after one more key, where `look` is what it answers in front.
+-- What a table answers after one more key, where `look` is what it answers before it.
 abbrev pub with_first : {X : Type 0} → (look : ℕ → Option X) → ℕ → X → ℕ → Option X
 with_first look key value other = option_or (look other) (cond (nat_eq key other) (Some value) None)
 

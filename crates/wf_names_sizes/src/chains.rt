@@ -10,7 +10,7 @@ use wf_base::widths::Width;
 
 /// A chain so far: the width of its operands, the largest of them, and the number, None where it lies beyond 64 bits.
 #[derive(Clone, Copy, PartialEq, Eq)]
-pub struct Chain {
+pub(crate) struct Chain {
     pub width: Option<Width>,
     pub largest: u64,
     pub number: Option<u64>,

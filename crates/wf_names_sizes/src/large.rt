@@ -20,12 +20,13 @@ use crate::constants::constants;
 use crate::numbers::Value;
 use crate::parts::field_part;
 use crate::struct_sizes::{added, part_bytes, sizes};
-use crate::tables::{numbers, rows};
+use crate::tables::rows;
 use indexmap::{IndexMap, IndexSet};
 use std::alloc::Global;
 use wf_ast::PackageNodes;
 use wf_ast::parsed::{Decl, Field};
 use wf_names_rules::lists::refused_if;
+use wf_names_rules::tables::Numbers;
 use wf_text::faults::NoMemory;
 use wf_text::precedence::sooner;
 use wf_text::rules::{Refusal, Rule};
@@ -49,7 +50,7 @@ fn large_field(
     parsed: &PackageNodes,
     constants: &IndexMap<u32, Option<Value>>,
     nothing: &IndexSet<u32>,
-    structs: &IndexMap<u32, usize>,
+    structs: &Numbers,
     flags: &[bool],
     sizes: &[Option<u32>],
     fields: &[Field],
@@ -80,7 +81,7 @@ fn large_in_struct(
     parsed: &PackageNodes,
     constants: &IndexMap<u32, Option<Value>>,
     nothing: &IndexSet<u32>,
-    structs: &IndexMap<u32, usize>,
+    structs: &Numbers,
     flags: &[bool],
     sizes: &[Option<u32>],
     number: usize,
@@ -114,7 +115,7 @@ fn large_in_structs(
     parsed: &PackageNodes,
     constants: &IndexMap<u32, Option<Value>>,
     nothing: &IndexSet<u32>,
-    structs: &IndexMap<u32, usize>,
+    structs: &Numbers,
     flags: &[bool],
     sizes: &[Option<u32>],
 ) -> Option<Refusal>
@@ -138,7 +139,7 @@ fn known_sizes(
     parsed: &PackageNodes,
     constants: &IndexMap<u32, Option<Value>>,
     nothing: &IndexSet<u32>,
-    structs: &IndexMap<u32, usize>,
+    structs: &Numbers,
     flags: &[bool],
     order: &[u32],
 ) -> Result<Vec<Option<u32>>, NoMemory>
@@ -163,23 +164,24 @@ pub(crate) fn large_structs(
     parsed: &PackageNodes,
     constants: &IndexMap<u32, Option<Value>>,
     nothing: &IndexSet<u32>,
+    structs: &Numbers,
     flags: &[bool],
     order: &[u32],
 ) -> Result<Option<Refusal>, NoMemory>
     requires knows { Knows constants.now (known_constants (of_package parsed.now)) }
     requires nothing { nothing.now.keys ≡ [] }
+    requires structs { AreNumbers structs.now (of_package parsed.now).structs }
     requires holding { AreHolding (of_package parsed.now) flags.now }
     requires order { IsHoldingOrder (of_package parsed.now) order.now }
     ensures { IfOk result (λ all. DecidesBehind (HasLargeField (of_package parsed.now)) found all) }
 {
-    let structs = numbers(alloc, parsed)?;
-    let sizes = known_sizes(alloc, parsed, constants, nothing, &structs, flags, order)?;
+    let sizes = known_sizes(alloc, parsed, constants, nothing, structs, flags, order)?;
     Ok(large_in_structs(
         found,
         parsed,
         constants,
         nothing,
-        &structs,
+        structs,
         flags,
         sizes.as_slice(),
     ))
@@ -192,9 +194,11 @@ pub fn size_breaks(
     alloc: Global,
     found: Option<Refusal>,
     parsed: &PackageNodes,
+    structs: &Numbers,
     flags: &[bool],
     order: &[u32],
 ) -> Result<Option<Refusal>, NoMemory>
+    requires structs { AreNumbers structs.now (of_package parsed.now).structs }
     requires holding { AreHolding (of_package parsed.now) flags.now }
     requires order { IsHoldingOrder (of_package parsed.now) order.now }
     ensures { IfOk result (λ all. DecidesBehind (SizeBreaks (declared parsed.now.texts (decl_trees parsed.now.exprs parsed.now.stmts parsed.now.decls))) found all) }
@@ -202,5 +206,7 @@ pub fn size_breaks(
     let constants = constants(alloc, parsed)?;
     let found = long_by_constants(alloc, found, parsed, &constants)?;
     let nothing = IndexSet::new(alloc);
-    large_structs(alloc, found, parsed, &constants, &nothing, flags, order)
+    large_structs(
+        alloc, found, parsed, &constants, &nothing, structs, flags, order,
+    )
 }

@@ -4,7 +4,7 @@ ghost use Rattle.std.specs.Prelude.{◌≡◌, ◌⊎◌, ◌<◌, ℕ, Bool, tr
 ghost use Rattle.wf_text.specs.declared.rules.Refusal.{Refusal};
 ghost use Rattle.wf_text.specs.Precedence.{Decides};
 ghost use Rattle.wf_names_rules.specs.Declarations.{Declared, Variable};
-ghost use Rattle.graphs.specs.Graphs.{Path, holds, goes, AreCircles};
+ghost use Rattle.graphs.specs.Graphs.{Path, holds, goes, AreCycles};
 ghost use Rattle.wf_names_rules.specs.NameRules.{SizeBreaks};
 ghost use Rattle.wf_names_rules.specs.Sizes.{Take, holds_struct};
 ghost use Rattle.wf_names_sizes.specs.Deciding.{DecidesBehind};
@@ -29,9 +29,9 @@ pub fn first_size_decides()
 {}
 
 /// The flags of the graph whose numbers go where structs hold structs tell which structs hold themselves.
-pub fn circles_are_the_structs_that_hold_themselves()
+pub fn cycles_are_the_structs_that_hold_themselves()
     ensures { (d : Declared) (rows : List (List ℕ)) (flags : List Bool) → ((a b : ℕ) → goes rows a b ≡ holds_struct d a b)
-        → AreCircles rows flags (length d.structs) → AreHolding d flags }
+        → AreCycles rows flags (length d.structs) → AreHolding d flags }
 {}
 
 /// An order of all numbers of that graph, in which what a number goes to stands before it or has a way to it, has

@@ -6,6 +6,7 @@ ghost use Rattle.wf_ast.specs.ParsedParts.{TypeBelow, FieldsBelow};
 ghost use Rattle.wf_names_rules.specs.Declarations.{variables};
 ghost use Rattle.wf_names_rules.specs.Meanings.{width_named as width_by_name};
 ghost use Rattle.wf_names_rules.specs.ConstantValues.{known_constants, value_of};
+ghost use Rattle.wf_names_rules.specs.Tables.{number_at};
 ghost use Rattle.wf_names_rules.specs.Sizes.{number_or_zero, width_bytes as bytes_of_width, flag_bytes, plain_bytes as bytes_of_type, struct_held as held_by_type};
 ghost use Rattle.wf_names_sizes.specs.Packages.{of_package};
 ghost use Rattle.wf_names_sizes.specs.ValuesBy.{Knows};
@@ -17,9 +18,9 @@ use indexmap::{IndexMap, IndexSet};
 use std::alloc::Global;
 use wf_ast::parsed::{Core, Field, Prefix, TypeExpr};
 use wf_ast::sequences::Sequence;
-use wf_ast::{ExprId, PackageNodes};
+use wf_ast::{ExprId, PackageNodes, TextId};
 use wf_base::widths::Width;
-use wf_names_rules::tables::text_bytes;
+use wf_names_rules::tables::{Numbers, text_bytes};
 use wf_names_rules::types::{width, width_named};
 use wf_text::faults::NoMemory;
 
@@ -31,7 +32,7 @@ pub enum Part {
 }
 
 /// What numbers of bytes above it count as.
-pub const MOST_BYTES: u64 = 1_048_577;
+pub(crate) const MOST_BYTES: u64 = 1_048_577;
 
 // The bytes that a width takes.
 fn width_bytes(width: Option<Width>) -> u64
@@ -118,12 +119,17 @@ fn plain_bytes(
     }
 }
 
+fn number(structs: &Numbers, name: TextId) -> Option<usize>
+    ensures { result ≡ number_at structs.now name.0 }
+{
+    match structs.numbers.get(&name.0) {
+        Some(number) => Some(*number as usize),
+        None => None,
+    }
+}
+
 // The struct that a field holds.
-fn struct_held(
-    parsed: &PackageNodes,
-    structs: &IndexMap<u32, usize>,
-    of: &TypeExpr,
-) -> Option<usize>
+fn struct_held(parsed: &PackageNodes, structs: &Numbers, of: &TypeExpr) -> Option<usize>
     requires { AreNumbers structs.now (of_package parsed.now).structs }
     ensures { (es : _) → result ≡ held_by_type (of_package parsed.now) (type_at es of.now) }
 {
@@ -133,12 +139,12 @@ fn struct_held(
     }
 }
 
-fn core_held(parsed: &PackageNodes, structs: &IndexMap<u32, usize>, core: Core) -> Option<usize>
+fn core_held(parsed: &PackageNodes, structs: &Numbers, core: Core) -> Option<usize>
     requires { AreNumbers structs.now (of_package parsed.now).structs }
     ensures { (es : _) (bounds : _) → result ≡ held_by_type (of_package parsed.now) (core_at es core bounds) }
 {
     match core {
-        Core::Struct(name) => structs.get(&name.text.0).copied(),
+        Core::Struct(name) => number(structs, name.text),
         Core::Base { .. } => None,
         Core::BaseStatus { .. } => None,
     }
@@ -149,7 +155,7 @@ pub(crate) fn field_part(
     parsed: &PackageNodes,
     constants: &IndexMap<u32, Option<Value>>,
     nothing: &IndexSet<u32>,
-    structs: &IndexMap<u32, usize>,
+    structs: &Numbers,
     of: &TypeExpr,
 ) -> Part
     requires of { TypeBelow (length parsed.now.exprs) of.now }
@@ -170,7 +176,7 @@ pub(crate) fn row(
     parsed: &PackageNodes,
     constants: &IndexMap<u32, Option<Value>>,
     nothing: &IndexSet<u32>,
-    structs: &IndexMap<u32, usize>,
+    structs: &Numbers,
     fields: &[Field],
 ) -> Result<Sequence<Part>, NoMemory>
     requires fields { FieldsBelow (length parsed.now.exprs) fields.now }

@@ -8,13 +8,14 @@ use Rattle.graphs.specs.Orders.{IsOrder}
 use Rattle.wf_text.specs.declared.rules.Refusal.{Refusal}
 use Rattle.wf_names_rules.specs.Declarations.{Method, Declared, declared}
 use Rattle.wf_names_rules.specs.Meanings.{known_at}
-use Rattle.wf_names_rules.specs.NameRules.{calls, method_calls, Breaks, by_use, by_circle, recursion}
+use Rattle.wf_names_rules.specs.NameRules.{calls, method_calls, Breaks, by_use, by_cycle, recursion}
 use Rattle.wf_names_rules.specs.Uses.{method_uses, method_scope}
-use Rattle.wf_names_cycles.specs.Called.{called_in, AreRows}
-use Rattle.wf_names_cycles.proofs.SectionLemmas.{row-is, methods-within}
+use Rattle.wf_names_scopes.specs.CallRows.{called_in, AreRows}
+use Rattle.wf_names_scopes.proofs.CallRowLemmas.{row-is}
+use Rattle.wf_names_cycles.proofs.SectionLemmas.{methods-within}
 use Rattle.wf_names_laws.proofs.FrontLemmas.{order-long, order-front, calls-open}
 use Rattle.wf_names_verdicts.specs.NameVerdicts.{KeptPackagesHaveAnOrder}
-use Rattle.wf_names_verdicts.proofs.Circles.{caller-there}
+use Rattle.wf_names_verdicts.proofs.Cycles.{caller-there}
 use Rattle.wf_names_verdicts.proofs.Large.{mapped-at}
 use Rattle.wf_names_verdicts.proofs.Ranked.{held-all, in-front, ranked, ranked-long, ranked-below, ranked-all, ranked-once, ranked-ranked}
 use Rattle.wf_names_verdicts.proofs.Ways.{reached, fewer}
@@ -46,12 +47,12 @@ module _ (d : Declared) where
   way-some _ _ (more a b c s p) e = caller-some a b s e
 
   module _ (kept : (s : Refusal) → Breaks d s → ⊥) where
-    off-circles : (a : ℕ) → Path (calls d) a a → ⊥
-    off-circles a p = by_method (slice_get d.methods a) refl
+    off-cycles : (a : ℕ) → Path (calls d) a a → ⊥
+    off-cycles a p = by_method (slice_get d.methods a) refl
       where
         by_method : (o : Option Method) → slice_get d.methods a ≡ o → ⊥
         by_method None e = way-some a a p e
-        by_method (Some m) e = kept _ (by_circle _ (recursion a m e p))
+        by_method (Some m) e = kept _ (by_cycle _ (recursion a m e p))
 
     rank : ℕ → ℕ
     rank a = reached (calls d) (length d.methods) (caller-there d) a
@@ -74,7 +75,7 @@ module _ (d : Declared) where
           let long = rows-made.len in
           let below : b < length d.methods = omega (arith, there, long) in
           in-front rank (ranked rank (length d.methods)) (ranked-ranked rank (length d.methods)) i a b e (ranked-all rank (length d.methods) b below)
-          (fewer (calls d) (length d.methods) (caller-there d) a b step (off-circles b) below);
+          (fewer (calls d) (length d.methods) (caller-there d) a b step (off-cycles b) below);
     }
 
 pub kept-have-orders : KeptPackagesHaveAnOrder

@@ -1,8 +1,9 @@
 -- What is broken has a first refusal, or nothing is broken: for rules that are put together.
-use Rattle.std.proofs.Common.{◌≡◌, ◌⊎◌, inl, inr, ℕ, zero, suc, Bool, true, false, List, [], ◌∷◌, slice_get, Option, None, Some, refl, sym, ◌∙◌, ap, subst, ◌+◌, arith}
+use Rattle.std.proofs.Common.{◌≡◌, ◌⊎◌, inl, inr, ℕ, zero, suc, false, List, [], ◌∷◌, slice_get, Option, None, Some, refl, sym, subst, ◌+◌, arith}
 use Rattle.wf_text.specs.declared.rules.Refusal.{Refusal}
-use Rattle.wf_text.specs.Precedence.{is_before, IsFirst, Decides}
-use Rattle.wf_text.proofs.PrecedenceLaws.{is_before-self, is_before-over, is_before-same, Decides-map}
+use Rattle.wf_text.specs.Precedence.{is_before, sooner, Decides}
+use Rattle.wf_text.proofs.PrecedenceLaws.{is_before-self, Decides-map}
+use Rattle.wf_names_cycles.proofs.CycleLemmas.{Decides-both}
 
 pub record AreDecided (P : Refusal → Type 0) : Type 0 where
   pub found : Option Refusal
@@ -14,44 +15,8 @@ decided-none = record { found = None; decides = λ s none. none }
 pub decided-map : (P Q : Refusal → Type 0) → ((s : Refusal) → P s → Q s) → ((s : Refusal) → Q s → P s) → AreDecided P → AreDecided Q
 decided-map P Q to from d = record { found = d.found; decides = Decides-map P Q d.found to from d.decides }
 
--- What doesn't decide over the second doesn't over the first, which the second doesn't decide over.
-over-both : (Q : Refusal → Type 0) (r s t : Refusal) → is_before s r ≡ false → IsFirst Q s → Q t → is_before t r ≡ false
-over-both Q r s t e k q = by_test (is_before t r) refl
-  where
-    by_test : (b : Bool) → is_before t r ≡ b → is_before t r ≡ false
-    by_test false h = h
-    by_test true h =
-        let after : is_before s t ≡ false = is_before-over r t s h e in
-        let same : t ≡ s = is_before-same t s (k.first t q) after in
-        ap (λ u. is_before u r) same ∙ e
-
-first-of-two : (P Q : Refusal → Type 0) (r s : Refusal) → IsFirst P r → IsFirst Q s → AreDecided (λ t. P t ⊎ Q t)
-first-of-two P Q r s h k = by_test (is_before s r) refl
-  where
-    by_test : (b : Bool) → is_before s r ≡ b → AreDecided (λ t. P t ⊎ Q t)
-    by_test true e = record {
-      found = Some s;
-      decides = record { breaks = inr k.breaks; first = λ t c. elim c [ inl p ↦ is_before-over r s t e (h.first t p) | inr q ↦ k.first t q ] };
-    }
-    by_test false e = record {
-      found = Some r;
-      decides = record { breaks = inl h.breaks; first = λ t c. elim c [ inl p ↦ h.first t p | inr q ↦ over-both Q r s t e k q ] };
-    }
-
 pub decided-or : (P Q : Refusal → Type 0) → AreDecided P → AreDecided Q → AreDecided (λ s. P s ⊎ Q s)
-decided-or P Q a b = by_found a.found b.found a.decides b.decides
-  where
-    by_found : (f g : Option Refusal) → Decides P f → Decides Q g → AreDecided (λ s. P s ⊎ Q s)
-    by_found None None h k = record { found = None; decides = λ s c. elim c [ inl p ↦ h s p | inr q ↦ k s q ] }
-    by_found (Some r) None h k = record {
-      found = Some r;
-      decides = record { breaks = inl h.breaks; first = λ t c. elim c [ inl p ↦ h.first t p | inr q ↦ absurd (k t q) ] };
-    }
-    by_found None (Some s) h k = record {
-      found = Some s;
-      decides = record { breaks = inr k.breaks; first = λ t c. elim c [ inl p ↦ absurd (h t p) | inr q ↦ k.first t q ] };
-    }
-    by_found (Some r) (Some s) h k = first-of-two P Q r s h k
+decided-or P Q a b = record { found = sooner a.found b.found; decides = Decides-both P Q a.found b.found a.decides b.decides }
 
 -- One refusal, where something is so.
 pub record Since (A : Type 0) (r s : Refusal) : Type 0 where

@@ -65,13 +65,13 @@ module _ (d : Declared) where
   sizes : List (Option ℕ)
   sizes = map size-of d.structs
 
-  -- A struct on a circle is there.
+  -- A struct on a cycle is there.
   holder-some : (a b : ℕ) → holds_struct d a b ≡ true → slice_get d.structs a ≡ None → ⊥
   holder-some a b h e = let none : holds_struct d a b ≡ false = ap (λ s. list_any (λ v. is_the b (struct_held d v.of)) (fields_at s)) e in cc (h, none)
 
-  circle-some : (a b : ℕ) → Path (holds_struct d) a b → slice_get d.structs a ≡ None → ⊥
-  circle-some _ _ (last a b s) e = holder-some a b s e
-  circle-some _ _ (more a b c s p) e = holder-some a b s e
+  cycle-some : (a b : ℕ) → Path (holds_struct d) a b → slice_get d.structs a ≡ None → ⊥
+  cycle-some _ _ (last a b s) e = holder-some a b s e
+  cycle-some _ _ (more a b c s p) e = holder-some a b s e
 
   holding : AreHolding d flags
   unfolding flags
@@ -85,7 +85,7 @@ module _ (d : Declared) where
           first-so (holds-itself d s) (ap (λ t. is-first (holds-itself d t)) (sym n) ∙ sym at ∙ h)
 
       complete : (s : ℕ) → Path (holds_struct d) s s → (o : Option Structure) → slice_get d.structs s ≡ o → is_flagged (slice_get (flags-of (λ t. is-first (holds-itself d t)) 0 d.structs) s) ≡ true
-      complete s p None e = absurd (circle-some s s p e)
+      complete s p None e = absurd (cycle-some s s p e)
       complete s p (Some x) e =
           let n : 0 + s ≡ s = omega arith in
           flag-at (λ t. is-first (holds-itself d t)) 0 d.structs s x e ∙ ap (λ t. is-first (holds-itself d t)) n ∙ so-first (holds-itself d s) p

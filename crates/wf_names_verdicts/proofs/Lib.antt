@@ -1,5 +1,5 @@
 pub mod CallOrders
-pub mod Circles
+pub mod Cycles
 pub mod Decided
 pub mod Large
 pub mod Names

@@ -1,4 +1,4 @@
--- The numbers below some number in the order of their ranks: those of less rank stand in front.
+-- The numbers below some number in the order of their ranks: those of less rank come first.
 use Rattle.std.proofs.Common.{◌≡◌, ◌⊎◌, inl, inr, ℕ, zero, suc, ◌<◌, ◌≤◌, Bool, true, false, nat_eq, nat_le, if◌then◌else◌, List, [], ◌∷◌, length, take, slice_get, Some, refl, sym, ◌∙◌, ap, subst, arith}
 use Rattle.std.specs.Bool.{⊤}
 use Rattle.std.specs.List.{AllByRecursion, IsDistinct}

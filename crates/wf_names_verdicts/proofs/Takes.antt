@@ -6,7 +6,7 @@ use Rattle.std.proofs.lemmas.Bool.Decides.{nat_tests}
 use Rattle.std.proofs.lemmas.Option.{slice_get_within}
 use Rattle.graphs.specs.Graphs.{Path}
 use Rattle.wf_names_rules.specs.Declarations.{Variable, Structure, Declared}
-use Rattle.wf_names_rules.specs.Sizes.{plain_bytes, struct_held, is_the, fields_at, holds_struct, Take, nothing, plain, part, circle}
+use Rattle.wf_names_rules.specs.Sizes.{plain_bytes, struct_held, is_the, fields_at, holds_struct, Take, nothing, plain, part, cycle}
 use Rattle.wf_names_verdicts.proofs.Ways.{way-or-none, reached, fewer}
 
 module _ (d : Declared) where
@@ -47,13 +47,13 @@ module _ (d : Declared) where
   fields-take Ok inner [] ok = (0, nothing)
   fields-take Ok inner (v ∷ vs) ok = by_held (fields-take Ok inner vs (λ t h off. ok t (later-held v vs t h) off)) (struct_held d v.of) refl
     where
-      by_circle : Takes vs → (s : ℕ) → struct_held d v.of ≡ Some s → Path (holds_struct d) s s ⊎ (Path (holds_struct d) s s → ⊥) → Takes (v ∷ vs)
-      by_circle rest s e (inl p) = (8 + rest.0, circle v vs s rest.0 e p rest.1)
-      by_circle rest s e (inr off) = let own = inner s (ok s (first-held v vs s e) off) off in (8 + own.0 + rest.0, part v vs s own.0 rest.0 e off own.1 rest.1)
+      by_cycle : Takes vs → (s : ℕ) → struct_held d v.of ≡ Some s → Path (holds_struct d) s s ⊎ (Path (holds_struct d) s s → ⊥) → Takes (v ∷ vs)
+      by_cycle rest s e (inl p) = (8 + rest.0, cycle v vs s rest.0 e p rest.1)
+      by_cycle rest s e (inr off) = let own = inner s (ok s (first-held v vs s e) off) off in (8 + own.0 + rest.0, part v vs s own.0 rest.0 e off own.1 rest.1)
 
       by_held : Takes vs → (o : Option ℕ) → struct_held d v.of ≡ o → Takes (v ∷ vs)
       by_held rest None e = (plain_bytes d v.of + rest.0, plain v vs rest.0 e rest.1)
-      by_held rest (Some s) e = by_circle rest s e (holds-itself s)
+      by_held rest (Some s) e = by_cycle rest s e (holds-itself s)
 
   abbrev reach : ℕ → ℕ
   reach s = reached (holds_struct d) (length d.structs) holder-there s

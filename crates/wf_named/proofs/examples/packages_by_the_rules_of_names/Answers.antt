@@ -30,9 +30,9 @@ pub returns-clause-caller_first : goal.returns-clause-caller_first
 unfolding well_named
 returns-clause-caller_first c = refl
 
-pub returns-clause-circle : goal.returns-clause-circle
+pub returns-clause-cycle : goal.returns-clause-cycle
 unfolding well_named
-returns-clause-circle c = refl
+returns-clause-cycle c = refl
 
 pub returns-clause-holding_itself : goal.returns-clause-holding_itself
 unfolding well_named

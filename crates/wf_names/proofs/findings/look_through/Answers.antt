@@ -2,6 +2,12 @@ use Rattle.wf_names_scopes.specs.Agreeing.{package_of}
 use Rattle.wf_names.proofs.DecidingLemmas.{order-of-calls}
 use Rattle.wf_names.proofs.findings.look_through.Goals as goal
 
+pub struct_cycles-requires-clause-numbers : goal.struct_cycles-requires-clause-numbers
+struct_cycles-requires-clause-numbers c = c.in_ok-tables.ensures.structs
+
+pub method_cycles-requires-clause-rows : goal.method_cycles-requires-clause-rows
+method_cycles-requires-clause-rows c = rw c.as_slice.ensures.value c.in_ok-used.ensures.rows
+
 pub returns : goal.returns
 returns c = record {
   decides = c.in_ok-refusal.ensures;

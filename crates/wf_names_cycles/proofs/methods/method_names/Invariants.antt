@@ -2,7 +2,7 @@ use Rattle.std.proofs.Common.{◌≡◌, ◌++◌, List, drop}
 use Rattle.wf_ast.specs.ParsedTree.{ExprTree, StmtTree}
 use Rattle.wf_ast.specs.ParsedTrees.{decls_made}
 use Rattle.wf_names_rules.specs.Declarations.{methods_of}
-use Rattle.wf_names_cycles.specs.Called.{method_names}
+use Rattle.wf_names_cycles.specs.CyclesFound.{method_names}
 use Rattle.wf_names_cycles.proofs.methods.method_names.Given as goal
 
 abbrev pub invariant-loop-node : goal.invariant-loop-node

@@ -1,56 +1,49 @@
-use Rattle.std.proofs.Common.{◌≡◌, ℕ, List, nat_eq}
-use Rattle.indexmap.specs.IndexMap.{get}
+use Rattle.std.proofs.Common.{◌≡◌, List}
 use Rattle.wf_ast.specs.ParsedTree.{ExprTree, StmtTree}
 use Rattle.wf_ast.specs.ParsedTrees.{decls_made}
 use Rattle.wf_names_rules.specs.Declarations.{structs_of}
+use Rattle.wf_names_rules.specs.Tables.{number_at}
 use Rattle.wf_names_scopes.specs.Agreeing.{package_of}
-use Rattle.wf_names_cycles.specs.Held.{number_of, names_of, held_rows}
+use Rattle.wf_names_cycles.specs.Held.{names_of, held_rows}
 use Rattle.wf_names_cycles.specs.StructRows.{AreStructRows}
 use Rattle.wf_names_cycles.proofs.HeldLemmas.{rows-made, names-made, structs-long}
 use Rattle.wf_names_cycles.proofs.structs.struct_cycles.Goals as goal
 
 pub find_cycles-requires-clause-few : goal.find_cycles-requires-clause-few
 find_cycles-requires-clause-few c =
-    let names = c.in_ok-names.names.items in
-    let f = get nat_eq c.in_ok-numbers.numbers in
+    let f = number_at c.args.structs.now in
     let rows = c.in_ok-rows.rows.items in
     let p = c.args.parsed.now in
-    let named : (es : List ExprTree) (ts : List StmtTree) → names ≡ names_of (structs_of (decls_made es ts p.decls)) = rw c.decls.ensures at c.in_ok-names.ensures in
-    let numbered : (text : ℕ) → f text ≡ number_of names text = rw c.as_slice.ensures.value at c.in_ok-numbers.ensures in
     let listed : (es : List ExprTree) (ts : List StmtTree) → rows ≡ held_rows f (structs_of (decls_made es ts p.decls)) = rw c.decls-2.ensures at c.in_ok-rows.ensures in
-    let made : AreStructRows (package_of p) rows = rows-made p.texts p.exprs p.stmts p.decls names f rows named numbered listed c.requires in
-    rw c.as_slice-2.ensures.value made.few
+    let made : AreStructRows (package_of p) rows = rows-made p.texts p.exprs p.stmts p.decls f rows c.requires.numbers.numbers listed c.requires.few in
+    rw c.as_slice.ensures.value made.few
 
 pub find_cycles-requires-clause-within : goal.find_cycles-requires-clause-within
 find_cycles-requires-clause-within c =
-    let names = c.in_ok-names.names.items in
-    let f = get nat_eq c.in_ok-numbers.numbers in
+    let f = number_at c.args.structs.now in
     let rows = c.in_ok-rows.rows.items in
     let p = c.args.parsed.now in
-    let named : (es : List ExprTree) (ts : List StmtTree) → names ≡ names_of (structs_of (decls_made es ts p.decls)) = rw c.decls.ensures at c.in_ok-names.ensures in
-    let numbered : (text : ℕ) → f text ≡ number_of names text = rw c.as_slice.ensures.value at c.in_ok-numbers.ensures in
     let listed : (es : List ExprTree) (ts : List StmtTree) → rows ≡ held_rows f (structs_of (decls_made es ts p.decls)) = rw c.decls-2.ensures at c.in_ok-rows.ensures in
-    let made : AreStructRows (package_of p) rows = rows-made p.texts p.exprs p.stmts p.decls names f rows named numbered listed c.requires in
-    rw c.as_slice-2.ensures.value made.within
+    let made : AreStructRows (package_of p) rows = rows-made p.texts p.exprs p.stmts p.decls f rows c.requires.numbers.numbers listed c.requires.few in
+    rw c.as_slice.ensures.value made.within
 
 pub returns : goal.returns
 returns c =
     let names = c.in_ok-names.names.items in
-    let f = get nat_eq c.in_ok-numbers.numbers in
+    let f = number_at c.args.structs.now in
     let rows = c.in_ok-rows.rows.items in
     let p = c.args.parsed.now in
-    let named : (es : List ExprTree) (ts : List StmtTree) → names ≡ names_of (structs_of (decls_made es ts p.decls)) = rw c.decls.ensures at c.in_ok-names.ensures in
-    let numbered : (text : ℕ) → f text ≡ number_of names text = rw c.as_slice.ensures.value at c.in_ok-numbers.ensures in
     let listed : (es : List ExprTree) (ts : List StmtTree) → rows ≡ held_rows f (structs_of (decls_made es ts p.decls)) = rw c.decls-2.ensures at c.in_ok-rows.ensures in
-    let made : AreStructRows (package_of p) rows = rows-made p.texts p.exprs p.stmts p.decls names f rows named numbered listed c.requires in
-    let declared_names = names-made p.texts p.exprs p.stmts p.decls names f rows named numbered listed in
+    let made : AreStructRows (package_of p) rows = rows-made p.texts p.exprs p.stmts p.decls f rows c.requires.numbers.numbers listed c.requires.few in
+    let named : (es : List ExprTree) (ts : List StmtTree) → names ≡ names_of (structs_of (decls_made es ts p.decls)) = rw c.decls.ensures at c.in_ok-names.ensures in
+    let declared_names = names-made p.texts p.exprs p.stmts p.decls names named in
     record {
       rows = rows;
       made = made;
       names = declared_names;
       cycles = record {
         long = structs-long (package_of p) names rows declared_names made;
-        flags = rw c.as_slice-2.ensures.value at c.in_ok-cycles.ensures.flags;
-        order = rw c.as_slice-2.ensures.value at c.in_ok-cycles.ensures.order;
+        flags = rw c.as_slice.ensures.value at c.in_ok-cycles.ensures.flags;
+        order = rw c.as_slice.ensures.value at c.in_ok-cycles.ensures.order;
       };
     }

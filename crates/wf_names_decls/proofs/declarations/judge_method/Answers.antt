@@ -7,8 +7,7 @@ use Rattle.wf_names_rules.specs.Declarations.{variables, locals_of}
 use Rattle.wf_names_rules.specs.NameRules.{variable_names}
 use Rattle.wf_names_decls.specs.Gathering.{field_names}
 use Rattle.wf_names_decls.specs.DeclarationPass.{args_judged, locals_judged}
-use Rattle.wf_names_decls.proofs.LabelSteps.{ok_same}
-use Rattle.wf_names_decls.proofs.DeclSteps.{fields-same}
+use Rattle.wf_names_decls.proofs.DeclSteps.{fields-same, ok_same}
 use Rattle.wf_names_decls.proofs.declarations.judge_method.Goals as goal
 
 pub returns-in-Method : goal.returns-in-Method

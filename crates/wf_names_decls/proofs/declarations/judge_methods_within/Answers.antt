@@ -4,7 +4,7 @@ use Rattle.wf_ast.specs.ParsedTrees.{decl_trees}
 use Rattle.wf_names_rules.specs.Declarations.{declared, methods_of}
 use Rattle.wf_names_decls.specs.Gathering.{constant_names}
 use Rattle.wf_names_decls.specs.DeclarationPass.{first_spelt, method_judged}
-use Rattle.wf_names_decls.proofs.LabelSteps.{ok_same}
+use Rattle.wf_names_decls.proofs.DeclSteps.{ok_same}
 use Rattle.wf_names_decls.proofs.ConstantTables.{methods-same}
 use Rattle.wf_names_decls.proofs.declarations.judge_methods_within.Goals as goal
 

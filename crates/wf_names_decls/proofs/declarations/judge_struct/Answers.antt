@@ -4,8 +4,7 @@ use Rattle.wf_names_rules.specs.Declarations.{variables}
 use Rattle.wf_names_rules.specs.NameRules.{variable_names}
 use Rattle.wf_names_decls.specs.Gathering.{field_names}
 use Rattle.wf_names_decls.specs.DeclarationPass.{names_judged}
-use Rattle.wf_names_decls.proofs.LabelSteps.{ok_same}
-use Rattle.wf_names_decls.proofs.DeclSteps.{fields-same}
+use Rattle.wf_names_decls.proofs.DeclSteps.{fields-same, ok_same}
 use Rattle.wf_names_decls.proofs.declarations.judge_struct.Goals as goal
 
 pub returns-in-Struct : goal.returns-in-Struct

@@ -6,7 +6,7 @@ use Rattle.wf_names_nodes.proofs.PackageLemmas.{ok_equal_more}
 use Rattle.wf_names_nodes.proofs.packages.all_decls.Goals as goal
 
 pub all_consts-requires-clause-outside : goal.all_consts-requires-clause-outside
-all_consts-requires-clause-outside c = c.outside-around.ensures (package_of c.args.parsed.now)
+all_consts-requires-clause-outside c = c.outside-scope.ensures (package_of c.args.parsed.now)
 
 pub returns : goal.returns
 returns c =

@@ -1,14 +1,13 @@
 use Rattle.std.proofs.Common.{◌≡◌, ◌-◌, drop, length}
 use Rattle.wf_ast.specs.ParsedTrees.{expr_trees, stmt_trees, decls_made}
 use Rattle.wf_named.specs.NamedParts.{named_package}
-use Rattle.wf_names_scopes.specs.Agreeing.{package_of}
-use Rattle.wf_names_numbers.specs.Numbered.{TellsAllConstants}
+use Rattle.wf_names_scopes.specs.Agreeing.{package_of, TellsConstants}
 use Rattle.wf_names_nodes.specs.Declaring.{with_others}
 use Rattle.wf_names_nodes.proofs.packages.all_others.Given as goal
 
 abbrev pub invariant-loop-number : goal.invariant-loop-number
 invariant-loop-number l =
-    TellsAllConstants (package_of l.parsed) l.around
+    TellsConstants (package_of l.parsed) l.scope
     × (with_others (package_of l.parsed) (named_package l.nodes) (decls_made (expr_trees l.parsed.exprs) (stmt_trees l.parsed.exprs l.parsed.stmts) (drop l.number l.parsed.decls))
     ≡ with_others (package_of l.parsed) (named_package l.fn.nodes) (decls_made (expr_trees l.parsed.exprs) (stmt_trees l.parsed.exprs l.parsed.stmts) l.parsed.decls))
 

@@ -1,41 +1,28 @@
-use Rattle.std.proofs.Common.{refl, arith}
 use Rattle.wf_named.specs.NamedParts.{named_package}
 use Rattle.wf_names_scopes.specs.Agreeing.{package_of}
 use Rattle.wf_names_nodes.proofs.PackageLemmas.{no_consts, no_const_known}
 use Rattle.wf_names_nodes.proofs.packages.const_decl.Goals as goal
 
-pub returns-in_ok-next_const-in-Const-clause-added : goal.returns-in_ok-next_const-in-Const-clause-added
-returns-in_ok-next_const-in-Const-clause-added c = rw c.in-Const.is c.in_ok-next_const-in-Const.ensures.added
+pub returns-in-Const-clause-added : goal.returns-in-Const-clause-added
+returns-in-Const-clause-added c = rw c.in-Const.is c.next_const.ensures.added
 
-pub returns-in_ok-next_const-in-Const-clause-known : goal.returns-in_ok-next_const-in-Const-clause-known
-returns-in_ok-next_const-in-Const-clause-known c = rw c.in-Const.is c.in_ok-next_const-in-Const.ensures.known
-
-pub returns-in_ok-next_const-in-Const-clause-count : goal.returns-in_ok-next_const-in-Const-clause-count
-returns-in_ok-next_const-in-Const-clause-count c = rw c.in-Const.is refl
+pub returns-in-Const-clause-known : goal.returns-in-Const-clause-known
+returns-in-Const-clause-known c = rw c.in-Const.is c.next_const.ensures.known
 
 pub returns-in-Status-clause-added : goal.returns-in-Status-clause-added
 returns-in-Status-clause-added c = rw c.in-Status.is (λ known h. no_consts (named_package c.args.nodes.now))
 
 pub returns-in-Status-clause-known : goal.returns-in-Status-clause-known
-returns-in-Status-clause-known c = rw c.in-Status.is (no_const_known (package_of c.args.parsed.now) c.args.place c.args.around.now)
-
-pub returns-in-Status-clause-count : goal.returns-in-Status-clause-count
-returns-in-Status-clause-count c = rw c.in-Status.is (omega arith)
+returns-in-Status-clause-known c = rw c.in-Status.is (no_const_known (package_of c.args.parsed.now) c.args.scope.now)
 
 pub returns-in-Struct-clause-added : goal.returns-in-Struct-clause-added
 returns-in-Struct-clause-added c = rw c.in-Struct.is (λ known h. no_consts (named_package c.args.nodes.now))
 
 pub returns-in-Struct-clause-known : goal.returns-in-Struct-clause-known
-returns-in-Struct-clause-known c = rw c.in-Struct.is (no_const_known (package_of c.args.parsed.now) c.args.place c.args.around.now)
-
-pub returns-in-Struct-clause-count : goal.returns-in-Struct-clause-count
-returns-in-Struct-clause-count c = rw c.in-Struct.is (omega arith)
+returns-in-Struct-clause-known c = rw c.in-Struct.is (no_const_known (package_of c.args.parsed.now) c.args.scope.now)
 
 pub returns-in-Method-clause-added : goal.returns-in-Method-clause-added
 returns-in-Method-clause-added c = rw c.in-Method.is (λ known h. no_consts (named_package c.args.nodes.now))
 
 pub returns-in-Method-clause-known : goal.returns-in-Method-clause-known
-returns-in-Method-clause-known c = rw c.in-Method.is (no_const_known (package_of c.args.parsed.now) c.args.place c.args.around.now)
-
-pub returns-in-Method-clause-count : goal.returns-in-Method-clause-count
-returns-in-Method-clause-count c = rw c.in-Method.is (omega arith)
+returns-in-Method-clause-known c = rw c.in-Method.is (no_const_known (package_of c.args.parsed.now) c.args.scope.now)

@@ -4,11 +4,11 @@ use Rattle.wf_named.specs.NamedParts.{named_package}
 use Rattle.wf_names_rules.specs.Declarations.{variables, locals_of}
 use Rattle.wf_names_scopes.specs.Agreeing.{package_of}
 use Rattle.wf_names_scopes.specs.Growing.{scope_in}
-use Rattle.wf_names_numbers.proofs.StandingLemmas.{standing_same}
 use Rattle.wf_names_resolve.specs.Package.{resolved_method}
 use Rattle.wf_names_resolve.proofs.Growth.{ok_still}
 use Rattle.wf_names_nodes.specs.Declaring.{method_parsed, with_methods}
 use Rattle.wf_names_nodes.proofs.PackageLemmas.{ok_equal_more}
+use Rattle.wf_names_nodes.proofs.StandingLemmas.{standing_same}
 use Rattle.wf_names_nodes.proofs.packages.next_method.Goals as goal
 
 pub returns-clause-added : goal.returns-clause-added
@@ -19,8 +19,8 @@ returns-clause-added c =
     let args = variables (fields_at es c.args.method.args.now) in
     let locals = locals_of (block_at ts c.args.method.body.now) in
     let m = method_parsed es ts c.args.method.public c.args.method.owner c.args.method.name c.args.method.args.now c.args.method.gives.now c.args.method.body.now in
-    let stands = standing_same d (scope_in d c.args.method.owner args locals) c.args.numbers.now c.enter_method.new.around c.requires.numbers (c.in_ok-enter_method.ensures.places c.requires.constants) in
+    let stands = standing_same d (scope_in d c.args.method.owner args locals) c.args.tables.now c.enter_method.new.scope c.requires.tables (c.in_ok-enter_method.ensures c.requires.constants) in
     ok_equal_more c.put_method.result _ _ _ (ap (λ k. with_methods (named_package c.args.nodes.now) (resolved_method k c.args.method.mark m ∷ [])) stands) c.put_method.ensures
 
 pub returns-clause-known : goal.returns-clause-known
-returns-clause-known c = ok_still c.put_method.result _ (c.in_ok-enter_method.ensures.constants c.requires.constants)
+returns-clause-known c = ok_still c.put_method.result _ (c.in_ok-enter_method.ensures c.requires.constants).constants

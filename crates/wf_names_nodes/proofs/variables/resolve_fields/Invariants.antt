@@ -7,4 +7,4 @@ use Rattle.wf_names_nodes.proofs.variables.resolve_fields.Given as goal
 
 abbrev pub invariant-loop-field : goal.invariant-loop-field
 invariant-loop-field l =
-    VariablesMade (standing_by l.parsed.texts l.numbers l.around) (variables (fields_at (expr_trees l.parsed.exprs) (drop l.field-index l.fields))) (variables (fields_at (expr_trees l.parsed.exprs) l.fields)) l.fn.nodes l.nodes l.made
+    VariablesMade (standing_by l.parsed.texts l.tables l.scope) (variables (fields_at (expr_trees l.parsed.exprs) (drop l.field-index l.fields))) (variables (fields_at (expr_trees l.parsed.exprs) l.fields)) l.fn.nodes l.nodes l.made

@@ -8,13 +8,13 @@ use Rattle.wf_names_nodes.proofs.variables.resolve_locals.Goals as goal
 
 pub loop-s-init : goal.loop-s-init
 loop-s-init c =
-    let k = standing_by c.args.parsed.now.texts c.args.numbers.now c.args.around.now in
+    let k = standing_by c.args.parsed.now.texts c.args.tables.now c.args.scope.now in
     let ts = stmt_trees c.args.parsed.now.exprs c.args.parsed.now.stmts in
     variables_start k (locals_of (items_at ts c.args.body.now.items c.args.body.now.close)) c.args.nodes.now c.new-made.result c.new-made.ensures
 
 pub loop-s-preserved : goal.loop-s-preserved
 loop-s-preserved c =
-    let k = standing_by c.args.parsed.now.texts c.args.numbers.now c.args.around.now in
+    let k = standing_by c.args.parsed.now.texts c.args.tables.now c.args.scope.now in
     let ts = stmt_trees c.args.parsed.now.exprs c.args.parsed.now.stmts in
     let items = c.args.body.now.items in
     let close = c.args.body.now.close in
@@ -31,7 +31,7 @@ returns-clause-below c = c.loop-s.invariant.below
 
 pub returns-clause-made : goal.returns-clause-made
 returns-clause-made c =
-    let k = standing_by c.args.parsed.now.texts c.args.numbers.now c.args.around.now in
+    let k = standing_by c.args.parsed.now.texts c.args.tables.now c.args.scope.now in
     let ts = stmt_trees c.args.parsed.now.exprs c.args.parsed.now.stmts in
     let items = c.args.body.now.items in
     let close = c.args.body.now.close in

@@ -7,5 +7,5 @@ use Rattle.wf_names_nodes.proofs.variables.resolve_locals.Given as goal
 
 abbrev pub invariant-loop-s : goal.invariant-loop-s
 invariant-loop-s l =
-    VariablesMade (standing_by l.parsed.texts l.numbers l.around) (locals_of (items_at (stmt_trees l.parsed.exprs l.parsed.stmts) (drop l.s-index l.body.items) l.body.close))
+    VariablesMade (standing_by l.parsed.texts l.tables l.scope) (locals_of (items_at (stmt_trees l.parsed.exprs l.parsed.stmts) (drop l.s-index l.body.items) l.body.close))
     (locals_of (items_at (stmt_trees l.parsed.exprs l.parsed.stmts) l.body.items l.body.close)) l.fn.nodes l.nodes l.made

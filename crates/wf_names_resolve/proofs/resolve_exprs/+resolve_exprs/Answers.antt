@@ -140,7 +140,7 @@ resolve_convert-returns-clause-of t c =
 
 pub resolve_links-loop-link-init : goal.resolve_links-loop-link-init
 resolve_links-loop-link-init t c =
-    let k = standing_by c.args.parsed.now.texts c.args.numbers.now c.args.around.now in
+    let k = standing_by c.args.parsed.now.texts c.args.tables.now c.args.scope.now in
     let es = expr_trees c.args.parsed.now.exprs in
     links_start k es c.args.nodes.now c.args.links.now c.new-made.result c.new-made.ensures
 
@@ -151,7 +151,7 @@ resolve_links-resolve_expr-requires t c =
 
 pub resolve_links-loop-link-preserved : goal.resolve_links-loop-link-preserved
 resolve_links-loop-link-preserved t c =
-    let k = standing_by c.args.parsed.now.texts c.args.numbers.now c.args.around.now in
+    let k = standing_by c.args.parsed.now.texts c.args.tables.now c.args.scope.now in
     let es = expr_trees c.args.parsed.now.exprs in
     rw c.in_ok-push.ensures.ok (link_made k es c.args.nodes.now c.loop-link.nodes c.resolve_expr.new.nodes c.loop-link.link-index c.args.links.now c.loop-link.made _ c.in_ok-operand.operand c.loop-link-test.true c.loop-link.invariant c.in_ok-operand.ensures.grows c.in_ok-operand.ensures.below c.in_ok-operand.ensures.made)
 
@@ -165,13 +165,13 @@ resolve_links-returns-clause-below t c =
 
 pub resolve_links-returns-clause-made : goal.resolve_links-returns-clause-made
 resolve_links-returns-clause-made t c =
-    let k = standing_by c.args.parsed.now.texts c.args.numbers.now c.args.around.now in
+    let k = standing_by c.args.parsed.now.texts c.args.tables.now c.args.scope.now in
     let es = expr_trees c.args.parsed.now.exprs in
     links_made k es c.args.nodes.now c.loop-link.nodes c.loop-link.nodes c.loop-link.link-index c.args.links.now c.loop-link.made (drop_all c.loop-link.link-index c.args.links.now (omega (arith, c.loop-link-test.false))) c.loop-link.invariant
 
 pub resolve_given-loop-one-init : goal.resolve_given-loop-one-init
 resolve_given-loop-one-init t c =
-    let k = standing_by c.args.parsed.now.texts c.args.numbers.now c.args.around.now in
+    let k = standing_by c.args.parsed.now.texts c.args.tables.now c.args.scope.now in
     let es = expr_trees c.args.parsed.now.exprs in
     given_start k es c.args.nodes.now c.args.given.now c.new-made.result c.new-made.ensures
 
@@ -182,7 +182,7 @@ resolve_given-resolve_expr-requires t c =
 
 pub resolve_given-loop-one-preserved : goal.resolve_given-loop-one-preserved
 resolve_given-loop-one-preserved t c =
-    let k = standing_by c.args.parsed.now.texts c.args.numbers.now c.args.around.now in
+    let k = standing_by c.args.parsed.now.texts c.args.tables.now c.args.scope.now in
     let es = expr_trees c.args.parsed.now.exprs in
     rw c.in_ok-push.ensures.ok (given_made k es c.args.nodes.now c.loop-one.nodes c.resolve_expr.new.nodes c.loop-one.one-index c.args.given.now c.loop-one.made _ c.in_ok-value.value c.loop-one-test.true c.loop-one.invariant c.in_ok-value.ensures.grows c.in_ok-value.ensures.below c.in_ok-value.ensures.made)
 
@@ -196,13 +196,13 @@ resolve_given-returns-clause-below t c =
 
 pub resolve_given-returns-clause-made : goal.resolve_given-returns-clause-made
 resolve_given-returns-clause-made t c =
-    let k = standing_by c.args.parsed.now.texts c.args.numbers.now c.args.around.now in
+    let k = standing_by c.args.parsed.now.texts c.args.tables.now c.args.scope.now in
     let es = expr_trees c.args.parsed.now.exprs in
     all_given_made k es c.args.nodes.now c.loop-one.nodes c.loop-one.nodes c.loop-one.one-index c.args.given.now c.loop-one.made (drop_all c.loop-one.one-index c.args.given.now (omega (arith, c.loop-one-test.false))) c.loop-one.invariant
 
 pub resolve_prefixes-loop-prefix-init : goal.resolve_prefixes-loop-prefix-init
 resolve_prefixes-loop-prefix-init t c =
-    let k = standing_by c.args.parsed.now.texts c.args.numbers.now c.args.around.now in
+    let k = standing_by c.args.parsed.now.texts c.args.tables.now c.args.scope.now in
     let es = expr_trees c.args.parsed.now.exprs in
     prefixes_start k es c.args.nodes.now c.args.prefixes.now c.new-made.result c.new-made.ensures
 
@@ -213,7 +213,7 @@ resolve_prefixes-resolve_prefix-requires t c =
 
 pub resolve_prefixes-loop-prefix-preserved : goal.resolve_prefixes-loop-prefix-preserved
 resolve_prefixes-loop-prefix-preserved t c =
-    let k = standing_by c.args.parsed.now.texts c.args.numbers.now c.args.around.now in
+    let k = standing_by c.args.parsed.now.texts c.args.tables.now c.args.scope.now in
     let es = expr_trees c.args.parsed.now.exprs in
     rw c.in_ok-push.ensures.ok (prefix_made k es c.args.nodes.now c.loop-prefix.nodes c.resolve_prefix.new.nodes c.loop-prefix.prefix-index c.args.prefixes.now c.loop-prefix.made _ c.in_ok-next.next c.loop-prefix-test.true c.loop-prefix.invariant c.in_ok-next.ensures.grows c.in_ok-next.ensures.below c.in_ok-next.ensures.made)
 
@@ -227,7 +227,7 @@ resolve_prefixes-returns-clause-below t c =
 
 pub resolve_prefixes-returns-clause-made : goal.resolve_prefixes-returns-clause-made
 resolve_prefixes-returns-clause-made t c =
-    let k = standing_by c.args.parsed.now.texts c.args.numbers.now c.args.around.now in
+    let k = standing_by c.args.parsed.now.texts c.args.tables.now c.args.scope.now in
     let es = expr_trees c.args.parsed.now.exprs in
     prefixes_made k es c.args.nodes.now c.loop-prefix.nodes c.loop-prefix.nodes c.loop-prefix.prefix-index c.args.prefixes.now c.loop-prefix.made (drop_all c.loop-prefix.prefix-index c.args.prefixes.now (omega (arith, c.loop-prefix-test.false))) c.loop-prefix.invariant
 
@@ -249,7 +249,7 @@ resolve_prefix-returns-in-Slice-clause-made t c =
 
 pub resolve_prefix-returns-in_ok-length-in-Array-clause-made : goal.resolve_prefix-returns-in_ok-length-in-Array-clause-made
 resolve_prefix-returns-in_ok-length-in-Array-clause-made t c =
-    let k = standing_by c.args.parsed.now.texts c.args.numbers.now c.args.around.now in
+    let k = standing_by c.args.parsed.now.texts c.args.tables.now c.args.scope.now in
     rw c.in-Array.is (λ of. ap (λ e. tree.array_of e c.in-Array.at (resolved_type k of)) c.in_ok-length-in-Array.ensures.made)
 
 pub resolve_bounds-returns-in-None-clause-grows : goal.resolve_bounds-returns-in-None-clause-grows
@@ -280,7 +280,7 @@ resolve_type-returns-clause-below t c =
 
 pub resolve_type-returns-clause-made : goal.resolve_type-returns-clause-made
 resolve_type-returns-clause-made t c =
-    let k = standing_by c.args.parsed.now.texts c.args.numbers.now c.args.around.now in
+    let k = standing_by c.args.parsed.now.texts c.args.tables.now c.args.scope.now in
     let es = expr_trees c.args.parsed.now.exprs in
     let front = rw c.as_slice.ensures at c.in_ok-prefixes.ensures.made in
     type_made k es c.resolve_prefixes.new.nodes c.resolve_bounds.new.nodes c.in_ok-bounds.ensures.grows c.args.of.now.prefixes c.in_ok-prefixes.prefixes c.args.of.now.core c.core.result c.args.of.now.bounds c.in_ok-bounds.bounds c.in_ok-prefixes.ensures.below front c.core.ensures c.in_ok-bounds.ensures.made

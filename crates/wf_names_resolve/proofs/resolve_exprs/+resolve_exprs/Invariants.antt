@@ -45,10 +45,10 @@ abbrev pub decreases-resolve_type : goal.decreases-resolve_type
 decreases-resolve_type l = 16 * above_type l.of.now + 2
 
 abbrev pub invariant-resolve_links-loop-link : goal.invariant-resolve_links-loop-link
-invariant-resolve_links-loop-link l = LinksMade (standing_by l.parsed.texts l.numbers l.around) (expr_trees l.parsed.exprs) l.links l.link-index l.fn.nodes l.nodes l.made
+invariant-resolve_links-loop-link l = LinksMade (standing_by l.parsed.texts l.tables l.scope) (expr_trees l.parsed.exprs) l.links l.link-index l.fn.nodes l.nodes l.made
 
 abbrev pub invariant-resolve_given-loop-one : goal.invariant-resolve_given-loop-one
-invariant-resolve_given-loop-one l = GivenMade (standing_by l.parsed.texts l.numbers l.around) (expr_trees l.parsed.exprs) l.given l.one-index l.fn.nodes l.nodes l.made
+invariant-resolve_given-loop-one l = GivenMade (standing_by l.parsed.texts l.tables l.scope) (expr_trees l.parsed.exprs) l.given l.one-index l.fn.nodes l.nodes l.made
 
 abbrev pub invariant-resolve_prefixes-loop-prefix : goal.invariant-resolve_prefixes-loop-prefix
-invariant-resolve_prefixes-loop-prefix l = PrefixesMade (standing_by l.parsed.texts l.numbers l.around) (expr_trees l.parsed.exprs) l.prefixes l.prefix-index l.fn.nodes l.nodes l.made
+invariant-resolve_prefixes-loop-prefix l = PrefixesMade (standing_by l.parsed.texts l.tables l.scope) (expr_trees l.parsed.exprs) l.prefixes l.prefix-index l.fn.nodes l.nodes l.made

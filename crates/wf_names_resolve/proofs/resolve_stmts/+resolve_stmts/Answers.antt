@@ -32,7 +32,7 @@ resolve_stmt-returns-clause-labels t c =
 
 pub resolve_stmt-returns-clause-made : goal.resolve_stmt-returns-clause-made
 resolve_stmt-returns-clause-made t c =
-    let k = standing_by c.args.parsed.now.texts c.args.numbers.now c.args.around.now in
+    let k = standing_by c.args.parsed.now.texts c.args.tables.now c.args.scope.now in
     let es = expr_trees c.args.parsed.now.exprs in
     let ts = stmt_trees c.args.parsed.now.exprs c.args.parsed.now.stmts in
     let is = c.in_ok-stmt.ensures.made c.stmt-node.result.now.at ∙ ap (resolved_stmt k c.args.labels.now.items) (sym c.stmt-node.ensures.made) in
@@ -63,7 +63,7 @@ resolve_parts-returns-in_ok-stmt-in-While-clause-made t c =
 
 pub resolve_block-loop-s-init : goal.resolve_block-loop-s-init
 resolve_block-loop-s-init t c =
-    let k = standing_by c.args.parsed.now.texts c.args.numbers.now c.args.around.now in
+    let k = standing_by c.args.parsed.now.texts c.args.tables.now c.args.scope.now in
     let es = expr_trees c.args.parsed.now.exprs in
     let ts = stmt_trees c.args.parsed.now.exprs c.args.parsed.now.stmts in
     (stmts_start k c.args.labels.now.items es ts c.args.nodes.now c.args.block.now.close c.args.block.now.items c.new-made.result c.new-made.ensures, refl)
@@ -78,7 +78,7 @@ resolve_block-resolve_stmt-requires t c =
 
 pub resolve_block-loop-s-preserved : goal.resolve_block-loop-s-preserved
 resolve_block-loop-s-preserved t c =
-    let k = standing_by c.args.parsed.now.texts c.args.numbers.now c.args.around.now in
+    let k = standing_by c.args.parsed.now.texts c.args.tables.now c.args.scope.now in
     let es = expr_trees c.args.parsed.now.exprs in
     let ts = stmt_trees c.args.parsed.now.exprs c.args.parsed.now.stmts in
     let inside : c.loop-s.s-index < length c.args.block.now.items = rw (← c.as_slice-s-items.ensures) c.loop-s-test.true in
@@ -100,7 +100,7 @@ resolve_block-returns-clause-labels t c =
 
 pub resolve_block-returns-clause-made : goal.resolve_block-returns-clause-made
 resolve_block-returns-clause-made t c =
-    let k = standing_by c.args.parsed.now.texts c.args.numbers.now c.args.around.now in
+    let k = standing_by c.args.parsed.now.texts c.args.tables.now c.args.scope.now in
     let es = expr_trees c.args.parsed.now.exprs in
     let ts = stmt_trees c.args.parsed.now.exprs c.args.parsed.now.stmts in
     let items = c.args.block.now.items in
@@ -121,7 +121,7 @@ resolve_arm-returns-clause-condition t c =
 
 pub resolve_arms-loop-arm-init : goal.resolve_arms-loop-arm-init
 resolve_arms-loop-arm-init t c =
-    let k = standing_by c.args.parsed.now.texts c.args.numbers.now c.args.around.now in
+    let k = standing_by c.args.parsed.now.texts c.args.tables.now c.args.scope.now in
     let es = expr_trees c.args.parsed.now.exprs in
     let ts = stmt_trees c.args.parsed.now.exprs c.args.parsed.now.stmts in
     (arms_start k c.args.labels.now.items es ts c.args.nodes.now c.args.arms.now c.new-made.result c.new-made.ensures, refl)
@@ -133,7 +133,7 @@ resolve_arms-resolve_arm-requires t c =
 
 pub resolve_arms-loop-arm-preserved : goal.resolve_arms-loop-arm-preserved
 resolve_arms-loop-arm-preserved t c =
-    let k = standing_by c.args.parsed.now.texts c.args.numbers.now c.args.around.now in
+    let k = standing_by c.args.parsed.now.texts c.args.tables.now c.args.scope.now in
     let es = expr_trees c.args.parsed.now.exprs in
     let ts = stmt_trees c.args.parsed.now.exprs c.args.parsed.now.stmts in
     let body = rw c.loop-arm.invariant.1 at c.in_ok-one.ensures.body in
@@ -154,7 +154,7 @@ resolve_arms-returns-clause-labels t c =
 
 pub resolve_arms-returns-clause-made : goal.resolve_arms-returns-clause-made
 resolve_arms-returns-clause-made t c =
-    let k = standing_by c.args.parsed.now.texts c.args.numbers.now c.args.around.now in
+    let k = standing_by c.args.parsed.now.texts c.args.tables.now c.args.scope.now in
     let es = expr_trees c.args.parsed.now.exprs in
     let ts = stmt_trees c.args.parsed.now.exprs c.args.parsed.now.stmts in
     let over : drop c.loop-arm.arm-index c.args.arms.now ≡ [] = drop_all c.loop-arm.arm-index c.args.arms.now (omega (arith, c.loop-arm-test.false)) in
@@ -178,7 +178,7 @@ resolve_if-returns-clause-below t c =
 
 pub resolve_if-returns-clause-made : goal.resolve_if-returns-clause-made
 resolve_if-returns-clause-made t c =
-    let k = standing_by c.args.parsed.now.texts c.args.numbers.now c.args.around.now in
+    let k = standing_by c.args.parsed.now.texts c.args.tables.now c.args.scope.now in
     let es = expr_trees c.args.parsed.now.exprs in
     let ts = stmt_trees c.args.parsed.now.exprs c.args.parsed.now.stmts in
     let last = rw c.in_ok-arms.ensures.labels at c.in_ok-otherwise.ensures.made in

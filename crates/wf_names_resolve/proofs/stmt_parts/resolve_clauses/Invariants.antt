@@ -4,4 +4,4 @@ use Rattle.wf_names_resolve.proofs.StmtLemmas.{ClausesMade}
 use Rattle.wf_names_resolve.proofs.stmt_parts.resolve_clauses.Given as goal
 
 abbrev pub invariant-loop-clause : goal.invariant-loop-clause
-invariant-loop-clause l = ClausesMade (standing_by l.parsed.texts l.numbers l.around) (expr_trees l.parsed.exprs) l.clauses l.clause-index l.fn.nodes l.nodes l.made
+invariant-loop-clause l = ClausesMade (standing_by l.parsed.texts l.tables l.scope) (expr_trees l.parsed.exprs) l.clauses l.clause-index l.fn.nodes l.nodes l.made

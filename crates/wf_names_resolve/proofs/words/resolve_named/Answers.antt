@@ -12,7 +12,7 @@ returns-clause-grows c = grows_more c.args.nodes.now c.resolve_given.new.nodes c
 
 pub returns-clause-made : goal.returns-clause-made
 returns-clause-made c =
-    let k = standing_by c.args.parsed.now.texts c.args.numbers.now c.args.around.now in
+    let k = standing_by c.args.parsed.now.texts c.args.tables.now c.args.scope.now in
     let es = expr_trees c.args.parsed.now.exprs in
     let gs = given_at es c.args.via.now.given in
     let values = rw c.as_slice.ensures at c.in_ok-given.ensures.made in

@@ -1,4 +1,4 @@
-use Rattle.std.proofs.Common.{◌∙◌, ap, map}
+use Rattle.std.proofs.Common.{◌∙◌, map}
 use Rattle.wf_names_rules.proofs.ArgumentLemmas.{outside_same}
 use Rattle.wf_names_rules.proofs.arguments.lacks_arg.Goals as goal
 

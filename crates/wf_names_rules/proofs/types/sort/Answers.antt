@@ -1,4 +1,3 @@
-use Rattle.std.proofs.Common.{◌≤◌, length, subst, ◌≡◌}
 use Rattle.wf_names_rules.specs.Declarations.{bytes_of}
 use Rattle.wf_names_rules.proofs.TypeLemmas.{deep_sort}
 use Rattle.wf_names_rules.proofs.types.sort.Goals as goal

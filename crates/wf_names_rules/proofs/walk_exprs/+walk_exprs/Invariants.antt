@@ -1,11 +1,12 @@
-use Rattle.std.proofs.Common.{◌≡◌, ◌+◌, ◌*◌, ◌≤◌, max, drop}
+use Rattle.std.proofs.Common.{◌≡◌, ◌+◌, ◌*◌, max, drop}
 use Rattle.std.specs.List.{flat_map}
 use Rattle.wf_ast.specs.ParsedTrees.{expr_trees, links_at, given_at}
 use Rattle.wf_names_rules.specs.Above.{above_part, above_given, above_links, above_prefix, above_prefixes, above_bounds, above_type}
 use Rattle.wf_names_rules.specs.Uses.{link_uses, given_uses}
 use Rattle.wf_names_rules.specs.NodeUses.{prefix_uses}
-use Rattle.wf_names_rules.specs.Tables.{known_by}
+use Rattle.wf_names_rules.specs.Here.{known_here}
 use Rattle.wf_names_rules.specs.Judged.{walked}
+use Rattle.wf_names_rules.specs.Called.{with_calls}
 use Rattle.wf_names_rules.proofs.walk_exprs.+walk_exprs.Given as goal
 
 abbrev pub decreases-walk_expr : goal.decreases-walk_expr
@@ -43,15 +44,21 @@ decreases-walk_type l = 8 * above_type l.of.now + 5
 
 abbrev pub invariant-walk_links-loop-link : goal.invariant-walk_links-loop-link
 invariant-walk_links-loop-link l =
-    walked (known_by l.parsed.texts l.tables l.scope) l.seen (link_uses (links_at (expr_trees l.parsed.exprs) (drop l.link-index l.links)))
-    ≡ walked (known_by l.parsed.texts l.tables l.scope) l.fn.seen (link_uses (links_at (expr_trees l.parsed.exprs) l.links))
+    (walked (known_here l.here) l.seen (link_uses (links_at (expr_trees l.here.parsed.now.exprs) (drop l.link-index l.links)))
+    ≡ walked (known_here l.here) l.fn.seen (link_uses (links_at (expr_trees l.here.parsed.now.exprs) l.links)))
+    × (with_calls (known_here l.here) l.row (link_uses (links_at (expr_trees l.here.parsed.now.exprs) (drop l.link-index l.links)))
+    ≡ with_calls (known_here l.here) l.fn.row (link_uses (links_at (expr_trees l.here.parsed.now.exprs) l.links)))
 
 abbrev pub invariant-walk_given-loop-given : goal.invariant-walk_given-loop-given
 invariant-walk_given-loop-given l =
-    walked (known_by l.parsed.texts l.tables l.scope) l.seen (given_uses (given_at (expr_trees l.parsed.exprs) (drop l.given-index l.args)))
-    ≡ walked (known_by l.parsed.texts l.tables l.scope) l.fn.seen (given_uses (given_at (expr_trees l.parsed.exprs) l.args))
+    (walked (known_here l.here) l.seen (given_uses (given_at (expr_trees l.here.parsed.now.exprs) (drop l.given-index l.args)))
+    ≡ walked (known_here l.here) l.fn.seen (given_uses (given_at (expr_trees l.here.parsed.now.exprs) l.args)))
+    × (with_calls (known_here l.here) l.row (given_uses (given_at (expr_trees l.here.parsed.now.exprs) (drop l.given-index l.args)))
+    ≡ with_calls (known_here l.here) l.fn.row (given_uses (given_at (expr_trees l.here.parsed.now.exprs) l.args)))
 
 abbrev pub invariant-walk_prefixes-loop-prefix : goal.invariant-walk_prefixes-loop-prefix
 invariant-walk_prefixes-loop-prefix l =
-    walked (known_by l.parsed.texts l.tables l.scope) l.seen (flat_map (prefix_uses (expr_trees l.parsed.exprs)) (drop l.prefix-index l.prefixes))
-    ≡ walked (known_by l.parsed.texts l.tables l.scope) l.fn.seen (flat_map (prefix_uses (expr_trees l.parsed.exprs)) l.prefixes)
+    (walked (known_here l.here) l.seen (flat_map (prefix_uses (expr_trees l.here.parsed.now.exprs)) (drop l.prefix-index l.prefixes))
+    ≡ walked (known_here l.here) l.fn.seen (flat_map (prefix_uses (expr_trees l.here.parsed.now.exprs)) l.prefixes))
+    × (with_calls (known_here l.here) l.row (flat_map (prefix_uses (expr_trees l.here.parsed.now.exprs)) (drop l.prefix-index l.prefixes))
+    ≡ with_calls (known_here l.here) l.fn.row (flat_map (prefix_uses (expr_trees l.here.parsed.now.exprs)) l.prefixes))

@@ -5,5 +5,5 @@ use Rattle.wf_names_rules.proofs.walk_exprs.arguments_if.Goals as goal
 pub returns-then-known : goal.returns-then-known
 returns-then-known c =
     let h = rw c.as_slice.ensures at c.arguments.ensures in
-    let names = given_names_same (expr_trees c.args.parsed.now.exprs) c.args.call.now.args in
+    let names = given_names_same (expr_trees c.args.here.now.parsed.now.exprs) c.args.call.now.args in
     rw c.if-known.true (rw names at h)

@@ -1,11 +1,18 @@
 use Rattle.wf_ast.specs.ParsedTrees.{expr_trees, expr_at, clauses_at}
 use Rattle.wf_names_rules.specs.Uses.{uses_of, clause_uses}
-use Rattle.wf_names_rules.specs.Tables.{known_by}
+use Rattle.wf_names_rules.specs.Here.{known_here}
 use Rattle.wf_names_rules.proofs.StmtLemmas.{ok_append}
+use Rattle.wf_names_rules.proofs.CalledLemmas.{row_append}
 use Rattle.wf_names_rules.proofs.walk_stmts.walk_head.Goals as goal
 
-pub returns : goal.returns
-returns c =
-    let k = known_by c.args.parsed.now.texts c.args.tables.now c.args.scope.now in
-    let ts = expr_trees c.args.parsed.now.exprs in
-    ok_append k c.args.seen c.in_ok-seen.seen (uses_of (expr_at ts c.args.condition)) (clause_uses (clauses_at ts c.args.clauses.now)) c.walk_clauses.result c.in_ok-seen.ensures c.walk_clauses.ensures
+pub returns-clause-seen : goal.returns-clause-seen
+returns-clause-seen c =
+    let k = known_here c.args.here.now in
+    let ts = expr_trees c.args.here.now.parsed.now.exprs in
+    ok_append k c.args.seen c.in_ok-seen.seen (uses_of (expr_at ts c.args.condition)) (clause_uses (clauses_at ts c.args.clauses.now)) c.walk_clauses.result c.in_ok-seen.ensures.seen c.walk_clauses.ensures.seen
+
+pub returns-clause-row : goal.returns-clause-row
+returns-clause-row c =
+    let k = known_here c.args.here.now in
+    let ts = expr_trees c.args.here.now.parsed.now.exprs in
+    row_append k c.args.row.now c.walk_expr.new.row (uses_of (expr_at ts c.args.condition)) (clause_uses (clauses_at ts c.args.clauses.now)) c.walk_clauses.result c.walk_clauses.new.row c.in_ok-seen.ensures.row c.walk_clauses.ensures.row

@@ -1,36 +1,44 @@
-use Rattle.std.proofs.Common.{◌≡◌, ℕ, List, nat_eq, sym, subst}
-use Rattle.indexmap.specs.IndexMap.{get}
-use Rattle.indexmap.specs.IndexSet.{contains}
+use Rattle.std.proofs.Common.{◌≡◌, ℕ, List, sym, subst, refl}
 use Rattle.wf_ast.specs.ParsedTrees.{expr_trees, fields_at}
-use Rattle.wf_names_rules.specs.Declarations.{Structure, variables}
-use Rattle.wf_names_rules.specs.Tables.{same_pair}
+use Rattle.wf_names_rules.specs.Declarations.{Structure, place_in, variables}
+use Rattle.wf_names_rules.specs.Tables.{same_pair, has_number, sort_by, place_by}
+use Rattle.wf_names_scopes.specs.Agreeing.{sort_among}
 use Rattle.wf_names_scopes.specs.Growing.{with_fields}
-use Rattle.wf_names_scopes.proofs.PackageLemmas.{struct_added, fields_new, fields_kept, taken, untaken, on_ok}
+use Rattle.wf_names_scopes.proofs.NumberLemmas.{number_added}
+use Rattle.wf_names_scopes.proofs.PackageLemmas.{fields_new, fields_kept, taken, untaken, both_ok}
 use Rattle.wf_names_scopes.proofs.tables.add_struct.Goals as goal
 
 pub returns-then-branch : goal.returns-then-branch
 returns-then-branch c =
-    let s : Structure = record { name = c.args.name; fields = variables (fields_at (expr_trees c.args.parsed.now.exprs) c.args.fields.now) } in
-    let new = get same_pair c.add_fields.new.table in
-    let old = get same_pair c.args.tables.now.fields in
-    let P : List (List ℕ) → Type 0 = λ texts. (other text : ℕ) → new (other, text) ≡ with_fields texts old s.name.text.0 s.fields other text in
-    on_ok c.add_fields.result (λ added d e p. record {
+    let es = expr_trees c.args.parsed.now.exprs in
+    let s : Structure = record { name = c.args.name; fields = variables (fields_at es c.args.fields.now) } in
+    let known = c.args.tables.now.structs in
+    let old = c.args.tables.now.fields in
+    let new = c.add_fields.new.table in
+    let fresh = untaken c.in_ok-add_number.field-0 (has_number known c.args.name.text.0) c.in_ok-add_number.ensures.fresh c.if-branch.true in
+    let P : List (List ℕ) → Type 0 = λ texts. (other text : ℕ) → sort_by same_pair new (other, text) ≡ with_fields (sort_by same_pair old) s.name.text.0 (sort_among texts) s.fields other text in
+    both_ok c.add_fields.result (λ sorts places d e p. record {
       statuses = p.statuses;
-      structs = struct_added d s (contains nat_eq c.args.tables.now.structs) (contains nat_eq c.add_name.new.names) c.in_ok-add_name.ensures.names p.structs;
-      fields = fields_new d c.args.tables.now s p (untaken c.in_ok-add_name.field-0 (contains nat_eq c.args.tables.now.structs c.args.name.text.0) c.in_ok-add_name.ensures.fresh c.if-branch.true) new (subst P (sym e) added);
+      structs = number_added 0 (λ (s : Structure). s.name) d.structs s known c.add_number.new.names c.in_ok-add_number.ensures.next c.in_ok-add_number.ensures.numbers p.structs;
+      fields = fields_new d s known p.structs (sort_among d.texts) (λ text. refl) (sort_by same_pair old) p.fields fresh (sort_by same_pair new) (subst P (sym e) sorts);
+      places = fields_new d s known p.structs place_in (λ text. refl) (place_by same_pair old) p.places fresh (place_by same_pair new) (places es);
       methods = p.methods;
       method_names = p.method_names;
       publics = p.publics;
       args = p.args;
-    }) c.add_fields.ensures
+    }) c.add_fields.ensures.sorts c.add_fields.ensures.places
 
 pub returns-else-branch : goal.returns-else-branch
 returns-else-branch c =
     let s : Structure = record { name = c.args.name; fields = variables (fields_at (expr_trees c.args.parsed.now.exprs) c.args.fields.now) } in
+    let known = c.args.tables.now.structs in
+    let old = c.args.tables.now.fields in
+    let there = taken c.in_ok-add_number.field-0 (has_number known c.args.name.text.0) c.in_ok-add_number.ensures.fresh c.if-branch.false in
     λ d e p. record {
       statuses = p.statuses;
-      structs = struct_added d s (contains nat_eq c.args.tables.now.structs) (contains nat_eq c.add_name.new.names) c.in_ok-add_name.ensures.names p.structs;
-      fields = fields_kept d c.args.tables.now s p (taken c.in_ok-add_name.field-0 (contains nat_eq c.args.tables.now.structs c.args.name.text.0) c.in_ok-add_name.ensures.fresh c.if-branch.false);
+      structs = number_added 0 (λ (s : Structure). s.name) d.structs s known c.add_number.new.names c.in_ok-add_number.ensures.next c.in_ok-add_number.ensures.numbers p.structs;
+      fields = fields_kept d s known p.structs (sort_among d.texts) (λ text. refl) (sort_by same_pair old) p.fields there;
+      places = fields_kept d s known p.structs place_in (λ text. refl) (place_by same_pair old) p.places there;
       methods = p.methods;
       method_names = p.method_names;
       publics = p.publics;

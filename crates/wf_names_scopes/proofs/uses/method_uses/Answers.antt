@@ -4,15 +4,26 @@ use Rattle.wf_names_rules.specs.Declarations.{variables, locals_of}
 use Rattle.wf_names_rules.specs.Uses.{structure, variable_uses, result_uses, block_uses}
 use Rattle.wf_names_scopes.specs.Agreeing.{package_of}
 use Rattle.wf_names_scopes.specs.Growing.{scope_in}
+use Rattle.wf_names_scopes.proofs.RowLemmas.{called-there}
 use Rattle.wf_names_scopes.proofs.UseLemmas.{walk_judged}
 use Rattle.wf_names_scopes.proofs.uses.method_uses.Goals as goal
 
 pub returns-clause-found : goal.returns-clause-found
 returns-clause-found c =
-    let d = package_of c.args.parsed.now in
-    let es = expr_trees c.args.parsed.now.exprs in
-    let ts = stmt_trees c.args.parsed.now.exprs c.args.parsed.now.stmts in
+    let d = package_of c.args.whole.now.parsed.now in
+    let es = expr_trees c.args.whole.now.parsed.now.exprs in
+    let ts = stmt_trees c.args.whole.now.parsed.now.exprs c.args.whole.now.parsed.now.stmts in
     let args = variables (fields_at es c.args.method.args.now) in
     let uses = structure c.args.method.owner ∷ (variable_uses args ++ (result_uses (result_at es c.args.method.gives.now) ++ block_uses (block_at ts c.args.method.body.now))) in
-    walk_judged c.args.parsed.now c.args.tables.now c.enter_method.new.scope (scope_in d c.args.method.owner args (locals_of (block_at ts c.args.method.body.now))) c.args.found c.begin.result c.in_ok-seen.seen
-    uses c.requires.tables (c.in_ok-enter_method.ensures c.requires.constants) c.begin.ensures c.in_ok-seen.ensures
+    walk_judged c.args.whole.now.parsed.now c.args.whole.now.tables.now c.enter_method.new.scope (scope_in d c.args.method.owner args (locals_of (block_at ts c.args.method.body.now))) c.args.found c.begin.result c.in_ok-seen.seen
+    uses c.requires.tables (c.in_ok-enter_method.ensures c.requires.constants) c.begin.ensures c.in_ok-seen.ensures.seen
+
+pub returns-clause-row : goal.returns-clause-row
+returns-clause-row c =
+    let p = c.args.whole.now.parsed.now in
+    let es = expr_trees p.exprs in
+    let ts = stmt_trees p.exprs p.stmts in
+    let args = variables (fields_at es c.args.method.args.now) in
+    let uses = variable_uses args ++ (result_uses (result_at es c.args.method.gives.now) ++ block_uses (block_at ts c.args.method.body.now)) in
+    called-there p c.args.whole.now.tables.now c.enter_method.new.scope (scope_in (package_of p) c.args.method.owner args (locals_of (block_at ts c.args.method.body.now))) c.args.gathered.now.row c.walk_method.new.gathered.row uses
+    c.requires.tables (c.in_ok-enter_method.ensures c.requires.constants) c.in_ok-seen.ensures.row

@@ -9,12 +9,12 @@ use Rattle.wf_names_scopes.proofs.uses.struct_uses.Goals as goal
 
 pub returns-clause-found : goal.returns-clause-found
 returns-clause-found c =
-    let d = package_of c.args.parsed.now in
-    walk_judged c.args.parsed.now c.args.tables.now c.enter_struct.new.scope (scope_in d c.args.name [] []) c.args.found c.begin.result c.in_ok-seen.seen
-    (variable_uses (variables (fields_at (expr_trees c.args.parsed.now.exprs) c.args.fields.now))) c.requires.tables (c.enter_struct.ensures d c.requires.constants) c.begin.ensures c.in_ok-seen.ensures
+    let d = package_of c.args.whole.now.parsed.now in
+    walk_judged c.args.whole.now.parsed.now c.args.whole.now.tables.now c.enter_struct.new.scope (scope_in d c.args.name [] []) c.args.found c.begin.result c.in_ok-seen.seen
+    (variable_uses (variables (fields_at (expr_trees c.args.whole.now.parsed.now.exprs) c.args.fields.now))) c.requires.tables (c.enter_struct.ensures d c.requires.constants) c.begin.ensures c.in_ok-seen.ensures.seen
 
 pub returns-clause-constants : goal.returns-clause-constants
-returns-clause-constants c = (c.enter_struct.ensures (package_of c.args.parsed.now) c.requires.constants).constants
+returns-clause-constants c = (c.enter_struct.ensures (package_of c.args.whole.now.parsed.now) c.requires.constants).constants
 
 pub returns-in_err-seen-clause-constants : goal.returns-in_err-seen-clause-constants
-returns-in_err-seen-clause-constants c = (c.enter_struct.ensures (package_of c.args.parsed.now) c.requires.constants).constants
+returns-in_err-seen-clause-constants c = (c.enter_struct.ensures (package_of c.args.whole.now.parsed.now) c.requires.constants).constants

@@ -1,8 +1,11 @@
-use Rattle.std.proofs.Common.{◌<◌, length}
+use Rattle.std.proofs.Common.{◌<◌, [], length, refl}
 use Rattle.wf_ast.specs.ParsedTrees.{stmt_trees, items_at}
 use Rattle.wf_names_rules.specs.Declarations.{locals_of}
 use Rattle.wf_names_scopes.proofs.VariableLemmas.{local_next}
 use Rattle.wf_names_scopes.proofs.variables.locals.Goals as goal
+
+pub loop-s-init : goal.loop-s-init
+loop-s-init c = record { front = []; split = refl; tells = c.no_variables-table.ensures c.args.parsed.now.texts }
 
 pub loop-s-preserved : goal.loop-s-preserved
 loop-s-preserved c =

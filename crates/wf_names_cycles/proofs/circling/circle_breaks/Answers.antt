@@ -1,6 +1,0 @@
-use Rattle.wf_names_cycles.proofs.SectionLemmas.{circles-decided}
-use Rattle.wf_names_cycles.proofs.circling.circle_breaks.Goals as goal
-
-pub returns : goal.returns
-returns c = λ d s m.
-    circles-decided d c.args.found c.holds_itself-held.result c.recursion.result (c.holds_itself-held.ensures d s) (c.recursion.ensures d m)

@@ -1,0 +1,6 @@
+use Rattle.wf_names_cycles.proofs.SectionLemmas.{cycles-decided}
+use Rattle.wf_names_cycles.proofs.cycles_found.cycle_breaks.Goals as goal
+
+pub returns : goal.returns
+returns c = λ d s m.
+    cycles-decided d c.args.found c.holds_itself-held.result c.recursion.result (c.holds_itself-held.ensures d s) (c.recursion.ensures d m)

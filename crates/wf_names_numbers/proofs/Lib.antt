@@ -1,4 +1,0 @@
-pub mod NumberLemmas
-pub mod StandingLemmas
-pub mod StructLemmas
-pub mod ScopeLemmas

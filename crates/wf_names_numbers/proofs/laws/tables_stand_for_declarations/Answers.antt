@@ -1,5 +1,0 @@
-use Rattle.wf_names_numbers.proofs.StandingLemmas.{standing_same}
-use Rattle.wf_names_numbers.proofs.laws.tables_stand_for_declarations.Goals as goal
-
-pub returns : goal.returns
-returns c = standing_same

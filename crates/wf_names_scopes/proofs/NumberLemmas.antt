@@ -1,0 +1,42 @@
+-- Tables that grow by one name at a time.
+use Rattle.std.proofs.Common.{◌≡◌, ℕ, ◌+◌, Bool, cond, List, [], ◌∷◌, ◌++◌, Some, None, nat_eq, option_map, sym, ap, ◌∙◌, length-append, arith}
+use Rattle.std.specs.Option.{option_or}
+use Rattle.std.specs.List.{position_from}
+use Rattle.std.specs.Map.{lookup}
+use Rattle.indexmap.specs.IndexMap.{IndexMap, IsEmpty, get}
+use Rattle.wf_ast.specs.declared.parsed.Name.{Name}
+use Rattle.wf_names_rules.specs.declared.sorts.Sort.{Sort}
+use Rattle.wf_names_rules.specs.declared.tables.Entry.{Entry}
+use Rattle.wf_names_rules.specs.declared.tables.Numbers.{Numbers}
+use Rattle.wf_names_rules.specs.Declarations.{is_spelt}
+use Rattle.wf_names_rules.specs.Tables.{number_at, sort_by, place_by}
+use Rattle.wf_names_scopes.specs.Agreeing.{TellsNumbers}
+use Rattle.wf_names_scopes.specs.Growing.{with_first}
+use Rattle.wf_names_scopes.proofs.FirstLemmas.{mapped, position_pushed}
+
+-- A table with no entries.
+pub nothing_yet : {K X S : Type 0} (same : K → K → Bool) (table : IndexMap K X S) → IsEmpty table → (key : K) → get same table key ≡ None
+nothing_yet same table e key = ap (lookup (same key)) e
+
+-- What is told of the entries, after one more.
+module _ {K S : Type 0} (same : K → K → Bool) (old new : IndexMap K Entry S) (key : K) (entry : Entry) (put : (other : K) → get same new other ≡ with_first same (get same old) key entry other) where
+  pub sort_put : (other : K) → sort_by same new other ≡ with_first same (sort_by same old) key entry.sort other
+  sort_put other =
+      let sort : Entry → Sort = λ e. e.sort in
+      ap (option_map sort) (put other) ∙ mapped sort (get same old other) (same key other) entry
+
+  pub place_put : (other : K) → place_by same new other ≡ with_first same (place_by same old) key entry.place other
+  place_put other =
+      let place : Entry → ℕ = λ e. e.place in
+      ap (option_map place) (put other) ∙ mapped place (get same old other) (same key other) entry
+
+-- One more name.
+pub number_added : {X : Type 0} (first : ℕ) (name : X → Name) (named : List X) (x : X) (old new : Numbers) → new.next ≡ old.next + 1
+    → ((text : ℕ) → number_at new text ≡ with_first nat_eq (number_at old) (name x).text.0 old.next text) → TellsNumbers first name named old → TellsNumbers first name (named ++ x ∷ []) new
+number_added first name named x old new next h t = record {
+  next = omega (arith, next, t.next, length-append named (x ∷ []));
+  numbers = λ text.
+      h text ∙ ap (λ o. option_or o (cond (nat_eq (name x).text.0 text) (Some old.next) None)) (t.numbers text)
+      ∙ ap (λ n. option_or (position_from (λ y. is_spelt text (name y)) first named) (cond (nat_eq (name x).text.0 text) (Some n) None)) t.next
+      ∙ sym (position_pushed (λ y. is_spelt text (name y)) first named x);
+}

@@ -1,0 +1,28 @@
+use Rattle.std.proofs.Common.{◌∙◌, ap}
+use Rattle.wf_ast.specs.ParsedTrees.{expr_trees, stmt_trees, fields_at, result_at, block_at}
+use Rattle.wf_names_rules.specs.Called.{with_calls}
+use Rattle.wf_names_rules.specs.Declarations.{Method, variables, locals_of}
+use Rattle.wf_names_rules.specs.Meanings.{known_at}
+use Rattle.wf_names_rules.specs.Uses.{method_scope, method_uses}
+use Rattle.wf_names_scopes.specs.Agreeing.{package_of}
+use Rattle.wf_names_scopes.proofs.RowLemmas.{method-added}
+use Rattle.wf_names_scopes.proofs.uses.method_decl.Goals as goal
+
+pub returns-in_ok-add_body-in-Method-clause-rows : goal.returns-in_ok-add_body-in-Method-clause-rows
+returns-in_ok-add_body-in-Method-clause-rows c =
+    let p = c.args.whole.now.parsed.now in
+    let d = package_of p in
+    let es = expr_trees p.exprs in
+    let ts = stmt_trees p.exprs p.stmts in
+    let m : Method = record {
+      public = c.args.node.now.public;
+      owner = c.in-Method.of;
+      name = c.in-Method.name;
+      args = variables (fields_at es c.in-Method.args);
+      result = result_at es c.in-Method.gives;
+      locals = locals_of (block_at ts c.in-Method.body);
+      body = block_at ts c.in-Method.body;
+    } in
+    let made = rw c.as_slice.ensures at c.in_ok-all-in-Method.ensures.row in
+    rw c.in-Method.is
+    (method-added d m c.args.bodies.now.rows.items c.add_body.new.bodies.rows.items c.method_uses.new.gathered.row (made ∙ ap (λ row. with_calls (known_at d (method_scope d m)) row (method_uses m)) c.new.ensures) c.in_ok-add_body-in-Method.ensures.rows)

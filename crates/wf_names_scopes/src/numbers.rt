@@ -1,0 +1,108 @@
+// Numbers and entries of tables that grow by a name at a time: a name keeps what it was given first.
+
+ghost use Rattle.std.specs.Prelude.{◌≡◌, ◌+◌, not, ℕ, is_some, nat_eq, IfOk, OnOk};
+ghost use Rattle.indexmap.specs.IndexMap.{get};
+ghost use Rattle.wf_names_rules.specs.Tables.{Pair, same_pair, has_number, number_at, sort_by, place_by, sort_at, place_at};
+ghost use Rattle.wf_names_scopes.specs.Growing.{with_first};
+
+use indexmap::IndexMap;
+use wf_ast::TextId;
+use wf_names_rules::sorts::Sort;
+use wf_names_rules::tables::{Entry, Numbers, Variables};
+use wf_text::faults::NoMemory;
+
+// The last of all numbers.
+const LAST: u32 = 4_294_967_295;
+
+/// The number after this one. `Err` where there is none.
+pub(crate) fn next_number(number: u32) -> Result<u32, NoMemory>
+    ensures { IfOk result (λ next. next ≡ number + 1) }
+{
+    if number < LAST {
+        Ok(number + 1)
+    } else {
+        Err(NoMemory)
+    }
+}
+
+fn put_number(table: &mut IndexMap<u32, u32>, name: TextId, number: u32) -> Result<bool, NoMemory>
+    ensures fresh { IfOk result (λ fresh. fresh ≡ not (is_some (get nat_eq table.old name.0))) }
+    ensures table { OnOk result ((text : ℕ) → get nat_eq table.new text ≡ with_first nat_eq (get nat_eq table.old) name.0 number text) }
+{
+    if table.contains_key(&name.0) {
+        return Ok(false);
+    }
+    table.insert(name.0, number)?;
+    Ok(true)
+}
+
+/// Declares a name under the next number; whether it is new. `Err` where memory was refused or no number is left.
+pub(crate) fn add_number(names: &mut Numbers, name: TextId) -> Result<bool, NoMemory>
+    ensures fresh { IfOk result (λ fresh. fresh ≡ not (has_number names.old name.0)) }
+    ensures next { OnOk result (names.new.next ≡ names.old.next + 1) }
+    ensures numbers { OnOk result ((text : ℕ) → number_at names.new text ≡ with_first nat_eq (number_at names.old) name.0 names.old.next text) }
+{
+    let next = next_number(names.next)?;
+    let fresh = put_number(&mut names.numbers, name, names.next)?;
+    names.next = next;
+    Ok(fresh)
+}
+
+fn put_variable(
+    entries: &mut IndexMap<u32, Entry>,
+    name: TextId,
+    entry: Entry,
+) -> Result<(), NoMemory>
+    ensures { OnOk result ((text : ℕ) → get nat_eq entries.new text ≡ with_first nat_eq (get nat_eq entries.old) name.0 entry text) }
+{
+    if entries.contains_key(&name.0) {
+        return Ok(());
+    }
+    entries.insert(name.0, entry)?;
+    Ok(())
+}
+
+/// Declares a variable at the next place, unless its name is known already. `Err` where memory was refused or no place
+/// is left.
+pub(crate) fn add_entry(variables: &mut Variables, name: TextId, sort: Sort) -> Result<(), NoMemory>
+    ensures next { OnOk result (variables.new.next ≡ variables.old.next + 1) }
+    ensures sorts { OnOk result ((text : ℕ) → sort_at variables.new text ≡ with_first nat_eq (sort_at variables.old) name.0 sort text) }
+    ensures places { OnOk result ((text : ℕ) → place_at variables.new text ≡ with_first nat_eq (place_at variables.old) name.0 variables.old.next text) }
+{
+    let next = next_number(variables.next)?;
+    let entry = Entry {
+        sort,
+        place: variables.next,
+    };
+    put_variable(&mut variables.entries, name, entry)?;
+    variables.next = next;
+    Ok(())
+}
+
+fn put_field(
+    fields: &mut IndexMap<(u32, u32), Entry>,
+    owner: TextId,
+    name: TextId,
+    entry: Entry,
+) -> Result<(), NoMemory>
+    ensures { OnOk result ((key : Pair) → get same_pair fields.new key ≡ with_first same_pair (get same_pair fields.old) (owner.0, name.0) entry key) }
+{
+    if fields.contains_key(&(owner.0, name.0)) {
+        return Ok(());
+    }
+    fields.insert((owner.0, name.0), entry)?;
+    Ok(())
+}
+
+/// The same of a field of the struct with the name `owner`.
+pub(crate) fn add_field(
+    fields: &mut IndexMap<(u32, u32), Entry>,
+    owner: TextId,
+    name: TextId,
+    entry: Entry,
+) -> Result<(), NoMemory>
+    ensures sorts { OnOk result ((key : Pair) → sort_by same_pair fields.new key ≡ with_first same_pair (sort_by same_pair fields.old) (owner.0, name.0) entry.sort key) }
+    ensures places { OnOk result ((key : Pair) → place_by same_pair fields.new key ≡ with_first same_pair (place_by same_pair fields.old) (owner.0, name.0) entry.place key) }
+{
+    put_field(fields, owner, name, entry)
+}
