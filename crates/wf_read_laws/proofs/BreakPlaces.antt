@@ -13,7 +13,7 @@ use Rattle.wf_names_rules.specs.Uses.{Use, Scope, sites}
 use Rattle.wf_names_rules.specs.Meanings.{GivenValue, given_values, call_name, call_args}
 use Rattle.wf_names_rules.specs.Jumps.{Jump, labelled, to_label, to_innermost, block_jumps}
 use Rattle.wf_names_rules.specs.NameRules as rules
-use Rattle.wf_names_rules.specs.NameRules.{twice, IsUsed, IsRepeated, variable_names, names_owned, IsStructure, IsMethod, AreApart, declared_names, later_of, Jumps, given_names, IsSizedHere, DeclarationBreaks, UseBreaks, LabelBreaks, CircleBreaks, SizeBreaks, Breaks}
+use Rattle.wf_names_rules.specs.NameRules.{twice, IsUsed, IsRepeated, variable_names, names_owned, IsStructure, IsMethod, AreApart, declared_names, later_of, Jumps, given_names, IsSizedHere, DeclarationBreaks, UseBreaks, LabelBreaks, CycleBreaks, SizeBreaks, Breaks}
 use Rattle.wf_read_laws.specs.Places.{NameIsIn, PathIsIn, ExprIsIn, GivenAreIn, CallIsIn}
 use Rattle.wf_read_laws.proofs.ListLemmas.{all-at, all-append, all-behind, all-mapped, all-flat}
 use Rattle.wf_read_laws.proofs.DeclaredPlaces.{VariableIsIn, VariablesAreIn, ConstantIsIn, StructureIsIn, MethodIsIn, DeclaredIsIn}
@@ -131,9 +131,9 @@ module _ (In : Place → Type 0) where
     labels-in _ (rules.unknown_label loops label is none) = jump-at (to_label loops label) is
     labels-in _ (rules.outside_loops at is) = jump-at (to_innermost [] at) is
 
-    circles-in : (s : Refusal) → CircleBreaks d s → In s.at
-    circles-in _ (rules.recursion a m is way) = (all-at (MethodIsIn In) d.methods a m all.methods is).1
-    circles-in _ (rules.holds_itself a s is way) = (all-at (StructureIsIn In) d.structs a s all.structs is).0
+    cycles-in : (s : Refusal) → CycleBreaks d s → In s.at
+    cycles-in _ (rules.recursion a m is way) = (all-at (MethodIsIn In) d.methods a m all.methods is).1
+    cycles-in _ (rules.holds_itself a s is way) = (all-at (StructureIsIn In) d.structs a s all.structs is).0
 
     sized-in : (locals : List Variable) (v : Variable) → IsSizedHere d locals v → In v.name.at
     sized-in _ _ (rules.field s i v is at_i) = (all-at (VariableIsIn In) s.fields i v (structure-in s is).1 at_i).0
@@ -151,5 +151,5 @@ module _ (In : Place → Type 0) where
     breaks-in _ (rules.by_declaration s b) = declarations-in s b
     breaks-in _ (rules.by_use s b) = uses-in s b
     breaks-in _ (rules.by_label s b) = labels-in s b
-    breaks-in _ (rules.by_circle s b) = circles-in s b
+    breaks-in _ (rules.by_cycle s b) = cycles-in s b
     breaks-in _ (rules.by_size s b) = sizes-in s b

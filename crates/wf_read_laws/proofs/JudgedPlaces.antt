@@ -11,7 +11,7 @@ use Rattle.wf_types_rules.specs.Meanings.{variable, place_of}
 use Rattle.wf_types_rules.specs.ExprTypes.{element_of, slice_in, operand_at, meaning, operands}
 use Rattle.wf_types_rules.specs.Operands.{first_of, not_taken, not_fitting}
 use Rattle.wf_types_rules.specs.Parts.{Part, expression, calling, argument, placed_type, type_part, constant_declared, status_declared, target, assigned, kept, condition, letter_value, returned, yielded, whole_body}
-use Rattle.wf_types_rules.specs.Judgements.{at_if, fails, is_known_end, wrong_number, wrong_end, wrong_operand, unfit_operand, node_without_value, wrong_argument, wrong_letter, wrong_type, misplaced_type, crossed_bounds, high_bound, no_elements, element_above_zero, begins_above_zero, value_no_number, value_outside, wrong_status, target_place, target_meaning, updated, wrong_target, wrong_assigned, no_value_assigned, wrong_update, unfit_update, wrong_condition, wrong_return, closing_brace, reaches_end, impure_call, impure_write, coroutine_call, kept_outside, yielded_outside, call_inside, wrong_mark, not_kept_in_status, keeps_no_coroutine, wrong_yield}
+use Rattle.wf_types_rules.specs.Judgements.{at_if, fails, is_known, no_number, no_end, value_of, end_value, wrong_operand, unfit_operand, node_without_value, wrong_argument, wrong_letter, wrong_type, misplaced_type, crossed_bounds, high_bound, no_elements, element_above_zero, begins_above_zero, value_no_number, value_outside, wrong_status, target_place, target_meaning, updated, wrong_target, wrong_assigned, no_value_assigned, wrong_update, unfit_update, wrong_condition, wrong_return, closing_brace, reaches_end, impure_call, impure_write, coroutine_call, kept_outside, yielded_outside, call_inside, wrong_mark, not_kept_in_status, keeps_no_coroutine, wrong_yield}
 use Rattle.wf_read_laws.specs.NamedPlaces.{ExprIsIn, EndIsIn, TypeIsIn, TargetIsIn, BlockIsIn}
 use Rattle.wf_read_laws.proofs.PartPlaces.{PartIsIn}
 use Rattle.wf_read_laws.proofs.PlaceLemmas.{then-in, at-if, if-both, first-in}
@@ -22,10 +22,10 @@ module _ (In : Place → Type 0) (s : Setting) where
   abbrev pub Keeps : (Part → Option Place) → Type 0
   Keeps judge = (x : Part) → PartIsIn In x → IfSome (judge x) In
 
-  number-in : (e : NamedExprTree) → ExprIsIn In e → IfSome (wrong_number s e) In
+  number-in : (e : NamedExprTree) → ExprIsIn In e → IfSome (no_number (value_of s e)) In
   number-in e h = at-if In _ (place_of e) (place-in In e h)
 
-  end-in : (e : NamedPartTree) → EndIsIn In e → IfSome (wrong_end s e) In
+  end-in : (e : NamedPartTree) → EndIsIn In e → IfSome (no_end (end_value s e)) In
   end-in tree.absent h = tt
   end-in (tree.present e) h = number-in e h
 
@@ -47,13 +47,13 @@ module _ (In : Place → Type 0) (s : Setting) where
   operand-kept (expression (tree.path p)) h = at-if In _ p.at h
   operand-kept (expression (tree.index p i at)) h =
       let no_base = fails (λ m. is_some (element_of m)) (variable s p.of) in
-      if-both In (is_some (variable s p.of) && is_some (meaning s i)) (first_of (at_if no_base p.at) (wrong_number s i))
-      (first-in In (at_if no_base p.at) (wrong_number s i) (at-if In no_base p.at h.0) (number-in i h.1))
+      if-both In (is_some (variable s p.of) && is_some (meaning s i)) (first_of (at_if no_base p.at) (no_number (value_of s i)))
+      (first-in In (at_if no_base p.at) (no_number (value_of s i)) (at-if In no_base p.at h.0) (number-in i h.1))
   operand-kept (expression (tree.slice p from to at)) h =
       let no_base = fails (λ m. is_some (slice_in m)) (variable s p.of) in
-      let ends = first_of (wrong_end s from) (wrong_end s to) in
-      if-both In (is_some (variable s p.of) && (is_known_end s from && is_known_end s to)) (first_of (at_if no_base p.at) ends)
-      (first-in In (at_if no_base p.at) ends (at-if In no_base p.at h.0) (first-in In (wrong_end s from) (wrong_end s to) (end-in from h.1) (end-in to h.2)))
+      let ends = first_of (no_end (end_value s from)) (no_end (end_value s to)) in
+      if-both In (is_some (variable s p.of) && (is_known (end_value s from) && is_known (end_value s to))) (first_of (at_if no_base p.at) ends)
+      (first-in In (at_if no_base p.at) ends (at-if In no_base p.at h.0) (first-in In (no_end (end_value s from)) (no_end (end_value s to)) (end-in from h.1) (end-in to h.2)))
   operand-kept (expression (tree.chain op first links at)) h = then-in (OperandsAreIn In) In (not_taken (sort_of op)) (taken-in In (sort_of op)) (operands s first links) (operands-in In s first links h.0 h.1)
   operand-kept (expression (tree.convert e t at)) h = number-in e h.0
   operand-kept (expression (tree.negation e at)) h = at-if In _ (place_of e) (place-in In e h.0)

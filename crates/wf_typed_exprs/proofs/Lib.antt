@@ -4,6 +4,5 @@ pub mod EntryLemmas
 pub mod FormLaws
 pub mod GrowthLemmas
 pub mod PushLemmas
-pub mod SampleLemmas
 pub mod WalkLemmas
 pub mod WidthLemmas

@@ -12,7 +12,8 @@ use Rattle.wf_types_rules.specs.declared.meanings.Operand.{Operand}
 use Rattle.wf_types_rules.specs.declared.settings.Setting.{Setting}
 use Rattle.wf_types_rules.specs.Meanings.{place_of}
 use Rattle.wf_types_rules.specs.ExprTypes.{meaning, in_front, operand_at, operands_behind}
-use Rattle.wf_types_exprs.specs.Judged.{value_of, operand_pushed, operand_behind, operands_joined}
+use Rattle.wf_types_rules.specs.Judgements.{value_of}
+use Rattle.wf_types_exprs.specs.Judged.{operand_pushed, operand_behind, operands_joined}
 use Rattle.wf_types_exprs.proofs.ListLemmas.{drop-one, joined-none, operands_begun}
 use Rattle.wf_typed_tree.specs.ElaboratedExprs.{signs_in, expr_tree}
 use Rattle.wf_typed_exprs.specs.declared.elaborated.MadeOperands.{MadeOperands}

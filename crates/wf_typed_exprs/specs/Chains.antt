@@ -5,7 +5,8 @@ use Rattle.wf_ast.specs.declared.typed_nodes.TypedNodes.{TypedNodes}
 use Rattle.wf_named.specs.NamedTree.{NamedExprTree, NamedLinkTrees, no_link, link}
 use Rattle.wf_types_rules.specs.declared.settings.Setting.{Setting}
 use Rattle.wf_types_rules.specs.ExprTypes.{operands_behind, operands}
-use Rattle.wf_types_exprs.specs.Judged.{value_of, operand_behind, operands_joined}
+use Rattle.wf_types_rules.specs.Judgements.{value_of}
+use Rattle.wf_types_exprs.specs.Judged.{operand_behind, operands_joined}
 use Rattle.wf_typed_tree.specs.ElaboratedExprs.{signs_in}
 use Rattle.wf_typed_exprs.specs.declared.elaborated.MadeOperands.{MadeOperands}
 use Rattle.wf_typed_exprs.specs.Nodes.{StandsForExpr}

@@ -3,4 +3,3 @@ pub mod Forms
 pub mod Growth
 pub mod Nodes
 pub mod Right
-pub mod Samples

@@ -13,7 +13,7 @@ use Rattle.wf_types_rules.specs.declared.settings.Setting.{Setting}
 use Rattle.wf_types_rules.specs.Meanings.{constant_number, variable, place_of}
 use Rattle.wf_types_rules.specs.ExprTypes.{meaning}
 use Rattle.wf_typed_tree.specs.ElaboratedExprs.{type_meant, path_tree, expr_tree}
-use Rattle.wf_types_exprs.specs.Judged.{value_of}
+use Rattle.wf_types_rules.specs.Judgements.{value_of}
 use Rattle.wf_typed_exprs.specs.declared.elaborated.Elaborated.{Elaborated}
 use Rattle.wf_typed_exprs.specs.declared.elaborated.MadeNode.{MadeNode}
 

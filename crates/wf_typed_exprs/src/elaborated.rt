@@ -2,8 +2,7 @@
 
 use wf_ast::{ExprId, ExprNode, Sequence};
 use wf_text::Place;
-use wf_types_exprs::found::Value;
-use wf_types_rules::{Meaning, Operand};
+use wf_types_rules::{Meaning, Operand, Value};
 
 /// An expression whose nodes are there: the number of its node, and what it means, with its place.
 #[derive(Clone, Copy, PartialEq, Eq)]
@@ -14,14 +13,14 @@ pub struct Elaborated {
 
 /// The node of an expression whose parts are there, and what the expression means.
 #[derive(Drop)]
-pub struct MadeNode {
+pub(crate) struct MadeNode {
     pub node: ExprNode,
     pub of: Option<Meaning>,
 }
 
 /// The operands of a chain so far: the numbers of their nodes, the signs between them, and what they mean.
 #[derive(Drop)]
-pub struct MadeOperands {
+pub(crate) struct MadeOperands {
     pub parts: Sequence<ExprId>,
     pub signs: Sequence<Place>,
     pub of: Option<Sequence<Operand>>,

@@ -9,7 +9,7 @@ use wf_text::faults::NoMemory;
 
 /// Expressions: their nodes, their types and their numbers.
 #[derive(Drop)]
-pub struct Columns {
+pub(crate) struct Columns {
     pub exprs: Sequence<ExprNode>,
     pub types: Sequence<Ty>,
     pub constants: Sequence<Option<u64>>,

@@ -22,7 +22,7 @@ use wf_types_meanings::values::{if_number, slices};
 use wf_types_meanings::variables::{typed, variable};
 use wf_types_operators::given::meaning_of_operator;
 use wf_types_operators::meanings::all_of;
-use wf_types_rules::{Meaning, Operand, Setting};
+use wf_types_rules::{Around, Meaning, Operand};
 
 /// The type of what means this. A constant has all numbers of its width, and 64 bits where it has none.
 pub fn type_meant(of: Option<Meaning>) -> Ty
@@ -74,7 +74,7 @@ fn expr_naming(of: Variable) -> Expr
 }
 
 /// The node of a path.
-pub(crate) fn path_node(alloc: Global, around: &Setting, path: NamedPath) -> MadeNode
+pub(crate) fn path_node(alloc: Global, around: &Around<'_>, path: NamedPath) -> MadeNode
     ensures { result ≡ record { node = record { expr = naming path.of; at = path.at; signs = [] }; of = variable_in around.now path.of } }
 {
     MadeNode {

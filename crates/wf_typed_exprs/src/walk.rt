@@ -8,7 +8,7 @@ ghost use Rattle.wf_named.specs.NamedParts.{exprs_of};
 ghost use Rattle.wf_named.specs.NamedTrees.{expr_at, part_at, links_at, type_at};
 ghost use Rattle.wf_named.specs.NamedTree as tree;
 ghost use Rattle.wf_types_rules.specs.Meanings.{variable as variable_in};
-ghost use Rattle.wf_types_exprs.specs.Judged.{value_of};
+ghost use Rattle.wf_types_rules.specs.Judgements.{value_of};
 ghost use Rattle.wf_typed_tree.specs.ElaboratedExprs.{type_meant as type_of_meaning};
 ghost use Rattle.wf_typed_tree.specs.Entries.{path_entry, expr_entries, part_entries, end_entries, link_entries, callee_entries};
 ghost use Rattle.wf_typed_exprs.specs.Growth.{Grows, AddsEntries};
@@ -29,12 +29,11 @@ use wf_ast::{Expr, ExprId, ExprNode, Op, Ty};
 use wf_named::{NamedCall, NamedCallee, NamedExpr, NamedNodes, NamedPath, NamedType};
 use wf_text::Place;
 use wf_text::faults::NoMemory;
-use wf_types_exprs::found::Value;
 use wf_types_exprs::parts::inner_answer;
 use wf_types_exprs::reading::place_of;
 use wf_types_meanings::values::{as_flag, as_value, conversion, elements, if_number, number_in};
 use wf_types_meanings::variables::typed;
-use wf_types_rules::{Meaning, Setting};
+use wf_types_rules::{Around, Meaning, Value};
 
 // Adds a node whose parts are there.
 fn put(nodes: &mut Building, made: MadeNode, at: Place) -> Result<Elaborated, NoMemory>
@@ -64,7 +63,7 @@ fn put(nodes: &mut Building, made: MadeNode, at: Place) -> Result<Elaborated, No
 pub fn elaborate_path(
     alloc: Global,
     nodes: &mut Building,
-    around: &Setting,
+    around: &Around<'_>,
     path: NamedPath,
 ) -> Result<Elaborated, NoMemory>
     requires { IsRightPath around.now (length nodes.old.statuses) path }
@@ -86,7 +85,7 @@ pub fn elaborate_expr(
     alloc: Global,
     nodes: &mut Building,
     named: &NamedNodes,
-    around: &Setting,
+    around: &Around<'_>,
     e: ExprId,
 ) -> Result<Elaborated, NoMemory>
     requires there { e.0 < length named.now.exprs }
@@ -106,7 +105,7 @@ pub fn elaborate_element(
     alloc: Global,
     nodes: &mut Building,
     named: &NamedNodes,
-    around: &Setting,
+    around: &Around<'_>,
     base: NamedPath,
     index: ExprId,
     at: Place,
@@ -128,7 +127,7 @@ fn elaborate_node(
     alloc: Global,
     nodes: &mut Building,
     named: &NamedNodes,
-    around: &Setting,
+    around: &Around<'_>,
     e: ExprId,
 ) -> Result<MadeNode, NoMemory>
     requires there { e.0 < length named.now.exprs }
@@ -193,7 +192,7 @@ fn elaborate_index(
     alloc: Global,
     nodes: &mut Building,
     named: &NamedNodes,
-    around: &Setting,
+    around: &Around<'_>,
     base: NamedPath,
     index: ExprId,
     at: Place,
@@ -225,7 +224,7 @@ fn elaborate_slice(
     alloc: Global,
     nodes: &mut Building,
     named: &NamedNodes,
-    around: &Setting,
+    around: &Around<'_>,
     base: NamedPath,
     from: Option<ExprId>,
     to: Option<ExprId>,
@@ -260,7 +259,7 @@ fn elaborate_ends(
     alloc: Global,
     nodes: &mut Building,
     named: &NamedNodes,
-    around: &Setting,
+    around: &Around<'_>,
     from: Option<ExprId>,
     to: Option<ExprId>,
 ) -> Result<(Option<Elaborated>, Option<Elaborated>), NoMemory>
@@ -284,7 +283,7 @@ fn elaborate_end(
     alloc: Global,
     nodes: &mut Building,
     named: &NamedNodes,
-    around: &Setting,
+    around: &Around<'_>,
     end: Option<ExprId>,
 ) -> Result<Option<Elaborated>, NoMemory>
     requires there { IsBelow (length named.now.exprs) end }
@@ -306,7 +305,7 @@ fn elaborate_end(
 fn elaborate_answer(
     alloc: Global,
     nodes: &mut Building,
-    around: &Setting,
+    around: &Around<'_>,
     call: &NamedCall,
 ) -> Result<MadeNode, NoMemory>
     requires { IsRightAnswer around.now (length nodes.old.statuses) call.now }
@@ -340,7 +339,7 @@ fn elaborate_chain(
     alloc: Global,
     nodes: &mut Building,
     named: &NamedNodes,
-    around: &Setting,
+    around: &Around<'_>,
     op: Op,
     first: ExprId,
     links: &[Link],
@@ -373,7 +372,7 @@ fn elaborate_operands(
     alloc: Global,
     nodes: &mut Building,
     named: &NamedNodes,
-    around: &Setting,
+    around: &Around<'_>,
     first: ExprId,
     links: &[Link],
 ) -> Result<MadeOperands, NoMemory>
@@ -397,7 +396,7 @@ fn elaborate_operand(
     before: MadeOperands,
     nodes: &mut Building,
     named: &NamedNodes,
-    around: &Setting,
+    around: &Around<'_>,
     e: ExprId,
 ) -> Result<MadeOperands, NoMemory>
     requires there { e.0 < length named.now.exprs }
@@ -417,7 +416,7 @@ fn elaborate_links(
     before: MadeOperands,
     nodes: &mut Building,
     named: &NamedNodes,
-    around: &Setting,
+    around: &Around<'_>,
     links: &[Link],
 ) -> Result<MadeOperands, NoMemory>
     requires there { LinksBelow (length named.now.exprs) links.now }
@@ -440,7 +439,7 @@ fn elaborate_link(
     before: MadeOperands,
     nodes: &mut Building,
     named: &NamedNodes,
-    around: &Setting,
+    around: &Around<'_>,
     link: Link,
 ) -> Result<MadeOperands, NoMemory>
     requires there { link.operand.0 < length named.now.exprs }
@@ -459,7 +458,7 @@ fn elaborate_convert(
     alloc: Global,
     nodes: &mut Building,
     named: &NamedNodes,
-    around: &Setting,
+    around: &Around<'_>,
     of: ExprId,
     to: &NamedType,
     at: Place,
@@ -495,7 +494,7 @@ fn elaborate_negation(
     alloc: Global,
     nodes: &mut Building,
     named: &NamedNodes,
-    around: &Setting,
+    around: &Around<'_>,
     of: ExprId,
     at: Place,
 ) -> Result<MadeNode, NoMemory>

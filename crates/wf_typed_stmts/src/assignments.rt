@@ -25,13 +25,13 @@ use wf_text::Place;
 use wf_text::faults::NoMemory;
 use wf_typed_exprs::forms::{type_meant, unrefined};
 use wf_types_meanings::marks::is_pure;
-use wf_types_rules::Setting;
+use wf_types_rules::Around;
 use wf_types_stmts::assignments::as_call;
 
 /// An assignment as it is written. `sign` is the place of the `=` with what stands before it, and `at` that of the
 /// statement.
 #[derive(Clone, Copy)]
-pub struct Assignment {
+pub(crate) struct Assignment {
     pub target: NamedTarget,
     pub op: Option<Op>,
     pub sign: Place,
@@ -55,7 +55,7 @@ fn add_assigned(
     alloc: Global,
     nodes: &mut BodyBuilding,
     named: &NamedNodes,
-    around: &Setting,
+    around: &Around<'_>,
     target: ExprId,
     e: ExprId,
     at: Place,
@@ -86,7 +86,7 @@ fn add_right(
     alloc: Global,
     nodes: &mut BodyBuilding,
     named: &NamedNodes,
-    around: &Setting,
+    around: &Around<'_>,
     target: ExprId,
     e: ExprId,
     at: Place,
@@ -117,7 +117,7 @@ fn add_equal(
     alloc: Global,
     nodes: &mut BodyBuilding,
     named: &NamedNodes,
-    around: &Setting,
+    around: &Around<'_>,
     target: NamedTarget,
     e: ExprId,
     at: Place,
@@ -141,7 +141,7 @@ fn add_update(
     alloc: Global,
     nodes: &mut BodyBuilding,
     named: &NamedNodes,
-    around: &Setting,
+    around: &Around<'_>,
     it: Assignment,
     op: Op,
 ) -> Result<StmtNode, NoMemory>
@@ -175,7 +175,7 @@ pub(crate) fn add_assign(
     alloc: Global,
     nodes: &mut BodyBuilding,
     named: &NamedNodes,
-    around: &Setting,
+    around: &Around<'_>,
     it: Assignment,
 ) -> Result<StmtNode, NoMemory>
     requires below { NamedTargetBelow (length named.now.exprs) it.target }
@@ -199,7 +199,7 @@ pub(crate) fn add_keep(
     alloc: Global,
     nodes: &mut BodyBuilding,
     named: &NamedNodes,
-    around: &Setting,
+    around: &Around<'_>,
     target: NamedTarget,
     call: &NamedCall,
     at: Place,

@@ -25,7 +25,7 @@ use wf_ast::{Arm, Block, ExprId, Sequence, Stmt, StmtId, StmtNode, parsed};
 use wf_named::{NamedNodes, NamedStmt};
 use wf_text::Place;
 use wf_text::faults::NoMemory;
-use wf_types_rules::Setting;
+use wf_types_rules::Around;
 
 // The number of a loop that is still to come, after the statements of its body. `Err` comes where no number is left.
 fn loop_to_come(
@@ -47,7 +47,7 @@ fn elaborate_stmt(
     alloc: Global,
     nodes: &mut BodyBuilding,
     named: &NamedNodes,
-    around: &Setting,
+    around: &Around<'_>,
     loops: &[u32],
     s: StmtId,
 ) -> Result<StmtId, NoMemory>
@@ -70,7 +70,7 @@ fn elaborate_node(
     alloc: Global,
     nodes: &mut BodyBuilding,
     named: &NamedNodes,
-    around: &Setting,
+    around: &Around<'_>,
     loops: &[u32],
     s: StmtId,
 ) -> Result<StmtNode, NoMemory>
@@ -119,7 +119,7 @@ fn elaborate_block(
     alloc: Global,
     nodes: &mut BodyBuilding,
     named: &NamedNodes,
-    around: &Setting,
+    around: &Around<'_>,
     loops: &[u32],
     block: &parsed::Block,
 ) -> Result<Block, NoMemory>
@@ -145,7 +145,7 @@ fn elaborate_arm(
     alloc: Global,
     nodes: &mut BodyBuilding,
     named: &NamedNodes,
-    around: &Setting,
+    around: &Around<'_>,
     loops: &[u32],
     arm: &parsed::Arm,
 ) -> Result<Arm, NoMemory>
@@ -170,7 +170,7 @@ fn elaborate_arms(
     alloc: Global,
     nodes: &mut BodyBuilding,
     named: &NamedNodes,
-    around: &Setting,
+    around: &Around<'_>,
     loops: &[u32],
     arms: &[parsed::Arm],
 ) -> Result<Sequence<Arm>, NoMemory>
@@ -196,7 +196,7 @@ fn elaborate_else(
     alloc: Global,
     nodes: &mut BodyBuilding,
     named: &NamedNodes,
-    around: &Setting,
+    around: &Around<'_>,
     loops: &[u32],
     otherwise: &Option<parsed::Block>,
 ) -> Result<Option<Block>, NoMemory>
@@ -223,7 +223,7 @@ fn elaborate_if(
     alloc: Global,
     nodes: &mut BodyBuilding,
     named: &NamedNodes,
-    around: &Setting,
+    around: &Around<'_>,
     loops: &[u32],
     arms: &[parsed::Arm],
     otherwise: &Option<parsed::Block>,
@@ -253,7 +253,7 @@ fn elaborate_inside(
     alloc: Global,
     nodes: &mut BodyBuilding,
     named: &NamedNodes,
-    around: &Setting,
+    around: &Around<'_>,
     loops: &[u32],
     body: &parsed::Block,
 ) -> Result<Block, NoMemory>
@@ -285,7 +285,7 @@ fn elaborate_loop(
     alloc: Global,
     nodes: &mut BodyBuilding,
     named: &NamedNodes,
-    around: &Setting,
+    around: &Around<'_>,
     loops: &[u32],
     it: Loop<'_>,
 ) -> Result<StmtNode, NoMemory>
@@ -322,7 +322,7 @@ pub fn elaborate_body(
     alloc: Global,
     nodes: &mut BodyBuilding,
     named: &NamedNodes,
-    around: &Setting,
+    around: &Around<'_>,
     body: &parsed::Block,
 ) -> Result<Block, NoMemory>
     requires below { BlockBelow (length named.now.stmts) body.now }

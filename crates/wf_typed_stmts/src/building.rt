@@ -9,7 +9,7 @@ ghost use Rattle.wf_named.specs.NamedParts.{exprs_of, named_package};
 ghost use Rattle.wf_named.specs.NamedTrees.{expr_at};
 ghost use Rattle.wf_named.specs.NamedTree as tree;
 ghost use Rattle.wf_types_rules.specs.Meanings.{variable as variable_in};
-ghost use Rattle.wf_types_exprs.specs.Judged.{value_of};
+ghost use Rattle.wf_types_rules.specs.Judgements.{value_of};
 ghost use Rattle.wf_typed_exprs.specs.Growth.{IsBuilt, AddsEntries};
 ghost use Rattle.wf_typed_exprs.specs.Nodes.{StandsForExpr, StandsForPath};
 ghost use Rattle.wf_typed_exprs.specs.Right.{IsRight, IsRightPath};
@@ -27,7 +27,7 @@ use wf_text::faults::NoMemory;
 use wf_typed_exprs::typed_exprs::TypedExpr;
 use wf_typed_exprs::walk::{elaborate_element, elaborate_expr, elaborate_path};
 use wf_typed_exprs::{Building, Elaborated};
-use wf_types_rules::Setting;
+use wf_types_rules::Around;
 
 // How many statements a typed package may have.
 const NUMBERS: usize = 4294967295;
@@ -90,7 +90,7 @@ impl BodyBuilding {
         &mut self,
         alloc: Global,
         named: &NamedNodes,
-        around: &Setting,
+        around: &Around<'_>,
         path: NamedPath,
     ) -> Result<Elaborated, NoMemory>
         requires begun { IsBegun named.now self.old }
@@ -107,11 +107,11 @@ impl BodyBuilding {
     }
 
     /// Adds the nodes of an expression.
-    pub fn push_value(
+    pub(crate) fn push_value(
         &mut self,
         alloc: Global,
         named: &NamedNodes,
-        around: &Setting,
+        around: &Around<'_>,
         e: ExprId,
     ) -> Result<Elaborated, NoMemory>
         requires there { e.0 < length named.now.exprs }
@@ -127,11 +127,11 @@ impl BodyBuilding {
     }
 
     /// Adds the nodes of an element that is written to.
-    pub fn push_element(
+    pub(crate) fn push_element(
         &mut self,
         alloc: Global,
         named: &NamedNodes,
-        around: &Setting,
+        around: &Around<'_>,
         base: NamedPath,
         index: ExprId,
         at: Place,
@@ -149,7 +149,7 @@ impl BodyBuilding {
     }
 
     /// Adds the node of an operator between two expressions that are there, which gives numbers of this type.
-    pub fn push_operator(
+    pub(crate) fn push_operator(
         &mut self,
         alloc: Global,
         named: &NamedNodes,
@@ -181,7 +181,7 @@ impl BodyBuilding {
 
     /// Adds a statement, whose parts are there. What it makes joins the others, which make what they made. `Err` also comes
     /// where no number is left.
-    pub fn push_stmt(&mut self, node: StmtNode) -> Result<StmtId, NoMemory>
+    pub(crate) fn push_stmt(&mut self, node: StmtNode) -> Result<StmtId, NoMemory>
         requires there { stmt_there self.old (length self.old.stmts) node.stmt ≡ true }
         requires built { AreStmtsBuilt self.old }
         ensures ok { OnOk result (self.new ≡ record self.old { stmts = self.old.stmts ++ node ∷ [] }) }

@@ -21,14 +21,14 @@ use wf_named::{NamedCall, NamedCallee, NamedNodes};
 use wf_text::Place;
 use wf_text::faults::NoMemory;
 use wf_types_exprs::reading::as_path;
-use wf_types_rules::Setting;
+use wf_types_rules::Around;
 
 // Adds the nodes of an argument. A reader or writer is handed on by its path.
 fn add_arg(
     alloc: Global,
     nodes: &mut BodyBuilding,
     named: &NamedNodes,
-    around: &Setting,
+    around: &Around<'_>,
     e: ExprId,
 ) -> Result<ExprId, NoMemory>
     requires there { e.0 < length named.now.exprs }
@@ -56,7 +56,7 @@ fn add_args(
     alloc: Global,
     nodes: &mut BodyBuilding,
     named: &NamedNodes,
-    around: &Setting,
+    around: &Around<'_>,
     args: &[ExprId],
 ) -> Result<Sequence<ExprId>, NoMemory>
     requires below { ArgsBelow (length named.now.exprs) args.now }
@@ -80,7 +80,7 @@ fn add_callee(
     alloc: Global,
     nodes: &mut BodyBuilding,
     named: &NamedNodes,
-    around: &Setting,
+    around: &Around<'_>,
     callee: NamedCallee,
     mark: Mark,
 ) -> Result<Callee, NoMemory>
@@ -107,7 +107,7 @@ pub(crate) fn add_call(
     alloc: Global,
     nodes: &mut BodyBuilding,
     named: &NamedNodes,
-    around: &Setting,
+    around: &Around<'_>,
     target: Option<ExprId>,
     keep: bool,
     call: &NamedCall,

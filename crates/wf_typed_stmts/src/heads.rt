@@ -19,7 +19,7 @@ use wf_ast::parsed::{Block, Given, LoopClause, Via};
 use wf_ast::{AxiomRef, Clause, ExprId, LoopHead, Sequence, TextId};
 use wf_named::NamedNodes;
 use wf_text::faults::NoMemory;
-use wf_types_rules::Setting;
+use wf_types_rules::Around;
 use wf_types_stmts::ends::block_leaves;
 
 /// Adds the nodes of a condition, or of another expression of which the tree alone is wanted.
@@ -27,7 +27,7 @@ pub(crate) fn add_tree(
     alloc: Global,
     nodes: &mut BodyBuilding,
     named: &NamedNodes,
-    around: &Setting,
+    around: &Around<'_>,
     e: ExprId,
 ) -> Result<ExprId, NoMemory>
     requires there { e.0 < length named.now.exprs }
@@ -47,7 +47,7 @@ fn add_clauses(
     alloc: Global,
     nodes: &mut BodyBuilding,
     named: &NamedNodes,
-    around: &Setting,
+    around: &Around<'_>,
     clauses: &[LoopClause],
 ) -> Result<Sequence<(Clause, ExprId)>, NoMemory>
     requires below { AllByRecursion (λ c. c.condition.0 < length named.now.exprs) clauses.now }
@@ -71,7 +71,7 @@ pub(crate) fn add_head(
     alloc: Global,
     nodes: &mut BodyBuilding,
     named: &NamedNodes,
-    around: &Setting,
+    around: &Around<'_>,
     condition: ExprId,
     clauses: &[LoopClause],
     body: &Block,
@@ -101,7 +101,7 @@ fn add_letters(
     alloc: Global,
     nodes: &mut BodyBuilding,
     named: &NamedNodes,
-    around: &Setting,
+    around: &Around<'_>,
     given: &[Given],
 ) -> Result<Sequence<(TextId, ExprId)>, NoMemory>
     requires below { LettersBelow (length named.now.texts) (length named.now.exprs) given.now }
@@ -125,7 +125,7 @@ pub(crate) fn add_via(
     alloc: Global,
     nodes: &mut BodyBuilding,
     named: &NamedNodes,
-    around: &Setting,
+    around: &Around<'_>,
     via: &Option<Via>,
 ) -> Result<Option<AxiomRef>, NoMemory>
     requires below { AxiomBelow (length named.now.texts) (length named.now.exprs) via.now }

@@ -17,15 +17,15 @@ use wf_ast::{Stmt, StmtNode};
 use wf_named::{NamedNodes, NamedStmt};
 use wf_text::Place;
 use wf_text::faults::NoMemory;
-use wf_types_rules::Setting;
+use wf_types_rules::Around;
 
 /// Adds the nodes of a statement's parts, and answers the statement. `loops` are the numbers of the loops round it, the
 /// innermost first, and `at` is its place.
-pub fn add_simple(
+pub(crate) fn add_simple(
     alloc: Global,
     nodes: &mut BodyBuilding,
     named: &NamedNodes,
-    around: &Setting,
+    around: &Around<'_>,
     loops: &[u32],
     stmt: &NamedStmt,
     at: Place,

@@ -24,14 +24,14 @@ use wf_ast::{ExprId, Stmt, StmtId, StmtNode};
 use wf_named::{NamedCall, NamedExpr, NamedNodes};
 use wf_text::faults::NoMemory;
 use wf_text::{Place, StatusId};
-use wf_types_rules::Setting;
+use wf_types_rules::Around;
 
 /// Adds the nodes of a call that is a whole statement.
 pub(crate) fn add_do_call(
     alloc: Global,
     nodes: &mut BodyBuilding,
     named: &NamedNodes,
-    around: &Setting,
+    around: &Around<'_>,
     call: &NamedCall,
     at: Place,
 ) -> Result<StmtNode, NoMemory>
@@ -64,7 +64,7 @@ fn add_part(
     alloc: Global,
     nodes: &mut BodyBuilding,
     named: &NamedNodes,
-    around: &Setting,
+    around: &Around<'_>,
     part: Option<ExprId>,
 ) -> Result<Option<ExprId>, NoMemory>
     requires below { IsBelow (length named.now.exprs) part }
@@ -89,7 +89,7 @@ pub(crate) fn add_return(
     alloc: Global,
     nodes: &mut BodyBuilding,
     named: &NamedNodes,
-    around: &Setting,
+    around: &Around<'_>,
     value: Option<ExprId>,
     at: Place,
 ) -> Result<StmtNode, NoMemory>
@@ -148,7 +148,7 @@ pub(crate) fn add_claim(
     alloc: Global,
     nodes: &mut BodyBuilding,
     named: &NamedNodes,
-    around: &Setting,
+    around: &Around<'_>,
     goal: ExprId,
     via: &Option<Via>,
     at: Place,

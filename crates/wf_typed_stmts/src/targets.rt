@@ -15,14 +15,14 @@ use std::alloc::Global;
 use wf_named::{NamedNodes, NamedTarget};
 use wf_text::faults::NoMemory;
 use wf_typed_exprs::Elaborated;
-use wf_types_rules::Setting;
+use wf_types_rules::Around;
 
 /// Adds the nodes of a target, and tells what it means.
 pub(crate) fn add_target(
     alloc: Global,
     nodes: &mut BodyBuilding,
     named: &NamedNodes,
-    around: &Setting,
+    around: &Around<'_>,
     target: NamedTarget,
 ) -> Result<Elaborated, NoMemory>
     requires below { NamedTargetBelow (length named.now.exprs) target }

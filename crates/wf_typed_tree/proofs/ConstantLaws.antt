@@ -127,7 +127,7 @@ nothing-there : (i : ℕ) → is_some (option_map (λ (x : VarTree). x.of) (slic
 nothing-there zero h = cc h
 nothing-there (suc i) h = cc h
 
--- Among constants that are there, those in front are known.
+-- Among constants that are there, those before are known.
 pub constants-known : (p : NamedPackageTree) (known : List (Option Constant)) → AllMade known → (x : Variable) → is_some (type_of_variable (scope_of_const p (length known)) x) ≡ true
     → HasValue (variable (among_constants known) x)
 constants-known p known made (variables.Const i) h =

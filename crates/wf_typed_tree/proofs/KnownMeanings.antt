@@ -1,5 +1,5 @@
 -- Where no judgement finds fault, every expression means something and every written type is one.
-use Rattle.std.proofs.Common.{◌≡◌, ℕ, ◌-◌, ◌^◌, Bool, true, false, not, ◌&&◌, ◌||◌, List, [], ◌∷◌, Option, Some, None, refl, sym, ap, subst, arith, nat_lt, nat_le, nat_eq}
+use Rattle.std.proofs.Common.{◌≡◌, ℕ, ◌-◌, ◌^◌, Bool, true, false, not, ◌&&◌, List, [], ◌∷◌, Option, Some, None, refl, sym, ap, subst, arith, nat_lt, nat_le, nat_eq}
 use Rattle.std.specs.Prelude.{option_and_then, option_map, is_some, if◌then◌else◌, min}
 use Rattle.std.proofs.lemmas.Bool.Decides.{nat_tests}
 use Rattle.wf_text.specs.declared.place.Place.{Place}
@@ -32,7 +32,7 @@ use Rattle.wf_types_rules.specs.Operands.{first_of, not_taken, not_fitting, are_
 use Rattle.wf_types_rules.specs.ExprTypes.{only_where, element_of, slice_in, pure_answer, given_by_base, plain_width, base_of, refined_type, array_type, converted, in_front, operand_at, if_number, meaning, if_end, operands_behind, operands, number_of, low_number, written}
 use Rattle.wf_types_rules.specs.DeclaredTypes.{form_of, is_number_form, is_numeric, holds_zero}
 use Rattle.wf_types_rules.specs.Parts.{expr_parts, end_parts, links_parts, type_parts}
-use Rattle.wf_types_rules.specs.Judgements.{at_if, fails, if_both, wrong_number, wrong_end, is_known_end, wrong_operand, unfit_operand, node_without_value, leaves_width, names_others, is_no_constant, is_no_low_bound, base_form, refined_form, with_elements, form, wrong_type, misplaced_type, crossed_bounds, is_too_high, high_bound, no_elements, element_above_zero, call_inside, wrong_mark}
+use Rattle.wf_types_rules.specs.Judgements.{at_if, fails, if_both, meets, value_of, end_value, no_number, no_end, is_known, is_cut, wrong_operand, unfit_operand, node_without_value, names_others, is_no_constant, bound_of, low_bound, are_unfit, base_form, refined_form, with_elements, form, wrong_type, misplaced_type, crossed_bounds, goes_above, high_bound, no_elements, element_above_zero, call_inside, wrong_mark}
 use Rattle.wf_types_rules.proofs.TypeRows as rows
 use Rattle.wf_typed_tree.proofs.NumberLemmas.{both, and-true, where-parts}
 use Rattle.wf_typed_tree.proofs.ExprLaws.{kind-wanted}
@@ -57,10 +57,6 @@ where-known test x e = rw e refl
 
 pub front-known : (o : Option Operand) (os : Option (List Operand)) (x : Operand) (xs : List Operand) → o ≡ Some x → os ≡ Some xs → in_front o os ≡ Some (x ∷ xs)
 front-known o os x xs e f = rw (e, f) refl
-
-not-true : (b : Bool) → not b ≡ true → b ≡ false
-not-true false h = refl
-not-true true h = absurd (cc h)
 
 number-known : (o : Option Meaning) (x : Option Ty) (m : Meaning) (ty : Ty) → o ≡ Some m → meant.is_number m ≡ true → x ≡ Some ty → if_number o x ≡ Some ty
 number-known o x m ty e n h = rw (e, n) h
@@ -102,14 +98,14 @@ operator-known sort os h k v =
     by_given None e taken = let none : has_no_value sort os ≡ true = rw (taken, e) refl in absurd (cc (v, none))
 
 -- `as`.
-converted-known : (t : NamedTypeTree) (m : Meaning) (w : Width) → plain_width t ≡ Some w → meant.is_number m ≡ true → leaves_width m t ≡ false → HasValue (converted (plain_width t) m)
+converted-known : (t : NamedTypeTree) (m : Meaning) (w : Width) → plain_width t ≡ Some w → meant.is_number m ≡ true → is_cut (Some m) (plain_width t) ≡ false → HasValue (converted (plain_width t) m)
 converted-known t (meanings.Constant own value) w e n h =
     let low : nat_lt value (2 ^ bits_of w) ≡ true = holds (λ width. nat_lt value (2 ^ bits_of width)) (plain_width t) w e h in
     (meanings.Constant (Some w) value, rw (e, low) refl)
 converted-known t (meanings.Typed ty) w e n h = (meanings.Typed (all_of w), rw (e, n) refl)
 
 -- Bounds, and arrays.
-refined-known : (width : Width) (low high : Option ℕ) (m n : ℕ) → low ≡ Some m → high ≡ Some n → nat_le m n ≡ true → is_too_high (2 ^ bits_of width) m n ≡ false
+refined-known : (width : Width) (low high : Option ℕ) (m n : ℕ) → low ≡ Some m → high ≡ Some n → nat_le m n ≡ true → goes_above width (Some m) (Some n) ≡ false
     → HasValue (refined_type width low high)
 refined-known width low high m n e f le h =
     let within : nat_le (2 ^ bits_of width) n ≡ false = let P : Bool → Type 0 = λ b. (b && nat_le (2 ^ bits_of width) n) ≡ false in subst P le h in
@@ -133,7 +129,7 @@ pub kind-there : (o : Option NamedTypeTree) (sig : BaseSig) → has_kind (row_of
 kind-there None sig h = absurd (cc h)
 kind-there (Some t) sig h = refl
 
-end-gives : (s : Setting) (part : NamedPartTree) (x : Option Ty) (ty : Ty) → is_known_end s part ≡ true → wrong_end s part ≡ None → x ≡ Some ty → if_end s part x ≡ Some ty
+end-gives : (s : Setting) (part : NamedPartTree) (x : Option Ty) (ty : Ty) → is_known (end_value s part) ≡ true → no_end (end_value s part) ≡ None → x ≡ Some ty → if_end s part x ≡ Some ty
 end-gives s absent x ty k h e = e
 end-gives s (present e) x ty k h f =
     let it = there-of (meaning s e) k in
@@ -187,7 +183,7 @@ form-known p s (base_type (Some of) at unrefined) ty h e =
     let F : Ty → Type 0 = λ z. Some (base_form of) ≡ Some (form_of z) in
     subst F same (ap Some (base-formed of))
 form-known p s (base_type (Some (bases.Number width)) at (refined low high)) ty h e =
-    refined-formed width (low_number s low) (number_of s high) (is_no_low_bound s low || is_no_constant s high) ty (at-none _ at (h.0 T1 wrong_type rows.wrong_type)) e
+    refined-formed width (low_number s low) (number_of s high) (are_unfit (low_bound s low) (bound_of s high)) ty (at-none _ at (h.0 T1 wrong_type rows.wrong_type)) e
 form-known p s (base_type (Some of) at (refined low high)) ty h e = absurd (cc e)
 form-known p s (struct_type n at) ty h e = let same : types.Part (record { 0 = n }) ≡ ty = cc e in let F : Ty → Type 0 = λ z. Some forms.Struct ≡ Some (form_of z) in subst F same refl
 
@@ -206,7 +202,7 @@ module _ (p : NamedPackageTree) (names : Scope) (s : Setting) (known : (x : Vari
         let base = known q.of named.0 in
         let place = expr-known i h.1 named.1 in
         let all = and-true (is_some (variable s q.of)) (is_some (meaning s i)) (some-is (variable s q.of) base.0 base.1) (some-is (meaning s i) place.0 place.1) in
-        let wrong = first-none (at_if (fails (λ m. is_some (element_of m)) (variable s q.of)) q.at) (wrong_number s i) (judged _ _ all (h.0 T1 wrong_operand rows.wrong_operand)) in
+        let wrong = first-none (at_if (fails (λ m. is_some (element_of m)) (variable s q.of)) q.at) (no_number (value_of s i)) (judged _ _ all (h.0 T1 wrong_operand rows.wrong_operand)) in
         let element = there-of (element_of base.0) (holds (λ m. is_some (element_of m)) (variable s q.of) base.0 base.1 (at-none (fails (λ m. is_some (element_of m)) (variable s q.of)) q.at wrong.0)) in
         let number = holds meant.is_number (meaning s i) place.0 place.1 (at-none (fails meant.is_number (meaning s i)) (place_of i) wrong.1) in
         let gives = then-known element_of (variable s q.of) base.0 element.0 base.1 element.1 in
@@ -219,10 +215,10 @@ module _ (p : NamedPackageTree) (names : Scope) (s : Setting) (known : (x : Vari
         let parts = fine-split p s (end_parts from) (end_parts to) h.1 in
         let first = end-known from parts.0 ends.0 in
         let second = end-known to parts.1 ends.1 in
-        let all = and-true (is_some (variable s q.of)) (is_known_end s from && is_known_end s to) (some-is (variable s q.of) base.0 base.1) (and-true (is_known_end s from) (is_known_end s to) first second) in
+        let all = and-true (is_some (variable s q.of)) (is_known (end_value s from) && is_known (end_value s to)) (some-is (variable s q.of) base.0 base.1) (and-true (is_known (end_value s from)) (is_known (end_value s to)) first second) in
         let wrong =
-        first-none (at_if (fails (λ m. is_some (slice_in m)) (variable s q.of)) q.at) (first_of (wrong_end s from) (wrong_end s to)) (judged _ _ all (h.0 T1 wrong_operand rows.wrong_operand)) in
-        let wrong_ends = first-none (wrong_end s from) (wrong_end s to) wrong.1 in
+        first-none (at_if (fails (λ m. is_some (slice_in m)) (variable s q.of)) q.at) (first_of (no_end (end_value s from)) (no_end (end_value s to))) (judged _ _ all (h.0 T1 wrong_operand rows.wrong_operand)) in
+        let wrong_ends = first-none (no_end (end_value s from)) (no_end (end_value s to)) wrong.1 in
         let cells = there-of (slice_in base.0) (holds (λ m. is_some (slice_in m)) (variable s q.of) base.0 base.1 (at-none (fails (λ m. is_some (slice_in m)) (variable s q.of)) q.at wrong.0)) in
         let gives = then-known slice_in (variable s q.of) base.0 cells.0 base.1 cells.1 in
         let behind = end-gives s to (option_and_then slice_in (variable s q.of)) cells.0 second wrong_ends.1 gives in
@@ -254,7 +250,8 @@ module _ (p : NamedPackageTree) (names : Scope) (s : Setting) (known : (x : Vari
         let Q : Option (List Operand) → Type 0 = λ o. option_and_then (not_fitting (sort_of op)) o ≡ None in
         let taken = subst P all (h.0 T1 wrong_operand rows.wrong_operand) in
         let fitting = subst Q all (h.0 T5 unfit_operand rows.unfit_operand) in
-        let valued = not-true _ (holds (λ os. not (has_no_value (sort_of op) os)) (operands s first links) os all (at-none _ at (h.0 T5 node_without_value rows.node_without_value))) in
+        let V : Option (List Operand) → Type 0 = λ o. meets (has_no_value (sort_of op)) o ≡ false in
+        let valued = subst V all (at-none _ at (h.0 T5 node_without_value rows.node_without_value)) in
         let gives = operator-known (sort_of op) os taken fitting valued in
         (gives.0, then-known (meaning_of_operator (sort_of op)) (operands s first links) os gives.0 all gives.1)
     expr-known (convert e t at) h n =
@@ -266,7 +263,8 @@ module _ (p : NamedPackageTree) (names : Scope) (s : Setting) (known : (x : Vari
         let W : Option Form → Type 0 = λ o. (is_some o && not (is_some (plain_width t))) ≡ false in
         let width = there-of (plain_width t) (not-not (is_some (plain_width t)) (subst W (form-known p s t ty.0 parts.1 ty.1) misplaced)) in
         let number = holds meant.is_number (meaning s e) it.0 it.1 (at-none (fails meant.is_number (meaning s e)) (place_of e) (h.0 T1 wrong_operand rows.wrong_operand)) in
-        let stays = not-true _ (holds (λ m. not (leaves_width m t)) (meaning s e) it.0 it.1 (at-none _ at (h.0 T5 node_without_value rows.node_without_value))) in
+        let C : Option Meaning → Type 0 = λ o. is_cut o (plain_width t) ≡ false in
+        let stays = subst C it.1 (at-none _ at (h.0 T5 node_without_value rows.node_without_value)) in
         let gives = converted-known t it.0 width.0 width.1 number stays in
         (gives.0, then-known (converted (plain_width t)) (meaning s e) it.0 gives.0 it.1 gives.1)
     expr-known (negation e at) h n =
@@ -274,7 +272,7 @@ module _ (p : NamedPackageTree) (names : Scope) (s : Setting) (known : (x : Vari
         let flag = holds meant.is_flag (meaning s e) it.0 it.1 (at-none (fails meant.is_flag (meaning s e)) (place_of e) (h.0 T1 wrong_operand rows.wrong_operand)) in
         (it.0, then-known (only_where meant.is_flag) (meaning s e) it.0 it.0 it.1 (where-known (meant.is_flag it.0) it.0 flag))
 
-    end-known : (part : NamedPartTree) → AllFine p s (end_parts part) → named_part names part ≡ true → is_known_end s part ≡ true
+    end-known : (part : NamedPartTree) → AllFine p s (end_parts part) → named_part names part ≡ true → is_known (end_value s part) ≡ true
     end-known absent h n = refl
     end-known (present e) h n = let it = expr-known e h n in some-is (meaning s e) it.0 it.1
 
@@ -310,8 +308,9 @@ module _ (p : NamedPackageTree) (names : Scope) (s : Setting) (known : (x : Vari
         let wrong = at-none _ at (h.0 T1 wrong_type rows.wrong_type) in
         let upper = expr-known high h.1 n in
         let number = numbered-known (meaning s high) upper.0 upper.1 (either-false (names_others high) (fails meant.is_constant (meaning s high)) wrong).1 in
-        let low = both-hold (λ m n. not (is_too_high (2 ^ bits_of width) m n)) (Some 0) (number_of s high) 0 number.0 refl number.1 (at-none _ (place_of high) (h.0 T5 high_bound rows.high_bound)) in
-        refined-known width (Some 0) (number_of s high) 0 number.0 refl number.1 (grind (arith, nat_tests)) (not-true _ low)
+        let N : Option ℕ → Type 0 = λ o. goes_above width (Some 0) o ≡ false in
+        let low = subst N number.1 (at-none _ (place_of high) (h.0 T5 high_bound rows.high_bound)) in
+        refined-known width (Some 0) (number_of s high) 0 number.0 refl number.1 (grind (arith, nat_tests)) low
     type-known (base_type (Some (bases.Number width)) at (refined (present least) high)) h n =
         let named = both (named_expr names least) (named_expr names high) n in
         let parts = fine-split p s (expr_parts least) (expr_parts high) h.1 in
@@ -321,7 +320,9 @@ module _ (p : NamedPackageTree) (names : Scope) (s : Setting) (known : (x : Vari
         let first = numbered-known (meaning s least) lower.0 lower.1 (either-false (names_others least) (fails meant.is_constant (meaning s least)) wrong.0).1 in
         let last = numbered-known (meaning s high) upper.0 upper.1 (either-false (names_others high) (fails meant.is_constant (meaning s high)) wrong.1).1 in
         let order = both-hold nat_le (number_of s least) (number_of s high) first.0 last.0 first.1 last.1 (at-none _ (place_of least) (h.0 T5 crossed_bounds rows.crossed_bounds)) in
-        let low = both-hold (λ m n. not (is_too_high (2 ^ bits_of width) m n)) (number_of s least) (number_of s high) first.0 last.0 first.1 last.1 (at-none _ (place_of high) (h.0 T5 high_bound rows.high_bound)) in
-        refined-known width (number_of s least) (number_of s high) first.0 last.0 first.1 last.1 order (not-true _ low)
+        let L : Option ℕ → Type 0 = λ o. goes_above width o (number_of s high) ≡ false in
+        let H : Option ℕ → Type 0 = λ o. goes_above width (Some first.0) o ≡ false in
+        let low = subst H last.1 (subst L first.1 (at-none _ (place_of high) (h.0 T5 high_bound rows.high_bound))) in
+        refined-known width (number_of s least) (number_of s high) first.0 last.0 first.1 last.1 order low
     type-known (base_type (Some of) at (refined low high)) h n = absurd (cc (h.0 T1 wrong_type rows.wrong_type))
     type-known (struct_type k at) h n = (_, refl)

@@ -21,7 +21,7 @@ use wf_text::faults::NoMemory;
 use wf_typed_stmts::{BodyBuilding, elaborate_body};
 use wf_types_decls::Judged;
 use wf_types_decls::packages::round_body;
-use wf_types_rules::Setting;
+use wf_types_rules::Around;
 
 // The body of a method, and the expression that is its first local.
 #[derive(Drop)]
@@ -32,7 +32,7 @@ struct MadeBody {
 
 /// The bodies of all methods, and the expressions that are their first locals.
 #[derive(Drop)]
-pub struct MadeBodies {
+pub(crate) struct MadeBodies {
     pub bodies: Sequence<Block>,
     pub first_locals: Sequence<ExprId>,
 }
@@ -42,7 +42,7 @@ fn elaborate_method(
     alloc: Global,
     nodes: &mut BodyBuilding,
     named: &NamedNodes,
-    inside: &Setting,
+    inside: &Around<'_>,
     method: &NamedMethod,
 ) -> Result<MadeBody, NoMemory>
     requires inside { inside.now ≡ in_method (named_package named.now) (method_made named.now.texts (exprs_of named.now) (stmts_of named.now) method.now) }
@@ -64,7 +64,7 @@ fn elaborate_method(
 
 /// Adds the nodes of the locals and of the bodies of all methods of a package that was judged, and answers the blocks of their
 /// bodies with the expressions that are their first locals. `Err` also comes where no number is left.
-pub fn elaborate_bodies(
+pub(crate) fn elaborate_bodies(
     alloc: Global,
     nodes: &mut BodyBuilding,
     named: &NamedNodes,
@@ -79,14 +79,13 @@ pub fn elaborate_bodies(
 {
     let mut bodies = Sequence::new(alloc);
     let mut first_locals = Sequence::new(alloc);
-    let mut around = judged.around;
     let heads = judged.heads.as_slice();
     let fields = judged.fields.as_slice();
     let methods = named.methods();
     for number in 0..methods.len() {
         let method = &methods[number];
-        around = round_body(alloc, named, around, &heads[number], fields, method)?;
-        let made = elaborate_method(alloc, nodes, named, &around, method)?;
+        let inside = round_body(named, &judged.around, &heads[number], fields, method);
+        let made = elaborate_method(alloc, nodes, named, &inside, method)?;
         bodies.push(made.body)?;
         first_locals.push(made.first_local)?;
     }

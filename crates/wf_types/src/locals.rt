@@ -14,18 +14,18 @@ use wf_ast::LocalId;
 use wf_named::{NamedNodes, NamedPath, NamedVar, Variable};
 use wf_text::faults::NoMemory;
 use wf_typed_stmts::BodyBuilding;
-use wf_types_rules::Setting;
+use wf_types_rules::Around;
 
 // How many numbers there are for locals.
 const NUMBERS: usize = 4294967296;
 
 /// Adds a node for each local of a method, in order: its path, at the place of its name. `Err` also comes where no number
 /// is left.
-pub fn elaborate_locals(
+pub(crate) fn elaborate_locals(
     alloc: Global,
     nodes: &mut BodyBuilding,
     named: &NamedNodes,
-    around: &Setting,
+    around: &Around<'_>,
     locals: &[NamedVar],
 ) -> Result<(), NoMemory>
     requires begun { IsBegun named.now nodes.old }

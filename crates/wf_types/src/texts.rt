@@ -56,7 +56,10 @@ fn first_texts(
 }
 
 /// The texts of a resolved package, by number. `Err` also comes where there are more than numbers.
-pub fn texts_copied(alloc: Global, nodes: &NamedNodes) -> Result<Sequence<Sequence<u8>>, NoMemory>
+pub(crate) fn texts_copied(
+    alloc: Global,
+    nodes: &NamedNodes,
+) -> Result<Sequence<Sequence<u8>>, NoMemory>
     ensures { IfOk result (λ all. all ≡ nodes.now.texts) }
 {
     let count = nodes.texts();
@@ -115,7 +118,7 @@ fn with_seen(
 }
 
 /// The texts of all statuses as a caller sees them, where `texts` are those that are written.
-pub fn seen_statuses(
+pub(crate) fn seen_statuses(
     alloc: Global,
     nodes: &NamedNodes,
     texts: &[Sequence<u8>],

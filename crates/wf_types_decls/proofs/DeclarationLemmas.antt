@@ -16,11 +16,11 @@ use Rattle.wf_types_rules.specs.declared.settings.Setting.{Setting}
 use Rattle.wf_types_rules.specs.DeclaredTypes.{declared, among_constants, constant_with, constant_made, constants_after, types_in}
 use Rattle.wf_types_rules.specs.ExprTypes.{number_of}
 use Rattle.wf_types_rules.specs.Meanings.{constant_number}
-use Rattle.wf_types_rules.specs.Judgements.{at_if, two_questions, is_status_text}
+use Rattle.wf_types_rules.specs.Judgements.{at_if, value_of, two_questions, is_status_text}
 use Rattle.wf_types_rules.specs.Parts.{Part, Site, constant_declared, status_declared, declared_parts, expr_parts, at_sites, const_sites}
 use Rattle.wf_types_rules.specs.FirstBreak.{told, refusals_at, refusals_of}
-use Rattle.wf_types_exprs.specs.declared.found.Value.{Value}
-use Rattle.wf_types_exprs.specs.Judged.{judged, value_of}
+use Rattle.wf_types_rules.specs.declared.meanings.Value.{Value}
+use Rattle.wf_types_exprs.specs.Judged.{judged}
 use Rattle.wf_types_exprs.proofs.JudgedLaws.{judged-append, judged-last}
 use Rattle.wf_types_exprs.proofs.ListLemmas.{drop-one}
 use Rattle.wf_types_decls.specs.Packages.{decided, field_types, types_or_none, constant_found, questions_behind}

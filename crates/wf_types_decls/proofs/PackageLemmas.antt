@@ -49,10 +49,7 @@ fields_known n s e of h =
     h ∙ ap (λ t. map (λ (x : NamedStructTree). map (λ (y : VarTree). declared t roles.Field y.of) x.fields) (map (struct_made n.texts (exprs_of n)) n.structs)) e
     ∙ ap (λ xs. map (λ (x : NamedStructTree). types_in (named_package n) roles.Field x.fields) xs) (sym (structs_are n))
 
--- What stands round every method, and round the body of one.
-pub around_method : (p : NamedPackageTree) (m : NamedMethodTree) (s : Setting) → s ≡ in_method p m → IsAround p s
-around_method p m s e = record { constants = ap (λ (x : Setting). x.constants) e; methods = ap (λ (x : Setting). x.methods) e; statuses = ap (λ (x : Setting). x.statuses) e }
-
+-- What stands round the body of a method.
 pub method_entered : (p : NamedPackageTree) (m : NamedMethodTree) (around : Setting) (own args locals : List (Option Ty)) (mark : Mark) (gives : Option (Option Ty)) → IsAround p around
     → own ≡ types_in p roles.Field (fields_in p (Some m.of)) → args ≡ types_in p roles.Arg m.args → locals ≡ types_in p roles.Local m.locals → mark ≡ m.mark → gives ≡ result_in p m
     → (s : Setting) → s ≡ record around { fields = own; args = args; locals = locals; mark = mark; gives = gives } → s ≡ in_method p m

@@ -1,24 +1,23 @@
 -- What decides of the parts of a package with what stands round each, and what a walk over it keeps.
-use Rattle.std.specs.Prelude.{◌≡◌, ℕ, Bool, false, ◌&&◌, ◌||◌, List, [], ◌∷◌, ◌++◌, map, Option, None, Some, nat_eq, option_and_then}
+use Rattle.std.specs.Prelude.{◌≡◌, ℕ, Bool, false, ◌&&◌, ◌||◌, List, [], ◌∷◌, ◌++◌, map, Option, None, Some, nat_eq}
 use Rattle.std.specs.List.{flat_map}
 use Rattle.wf_text.specs.declared.rules.Refusal.{Refusal}
 use Rattle.wf_text.specs.declared.rules.Rule.TheVariants.{T1, T5}
 use Rattle.wf_text.specs.Precedence.{sooner, soonest, Decides}
 use Rattle.wf_ast.specs.declared.types.Ty.{Ty}
 use Rattle.wf_named.specs.NamedTree.{NamedMethodTree, NamedPackageTree}
+use Rattle.wf_types_rules.specs.declared.meanings.Value.{Value}
 use Rattle.wf_types_rules.specs.declared.settings.Role.TheVariants as roles
 use Rattle.wf_types_rules.specs.declared.settings.Setting.{Setting}
 use Rattle.wf_types_rules.specs.DeclaredTypes.{constants_of, types_in, result_in, method_type, status_texts, in_method}
-use Rattle.wf_types_rules.specs.Meanings.{is_constant, constant_number}
-use Rattle.wf_types_rules.specs.Judgements.{at_if, fails, both_fail, lies_in}
+use Rattle.wf_types_rules.specs.Judgements.{no_constant, lies_outside}
 use Rattle.wf_types_rules.specs.Parts.{Part, Site, variables_parts, result_parts, whole_body, block_parts, at_sites}
 use Rattle.wf_types_rules.specs.FirstBreak.{told, refusals_of, deciding}
 use Rattle.wf_types_rules.specs.TypeRules.{Breaks}
-use Rattle.wf_types_exprs.specs.declared.found.Value.{Value}
 use Rattle.wf_types_decls.specs.declared.heads.Head.{Head}
 use Rattle.wf_types_decls.specs.declared.packages.Judged.{Judged}
 
--- What decides of what was found before and of all that the rules say of these parts.
+-- The first refusal of what was found before and of all that the rules say of these parts.
 unfoldable pub decided : Option Refusal → List Site → Option Refusal
 decided found sites = soonest found (flat_map refusals_of sites)
 
@@ -60,10 +59,9 @@ types_or_none (Some types) = types
 
 -- What the value of a constant of this type breaks.
 abbrev pub constant_found : Option Ty → Value → Option Refusal → Option Refusal
-constant_found ty v found =
-    sooner (sooner found (told T1 (at_if (fails is_constant v.of) v.at))) (told T5 (at_if (both_fail lies_in ty (option_and_then constant_number v.of)) v.at))
+constant_found ty v found = sooner (sooner found (told T1 (no_constant v))) (told T5 (lies_outside ty v))
 
--- Two `?` in a row, of byte 63, where the byte in front is one or isn't.
+-- Two `?` in a row, of byte 63, where the byte before it is one or isn't.
 abbrev pub questions_behind : (before : Bool) → List ℕ → Bool
 questions_behind before [] = false
 questions_behind before (b ∷ bs) = (before && nat_eq b 63) || questions_behind (nat_eq b 63) bs

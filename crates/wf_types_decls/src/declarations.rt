@@ -1,12 +1,11 @@
 // Constants and statuses.
 
-ghost use Rattle.std.specs.Prelude.{◌≡◌, ◌<◌, ◌++◌, ◌∷◌, [], None, not, length, map, nat_eq, option_and_then, slice_get, IfOk};
+ghost use Rattle.std.specs.Prelude.{◌≡◌, ◌<◌, ◌++◌, ◌∷◌, [], None, not, length, map, nat_eq, slice_get, IfOk};
 ghost use Rattle.wf_ast.specs.BaseStatuses.{base_statuses as texts_of_language};
 ghost use Rattle.wf_named.specs.NamedParts.{exprs_of, NamedConstBelow};
 ghost use Rattle.wf_named.specs.NamedTrees.{const_made, word_at, text_or};
 ghost use Rattle.wf_types_rules.specs.DeclaredTypes.{among_constants, constants_after, constant_made};
-ghost use Rattle.wf_types_rules.specs.Judgements.{at_if as at_place_if, fails, both_fail, lies_in as lies_within, two_questions as questions_in_a_row, is_status_text as text_of_status};
-ghost use Rattle.wf_types_rules.specs.Meanings.{is_constant as means_constant, constant_number};
+ghost use Rattle.wf_types_rules.specs.Judgements.{at_if as at_place_if, no_constant, both_fail, lies_in as lies_within, lies_outside as value_lies_outside, two_questions as questions_in_a_row, is_status_text as text_of_status};
 ghost use Rattle.wf_types_rules.specs.Parts.{constant_declared, status_declared, declared_parts, expr_parts, const_sites};
 ghost use Rattle.wf_types_rules.specs.declared.settings.Role.TheVariants as roles;
 ghost use Rattle.wf_types_exprs.specs.Judged.{judged};
@@ -23,14 +22,13 @@ use wf_text::faults::NoMemory;
 use wf_text::precedence::sooner;
 use wf_text::rules::{Refusal, Rule};
 use wf_text::status_text::category;
-use wf_types_exprs::found::Value;
 use wf_types_exprs::walk::judge_value;
 use wf_types_exprs::whole::judge_type;
 use wf_types_meanings::places::{at_if, told};
 use wf_types_meanings::types::{constant_with, lies_in};
 use wf_types_meanings::values::number_in;
 use wf_types_operators::meanings::is_constant;
-use wf_types_rules::{Constant, Role, Setting};
+use wf_types_rules::{Around, Constant, Role, Setting, Value};
 
 const BASE_STATUSES: [&str; 10] = [
     "",
@@ -47,20 +45,20 @@ const BASE_STATUSES: [&str; 10] = [
 
 /// A constant: what decides so far, and its value, where it breaks no rule.
 #[derive(Clone, Copy, PartialEq, Eq)]
-pub struct JudgedConst {
+pub(crate) struct JudgedConst {
     pub found: Option<Refusal>,
     pub of: Option<Constant>,
 }
 
 /// Constants: what decides so far, and a setting that knows them and nothing else.
 #[derive(Drop)]
-pub struct JudgedConsts {
+pub(crate) struct JudgedConsts {
     pub found: Option<Refusal>,
     pub around: Setting,
 }
 
 fn value_no_number(v: Value) -> Option<Place>
-    ensures { result ≡ at_place_if (fails means_constant v.of) v.at }
+    ensures { result ≡ no_constant v }
 {
     match v.of {
         Some(m) => at_if(!is_constant(m), v.at),
@@ -80,7 +78,7 @@ fn lies_outside(ty: Option<Ty>, n: Option<u64>) -> bool
 }
 
 fn value_outside(ty: Option<Ty>, v: Value) -> Option<Place>
-    ensures { result ≡ at_place_if (both_fail lies_within ty (option_and_then constant_number v.of)) v.at }
+    ensures { result ≡ value_lies_outside ty v }
 {
     at_if(lies_outside(ty, number_in(v.of)), v.at)
 }
@@ -98,7 +96,7 @@ pub(crate) fn judge_const(
     alloc: Global,
     found: Option<Refusal>,
     nodes: &NamedNodes,
-    around: &Setting,
+    around: &Around<'_>,
     constant: &NamedConst,
 ) -> Result<JudgedConst, NoMemory>
     requires { NamedConstBelow (length nodes.now.texts) (length nodes.now.exprs) constant.now }
@@ -148,7 +146,7 @@ fn judge_next(
     ensures found { IfOk result (λ j. j.found ≡ judged before.around before.found (constant_declared (const_made nodes.now.texts (exprs_of nodes.now) constant.now) ∷ (declared_parts roles.Const (const_made nodes.now.texts (exprs_of nodes.now) constant.now).of ++ expr_parts (const_made nodes.now.texts (exprs_of nodes.now) constant.now).value))) }
     ensures around { IfOk result (λ j. (known : _) → before.around ≡ among_constants known → j.around ≡ among_constants (known ++ constant_made known (const_made nodes.now.texts (exprs_of nodes.now) constant.now) ∷ [])) }
 {
-    let j = judge_const(alloc, before.found, nodes, &before.around, constant)?;
+    let j = judge_const(alloc, before.found, nodes, &before.around.lent(), constant)?;
     let around = with_constant(before.around, j.of)?;
     Ok(JudgedConsts {
         found: j.found,
@@ -157,7 +155,7 @@ fn judge_next(
 }
 
 /// All constants, each of which knows those before it.
-pub fn judge_consts(alloc: Global, nodes: &NamedNodes) -> Result<JudgedConsts, NoMemory>
+pub(crate) fn judge_consts(alloc: Global, nodes: &NamedNodes) -> Result<JudgedConsts, NoMemory>
     ensures found { IfOk result (λ j. j.found ≡ decided None (const_sites [] (map (const_made nodes.now.texts (exprs_of nodes.now)) nodes.now.consts))) }
     ensures around { IfOk result (λ j. j.around ≡ among_constants (constants_after [] (map (const_made nodes.now.texts (exprs_of nodes.now)) nodes.now.consts))) }
 {
@@ -218,7 +216,7 @@ fn judge_status(found: Option<Refusal>, nodes: &NamedNodes, text: Name) -> Optio
 }
 
 /// The package's own statuses.
-pub fn judge_statuses(found: Option<Refusal>, nodes: &NamedNodes) -> Option<Refusal>
+pub(crate) fn judge_statuses(found: Option<Refusal>, nodes: &NamedNodes) -> Option<Refusal>
     ensures { (s : _) → result ≡ judged s found (map status_declared (map (word_at nodes.now.texts) nodes.now.statuses)) }
 {
     let mut found = found;

@@ -19,25 +19,25 @@ use wf_text::faults::NoMemory;
 use wf_text::rules::Refusal;
 use wf_types_exprs::found::JudgedType;
 use wf_types_exprs::whole::judge_type;
-use wf_types_rules::{Role, Setting};
+use wf_types_rules::{Around, Role};
 
 /// Variables: what decides so far, and their types in order, each where it breaks no rule.
 #[derive(Drop)]
-pub struct JudgedTypes {
+pub(crate) struct JudgedTypes {
     pub found: Option<Refusal>,
     pub of: Sequence<Option<Ty>>,
 }
 
 /// A written result, if there is one: what decides so far, and its type.
 #[derive(Clone, Copy, PartialEq, Eq)]
-pub struct JudgedResult {
+pub(crate) struct JudgedResult {
     pub found: Option<Refusal>,
     pub of: Option<Option<Ty>>,
 }
 
 /// All fields: what decides so far, and their types by struct.
 #[derive(Drop)]
-pub struct JudgedFields {
+pub(crate) struct JudgedFields {
     pub found: Option<Refusal>,
     pub of: Sequence<Sequence<Option<Ty>>>,
 }
@@ -58,7 +58,7 @@ fn judge_variable(
     alloc: Global,
     before: JudgedTypes,
     nodes: &NamedNodes,
-    types: &Setting,
+    types: &Around<'_>,
     role: Role,
     of: &NamedType,
 ) -> Result<JudgedTypes, NoMemory>
@@ -71,11 +71,11 @@ fn judge_variable(
 }
 
 /// Fields, arguments or locals, in order.
-pub fn judge_variables(
+pub(crate) fn judge_variables(
     alloc: Global,
     found: Option<Refusal>,
     nodes: &NamedNodes,
-    types: &Setting,
+    types: &Around<'_>,
     role: Role,
     variables: &[NamedVar],
 ) -> Result<JudgedTypes, NoMemory>
@@ -94,11 +94,11 @@ pub fn judge_variables(
 }
 
 /// The written result of a method with this mark.
-pub fn judge_result(
+pub(crate) fn judge_result(
     alloc: Global,
     found: Option<Refusal>,
     nodes: &NamedNodes,
-    types: &Setting,
+    types: &Around<'_>,
     mark: Mark,
     gives: &Option<NamedType>,
 ) -> Result<JudgedResult, NoMemory>
@@ -123,7 +123,7 @@ fn judge_struct(
     alloc: Global,
     before: JudgedFields,
     nodes: &NamedNodes,
-    types: &Setting,
+    types: &Around<'_>,
     structure: &NamedStruct,
 ) -> Result<JudgedFields, NoMemory>
     requires { NamedStructBelow (length nodes.now.texts) (length nodes.now.exprs) structure.now }
@@ -147,11 +147,11 @@ fn judge_struct(
 }
 
 /// The fields of all structs.
-pub fn judge_fields(
+pub(crate) fn judge_fields(
     alloc: Global,
     found: Option<Refusal>,
     nodes: &NamedNodes,
-    types: &Setting,
+    types: &Around<'_>,
 ) -> Result<JudgedFields, NoMemory>
     ensures found { IfOk result (λ j. j.found ≡ judged types.now found (flat_map (λ x. variables_parts roles.Field x.fields) (map (struct_made nodes.now.texts (exprs_of nodes.now)) nodes.now.structs))) }
     ensures of { IfOk result (λ j. j.of ≡ map (λ x. map (λ y. declared types.now roles.Field y.of) x.fields) (map (struct_made nodes.now.texts (exprs_of nodes.now)) nodes.now.structs)) }
@@ -181,15 +181,11 @@ pub(crate) fn types_copied(
 }
 
 /// The types of the fields of a struct, of those of all.
-pub(crate) fn fields_of(
-    alloc: Global,
-    fields: &[Sequence<Option<Ty>>],
-    of: StructId,
-) -> Result<Sequence<Option<Ty>>, NoMemory>
-    ensures { IfOk result (λ all. all ≡ types_or_none (slice_get fields.now of.0)) }
+pub(crate) fn fields_of(fields: &[Sequence<Option<Ty>>], of: StructId) -> &[Option<Ty>]
+    ensures { result.now ≡ types_or_none (slice_get fields.now of.0) }
 {
     match fields.get(of.0 as usize) {
-        Some(types) => types_copied(alloc, types.as_slice()),
-        None => Ok(Sequence::new(alloc)),
+        Some(types) => types.as_slice(),
+        None => &[],
     }
 }

@@ -14,7 +14,7 @@ use wf_ast::{Sequence, Ty};
 use wf_named::{NamedMethod, NamedNodes};
 use wf_text::faults::NoMemory;
 use wf_text::rules::Refusal;
-use wf_types_rules::{MethodType, Role, Setting};
+use wf_types_rules::{Around, MethodType, Role};
 
 /// The types of a method's arguments and locals, in order, and of its written result. A type that breaks a rule is absent.
 #[derive(Drop)]
@@ -33,7 +33,7 @@ struct JudgedHead {
 
 /// What all methods declare: what decides so far, and the types by method.
 #[derive(Drop)]
-pub struct JudgedHeads {
+pub(crate) struct JudgedHeads {
     pub found: Option<Refusal>,
     pub of: Sequence<Head>,
 }
@@ -43,7 +43,7 @@ fn judge_head(
     alloc: Global,
     found: Option<Refusal>,
     nodes: &NamedNodes,
-    types: &Setting,
+    types: &Around<'_>,
     method: &NamedMethod,
 ) -> Result<JudgedHead, NoMemory>
     requires types { types.now ≡ for_types (named_package nodes.now) }
@@ -86,11 +86,11 @@ fn judge_head(
 }
 
 /// What all methods declare, where `types` knows the constants.
-pub fn judge_heads(
+pub(crate) fn judge_heads(
     alloc: Global,
     found: Option<Refusal>,
     nodes: &NamedNodes,
-    types: &Setting,
+    types: &Around<'_>,
 ) -> Result<JudgedHeads, NoMemory>
     requires { types.now ≡ for_types (named_package nodes.now) }
     ensures found { IfOk result (λ j. j.found ≡ judged types.now found (flat_map head_parts (map (method_made nodes.now.texts (exprs_of nodes.now) (stmts_of nodes.now)) nodes.now.methods))) }
@@ -119,7 +119,7 @@ fn method_type(alloc: Global, method: &NamedMethod, head: &Head) -> Result<Metho
 }
 
 /// What calls know of all methods, by number.
-pub fn method_types(
+pub(crate) fn method_types(
     alloc: Global,
     nodes: &NamedNodes,
     heads: &[Head],

@@ -12,7 +12,7 @@ ghost use Rattle.wf_types_exprs.specs.Judged.{judged};
 ghost use Rattle.wf_types_decls.specs.Packages.{decided, body_sites, head_of, heads_of, field_types, IsAround, IsJudged};
 
 use crate::declarations::{judge_consts, judge_statuses, status_texts};
-use crate::declared_types::{JudgedFields, fields_of, judge_fields, types_copied};
+use crate::declared_types::{JudgedFields, fields_of, judge_fields};
 use crate::heads::{Head, JudgedHeads, judge_heads, method_types};
 use std::alloc::Global;
 use wf_ast::parsed::Block;
@@ -20,7 +20,7 @@ use wf_ast::{Sequence, Ty};
 use wf_named::{NamedMethod, NamedNodes};
 use wf_text::faults::NoMemory;
 use wf_text::rules::Refusal;
-use wf_types_rules::Setting;
+use wf_types_rules::{Around, Setting};
 use wf_types_stmts::ends::judge_whole_body;
 use wf_types_stmts::statements::judge_block;
 
@@ -37,34 +37,26 @@ pub struct Judged {
     pub around: Setting,
 }
 
-/// What decides so far, and what stands round every method.
-#[derive(Drop)]
-struct JudgedMethods {
-    found: Option<Refusal>,
-    around: Setting,
-}
-
 /// What stands round the body of a method: what stands round every one, and what it declares.
-pub fn round_body(
-    alloc: Global,
+pub fn round_body<'a>(
     nodes: &NamedNodes,
-    around: Setting,
-    head: &Head,
-    fields: &[Sequence<Option<Ty>>],
+    around: &'a Setting,
+    head: &'a Head,
+    fields: &'a [Sequence<Option<Ty>>],
     method: &NamedMethod,
-) -> Result<Setting, NoMemory>
-    requires around { IsAround (named_package nodes.now) around }
+) -> Around<'a>
+    requires around { IsAround (named_package nodes.now) around.now }
     requires fields { fields.now ≡ field_types (named_package nodes.now) }
     requires head { head.now ≡ head_of (named_package nodes.now) (method_made nodes.now.texts (exprs_of nodes.now) (stmts_of nodes.now) method.now) }
-    ensures { IfOk result (λ s. s ≡ in_method (named_package nodes.now) (method_made nodes.now.texts (exprs_of nodes.now) (stmts_of nodes.now) method.now)) }
+    ensures { result ≡ in_method (named_package nodes.now) (method_made nodes.now.texts (exprs_of nodes.now) (stmts_of nodes.now) method.now) }
 {
-    let mut inside = around;
-    inside.fields = fields_of(alloc, fields, method.of)?;
-    inside.args = types_copied(alloc, head.args.as_slice())?;
-    inside.locals = types_copied(alloc, head.locals.as_slice())?;
-    inside.mark = method.mark;
-    inside.gives = head.gives;
-    Ok(inside)
+    around.in_body(
+        fields_of(fields, method.of),
+        head.args.as_slice(),
+        head.locals.as_slice(),
+        method.mark,
+        head.gives,
+    )
 }
 
 // The body of a method, with this round it.
@@ -72,7 +64,7 @@ fn judge_body(
     alloc: Global,
     found: Option<Refusal>,
     nodes: &NamedNodes,
-    around: &Setting,
+    around: &Around<'_>,
     body: &Block,
 ) -> Result<Option<Refusal>, NoMemory>
     requires { BlockBelow (length nodes.now.stmts) body.now }
@@ -87,25 +79,23 @@ fn judge_bodies(
     alloc: Global,
     found: Option<Refusal>,
     nodes: &NamedNodes,
-    around: Setting,
+    around: &Setting,
     fields: &[Sequence<Option<Ty>>],
     heads: &[Head],
-) -> Result<JudgedMethods, NoMemory>
-    requires around { IsAround (named_package nodes.now) around }
+) -> Result<Option<Refusal>, NoMemory>
+    requires around { IsAround (named_package nodes.now) around.now }
     requires fields { fields.now ≡ field_types (named_package nodes.now) }
     requires heads { heads.now ≡ heads_of (named_package nodes.now) }
-    ensures found { IfOk result (λ j. j.found ≡ decided found (flat_map (body_sites (named_package nodes.now)) (map (method_made nodes.now.texts (exprs_of nodes.now) (stmts_of nodes.now)) nodes.now.methods))) }
-    ensures around { IfOk result (λ j. IsAround (named_package nodes.now) j.around) }
+    ensures { IfOk result (λ r. r ≡ decided found (flat_map (body_sites (named_package nodes.now)) (map (method_made nodes.now.texts (exprs_of nodes.now) (stmts_of nodes.now)) nodes.now.methods))) }
 {
     let mut found = found;
-    let mut around = around;
     let methods = nodes.methods();
     for number in 0..methods.len() {
         let method = &methods[number];
-        around = round_body(alloc, nodes, around, &heads[number], fields, method)?;
-        found = judge_body(alloc, found, nodes, &around, &method.body)?;
+        let inside = round_body(nodes, around, &heads[number], fields, method);
+        found = judge_body(alloc, found, nodes, &inside, &method.body)?;
     }
-    Ok(JudgedMethods { found, around })
+    Ok(found)
 }
 
 /// What stands round every method, where `types` knows the constants.
@@ -142,19 +132,19 @@ fn judge_rest(
     ensures around { IfOk result (λ j. IsAround (named_package nodes.now) j.around) }
 {
     let around = round_methods(alloc, nodes, types, heads.of.as_slice())?;
-    let bodies = judge_bodies(
+    let refusal = judge_bodies(
         alloc,
         heads.found,
         nodes,
-        around,
+        &around,
         fields.of.as_slice(),
         heads.of.as_slice(),
     )?;
     Ok(Judged {
-        refusal: bodies.found,
+        refusal,
         fields: fields.of,
         heads: heads.of,
-        around: bodies.around,
+        around,
     })
 }
 
@@ -165,7 +155,8 @@ pub fn judge_package(alloc: Global, nodes: &NamedNodes) -> Result<Judged, NoMemo
 {
     let consts = judge_consts(alloc, nodes)?;
     let statuses = judge_statuses(consts.found, nodes);
-    let fields = judge_fields(alloc, statuses, nodes, &consts.around)?;
-    let heads = judge_heads(alloc, fields.found, nodes, &consts.around)?;
+    let types = consts.around.lent();
+    let fields = judge_fields(alloc, statuses, nodes, &types)?;
+    let heads = judge_heads(alloc, fields.found, nodes, &types)?;
     judge_rest(alloc, nodes, consts.around, fields, heads)
 }

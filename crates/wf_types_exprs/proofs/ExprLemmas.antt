@@ -1,8 +1,8 @@
 -- What is found at an expression after its parts, and what it means.
-use Rattle.std.proofs.Common.{◌≡◌, ◌∙◌, refl, sym, ap, ℕ, Bool, true, false, not, List, [], ◌∷◌, ◌++◌, Option, Some, None}
+use Rattle.std.proofs.Common.{◌≡◌, ◌∙◌, refl, sym, ap, ℕ, Bool, true, false, List, [], ◌∷◌, ◌++◌, Option, Some, None}
 use Rattle.wf_text.specs.declared.place.Place.{Place}
 use Rattle.wf_text.specs.declared.rules.Refusal.{Refusal}
-use Rattle.wf_text.specs.declared.rules.Rule.TheVariants.{T1, T5}
+use Rattle.wf_text.specs.declared.rules.Rule.TheVariants.{T1}
 use Rattle.wf_text.specs.Precedence.{sooner}
 use Rattle.wf_base.specs.declared.marks.Mark.{Mark}
 use Rattle.wf_base.specs.declared.widths.Width.{Width}
@@ -11,26 +11,20 @@ use Rattle.wf_ast.specs.declared.types.Ty.{Ty}
 use Rattle.wf_ast.specs.TypedTrees.{sort_of}
 use Rattle.wf_named.specs.declared.nodes.NamedCallee.{NamedCallee}
 use Rattle.wf_named.specs.declared.nodes.NamedPath.{NamedPath}
-use Rattle.wf_named.specs.NamedTree.{NamedExprTree, number, status, truth, path, index, slice, chain, convert, negation, NamedPartTree, absent, present, NamedLinkTrees, NamedArgTrees, call, NamedTypeTree}
-use Rattle.wf_types_rules.specs.declared.meanings.Meaning.{Meaning}
-use Rattle.wf_types_rules.specs.declared.meanings.Meaning.TheVariants as meanings
+use Rattle.wf_named.specs.NamedTree.{NamedExprTree, number, status, truth, path, index, slice, chain, convert, negation, NamedPartTree, NamedLinkTrees, NamedArgTrees, NamedCallTree, call, NamedTypeTree}
 use Rattle.wf_types_rules.specs.declared.meanings.Operand.{Operand}
+use Rattle.wf_types_rules.specs.declared.meanings.Value.{Value}
 use Rattle.wf_types_rules.specs.declared.settings.Role.TheVariants as roles
 use Rattle.wf_types_rules.specs.declared.settings.Setting.{Setting}
-use Rattle.wf_types_rules.specs.Meanings.{variable}
-use Rattle.wf_types_rules.specs.ExprTypes.{plain_width, meaning, operands}
-use Rattle.wf_types_rules.specs.Judgements.{fails, leaves_width, wanted, meaning_of_argument, is_argument, wrong_operand, at_if}
+use Rattle.wf_types_rules.specs.ExprTypes.{plain_width, operands}
+use Rattle.wf_types_rules.specs.Judgements.{value_of, base_value, end_value, no_flag, no_value, no_index, no_slice, wanted, meaning_of_argument, argument_value, is_argument}
 use Rattle.wf_types_rules.specs.Parts.{expression, calling, argument, placed_type, expr_parts, end_parts, links_parts, args_parts, type_parts}
 use Rattle.wf_types_rules.specs.FirstBreak.{told}
-use Rattle.wf_types_exprs.specs.declared.found.Value.{Value}
-use Rattle.wf_types_exprs.specs.Judged.{judged, value_of, end_value, argument_value, argument_parts}
-use Rattle.wf_types_exprs.specs.Found.{no_number, no_flag, no_value, no_index, no_slice, is_cut, chain_found, conversion_found, argument_found, calling_found}
+use Rattle.wf_types_exprs.specs.Judged.{judged, argument_parts}
+use Rattle.wf_types_exprs.specs.Found.{chain_found, conversion_found, argument_found, calling_found}
 use Rattle.wf_types_exprs.specs.Paths.{path_in}
 use Rattle.wf_types_exprs.proofs.JudgedLaws.{judged-append, judged-last}
 use Rattle.wf_types_exprs.proofs.ListLemmas.{path_of_expr, value_of_argument, parts_of_argument}
-
-abbrev pub base_value : Setting → NamedPath → Value
-base_value s p = record { of = variable s p.of; at = p.at }
 
 -- Literals, statuses and paths.
 pub number_found : (s : Setting) (found : Option Refusal) (value : ℕ) (at : Place) → found ≡ judged s found (expr_parts (number value at))
@@ -57,19 +51,12 @@ index_found s found before base i at b v same value e =
     rw (same, value) (ap (λ f. judged s f (expression (index base i at) ∷ [])) e ∙ judged-last s found (expression (index base i at)) (expr_parts i))
 
 -- A slice.
-slice_wrong : (s : Setting) (base : NamedPath) (from to : NamedPartTree) (at : Place)
-    → no_slice (base_value s base) (end_value s from) (end_value s to) ≡ wrong_operand s (expression (slice base from to at))
-slice_wrong s base absent absent at = refl
-slice_wrong s base absent (present e) at = refl
-slice_wrong s base (present d) absent at = refl
-slice_wrong s base (present d) (present e) at = refl
-
 pub slice_found : (s : Setting) (found before : Option Refusal) (base : NamedPath) (from to : NamedPartTree) (at : Place) (b : Value) (m n : Option Value) → b ≡ base_value s base
     → m ≡ end_value s from → n ≡ end_value s to → before ≡ judged s found (end_parts from ++ end_parts to)
     → sooner before (told T1 (no_slice b m n)) ≡ judged s found (expr_parts (slice base from to at))
 unfolding judged
 slice_found s found before base from to at b m n same first last e =
-    rw (same, first, last) (ap (λ w. sooner before (told T1 w)) (slice_wrong s base from to at) ∙ ap (λ f. judged s f (expression (slice base from to at) ∷ [])) e
+    rw (same, first, last) (ap (λ f. judged s f (expression (slice base from to at) ∷ [])) e
     ∙ judged-last s found (expression (slice base from to at)) (end_parts from ++ end_parts to))
 
 -- A chain.
@@ -80,21 +67,11 @@ chain_judged s found before op first links at os same e =
     rw same (ap (λ f. judged s f (expression (chain op first links at) ∷ [])) e ∙ judged-last s found (expression (chain op first links at)) (expr_parts first ++ links_parts links))
 
 -- A conversion.
-not_not : (b : Bool) → not (not b) ≡ b
-not_not true = refl
-not_not false = refl
-
-cut_same : (m : Option Meaning) (t : NamedTypeTree) → is_cut m (plain_width t) ≡ fails (λ m. not (leaves_width m t)) m
-cut_same None t = refl
-cut_same (Some (meanings.Constant own value)) t = sym (not_not (leaves_width (meanings.Constant own value) t))
-cut_same (Some (meanings.Typed ty)) t = refl
-
 pub conversion_judged : (s : Setting) (found before : Option Refusal) (e : NamedExprTree) (t : NamedTypeTree) (at : Place) (v : Value) (plain : Option Width) → v ≡ value_of s e → plain ≡ plain_width t
     → before ≡ judged s found (placed_type roles.Conversion t ∷ (expr_parts e ++ type_parts t)) → conversion_found v plain at before ≡ judged s found (expr_parts (convert e t at))
 unfolding judged
 conversion_judged s found before e t at v plain value width h =
-    rw (value, width) (ap (λ b. sooner (sooner before (told T1 (no_number (value_of s e)))) (told T5 (at_if b at))) (cut_same (meaning s e) t)
-    ∙ ap (λ f. judged s f (expression (convert e t at) ∷ [])) h ∙ judged-last s found (expression (convert e t at)) (placed_type roles.Conversion t ∷ (expr_parts e ++ type_parts t)))
+    rw (value, width) (ap (λ f. judged s f (expression (convert e t at) ∷ [])) h ∙ judged-last s found (expression (convert e t at)) (placed_type roles.Conversion t ∷ (expr_parts e ++ type_parts t)))
 
 -- A `not`.
 pub negation_found : (s : Setting) (found before : Option Refusal) (e : NamedExprTree) (at : Place) (v : Value) → v ≡ value_of s e → before ≡ judged s found (expr_parts e)
@@ -104,17 +81,16 @@ negation_found s found before e at v value h =
     rw value (ap (λ f. judged s f (expression (negation e at) ∷ [])) h ∙ judged-last s found (expression (negation e at)) (expr_parts e))
 
 -- A call, and its arguments.
-call_judged : (s : Setting) (found : Option Refusal) (inside : Bool) (callee : NamedCallee) (at : Place) (mark : Mark) (args : NamedArgTrees)
-    → calling_found s inside callee at mark found ≡ judged s found (calling inside (call callee at mark args) ∷ [])
+call_judged : (s : Setting) (found : Option Refusal) (inside : Bool) (c : NamedCallTree) → calling_found s inside c found ≡ judged s found (calling inside c ∷ [])
 unfolding judged
-call_judged s found true callee at mark args = refl
-call_judged s found false callee at mark args = refl
+call_judged s found true (call callee at mark args) = refl
+call_judged s found false (call callee at mark args) = refl
 
 pub call_found : (s : Setting) (found all : Option Refusal) (inside : Bool) (callee : NamedCallee) (at : Place) (mark : Mark) (args : NamedArgTrees)
-    → all ≡ judged s (calling_found s inside callee at mark found) (args_parts callee 0 args)
+    → all ≡ judged s (calling_found s inside (call callee at mark args) found) (args_parts callee 0 args)
     → all ≡ judged s found (calling inside (call callee at mark args) ∷ args_parts callee 0 args)
 call_found s found all inside callee at mark args e =
-    e ∙ ap (λ f. judged s f (args_parts callee 0 args)) (call_judged s found inside callee at mark args)
+    e ∙ ap (λ f. judged s f (args_parts callee 0 args)) (call_judged s found inside (call callee at mark args))
     ∙ sym (judged-append s found (calling inside (call callee at mark args) ∷ []) (args_parts callee 0 args))
 
 -- An argument.

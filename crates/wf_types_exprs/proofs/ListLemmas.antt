@@ -14,9 +14,9 @@ use Rattle.wf_types_rules.specs.declared.meanings.Operand.{Operand}
 use Rattle.wf_types_rules.specs.declared.settings.Setting.{Setting}
 use Rattle.wf_types_rules.specs.Meanings.{place_of}
 use Rattle.wf_types_rules.specs.ExprTypes.{in_front, operand_at, meaning, operands_behind, operands}
-use Rattle.wf_types_rules.specs.Judgements.{wanted, meaning_of_argument, is_argument, are_arguments}
+use Rattle.wf_types_rules.specs.Judgements.{value_of, wanted, meaning_of_argument, argument_value, is_argument, are_arguments}
 use Rattle.wf_types_rules.specs.Parts.{argument, expr_parts, links_parts, args_parts}
-use Rattle.wf_types_exprs.specs.Judged.{judged, value_of, argument_value, argument_parts, operand_pushed, operand_behind, operands_joined}
+use Rattle.wf_types_exprs.specs.Judged.{judged, argument_parts, operand_pushed, operand_behind, operands_joined}
 use Rattle.wf_types_exprs.specs.Paths.{path_in}
 use Rattle.wf_types_exprs.proofs.JudgedLaws.{judged-append}
 

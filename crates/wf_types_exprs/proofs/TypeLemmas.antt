@@ -1,31 +1,25 @@
 -- What is found at a type after its parts, and what type it is.
-use Rattle.std.proofs.Common.{◌≡◌, ◌∙◌, refl, sym, ap, ℕ, zero, suc, ◌-◌, ◌<◌, ◌≤◌, ◌^◌, Bool, true, false, not, ◌||◌, List, [], ◌∷◌, ◌++◌, length, drop, slice_index_or, Option, Some, None, option_map, arith, drop-cons}
+use Rattle.std.proofs.Common.{◌≡◌, ◌∙◌, refl, sym, ap, ℕ, zero, suc, ◌-◌, ◌<◌, ◌≤◌, List, [], ◌∷◌, ◌++◌, length, drop, slice_index_or, Option, Some, None, option_map, arith, drop-cons}
 use Rattle.wf_text.specs.declared.place.Place.{Place}
 use Rattle.wf_text.specs.declared.rules.Refusal.{Refusal}
-use Rattle.wf_text.specs.declared.rules.Rule.TheVariants.{T1, T5}
-use Rattle.wf_text.specs.Precedence.{sooner}
-use Rattle.wf_base.specs.declared.widths.Width.{Width}
-use Rattle.wf_base.specs.BaseTable.{bits_of}
 use Rattle.wf_ast.specs.declared.parsed.Prefix.{Prefix}
 use Rattle.wf_ast.specs.declared.types.Ty.TheVariants as types
 use Rattle.wf_named.specs.declared.nodes.BaseType.{BaseType}
 use Rattle.wf_named.specs.declared.nodes.BaseType.TheVariants as bases
 use Rattle.wf_named.specs.NamedTree.{NamedExprTree, NamedPartTree, absent, present, NamedTypeTree, slice_of, array_of, base_type, refined}
 use Rattle.wf_named.specs.NamedTrees.{prefixed, all_prefixed}
+use Rattle.wf_types_rules.specs.declared.meanings.Bound.{Bound}
 use Rattle.wf_types_rules.specs.declared.settings.Form.TheVariants as forms
 use Rattle.wf_types_rules.specs.declared.settings.Role.{Role}
 use Rattle.wf_types_rules.specs.declared.settings.Role.TheVariants as roles
 use Rattle.wf_types_rules.specs.declared.settings.Setting.{Setting}
-use Rattle.wf_types_rules.specs.Meanings.{place_of}
-use Rattle.wf_types_rules.specs.ExprTypes.{plain_width, array_type, number_of, written}
+use Rattle.wf_types_rules.specs.ExprTypes.{plain_width, array_type, written}
 use Rattle.wf_types_rules.specs.DeclaredTypes.{first_token}
-use Rattle.wf_types_rules.specs.Judgements.{at_if, both_fail, is_no_constant, is_too_high, form, with_elements}
-use Rattle.wf_types_rules.specs.FirstBreak.{told}
+use Rattle.wf_types_rules.specs.Judgements.{bound_of, low_bound, form, with_elements}
 use Rattle.wf_types_rules.specs.Parts.{placed_type, type_part, expr_parts, end_parts, type_parts}
-use Rattle.wf_types_exprs.specs.declared.found.Bound.{Bound}
 use Rattle.wf_types_exprs.specs.declared.found.WrittenType.{WrittenType}
-use Rattle.wf_types_exprs.specs.Judged.{judged, bound_of, low_bound, TellsType}
-use Rattle.wf_types_exprs.specs.Found.{slice_type_found, array_type_found, is_unfit_low, low_number_of, refined_crossing, goes_above, refined_found, refined_base, refined_base_form, placed_found}
+use Rattle.wf_types_exprs.specs.Judged.{judged, TellsType}
+use Rattle.wf_types_exprs.specs.Found.{slice_type_found, array_type_found, refined_found, refined_base, refined_base_form, placed_found}
 use Rattle.wf_types_exprs.proofs.JudgedLaws.{judged-append, judged-last, judged-turned}
 
 -- A type at its place.
@@ -57,26 +51,13 @@ converted_found s found before e t w h k =
     ∙ judged-last s found (placed_type roles.Conversion t) (expr_parts e ++ type_parts t)
 
 -- Bounds.
-not_not : (b : Bool) → not (not b) ≡ b
-not_not true = refl
-not_not false = refl
-
-above_same : (width : Width) (m n : Option ℕ) → goes_above width m n ≡ both_fail (λ m n. not (is_too_high (2 ^ bits_of width) m n)) m n
-above_same width None n = refl
-above_same width (Some m) None = refl
-above_same width (Some m) (Some n) = sym (not_not (is_too_high (2 ^ bits_of width) m n))
-
 refined_same : (s : Setting) (found : Option Refusal) (of : Option BaseType) (at : Place) (low : NamedPartTree) (high : NamedExprTree)
     → refined_found of (low_bound s low) (bound_of s high) at found ≡ judged s found (type_part (base_type of at (refined low high)) ∷ [])
 unfolding judged
 refined_same s found None at absent high = refl
 refined_same s found None at (present e) high = refl
-refined_same s found (Some (bases.Number width)) at absent high =
-    ap (λ b. sooner (sooner (sooner found (told T1 (at_if (is_unfit_low (low_bound s absent) || is_no_constant s high) at))) (told T5 (refined_crossing (Some (bases.Number width)) (low_bound s absent) (bound_of s high))))
-    (told T5 (at_if b (place_of high)))) (above_same width (low_number_of (low_bound s absent)) (number_of s high))
-refined_same s found (Some (bases.Number width)) at (present e) high =
-    ap (λ b. sooner (sooner (sooner found (told T1 (at_if (is_unfit_low (low_bound s (present e)) || is_no_constant s high) at))) (told T5 (refined_crossing (Some (bases.Number width)) (low_bound s (present e)) (bound_of s high))))
-    (told T5 (at_if b (place_of high)))) (above_same width (low_number_of (low_bound s (present e))) (number_of s high))
+refined_same s found (Some (bases.Number width)) at absent high = refl
+refined_same s found (Some (bases.Number width)) at (present e) high = refl
 refined_same s found (Some bases.Flag) at absent high = refl
 refined_same s found (Some bases.Flag) at (present e) high = refl
 refined_same s found (Some bases.Status) at absent high = refl

@@ -5,43 +5,21 @@ use Rattle.wf_text.specs.declared.place.Place.{Place}
 use Rattle.wf_text.specs.declared.rules.Refusal.{Refusal}
 use Rattle.wf_text.specs.Precedence.{soonest}
 use Rattle.wf_named.specs.declared.nodes.NamedCallee.{NamedCallee}
-use Rattle.wf_named.specs.NamedTree.{NamedExprTree, path, NamedPartTree, absent, present, NamedTypeTree}
+use Rattle.wf_named.specs.NamedTree.{NamedExprTree, path, NamedTypeTree}
 use Rattle.wf_types_rules.specs.declared.meanings.Meaning.{Meaning}
 use Rattle.wf_types_rules.specs.declared.meanings.Operand.{Operand}
+use Rattle.wf_types_rules.specs.declared.meanings.Value.{Value}
 use Rattle.wf_types_rules.specs.declared.settings.Setting.{Setting}
-use Rattle.wf_types_rules.specs.Meanings.{place_of}
-use Rattle.wf_types_rules.specs.ExprTypes.{meaning, number_of, plain_width, written}
+use Rattle.wf_types_rules.specs.ExprTypes.{plain_width, written}
 use Rattle.wf_types_rules.specs.DeclaredTypes.{first_token}
-use Rattle.wf_types_rules.specs.Judgements.{meaning_of_argument, is_no_constant, form}
+use Rattle.wf_types_rules.specs.Judgements.{form}
 use Rattle.wf_types_rules.specs.Parts.{Part, argument, expr_parts, type_parts}
 use Rattle.wf_types_rules.specs.FirstBreak.{refusals_at}
-use Rattle.wf_types_exprs.specs.declared.found.Bound.{Bound}
-use Rattle.wf_types_exprs.specs.declared.found.Value.{Value}
 use Rattle.wf_types_exprs.specs.declared.found.WrittenType.{WrittenType}
 
--- What decides of what was found before and of all that the rules say of parts with this setting round them.
+-- The first refusal of what was found before and of all that the rules say of parts with this setting round them.
 unfoldable pub judged : Setting → Option Refusal → List Part → Option Refusal
 judged s found parts = soonest found (flat_map (refusals_at s) parts)
-
--- An expression's meaning with its place.
-abbrev pub value_of : Setting → NamedExprTree → Value
-value_of s e = record { of = meaning s e; at = place_of e }
-
-abbrev pub end_value : Setting → NamedPartTree → Option Value
-end_value s absent = None
-end_value s (present e) = Some (value_of s e)
-
--- An argument's likewise, of which readers and writers have one too.
-abbrev pub argument_value : Setting → NamedExprTree → Value
-argument_value s e = record { of = meaning_of_argument s e; at = place_of e }
-
--- What has to be a constant: whether it is none, its number and its place.
-abbrev pub bound_of : Setting → NamedExprTree → Bound
-bound_of s e = record { unfit = is_no_constant s e; number = number_of s e; at = place_of e }
-
-abbrev pub low_bound : Setting → NamedPartTree → Option Bound
-low_bound s absent = None
-low_bound s (present e) = Some (bound_of s e)
 
 -- An argument's parts. A path that is handed on stands as an argument alone.
 abbrev pub argument_parts : NamedCallee → (n : ℕ) → NamedExprTree → List Part

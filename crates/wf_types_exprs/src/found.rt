@@ -1,10 +1,10 @@
-// What a walk answers: what decides of what was found before and in what it passed, and what that means.
+// What a walk answers: the first refusal of what was found before and in what it passed, and what that means.
 
 use wf_ast::{Sequence, Ty};
 use wf_base::Width;
 use wf_text::Place;
 use wf_text::rules::Refusal;
-use wf_types_rules::{Form, Meaning, Operand};
+use wf_types_rules::{Bound, Form, Meaning, Operand, Value};
 
 /// An expression: what decides so far, and what it means, if anything.
 #[derive(Clone, Copy, PartialEq, Eq)]
@@ -22,23 +22,16 @@ pub struct JudgedType {
 
 /// Arguments: what decides so far, and whether each means something that its type takes.
 #[derive(Clone, Copy, PartialEq, Eq)]
-pub struct JudgedArgs {
+pub(crate) struct JudgedArgs {
     pub found: Option<Refusal>,
     pub fit: bool,
 }
 
 /// The operands of a chain: what decides so far, and the operands in order, where each means something.
 #[derive(Drop)]
-pub struct JudgedOperands {
+pub(crate) struct JudgedOperands {
     pub found: Option<Refusal>,
     pub of: Option<Sequence<Operand>>,
-}
-
-/// What an expression means, if anything, and its place.
-#[derive(Clone, Copy, PartialEq, Eq)]
-pub struct Value {
-    pub of: Option<Meaning>,
-    pub at: Place,
 }
 
 /// An expression: what decides so far, and what it means, with its place.
@@ -57,7 +50,7 @@ pub struct JudgedEnd {
 
 /// The operand of an `as`, and the width of its type.
 #[derive(Clone, Copy, PartialEq, Eq)]
-pub struct JudgedConversion {
+pub(crate) struct JudgedConversion {
     pub found: Option<Refusal>,
     pub value: Value,
     pub plain: Option<Width>,
@@ -65,30 +58,22 @@ pub struct JudgedConversion {
 
 /// The two ends of a slice: what decides so far, and what each means that is there.
 #[derive(Clone, Copy, PartialEq, Eq)]
-pub struct JudgedEnds {
+pub(crate) struct JudgedEnds {
     pub found: Option<Refusal>,
     pub from: Option<Value>,
     pub to: Option<Value>,
 }
 
-/// A bound of a type or the length of an array: whether it is no constant, its number, and its place.
-#[derive(Clone, Copy, PartialEq, Eq)]
-pub struct Bound {
-    pub unfit: bool,
-    pub number: Option<u64>,
-    pub at: Place,
-}
-
 /// A bound with what decides so far.
 #[derive(Clone, Copy, PartialEq, Eq)]
-pub struct JudgedBound {
+pub(crate) struct JudgedBound {
     pub found: Option<Refusal>,
     pub bound: Bound,
 }
 
 /// A bound that may be absent, with what decides so far.
 #[derive(Clone, Copy, PartialEq, Eq)]
-pub struct JudgedLow {
+pub(crate) struct JudgedLow {
     pub found: Option<Refusal>,
     pub low: Option<Bound>,
 }
@@ -96,7 +81,7 @@ pub struct JudgedLow {
 /// A type that is written: what decides so far, what type it is, its form (which it may have though it is no type), its
 /// width where it is numeric and has no bounds, and its first token.
 #[derive(Clone, Copy)]
-pub struct WrittenType {
+pub(crate) struct WrittenType {
     pub found: Option<Refusal>,
     pub of: Option<Ty>,
     pub kind: Option<Form>,

@@ -10,4 +10,4 @@ pub mod types;
 pub mod walk;
 pub mod whole;
 
-pub use found::{Judged, JudgedArgs, JudgedOperands, JudgedType};
+pub use found::{Judged, JudgedType};

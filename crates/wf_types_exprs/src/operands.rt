@@ -5,14 +5,14 @@ ghost use Rattle.wf_types_rules.specs.Meanings.{is_constant as means_constant, c
 ghost use Rattle.wf_types_rules.specs.Judgements.{fails};
 ghost use Rattle.wf_types_exprs.specs.Judged.{operand_behind as behind};
 
-use crate::found::{Bound, JudgedArgs, JudgedOperands, Value};
+use crate::found::{JudgedArgs, JudgedOperands};
 use std::alloc::Global;
 use wf_ast::Sequence;
 use wf_text::faults::NoMemory;
 use wf_text::rules::Refusal;
 use wf_types_meanings::values::number_in;
 use wf_types_operators::meanings::is_constant;
-use wf_types_rules::{Meaning, Operand};
+use wf_types_rules::{Bound, Meaning, Operand, Value};
 
 /// No operand yet.
 pub(crate) fn no_operand(alloc: Global, found: Option<Refusal>) -> JudgedOperands

@@ -1,20 +1,22 @@
 // What each kind of expression breaks and means, by what its parts mean.
 
-ghost use Rattle.std.specs.Prelude.{◌≡◌, ◌&&◌, ◌||◌, not, Some, None, if◌then◌else◌, option_map, option_and_then};
+ghost use Rattle.std.specs.Prelude.{◌≡◌, ◌&&◌, ◌||◌, Some, None, if◌then◌else◌, option_map, option_and_then};
 ghost use Rattle.wf_ast.specs.TypedTrees.{sort_of};
 ghost use Rattle.wf_named.specs.NamedTree as tree;
 ghost use Rattle.wf_types_rules.specs.declared.meanings.Meaning.TheVariants as meanings;
-ghost use Rattle.wf_types_rules.specs.Meanings.{variable as variable_in, is_flag as means_flag};
+ghost use Rattle.wf_types_rules.specs.Meanings.{is_flag as means_flag};
 ghost use Rattle.wf_types_rules.specs.Operands.{meaning_of_operator as operator_means, not_taken as first_untaken, not_fitting as first_unfit, has_no_value as lacks_value};
 ghost use Rattle.wf_types_rules.specs.ExprTypes.{only_where, meaning, element_of, slice_in, if_number as only_for_number, converted as converts, answer_inside};
-ghost use Rattle.wf_ast.specs.WellTyped.{same_mark as same_marks, is_coroutine as marked_coroutine, is_pure as marked_pure};
-ghost use Rattle.wf_types_rules.specs.Judgements.{at_if as at_place_if, is_impure as marked_impure, fails, both_fail, takes as takes_value, may_be_handed as may_hand, is_argument as fits_argument, answer_type as type_answered, declared_mark as mark_declared};
+ghost use Rattle.wf_named.specs.NamedTrees.{call_at};
+ghost use Rattle.wf_types_rules.specs.Judgements as judgements;
+ghost use Rattle.wf_types_rules.specs.Judgements.{at_if as at_place_if, fails, both_fail, meets, takes as takes_value, may_be_handed as may_hand, is_argument as fits_argument, answer_type as type_answered};
+ghost use Rattle.wf_types_rules.specs.Parts as parts;
 ghost use Rattle.wf_types_rules.specs.FirstBreak.{told as told_by};
 ghost use Rattle.wf_text.specs.Precedence.{sooner as sooner_of};
 ghost use Rattle.wf_text.specs.declared.rules.Rule.TheVariants as rules;
-ghost use Rattle.wf_types_exprs.specs.Found.{no_number as no_number_at, no_flag as no_flag_at, no_value as no_value_at, no_index as no_index_at, no_end as no_end_at, is_known as known_end, end_kept, no_slice as no_slice_at, chain_found, is_cut as cuts, conversion_found, argument_found, wrong_inside, calling_found};
+ghost use Rattle.wf_types_exprs.specs.Found.{end_kept, chain_found, conversion_found, argument_found, calling_found};
 
-use crate::found::{Judged, JudgedArgs, JudgedEnds, JudgedOperands, Value};
+use crate::found::{Judged, JudgedArgs, JudgedEnds, JudgedOperands};
 use wf_ast::{Op, Ty};
 use wf_base::Width;
 use wf_named::{NamedCall, NamedCallee, NamedPath};
@@ -33,10 +35,10 @@ use wf_types_operators::fitting::not_fitting;
 use wf_types_operators::given::{has_no_value, meaning_of_operator};
 use wf_types_operators::meanings::{greatest, is_flag, is_number, is_value};
 use wf_types_operators::taken::not_taken;
-use wf_types_rules::{Meaning, Operand, Setting};
+use wf_types_rules::{Around, Meaning, Operand, Value};
 
 fn wrong_number(v: Value) -> Option<Place>
-    ensures { result ≡ no_number_at v }
+    ensures { result ≡ judgements.no_number v }
 {
     match v.of {
         Some(m) => at_if(!is_number(m), v.at),
@@ -45,7 +47,7 @@ fn wrong_number(v: Value) -> Option<Place>
 }
 
 fn wrong_operand_in_negation(v: Value) -> Option<Place>
-    ensures { result ≡ no_flag_at v }
+    ensures { result ≡ judgements.no_flag v }
 {
     match v.of {
         Some(m) => at_if(!is_flag(m), v.at),
@@ -54,7 +56,7 @@ fn wrong_operand_in_negation(v: Value) -> Option<Place>
 }
 
 fn wrong_operand_in_path(v: Value) -> Option<Place>
-    ensures { result ≡ no_value_at v }
+    ensures { result ≡ judgements.no_value v }
 {
     match v.of {
         Some(m) => at_if(!is_value(m), v.at),
@@ -63,8 +65,8 @@ fn wrong_operand_in_path(v: Value) -> Option<Place>
 }
 
 /// A path: whether it may stand as a value.
-pub(crate) fn judged_path(found: Option<Refusal>, around: &Setting, path: NamedPath) -> Judged
-    ensures found { result.found ≡ sooner_of found (told_by rules.T1 (no_value_at (record { of = variable_in around.now path.of; at = path.at }))) }
+pub(crate) fn judged_path(found: Option<Refusal>, around: &Around<'_>, path: NamedPath) -> Judged
+    ensures found { result.found ≡ sooner_of found (told_by rules.T1 (judgements.no_value (judgements.base_value around.now path))) }
     ensures of { result.of ≡ meaning around.now (tree.path path) }
 {
     let of = variable(around, path.of);
@@ -76,8 +78,8 @@ pub(crate) fn judged_path(found: Option<Refusal>, around: &Setting, path: NamedP
 }
 
 /// What a path means, with its place.
-pub fn base_value(around: &Setting, path: NamedPath) -> Value
-    ensures { result ≡ record { of = variable_in around.now path.of; at = path.at } }
+pub fn base_value(around: &Around<'_>, path: NamedPath) -> Value
+    ensures { result ≡ judgements.base_value around.now path }
 {
     Value {
         of: variable(around, path.of),
@@ -86,7 +88,7 @@ pub fn base_value(around: &Setting, path: NamedPath) -> Value
 }
 
 fn wrong_operand_in_index(base: Value, index: Value) -> Option<Place>
-    ensures { result ≡ no_index_at base index }
+    ensures { result ≡ judgements.no_index base index }
 {
     match base.of {
         Some(m) => {
@@ -102,7 +104,7 @@ fn wrong_operand_in_index(base: Value, index: Value) -> Option<Place>
 
 /// An element of what a path stands for.
 pub fn judged_index(found: Option<Refusal>, base: Value, index: Value) -> Judged
-    ensures found { result.found ≡ sooner_of found (told_by rules.T1 (no_index_at base index)) }
+    ensures found { result.found ≡ sooner_of found (told_by rules.T1 (judgements.no_index base index)) }
     ensures of { result.of ≡ option_map meanings.Typed (only_for_number index.of (option_and_then element_of base.of)) }
 {
     Judged {
@@ -112,7 +114,7 @@ pub fn judged_index(found: Option<Refusal>, base: Value, index: Value) -> Judged
 }
 
 fn wrong_end(end: Option<Value>) -> Option<Place>
-    ensures { result ≡ no_end_at end }
+    ensures { result ≡ judgements.no_end end }
 {
     match end {
         Some(v) => wrong_number(v),
@@ -121,7 +123,7 @@ fn wrong_end(end: Option<Value>) -> Option<Place>
 }
 
 fn is_known(end: Option<Value>) -> bool
-    ensures { result ≡ known_end end }
+    ensures { result ≡ judgements.is_known end }
 {
     match end {
         Some(v) => v.of.is_some(),
@@ -139,13 +141,13 @@ fn if_end(end: Option<Value>, ty: Option<Ty>) -> Option<Ty>
 }
 
 fn both_known(from: Option<Value>, to: Option<Value>) -> bool
-    ensures { result ≡ (known_end from && known_end to) }
+    ensures { result ≡ (judgements.is_known from && judgements.is_known to) }
 {
     is_known(from) && is_known(to)
 }
 
 fn wrong_operand_in_slice(base: Value, from: Option<Value>, to: Option<Value>) -> Option<Place>
-    ensures { result ≡ no_slice_at base from to }
+    ensures { result ≡ judgements.no_slice base from to }
 {
     match base.of {
         Some(m) => {
@@ -164,7 +166,7 @@ fn wrong_operand_in_slice(base: Value, from: Option<Value>, to: Option<Value>) -
 
 /// A slice of what a path stands for, by its ends.
 pub(crate) fn judged_slice(ends: JudgedEnds, base: Value) -> Judged
-    ensures found { result.found ≡ sooner_of ends.found (told_by rules.T1 (no_slice_at base ends.from ends.to)) }
+    ensures found { result.found ≡ sooner_of ends.found (told_by rules.T1 (judgements.no_slice base ends.from ends.to)) }
     ensures of { result.of ≡ option_map meanings.Typed (end_kept ends.from (end_kept ends.to (option_and_then slice_in base.of))) }
 {
     Judged {
@@ -223,7 +225,7 @@ pub(crate) fn judged_chain(operands: &JudgedOperands, op: Op, at: Place) -> Judg
 }
 
 fn is_cut(of: Option<Meaning>, width: Option<Width>) -> bool
-    ensures { result ≡ cuts of width }
+    ensures { result ≡ judgements.is_cut of width }
 {
     match (of, width) {
         (Some(Meaning::Constant { value, .. }), Some(width)) => value > greatest(width),
@@ -232,13 +234,13 @@ fn is_cut(of: Option<Meaning>, width: Option<Width>) -> bool
 }
 
 fn wrong_operand_in_conversion(v: Value) -> Option<Place>
-    ensures { result ≡ no_number_at v }
+    ensures { result ≡ judgements.no_number v }
 {
     wrong_number(v)
 }
 
 fn node_without_value_in_conversion(v: Value, width: Option<Width>, at: Place) -> Option<Place>
-    ensures { result ≡ at_place_if (cuts v.of width) at }
+    ensures { result ≡ at_place_if (judgements.is_cut v.of width) at }
 {
     at_if(is_cut(v.of, width), at)
 }
@@ -265,7 +267,7 @@ pub(crate) fn judged_conversion(
 
 /// A `not`.
 pub(crate) fn judged_negation(found: Option<Refusal>, v: Value) -> Judged
-    ensures found { result.found ≡ sooner_of found (told_by rules.T1 (no_flag_at v)) }
+    ensures found { result.found ≡ sooner_of found (told_by rules.T1 (judgements.no_flag v)) }
     ensures of { result.of ≡ option_and_then (only_where means_flag) v.of }
 {
     Judged {
@@ -287,7 +289,7 @@ fn is_wrong_argument(ty: Option<Ty>, of: Option<Meaning>) -> bool
 }
 
 fn wrong_argument(ty: Option<Ty>, v: Value) -> Option<Place>
-    ensures { result ≡ at_place_if (fails may_hand v.of || both_fail takes_value ty v.of) v.at }
+    ensures { result ≡ judgements.not_handed ty v }
 {
     at_if(is_wrong_argument(ty, v.of), v.at)
 }
@@ -303,8 +305,8 @@ pub(crate) fn judged_argument(found: Option<Refusal>, ty: Option<Ty>, v: Value) 
     }
 }
 
-fn call_inside(inside: bool, call: &NamedCall) -> Option<Place>
-    ensures { result ≡ wrong_inside inside call.now.callee call.now.at call.now.mark }
+fn call_inside(around: &Around<'_>, call: &NamedCall, inside: bool) -> Option<Place>
+    ensures { (es : _) → result ≡ judgements.call_inside around.now (parts.calling inside (call_at es call.now)) }
 {
     if inside {
         at_if(!is_pure(call.mark) || !is_base(call.callee), call.at)
@@ -313,8 +315,8 @@ fn call_inside(inside: bool, call: &NamedCall) -> Option<Place>
     }
 }
 
-fn wrong_mark(around: &Setting, call: &NamedCall) -> Option<Place>
-    ensures { result ≡ at_place_if (fails (same_marks call.now.mark) (mark_declared around.now call.now.callee)) call.now.at }
+fn wrong_mark(around: &Around<'_>, call: &NamedCall) -> Option<Place>
+    ensures { (inside : _) (es : _) → result ≡ judgements.wrong_mark around.now (parts.calling inside (call_at es call.now)) }
 {
     match declared_mark(around, call.callee) {
         Some(mark) => at_if(!same_mark(call.mark, mark), call.at),
@@ -322,17 +324,17 @@ fn wrong_mark(around: &Setting, call: &NamedCall) -> Option<Place>
     }
 }
 
-fn impure_call(around: &Setting, call: &NamedCall) -> Option<Place>
-    ensures { result ≡ at_place_if (marked_impure call.now.mark && marked_pure around.now.mark) call.now.at }
+fn impure_call(around: &Around<'_>, call: &NamedCall) -> Option<Place>
+    ensures { (inside : _) (es : _) → result ≡ judgements.impure_call around.now (parts.calling inside (call_at es call.now)) }
 {
-    at_if(is_impure(call.mark) && is_pure(around.mark), call.at)
+    at_if(is_impure(call.mark) && is_pure(around.mark()), call.at)
 }
 
-fn coroutine_call(around: &Setting, call: &NamedCall) -> Option<Place>
-    ensures { result ≡ at_place_if (marked_coroutine call.now.mark && not (marked_coroutine around.now.mark)) call.now.at }
+fn coroutine_call(around: &Around<'_>, call: &NamedCall) -> Option<Place>
+    ensures { (inside : _) (es : _) → result ≡ judgements.coroutine_call around.now (parts.calling inside (call_at es call.now)) }
 {
     at_if(
-        is_coroutine(call.mark) && !is_coroutine(around.mark),
+        is_coroutine(call.mark) && !is_coroutine(around.mark()),
         call.at,
     )
 }
@@ -340,20 +342,20 @@ fn coroutine_call(around: &Setting, call: &NamedCall) -> Option<Place>
 /// What a call breaks by its mark; `inside` tells whether it stands inside an expression.
 pub(crate) fn judged_calling(
     found: Option<Refusal>,
-    around: &Setting,
+    around: &Around<'_>,
     call: &NamedCall,
     inside: bool,
 ) -> Option<Refusal>
-    ensures { result ≡ calling_found around.now inside call.now.callee call.now.at call.now.mark found }
+    ensures { (es : _) → result ≡ calling_found around.now inside (call_at es call.now) found }
 {
     let pure = sooner(found, told(Rule::E1, impure_call(around, call)));
     let outside = sooner(pure, told(Rule::E2, coroutine_call(around, call)));
-    let nested = sooner(outside, told(Rule::E3, call_inside(inside, call)));
+    let nested = sooner(outside, told(Rule::E3, call_inside(around, call, inside)));
     sooner(nested, told(Rule::E3, wrong_mark(around, call)))
 }
 
 /// What a call inside an expression means.
-pub fn inner_answer(around: &Setting, call: &NamedCall) -> Option<Meaning>
+pub fn inner_answer(around: &Around<'_>, call: &NamedCall) -> Option<Meaning>
     ensures { (args : _) → result ≡ answer_inside around.now (tree.call call.now.callee call.now.at call.now.mark args) }
 {
     match call.callee {
@@ -370,7 +372,7 @@ pub fn inner_answer(around: &Setting, call: &NamedCall) -> Option<Meaning>
 }
 
 /// What a call means as the whole right side of `=`, by whether its arguments fit.
-pub(crate) fn whole_answer(around: &Setting, callee: NamedCallee, fit: bool) -> Option<Meaning>
+pub(crate) fn whole_answer(around: &Around<'_>, callee: NamedCallee, fit: bool) -> Option<Meaning>
     ensures { result ≡ (if fit then option_map meanings.Typed (type_answered around.now callee) else None) }
 {
     if fit {

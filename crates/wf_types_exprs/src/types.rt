@@ -1,16 +1,17 @@
 // What each kind of type breaks, and what type it is, by its parts.
 
-ghost use Rattle.std.specs.Prelude.{◌≡◌, None, Some, not, ◌&&◌, ◌||◌, is_some, nat_lt, nat_le, option_map};
+ghost use Rattle.std.specs.Prelude.{◌≡◌, None, Some, not, is_some, nat_lt, nat_le, option_map};
 ghost use Rattle.wf_ast.specs.declared.types.Ty.TheVariants as types;
 ghost use Rattle.wf_named.specs.NamedTree as tree;
 ghost use Rattle.wf_types_rules.specs.declared.settings.Form.TheVariants as forms;
 ghost use Rattle.wf_types_rules.specs.ExprTypes.{array_type as type_of_array, plain_width};
 ghost use Rattle.wf_types_rules.specs.DeclaredTypes.{is_number_form as number_form, holds_zero as has_zero, may_have as may_stand_as, is_zero_kept as keeps_zero};
-ghost use Rattle.wf_types_rules.specs.Judgements.{at_if as at_place_if, fails, both_fail, with_elements as form_with_elements};
+ghost use Rattle.wf_types_rules.specs.Judgements as judgements;
+ghost use Rattle.wf_types_rules.specs.Judgements.{at_if as at_place_if, fails, both_fail};
 ghost use Rattle.wf_types_exprs.specs.Judged.{TellsType};
-ghost use Rattle.wf_types_exprs.specs.Found.{slice_type_found, array_type_found, is_unfit_low as unfit_low, low_number_of, refined_crossing, goes_above as above_width, refined_wrong, refined_high, refined_found, refined_base as refined_to, refined_base_form, is_misplaced_type as misplaced, placed_found};
+ghost use Rattle.wf_types_exprs.specs.Found.{slice_type_found, array_type_found, low_number_of, refined_crossing, refined_wrong, refined_high, refined_found, refined_base as refined_to, refined_base_form, placed_found};
 
-use crate::found::{Bound, WrittenType};
+use crate::found::WrittenType;
 use wf_ast::Ty;
 use wf_base::Width;
 use wf_named::BaseType;
@@ -23,7 +24,7 @@ use wf_types_meanings::types::{
     refined_type,
 };
 use wf_types_operators::meanings::greatest;
-use wf_types_rules::{Form, Role};
+use wf_types_rules::{Bound, Form, Role};
 
 fn slices_of(plain: Option<Width>) -> Option<Ty>
     ensures { result ≡ option_map types.Slice plain }
@@ -35,14 +36,14 @@ fn slices_of(plain: Option<Width>) -> Option<Ty>
 }
 
 fn wrong_type_of_slice(element: WrittenType, at: Place) -> Option<Place>
-    ensures { result ≡ at_place_if (is_some element.kind && not (is_some element.plain)) at }
+    ensures { result ≡ at_place_if (judgements.is_not_plain element.kind element.plain) at }
 {
     at_if(element.kind.is_some() && !element.plain.is_some(), at)
 }
 
 /// A slice of elements of this type.
 pub(crate) fn written_slice(element: WrittenType, at: Place) -> WrittenType
-    ensures { result ≡ record { found = slice_type_found element.kind element.plain at element.found; of = option_map types.Slice element.plain; kind = form_with_elements forms.Slice element.kind; plain = None; at = at } }
+    ensures { result ≡ record { found = slice_type_found element.kind element.plain at element.found; of = option_map types.Slice element.plain; kind = judgements.with_elements forms.Slice element.kind; plain = None; at = at } }
 {
     WrittenType {
         found: sooner(
@@ -57,7 +58,7 @@ pub(crate) fn written_slice(element: WrittenType, at: Place) -> WrittenType
 }
 
 fn with_elements(whole: Form, element: Option<Form>) -> Option<Form>
-    ensures { result ≡ form_with_elements whole element }
+    ensures { result ≡ judgements.with_elements whole element }
 {
     match element {
         Some(_) => Some(whole),
@@ -84,13 +85,13 @@ fn is_zero(n: Option<u64>) -> bool
 }
 
 fn wrong_type_of_array(count: Bound, element: WrittenType, at: Place) -> Option<Place>
-    ensures { result ≡ at_place_if (count.unfit || fails number_form element.kind) at }
+    ensures { result ≡ at_place_if (judgements.is_no_array count element.kind) at }
 {
     at_if(count.unfit || is_not_numeric(element.kind), at)
 }
 
 fn no_elements(count: Bound) -> Option<Place>
-    ensures { result ≡ at_place_if (fails (nat_lt 0) count.number) count.at }
+    ensures { result ≡ judgements.no_count count }
 {
     at_if(is_zero(count.number), count.at)
 }
@@ -127,7 +128,7 @@ pub(crate) fn written_array(
     element: WrittenType,
     at: Place,
 ) -> WrittenType
-    ensures { result ≡ record { found = array_type_found count element.of element.kind element.at at found; of = type_of_array count.number element.of; kind = form_with_elements forms.Array element.kind; plain = None; at = at } }
+    ensures { result ≡ record { found = array_type_found count element.of element.kind element.at at found; of = type_of_array count.number element.of; kind = judgements.with_elements forms.Array element.kind; plain = None; at = at } }
 {
     WrittenType {
         found: found_in_array(found, count, element, at),
@@ -150,11 +151,18 @@ fn plain_of(of: BaseType) -> Option<Width>
     }
 }
 
+fn wrong_type_of_base(of: Option<BaseType>, at: Place) -> Option<Place>
+    ensures { result ≡ at_place_if (not (is_some of)) at }
+{
+    at_if(of.is_none(), at)
+}
+
 /// A type that begins with `base`, without bounds.
 #[tactic(auto, unfolding(crate::specs::Judged::judged))]
 pub(crate) fn written_plain(found: Option<Refusal>, of: Option<BaseType>, at: Place) -> WrittenType
     ensures { (s : _) → TellsType s found (tree.base_type of at tree.unrefined) result }
 {
+    let found = sooner(found, told(Rule::T1, wrong_type_of_base(of, at)));
     match of {
         Some(of) => WrittenType {
             found,
@@ -164,7 +172,7 @@ pub(crate) fn written_plain(found: Option<Refusal>, of: Option<BaseType>, at: Pl
             at,
         },
         None => WrittenType {
-            found: sooner(found, Some(Refusal { rule: Rule::T1, at })),
+            found,
             of: None,
             kind: None,
             plain: None,
@@ -188,7 +196,7 @@ pub(crate) fn written_struct(found: Option<Refusal>, of: StructId, at: Place) ->
 }
 
 fn is_unfit_low(low: Option<Bound>) -> bool
-    ensures { result ≡ unfit_low low }
+    ensures { result ≡ judgements.is_unfit_low low }
 {
     match low {
         Some(bound) => bound.unfit,
@@ -197,7 +205,7 @@ fn is_unfit_low(low: Option<Bound>) -> bool
 }
 
 fn is_unfit(low: Option<Bound>, high: Bound) -> bool
-    ensures { result ≡ (unfit_low low || high.unfit) }
+    ensures { result ≡ judgements.are_unfit low high }
 {
     is_unfit_low(low) || high.unfit
 }
@@ -239,7 +247,7 @@ fn crossed_bounds(of: Option<BaseType>, low: Option<Bound>, high: Bound) -> Opti
 }
 
 fn goes_above(width: Width, low: Option<u64>, high: Option<u64>) -> bool
-    ensures { result ≡ above_width width low high }
+    ensures { result ≡ judgements.goes_above width low high }
 {
     match (low, high) {
         (Some(m), Some(n)) => m <= n && n > greatest(width),
@@ -360,7 +368,7 @@ fn is_refused(role: Role, kind: Option<Form>) -> bool
 }
 
 fn is_misplaced(role: Role, kind: Option<Form>, plain: Option<Width>) -> bool
-    ensures { result ≡ misplaced role kind plain }
+    ensures { result ≡ judgements.may_not_stand role kind plain }
 {
     match role {
         Role::Conversion => kind.is_some() && !plain.is_some(),
@@ -373,7 +381,7 @@ fn is_misplaced(role: Role, kind: Option<Form>, plain: Option<Width>) -> bool
 }
 
 fn misplaced_type(role: Role, of: WrittenType) -> Option<Place>
-    ensures { result ≡ at_place_if (misplaced role of.kind of.plain) of.at }
+    ensures { result ≡ at_place_if (judgements.may_not_stand role of.kind of.plain) of.at }
 {
     at_if(is_misplaced(role, of.kind, of.plain), of.at)
 }

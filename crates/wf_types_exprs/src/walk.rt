@@ -1,4 +1,4 @@
-// The walk over expressions, types and calls: what decides of what was found before and of all that the rules say of
+// The walk over expressions, types and calls: the first refusal of what was found before and of all that the rules say of
 // their parts, and what they mean. Parts come before their whole.
 
 ghost use Rattle.std.specs.Prelude.{◌≡◌, ◌<◌, ◌∷◌, ◌++◌, Some, length, IfOk};
@@ -9,13 +9,13 @@ ghost use Rattle.wf_named.specs.NamedTrees.{expr_at, part_at, links_at, args_at,
 ghost use Rattle.wf_named.specs.NamedTree as tree;
 ghost use Rattle.wf_types_rules.specs.declared.settings.Role.TheVariants as roles;
 ghost use Rattle.wf_types_rules.specs.ExprTypes.{meaning, operands_behind, operands, plain_width};
-ghost use Rattle.wf_types_rules.specs.Judgements.{wanted as type_wanted, meaning_of_argument, is_argument as fits_argument, are_arguments};
+ghost use Rattle.wf_types_rules.specs.Judgements.{value_of, end_value, bound_of, low_bound, wanted as type_wanted, meaning_of_argument, is_argument as fits_argument, are_arguments};
 ghost use Rattle.wf_types_rules.specs.Parts.{calling, placed_type, expr_parts, end_parts, links_parts, args_parts, type_parts};
-ghost use Rattle.wf_types_exprs.specs.Judged.{judged, value_of, end_value, bound_of, low_bound, argument_parts, operand_behind as behind, operands_joined, TellsType};
+ghost use Rattle.wf_types_exprs.specs.Judged.{judged, argument_parts, operand_behind as behind, operands_joined, TellsType};
 
 use crate::found::{
     Judged, JudgedArgs, JudgedBound, JudgedConversion, JudgedEnd, JudgedEnds, JudgedLow,
-    JudgedOperands, JudgedValue, Value, WrittenType,
+    JudgedOperands, JudgedValue, WrittenType,
 };
 use crate::operands::{bound, no_operand, operand_behind, with_argument};
 use crate::parts::{
@@ -34,15 +34,15 @@ use wf_text::Place;
 use wf_text::faults::NoMemory;
 use wf_text::rules::Refusal;
 use wf_types_meanings::arguments::wanted;
-use wf_types_rules::{Meaning, Role, Setting};
+use wf_types_rules::{Around, Meaning, Role, Value};
 
 /// An expression of the package.
 #[cycle(judge_exprs)]
-pub fn judge_expr(
+pub(crate) fn judge_expr(
     alloc: Global,
     found: Option<Refusal>,
     nodes: &NamedNodes,
-    around: &Setting,
+    around: &Around<'_>,
     e: ExprId,
 ) -> Result<Judged, NoMemory>
     requires { e.0 < length nodes.now.exprs }
@@ -105,7 +105,7 @@ pub fn judge_value(
     alloc: Global,
     found: Option<Refusal>,
     nodes: &NamedNodes,
-    around: &Setting,
+    around: &Around<'_>,
     e: ExprId,
 ) -> Result<JudgedValue, NoMemory>
     requires { e.0 < length nodes.now.exprs }
@@ -128,7 +128,7 @@ pub fn judge_end(
     alloc: Global,
     found: Option<Refusal>,
     nodes: &NamedNodes,
-    around: &Setting,
+    around: &Around<'_>,
     end: Option<ExprId>,
 ) -> Result<JudgedEnd, NoMemory>
     requires { IsBelow (length nodes.now.exprs) end }
@@ -153,7 +153,7 @@ fn judge_ends(
     alloc: Global,
     found: Option<Refusal>,
     nodes: &NamedNodes,
-    around: &Setting,
+    around: &Around<'_>,
     from: Option<ExprId>,
     to: Option<ExprId>,
 ) -> Result<JudgedEnds, NoMemory>
@@ -178,7 +178,7 @@ fn judge_operand(
     alloc: Global,
     before: JudgedOperands,
     nodes: &NamedNodes,
-    around: &Setting,
+    around: &Around<'_>,
     e: ExprId,
 ) -> Result<JudgedOperands, NoMemory>
     requires { e.0 < length nodes.now.exprs }
@@ -199,7 +199,7 @@ fn judge_links(
     alloc: Global,
     before: JudgedOperands,
     nodes: &NamedNodes,
-    around: &Setting,
+    around: &Around<'_>,
     links: &[Link],
 ) -> Result<JudgedOperands, NoMemory>
     requires { LinksBelow (length nodes.now.exprs) links.now }
@@ -215,11 +215,11 @@ fn judge_links(
 
 /// The operands of a chain in order, where each means something.
 #[cycle(judge_exprs)]
-pub fn judge_operands(
+pub(crate) fn judge_operands(
     alloc: Global,
     found: Option<Refusal>,
     nodes: &NamedNodes,
-    around: &Setting,
+    around: &Around<'_>,
     first: ExprId,
     links: &[Link],
 ) -> Result<JudgedOperands, NoMemory>
@@ -239,7 +239,7 @@ fn judge_argument(
     alloc: Global,
     found: Option<Refusal>,
     nodes: &NamedNodes,
-    around: &Setting,
+    around: &Around<'_>,
     callee: NamedCallee,
     n: usize,
     e: ExprId,
@@ -260,11 +260,11 @@ fn judge_argument(
 
 /// The arguments of a call in order.
 #[cycle(judge_exprs)]
-pub fn judge_args(
+pub(crate) fn judge_args(
     alloc: Global,
     found: Option<Refusal>,
     nodes: &NamedNodes,
-    around: &Setting,
+    around: &Around<'_>,
     callee: NamedCallee,
     args: &[ExprId],
 ) -> Result<JudgedArgs, NoMemory>
@@ -284,11 +284,11 @@ pub fn judge_args(
 
 /// A call, and whether its arguments fit; `inside` tells whether it stands inside an expression.
 #[cycle(judge_exprs)]
-pub fn judge_call(
+pub(crate) fn judge_call(
     alloc: Global,
     found: Option<Refusal>,
     nodes: &NamedNodes,
-    around: &Setting,
+    around: &Around<'_>,
     call: &NamedCall,
     inside: bool,
 ) -> Result<JudgedArgs, NoMemory>
@@ -314,7 +314,7 @@ fn judge_conversion(
     alloc: Global,
     found: Option<Refusal>,
     nodes: &NamedNodes,
-    around: &Setting,
+    around: &Around<'_>,
     of: ExprId,
     to: &NamedType,
 ) -> Result<JudgedConversion, NoMemory>
@@ -339,7 +339,7 @@ fn judge_bound(
     alloc: Global,
     found: Option<Refusal>,
     nodes: &NamedNodes,
-    around: &Setting,
+    around: &Around<'_>,
     e: ExprId,
 ) -> Result<JudgedBound, NoMemory>
     requires { e.0 < length nodes.now.exprs }
@@ -359,7 +359,7 @@ fn judge_low(
     alloc: Global,
     found: Option<Refusal>,
     nodes: &NamedNodes,
-    around: &Setting,
+    around: &Around<'_>,
     low: Option<ExprId>,
 ) -> Result<JudgedLow, NoMemory>
     requires { IsBelow (length nodes.now.exprs) low }
@@ -384,7 +384,7 @@ fn judge_refined(
     alloc: Global,
     found: Option<Refusal>,
     nodes: &NamedNodes,
-    around: &Setting,
+    around: &Around<'_>,
     of: Option<BaseType>,
     at: Place,
     bounds: Bounds,
@@ -403,7 +403,7 @@ fn judge_core(
     alloc: Global,
     found: Option<Refusal>,
     nodes: &NamedNodes,
-    around: &Setting,
+    around: &Around<'_>,
     core: NamedCore,
     bounds: Option<Bounds>,
 ) -> Result<WrittenType, NoMemory>
@@ -427,7 +427,7 @@ fn judge_prefix(
     alloc: Global,
     element: WrittenType,
     nodes: &NamedNodes,
-    around: &Setting,
+    around: &Around<'_>,
     prefix: Prefix,
 ) -> Result<WrittenType, NoMemory>
     requires { PrefixBelow (length nodes.now.exprs) prefix }
@@ -448,7 +448,7 @@ fn judge_prefixes(
     alloc: Global,
     core: WrittenType,
     nodes: &NamedNodes,
-    around: &Setting,
+    around: &Around<'_>,
     prefixes: &[Prefix],
 ) -> Result<WrittenType, NoMemory>
     requires { AllByRecursion (PrefixBelow (length nodes.now.exprs)) prefixes.now }
@@ -469,7 +469,7 @@ pub(crate) fn judge_written(
     alloc: Global,
     found: Option<Refusal>,
     nodes: &NamedNodes,
-    around: &Setting,
+    around: &Around<'_>,
     of: &NamedType,
 ) -> Result<WrittenType, NoMemory>
     requires { NamedTypeBelow (length nodes.now.exprs) of.now }

@@ -17,14 +17,14 @@ use wf_named::{NamedCall, NamedNodes, NamedType};
 use wf_text::faults::NoMemory;
 use wf_text::rules::Refusal;
 use wf_types_meanings::types::allowed;
-use wf_types_rules::{Role, Setting};
+use wf_types_rules::{Around, Role};
 
 /// A type at its place: a declaration's, or the one after `as`.
 pub fn judge_type(
     alloc: Global,
     found: Option<Refusal>,
     nodes: &NamedNodes,
-    around: &Setting,
+    around: &Around<'_>,
     role: Role,
     of: &NamedType,
 ) -> Result<JudgedType, NoMemory>
@@ -44,7 +44,7 @@ pub fn judge_whole_call(
     alloc: Global,
     found: Option<Refusal>,
     nodes: &NamedNodes,
-    around: &Setting,
+    around: &Around<'_>,
     call: &NamedCall,
 ) -> Result<Judged, NoMemory>
     requires { ArgsBelow (length nodes.now.exprs) call.now.args }

@@ -11,7 +11,7 @@ use wf_base::{ArgTy, BaseSig, Kind, Width};
 use wf_named::NamedCallee;
 use wf_text::MethodId;
 use wf_types_operators::meanings::all_of;
-use wf_types_rules::{MethodType, Setting};
+use wf_types_rules::{Around, MethodType};
 
 /// The kind of values that a base method is called on.
 pub(crate) fn kind(sig: BaseSig) -> Kind
@@ -92,12 +92,12 @@ fn own_arg_at(methods: &[MethodType], m: MethodId, n: usize) -> Option<Ty>
 }
 
 /// The type of the argument with the number `n`, from 0, of what is called, where that is known.
-pub fn wanted(around: &Setting, callee: NamedCallee, n: usize) -> Option<Ty>
+pub fn wanted(around: &Around<'_>, callee: NamedCallee, n: usize) -> Option<Ty>
     ensures { result ≡ type_wanted around.now callee n }
 {
     match callee {
-        NamedCallee::Own(m) => own_arg_at(around.methods.as_slice(), m, n),
-        NamedCallee::Sub { method, .. } => own_arg_at(around.methods.as_slice(), method, n),
+        NamedCallee::Own(m) => own_arg_at(around.methods(), m, n),
+        NamedCallee::Sub { method, .. } => own_arg_at(around.methods(), method, n),
         NamedCallee::Base { on, sig } => {
             if variable(around, on.of).is_some() {
                 base_arg_at(sig, n)

@@ -15,7 +15,7 @@ use wf_base::{BaseSig, Gives, Mark};
 use wf_named::NamedCallee;
 use wf_text::MethodId;
 use wf_types_operators::meanings::all_of;
-use wf_types_rules::{Meaning, MethodType, Setting};
+use wf_types_rules::{Around, Meaning, MethodType};
 
 /// The type of what a base method gives.
 pub(crate) fn given_by_base(gives: Gives) -> Option<Ty>
@@ -65,12 +65,12 @@ fn mark_at(methods: &[MethodType], m: MethodId) -> Option<Mark>
 }
 
 /// The mark that the method declares which is called.
-pub fn declared_mark(around: &Setting, callee: NamedCallee) -> Option<Mark>
+pub fn declared_mark(around: &Around<'_>, callee: NamedCallee) -> Option<Mark>
     ensures { result ≡ mark_declared around.now callee }
 {
     match callee {
-        NamedCallee::Own(m) => mark_at(around.methods.as_slice(), m),
-        NamedCallee::Sub { method, .. } => mark_at(around.methods.as_slice(), method),
+        NamedCallee::Own(m) => mark_at(around.methods(), m),
+        NamedCallee::Sub { method, .. } => mark_at(around.methods(), method),
         NamedCallee::Base { sig, .. } => Some(sig.mark()),
     }
 }
@@ -104,12 +104,12 @@ fn is_given_nothing(gives: Gives) -> bool
 }
 
 /// Whether a call gives no value as the right side of `=`.
-pub fn gives_no_value(around: &Setting, callee: NamedCallee) -> bool
+pub fn gives_no_value(around: &Around<'_>, callee: NamedCallee) -> bool
     ensures { result ≡ lacks_value around.now callee }
 {
     match callee {
-        NamedCallee::Own(m) => gives_no_result(around.methods.as_slice(), m),
-        NamedCallee::Sub { method, .. } => gives_no_result(around.methods.as_slice(), method),
+        NamedCallee::Own(m) => gives_no_result(around.methods(), m),
+        NamedCallee::Sub { method, .. } => gives_no_result(around.methods(), method),
         NamedCallee::Base { on, sig } => {
             variable(around, on.of).is_some() && is_given_nothing(sig.gives())
         }
@@ -126,12 +126,12 @@ fn result_type(methods: &[MethodType], m: MethodId) -> Option<Ty>
 }
 
 /// The type of what a call gives as the right side of `=`.
-pub fn answer_type(around: &Setting, callee: NamedCallee) -> Option<Ty>
+pub fn answer_type(around: &Around<'_>, callee: NamedCallee) -> Option<Ty>
     ensures { result ≡ type_answered around.now callee }
 {
     match callee {
-        NamedCallee::Own(m) => result_type(around.methods.as_slice(), m),
-        NamedCallee::Sub { method, .. } => result_type(around.methods.as_slice(), method),
+        NamedCallee::Own(m) => result_type(around.methods(), m),
+        NamedCallee::Sub { method, .. } => result_type(around.methods(), method),
         NamedCallee::Base { on, sig } => {
             if variable(around, on.of).is_some() {
                 given_by_base(sig.gives())
@@ -152,12 +152,12 @@ fn is_coroutine_at(methods: &[MethodType], m: MethodId) -> bool
 }
 
 /// Whether a coroutine of the package is called.
-pub fn is_coroutine_called(around: &Setting, callee: NamedCallee) -> bool
+pub fn is_coroutine_called(around: &Around<'_>, callee: NamedCallee) -> bool
     ensures { result ≡ calls_coroutine around.now callee }
 {
     match callee {
-        NamedCallee::Own(m) => is_coroutine_at(around.methods.as_slice(), m),
-        NamedCallee::Sub { method, .. } => is_coroutine_at(around.methods.as_slice(), method),
+        NamedCallee::Own(m) => is_coroutine_at(around.methods(), m),
+        NamedCallee::Sub { method, .. } => is_coroutine_at(around.methods(), method),
         NamedCallee::Base { .. } => false,
     }
 }

@@ -6,7 +6,7 @@ ghost use Rattle.wf_types_rules.specs.Meanings.{there, as_constant, variable as 
 
 use wf_ast::{ConstId, Ty};
 use wf_named::Variable;
-use wf_types_rules::{Constant, Meaning, Setting};
+use wf_types_rules::{Around, Constant, Meaning};
 
 fn constant_at(constants: &[Option<Constant>], c: ConstId) -> Option<Constant>
     ensures { result ≡ there (slice_get constants.now c.0) }
@@ -49,13 +49,13 @@ pub fn typed(of: Option<Ty>) -> Option<Meaning>
 }
 
 /// What a variable is.
-pub fn variable(around: &Setting, of: Variable) -> Option<Meaning>
+pub fn variable(around: &Around<'_>, of: Variable) -> Option<Meaning>
     ensures { result ≡ variable_in around.now of }
 {
     match of {
-        Variable::Const(c) => constant(constant_at(around.constants.as_slice(), c)),
-        Variable::Local(x) => typed(type_at(around.locals.as_slice(), x.0)),
-        Variable::Field(x) => typed(type_at(around.fields.as_slice(), x.0)),
-        Variable::Arg(x) => typed(type_at(around.args.as_slice(), x.0)),
+        Variable::Const(c) => constant(constant_at(around.constants(), c)),
+        Variable::Local(x) => typed(type_at(around.locals(), x.0)),
+        Variable::Field(x) => typed(type_at(around.fields(), x.0)),
+        Variable::Arg(x) => typed(type_at(around.args(), x.0)),
     }
 }

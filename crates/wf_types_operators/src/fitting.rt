@@ -11,7 +11,7 @@ use wf_text::Place;
 use wf_types_rules::{Meaning, Operand};
 
 /// The width of the first operand that has one.
-pub fn common_width(os: &[Operand]) -> Option<Width>
+pub(crate) fn common_width(os: &[Operand]) -> Option<Width>
     ensures { result ≡ width_in_common os.now }
 {
     let mut width = None;
@@ -22,7 +22,7 @@ pub fn common_width(os: &[Operand]) -> Option<Width>
 }
 
 /// Whether it is anything but a constant without a width that lies outside this one.
-pub fn fits_width(width: Option<Width>, m: Meaning) -> bool
+pub(crate) fn fits_width(width: Option<Width>, m: Meaning) -> bool
     ensures { result ≡ fits_in width m }
 {
     match (width, m) {

@@ -1,11 +1,13 @@
 -- What is wrong with a part of a package: for each rule and kind of place a test that tells the place, or None. A part
--- that has a part without a meaning is judged by none that needs this meaning.
+-- that has a part without a meaning is judged by none that needs this meaning. What a rule says of meanings is told apart
+-- from where they come from, so that who has worked them out judges by the same words.
 use Rattle.std.specs.Prelude.{ℕ, suc, ◌^◌, Bool, true, false, not, ◌&&◌, ◌||◌, List, [], ◌∷◌, Option, None, Some, option_map, option_and_then, if◌then◌else◌, nat_eq, nat_lt, nat_le, slice_get, is_some}
 use Rattle.wf_text.specs.declared.place.Place.{Place}
 use Rattle.wf_text.specs.StatusText.{category_of}
 use Rattle.wf_text.specs.declared.categories.Category.TheVariants.{Fine}
 use Rattle.wf_base.specs.declared.marks.Mark.{Mark}
 use Rattle.wf_base.specs.declared.marks.Mark.TheVariants.{Impure}
+use Rattle.wf_base.specs.declared.widths.Width.{Width}
 use Rattle.wf_base.specs.declared.widths.Width.TheVariants.{W8, W32}
 use Rattle.wf_base.specs.declared.base_methods.ArgTy.{ArgTy}
 use Rattle.wf_base.specs.declared.base_methods.ArgTy.TheVariants.{U8, U32, SameSlice}
@@ -23,6 +25,7 @@ use Rattle.wf_named.specs.declared.nodes.BaseType.{BaseType}
 use Rattle.wf_named.specs.declared.nodes.BaseType.TheVariants as bases
 use Rattle.wf_named.specs.declared.nodes.NamedCallee.{NamedCallee}
 use Rattle.wf_named.specs.declared.nodes.NamedCallee.TheVariants as callees
+use Rattle.wf_named.specs.declared.nodes.NamedPath.{NamedPath}
 use Rattle.wf_named.specs.declared.nodes.Variable.{Variable}
 use Rattle.wf_named.specs.declared.nodes.Variable.TheVariants as variables
 use Rattle.wf_named.specs.NamedTree.{NamedExprTree, status, truth, path, index, slice, answer, chain, convert, negation, NamedPartTree, absent, present, NamedLinkTrees, no_link, link, NamedArgTrees, no_arg, more_args, NamedCallTree, call, NamedTypeTree, slice_of, array_of, base_type, struct_type, unrefined, refined, NamedTargetTree, to_path, to_element, NamedStmtTree, branch, loop, leave, again, back, NamedBlockTree, close, more_stmts, NamedArmTrees, no_else, otherwise, arm}
@@ -30,7 +33,9 @@ use Rattle.wf_types_rules.specs.declared.meanings.Meaning.{Meaning}
 use Rattle.wf_types_rules.specs.declared.meanings.Meaning.TheVariants as meanings
 use Rattle.wf_types_rules.specs.declared.meanings.Operand.{Operand}
 use Rattle.wf_types_rules.specs.declared.meanings.MethodType.{MethodType}
-use Rattle.wf_types_rules.specs.Meanings.{all_of, same_width, there, variable, is_value, is_io, is_number, is_flag, is_status, is_constant, width_of, place_of}
+use Rattle.wf_types_rules.specs.declared.meanings.Value.{Value}
+use Rattle.wf_types_rules.specs.declared.meanings.Bound.{Bound}
+use Rattle.wf_types_rules.specs.Meanings.{all_of, same_width, there, variable, is_value, is_io, is_number, is_flag, is_status, is_constant, constant_number, width_of, place_of}
 use Rattle.wf_types_rules.specs.Operands.{first_of, differs_in, not_taken, not_fitting, has_no_value}
 use Rattle.wf_types_rules.specs.ExprTypes.{element_of, slice_in, given_by_base, plain_width, in_front, operand_at, meaning, operands, number_of, low_number, written}
 use Rattle.wf_types_rules.specs.declared.settings.Form.{Form}
@@ -53,33 +58,59 @@ abbrev pub both_fail : {X Y : Type 0} → (X → Y → Bool) → Option X → Op
 both_fail test (Some x) (Some y) = not (test x y)
 both_fail test x y = false
 
+-- It means something of which the test holds.
+abbrev pub meets : {X : Type 0} → (X → Bool) → Option X → Bool
+meets test None = false
+meets test (Some x) = test x
+
 abbrev pub if_both : Bool → Option Place → Option Place
 if_both known at = if known then at else None
 
+-- What an expression means, with its place, and what a variable does where it stands. An end of a slice may be absent.
+abbrev pub value_of : Setting → NamedExprTree → Value
+value_of s e = record { of = meaning s e; at = place_of e }
+
+abbrev pub base_value : Setting → NamedPath → Value
+base_value s p = record { of = variable s p.of; at = p.at }
+
+abbrev pub end_value : Setting → NamedPartTree → Option Value
+end_value s absent = None
+end_value s (present e) = Some (value_of s e)
+
 -- Expressions.
-abbrev pub wrong_number : Setting → NamedExprTree → Option Place
-wrong_number s e = at_if (fails is_number (meaning s e)) (place_of e)
+abbrev pub no_number : Value → Option Place
+no_number v = at_if (fails is_number v.of) v.at
 
-abbrev pub wrong_end : Setting → NamedPartTree → Option Place
-wrong_end s absent = None
-wrong_end s (present e) = wrong_number s e
+abbrev pub no_flag : Value → Option Place
+no_flag v = at_if (fails is_flag v.of) v.at
 
-abbrev pub is_known_end : Setting → NamedPartTree → Bool
-is_known_end s absent = true
-is_known_end s (present e) = is_some (meaning s e)
+abbrev pub no_value : Value → Option Place
+no_value v = at_if (fails is_value v.of) v.at
+
+abbrev pub no_index : (base place : Value) → Option Place
+no_index base place = if_both (is_some base.of && is_some place.of) (first_of (at_if (fails (λ m. is_some (element_of m)) base.of) base.at) (no_number place))
+
+abbrev pub is_known : Option Value → Bool
+is_known None = true
+is_known (Some v) = is_some v.of
+
+abbrev pub no_end : Option Value → Option Place
+no_end None = None
+no_end (Some v) = no_number v
+
+abbrev pub no_slice : (base : Value) → (from to : Option Value) → Option Place
+no_slice base from to =
+    if_both (is_some base.of && (is_known from && is_known to)) (first_of (at_if (fails (λ m. is_some (slice_in m)) base.of) base.at) (first_of (no_end from) (no_end to)))
 
 -- An operand of a type that isn't taken, or of another width than one before it; an array, a struct or io that stands
 -- as a value.
 abbrev pub wrong_operand : Setting → Part → Option Place
-wrong_operand s (expression (path p)) = at_if (fails is_value (variable s p.of)) p.at
-wrong_operand s (expression (index p i at)) =
-    if_both (is_some (variable s p.of) && is_some (meaning s i)) (first_of (at_if (fails (λ m. is_some (element_of m)) (variable s p.of)) p.at) (wrong_number s i))
-wrong_operand s (expression (slice p from to at)) =
-    if_both (is_some (variable s p.of) && (is_known_end s from && is_known_end s to))
-    (first_of (at_if (fails (λ m. is_some (slice_in m)) (variable s p.of)) p.at) (first_of (wrong_end s from) (wrong_end s to)))
+wrong_operand s (expression (path p)) = no_value (base_value s p)
+wrong_operand s (expression (index p i at)) = no_index (base_value s p) (value_of s i)
+wrong_operand s (expression (slice p from to at)) = no_slice (base_value s p) (end_value s from) (end_value s to)
 wrong_operand s (expression (chain op first links at)) = option_and_then (not_taken (sort_of op)) (operands s first links)
-wrong_operand s (expression (convert e t at)) = wrong_number s e
-wrong_operand s (expression (negation e at)) = at_if (fails is_flag (meaning s e)) (place_of e)
+wrong_operand s (expression (convert e t at)) = no_number (value_of s e)
+wrong_operand s (expression (negation e at)) = no_flag (value_of s e)
 wrong_operand s x = None
 
 -- A constant that doesn't fit the width of an operand beside it.
@@ -89,13 +120,13 @@ unfit_operand s x = None
 
 -- A node of a constant expression that has no value: it leaves its width, its divisor is 0, or its shift isn't below the
 -- width.
-abbrev pub leaves_width : Meaning → NamedTypeTree → Bool
-leaves_width (meanings.Constant own value) t = fails (λ width. nat_lt value (2 ^ bits_of width)) (plain_width t)
-leaves_width m t = false
+abbrev pub is_cut : Option Meaning → Option Width → Bool
+is_cut (Some (meanings.Constant own value)) width = fails (λ w. nat_lt value (2 ^ bits_of w)) width
+is_cut m width = false
 
 abbrev pub node_without_value : Setting → Part → Option Place
-node_without_value s (expression (chain op first links at)) = at_if (fails (λ os. not (has_no_value (sort_of op) os)) (operands s first links)) at
-node_without_value s (expression (convert e t at)) = at_if (fails (λ m. not (leaves_width m t)) (meaning s e)) at
+node_without_value s (expression (chain op first links at)) = at_if (meets (has_no_value (sort_of op)) (operands s first links)) at
+node_without_value s (expression (convert e t at)) = at_if (is_cut (meaning s e) (plain_width t)) at
 node_without_value s x = None
 
 -- Values that a type takes: numbers of its width, constants without a width, however large, and else those of the very type.
@@ -131,14 +162,20 @@ meaning_of_argument s e = meaning s e
 abbrev pub may_be_handed : Meaning → Bool
 may_be_handed m = is_value m || is_io m
 
+abbrev pub argument_value : Setting → NamedExprTree → Value
+argument_value s e = record { of = meaning_of_argument s e; at = place_of e }
+
 -- An argument of another type.
+abbrev pub not_handed : Option Ty → Value → Option Place
+not_handed ty v = at_if (fails may_be_handed v.of || both_fail takes ty v.of) v.at
+
 abbrev pub wrong_argument : Setting → Part → Option Place
-wrong_argument s (argument callee n e) = at_if (fails may_be_handed (meaning_of_argument s e) || both_fail takes (wanted s callee n) (meaning_of_argument s e)) (place_of e)
+wrong_argument s (argument callee n e) = not_handed (wanted s callee n) (argument_value s e)
 wrong_argument s x = None
 
 -- What is given for a letter of an axiom and is no number.
 abbrev pub wrong_letter : Setting → Part → Option Place
-wrong_letter s (letter_value e) = wrong_number s e
+wrong_letter s (letter_value e) = no_number (value_of s e)
 wrong_letter s x = None
 
 -- Types. A name that is no constant, in what has to be constant.
@@ -164,9 +201,20 @@ abbrev mutual
 abbrev pub is_no_constant : Setting → NamedExprTree → Bool
 is_no_constant s e = names_others e || fails is_constant (meaning s e)
 
-abbrev pub is_no_low_bound : Setting → NamedPartTree → Bool
-is_no_low_bound s absent = false
-is_no_low_bound s (present e) = is_no_constant s e
+-- A bound or a length as it is judged: whether it is no constant, its number and its place.
+abbrev pub bound_of : Setting → NamedExprTree → Bound
+bound_of s e = record { unfit = is_no_constant s e; number = number_of s e; at = place_of e }
+
+abbrev pub low_bound : Setting → NamedPartTree → Option Bound
+low_bound s absent = None
+low_bound s (present e) = Some (bound_of s e)
+
+abbrev pub is_unfit_low : Option Bound → Bool
+is_unfit_low None = false
+is_unfit_low (Some b) = b.unfit
+
+abbrev pub are_unfit : (low : Option Bound) → (high : Bound) → Bool
+are_unfit low high = is_unfit_low low || high.unfit
 
 -- The form of a type that is written, whatever its bounds and its length break. A name that is no type has none, nor have
 -- bounds of what is no number, or that are no constant numbers, nor what has elements without a form.
@@ -188,48 +236,66 @@ form s (slice_of at element) = with_elements forms.Slice (form s element)
 form s (array_of length at element) = with_elements forms.Array (form s element)
 form s (base_type None at bounds) = None
 form s (base_type (Some of) at unrefined) = Some (base_form of)
-form s (base_type (Some (bases.Number width)) at (refined low high)) = refined_form (is_no_low_bound s low || is_no_constant s high)
+form s (base_type (Some (bases.Number width)) at (refined low high)) = refined_form (are_unfit (low_bound s low) (bound_of s high))
 form s (base_type (Some of) at (refined low high)) = None
 form s (struct_type n at) = Some forms.Struct
 
 -- A type that the language doesn't have: of an unknown name, with bounds where it is no number, with a bound or a length
 -- that is no constant number, or with elements of another type than such a type has.
+abbrev pub wrong_bounds : BaseType → (low : Option Bound) → (high : Bound) → Place → Option Place
+wrong_bounds (bases.Number width) low high at = at_if (are_unfit low high) at
+wrong_bounds of low high at = Some at
+
+abbrev pub is_not_plain : Option Form → Option Width → Bool
+is_not_plain kind plain = is_some kind && not (is_some plain)
+
+abbrev pub is_no_array : (count : Bound) → (element : Option Form) → Bool
+is_no_array count element = count.unfit || fails is_number_form element
+
 abbrev pub wrong_type : Setting → Part → Option Place
 wrong_type s (type_part (base_type None at bounds)) = Some at
 wrong_type s (type_part (base_type (Some of) at unrefined)) = None
-wrong_type s (type_part (base_type (Some (bases.Number width)) at (refined low high))) = at_if (is_no_low_bound s low || is_no_constant s high) at
-wrong_type s (type_part (base_type (Some of) at (refined low high))) = Some at
-wrong_type s (type_part (slice_of at element)) = at_if (is_some (form s element) && not (is_some (plain_width element))) at
-wrong_type s (type_part (array_of length at element)) = at_if (is_no_constant s length || fails is_number_form (form s element)) at
+wrong_type s (type_part (base_type (Some of) at (refined low high))) = wrong_bounds of (low_bound s low) (bound_of s high) at
+wrong_type s (type_part (slice_of at element)) = at_if (is_not_plain (form s element) (plain_width element)) at
+wrong_type s (type_part (array_of length at element)) = at_if (is_no_array (bound_of s length) (form s element)) at
 wrong_type s x = None
 
 -- A type that by its form may not stand where it does. After `as` it has no bounds.
+abbrev pub may_not_stand : Role → Option Form → Option Width → Bool
+may_not_stand roles.Conversion kind plain = is_not_plain kind plain
+may_not_stand role kind plain = fails (may_have role) kind
+
 abbrev pub is_misplaced : Setting → Role → NamedTypeTree → Bool
-is_misplaced s roles.Conversion t = is_some (form s t) && not (is_some (plain_width t))
-is_misplaced s role t = fails (may_have role) (form s t)
+is_misplaced s role t = may_not_stand role (form s t) (plain_width t)
 
 abbrev pub misplaced_type : Setting → Part → Option Place
 misplaced_type s (placed_type role t) = at_if (is_misplaced s role t) (first_token t)
 misplaced_type s x = None
 
 -- A lower bound above the upper one.
+abbrev pub crossing : (low : Option Bound) → (high : Bound) → Option Place
+crossing None high = None
+crossing (Some low) high = at_if (both_fail nat_le low.number high.number) low.at
+
 abbrev pub crossed_bounds : Setting → Part → Option Place
-crossed_bounds s (type_part (base_type (Some (bases.Number width)) at (refined (present low) high))) =
-    at_if (both_fail nat_le (number_of s low) (number_of s high)) (place_of low)
+crossed_bounds s (type_part (base_type (Some (bases.Number width)) at (refined low high))) = crossing (low_bound s low) (bound_of s high)
 crossed_bounds s x = None
 
 -- An upper bound above the type.
-abbrev pub is_too_high : (limit : ℕ) → (m n : ℕ) → Bool
-is_too_high limit m n = nat_le m n && nat_le limit n
+abbrev pub goes_above : Width → (low high : Option ℕ) → Bool
+goes_above width (Some m) (Some n) = nat_le m n && nat_le (2 ^ bits_of width) n
+goes_above width low high = false
 
 abbrev pub high_bound : Setting → Part → Option Place
-high_bound s (type_part (base_type (Some (bases.Number width)) at (refined low high))) =
-    at_if (both_fail (λ m n. not (is_too_high (2 ^ bits_of width) m n)) (low_number s low) (number_of s high)) (place_of high)
+high_bound s (type_part (base_type (Some (bases.Number width)) at (refined low high))) = at_if (goes_above width (low_number s low) (number_of s high)) (place_of high)
 high_bound s x = None
 
 -- An array without elements, and one whose elements can't be 0.
+abbrev pub no_count : Bound → Option Place
+no_count count = at_if (fails (nat_lt 0) count.number) count.at
+
 abbrev pub no_elements : Setting → Part → Option Place
-no_elements s (type_part (array_of length at element)) = at_if (fails (nat_lt 0) (number_of s length)) (place_of length)
+no_elements s (type_part (array_of length at element)) = no_count (bound_of s length)
 no_elements s x = None
 
 abbrev pub element_above_zero : Setting → Part → Option Place
@@ -242,16 +308,22 @@ begins_above_zero s (placed_type role t) = at_if (fails (is_zero_kept role) (wri
 begins_above_zero s x = None
 
 -- The value of a constant that is no number, and one outside the constant's type.
+abbrev pub no_constant : Value → Option Place
+no_constant v = at_if (fails is_constant v.of) v.at
+
 abbrev pub value_no_number : Setting → Part → Option Place
-value_no_number s (constant_declared c) = at_if (fails is_constant (meaning s c.value)) (place_of c.value)
+value_no_number s (constant_declared c) = no_constant (value_of s c.value)
 value_no_number s x = None
 
 abbrev pub lies_in : Ty → ℕ → Bool
 lies_in (types.Num width lo hi) n = nat_le lo n && nat_le n hi
 lies_in ty n = true
 
+abbrev pub lies_outside : Option Ty → Value → Option Place
+lies_outside ty v = at_if (both_fail lies_in ty (option_and_then constant_number v.of)) v.at
+
 abbrev pub value_outside : Setting → Part → Option Place
-value_outside s (constant_declared c) = at_if (both_fail lies_in (declared s roles.Const c.of) (number_of s c.value)) (place_of c.value)
+value_outside s (constant_declared c) = lies_outside (declared s roles.Const c.of) (value_of s c.value)
 value_outside s x = None
 
 -- A status text begins with `#`, `$` or `@`, has something after it, and has no two `?`, of byte 63, in a row.
@@ -290,12 +362,18 @@ abbrev pub target_meaning : Setting → NamedTargetTree → Option Meaning
 target_meaning s (to_path p) = if is_no_target s (to_path p) then None else variable s p.of
 target_meaning s (to_element p i at) = meaning s (index p i at)
 
+abbrev pub target_value : Setting → NamedTargetTree → Value
+target_value s t = record { of = target_meaning s t; at = target_place t }
+
 abbrev pub type_in : Meaning → Option Ty
 type_in (meanings.Typed ty) = Some ty
 type_in m = None
 
+abbrev pub type_of : Value → Option Ty
+type_of v = option_and_then type_in v.of
+
 abbrev pub target_type : Setting → NamedTargetTree → Option Ty
-target_type s t = option_and_then type_in (target_meaning s t)
+target_type s t = type_of (target_value s t)
 
 -- What a call gives as the whole right side of `=`. A coroutine gives none; a base method that reads gives its number.
 abbrev pub method_at : Setting → NamedCallee → Option MethodType
@@ -330,13 +408,19 @@ answer_type s callee = there (option_and_then result_of (method_at s callee))
 abbrev pub whole_answer : Setting → NamedCallTree → Option Meaning
 whole_answer s (call callee at mark args) = if are_arguments s callee 0 args then option_map meanings.Typed (answer_type s callee) else None
 
-abbrev pub value_of : Setting → NamedExprTree → Option Meaning
-value_of s (answer c) = whole_answer s c
-value_of s e = meaning s e
+abbrev pub assigned_meaning : Setting → NamedExprTree → Option Meaning
+assigned_meaning s (answer c) = whole_answer s c
+assigned_meaning s e = meaning s e
+
+abbrev pub right_value : Setting → NamedExprTree → Value
+right_value s e = record { of = assigned_meaning s e; at = place_of e }
 
 -- `=` of another type than the target's, and of a call that gives no value.
+abbrev pub not_assigned : (t v : Value) → Option Place
+not_assigned t v = at_if (both_fail takes (type_of t) v.of) t.at
+
 abbrev pub wrong_assigned : Setting → Part → Option Place
-wrong_assigned s (assigned t None e) = at_if (both_fail takes (target_type s t) (value_of s e)) (target_place t)
+wrong_assigned s (assigned t None e) = not_assigned (target_value s t) (right_value s e)
 wrong_assigned s x = None
 
 abbrev pub no_value_assigned : Setting → Part → Option Place
@@ -344,8 +428,11 @@ no_value_assigned s (assigned t None (answer (call callee at mark args))) = at_i
 no_value_assigned s x = None
 
 -- An operator with `=` has the target as its first operand.
+abbrev pub two_operands : (t v : Value) → Option (List Operand)
+two_operands t v = in_front (option_map (operand_at t.at) t.of) (in_front (option_map (operand_at v.at) v.of) (Some []))
+
 abbrev pub updated : Setting → NamedTargetTree → NamedExprTree → Option (List Operand)
-updated s t e = in_front (option_map (operand_at (target_place t)) (target_meaning s t)) (in_front (option_map (operand_at (place_of e)) (meaning s e)) (Some []))
+updated s t e = two_operands (target_value s t) (value_of s e)
 
 abbrev pub wrong_update : Setting → Part → Option Place
 wrong_update s (assigned t (Some op) e) = option_and_then (not_taken (sort_of op)) (updated s t e)
@@ -357,7 +444,7 @@ unfit_update s x = None
 
 -- Conditions and results.
 abbrev pub wrong_condition : Setting → Part → Option Place
-wrong_condition s (condition e) = at_if (fails is_flag (meaning s e)) (place_of e)
+wrong_condition s (condition e) = no_flag (value_of s e)
 wrong_condition s x = None
 
 -- Outside a coroutine `return` gives the written result, in one a status.
@@ -365,12 +452,12 @@ abbrev pub wrong_result : Option (Option Ty) → Option Meaning → Bool
 wrong_result None m = true
 wrong_result (Some ty) m = both_fail takes ty m
 
-abbrev pub is_wrong_return : Setting → NamedPartTree → Bool
-is_wrong_return s absent = is_coroutine s.mark || is_some s.gives
-is_wrong_return s (present e) = if is_coroutine s.mark then fails is_status (meaning s e) else wrong_result s.gives (meaning s e)
+abbrev pub is_wrong_return : Setting → Option Value → Bool
+is_wrong_return s None = is_coroutine s.mark || is_some s.gives
+is_wrong_return s (Some v) = if is_coroutine s.mark then fails is_status v.of else wrong_result s.gives v.of
 
 abbrev pub wrong_return : Setting → Part → Option Place
-wrong_return s (returned at e) = at_if (is_wrong_return s e) at
+wrong_return s (returned at e) = at_if (is_wrong_return s (end_value s e)) at
 wrong_return s x = None
 
 -- A jump leaves the loop that stands so many loops outwards from a block.
@@ -418,8 +505,11 @@ abbrev pub closing_brace : NamedBlockTree → Place
 closing_brace (close at) = at
 closing_brace (more_stmts first others) = closing_brace others
 
+abbrev pub ends_without_result : Setting → (stops : Bool) → Bool
+ends_without_result s stops = not (is_coroutine s.mark) && (is_some s.gives && not stops)
+
 abbrev pub reaches_end : Setting → Part → Option Place
-reaches_end s (whole_body body) = at_if (not (is_coroutine s.mark) && (is_some s.gives && not (block_stops body))) (closing_brace body)
+reaches_end s (whole_body body) = at_if (ends_without_result s (block_stops body)) (closing_brace body)
 reaches_end s x = None
 
 -- Effects.
@@ -447,12 +537,15 @@ abbrev pub coroutine_call : Setting → Part → Option Place
 coroutine_call s (calling inside (call callee at mark args)) = at_if (is_coroutine mark && not (is_coroutine s.mark)) at
 coroutine_call s x = None
 
+abbrev pub outside_coroutine : Setting → Place → Option Place
+outside_coroutine s at = at_if (not (is_coroutine s.mark)) at
+
 abbrev pub kept_outside : Setting → Part → Option Place
-kept_outside s (kept t (call callee at mark args)) = at_if (not (is_coroutine s.mark)) at
+kept_outside s (kept t (call callee at mark args)) = outside_coroutine s at
 kept_outside s x = None
 
 abbrev pub yielded_outside : Setting → Part → Option Place
-yielded_outside s (yielded at e) = at_if (not (is_coroutine s.mark)) at
+yielded_outside s (yielded at e) = outside_coroutine s at
 yielded_outside s x = None
 
 -- Inside an expression only a base method without a mark is called.

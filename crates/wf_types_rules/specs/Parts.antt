@@ -41,10 +41,6 @@ pub record Site : Type 0 where
   pub part : Part
 
 -- The parts of an expression. A reader or writer that is handed on stands as an argument alone.
-abbrev pub is_path : NamedExprTree → Bool
-is_path (path p) = true
-is_path e = false
-
 abbrev mutual
   pub expr_parts : NamedExprTree → List Part
   expr_parts (index p i at) = expression (index p i at) ∷ expr_parts i

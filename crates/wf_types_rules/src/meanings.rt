@@ -21,6 +21,21 @@ pub struct Operand {
     pub of: Meaning,
 }
 
+/// What a part means, if anything, and its place.
+#[derive(Clone, Copy, PartialEq, Eq)]
+pub struct Value {
+    pub of: Option<Meaning>,
+    pub at: Place,
+}
+
+/// A bound of a type or the length of an array: whether it is no constant, its number, and its place.
+#[derive(Clone, Copy, PartialEq, Eq)]
+pub struct Bound {
+    pub unfit: bool,
+    pub number: Option<u64>,
+    pub at: Place,
+}
+
 /// The value of a constant that breaks no rule. Its type gives its width.
 #[derive(Clone, Copy, PartialEq, Eq)]
 pub struct Constant {

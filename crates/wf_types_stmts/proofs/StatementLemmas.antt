@@ -1,5 +1,5 @@
 -- What is found at a statement after its parts.
-use Rattle.std.proofs.Common.{◌≡◌, ◌∙◌, refl, sym, ap, ℕ, ◌+◌, ◌<◌, Bool, true, false, List, [], ◌∷◌, ◌++◌, length, drop, slice_index_or, Option, Some, None}
+use Rattle.std.proofs.Common.{◌≡◌, ◌∙◌, refl, sym, ap, ℕ, ◌+◌, ◌<◌, Bool, false, List, [], ◌∷◌, ◌++◌, length, drop, slice_index_or, Option, Some, None}
 use Rattle.wf_text.specs.declared.place.Place.{Place}
 use Rattle.wf_text.specs.declared.rules.Refusal.{Refusal}
 use Rattle.wf_text.specs.declared.rules.Rule.TheVariants.{T2}
@@ -13,18 +13,18 @@ use Rattle.wf_named.specs.declared.nodes.NamedPath.{NamedPath}
 use Rattle.wf_named.specs.NamedTree.{NamedExprTree, number, status, truth, path, index, slice, answer, chain, convert, negation, NamedPartTree, absent, present, NamedArgTrees, NamedCallTree, call, NamedTargetTree, to_path, to_element, NamedBlockTree}
 use Rattle.wf_named.specs.NamedTrees.{expr_at, clauses_at, letters_at}
 use Rattle.wf_types_rules.specs.declared.meanings.Meaning.{Meaning}
+use Rattle.wf_types_rules.specs.declared.meanings.Value.{Value}
 use Rattle.wf_types_rules.specs.declared.settings.Setting.{Setting}
 use Rattle.wf_types_rules.specs.Meanings.{place_of}
 use Rattle.wf_types_rules.specs.ExprTypes.{meaning}
-use Rattle.wf_types_rules.specs.Judgements.{at_if, both_fail, takes, target_place, target_meaning, target_type, value_of as value_assigned, no_value_assigned, is_suspension_text, block_stops, closing_brace}
+use Rattle.wf_types_rules.specs.Judgements.{at_if, value_of, end_value, target_place, target_meaning, target_value, right_value, not_assigned, no_value_assigned, two_operands, is_suspension_text, block_stops, closing_brace}
 use Rattle.wf_types_rules.specs.Parts.{Part, target, assigned, kept, condition, letter_value, returned, yielded, whole_body, expr_parts, end_parts, target_parts, value_parts, whole_call_parts, condition_parts, clauses_parts, letters_parts}
 use Rattle.wf_types_rules.specs.FirstBreak.{told}
-use Rattle.wf_types_exprs.specs.declared.found.Value.{Value}
-use Rattle.wf_types_exprs.specs.Judged.{judged, value_of, end_value}
+use Rattle.wf_types_exprs.specs.Judged.{judged}
 use Rattle.wf_types_exprs.proofs.JudgedLaws.{judged-append, judged-last}
 use Rattle.wf_types_exprs.proofs.ListLemmas.{drop-one}
-use Rattle.wf_types_stmts.specs.Statements.{target_found, assigned_found, two_operands, operands_found, kept_found, condition_found, letter_found, return_found, yield_found, end_found}
-use Rattle.wf_types_stmts.specs.Targets.{target_value, call_in, right_value, lacks_value}
+use Rattle.wf_types_stmts.specs.Statements.{target_found, assigned_found, operands_found, kept_found, condition_found, letter_found, return_found, yield_found, end_found}
+use Rattle.wf_types_stmts.specs.Targets.{call_in, lacks_value}
 
 -- Targets.
 pub path_found : (s : Setting) (found : Option Refusal) (p : NamedPath) → target_found s (to_path p) found ≡ judged s found (target_parts (to_path p))
@@ -69,7 +69,7 @@ assigned_alone : (s : Setting) (found : Option Refusal) (t : NamedTargetTree) (e
     → assigned_found (target_value s t) (right_value s e) (lacks_value s e) found ≡ judged s found (assigned t None e ∷ [])
 unfolding judged
 assigned_alone s found t e =
-    ap (λ w. sooner (sooner found (told T2 (at_if (both_fail takes (target_type s t) (value_assigned s e)) (target_place t)))) (told T2 w)) (lacking s t e)
+    ap (λ w. sooner (sooner found (told T2 (not_assigned (target_value s t) (right_value s e)))) (told T2 w)) (lacking s t e)
 
 pub assigned_judged : (s : Setting) (found to before : Option Refusal) (t : NamedTargetTree) (e : NamedExprTree) (a v : Value) (lacks : Bool) → a ≡ target_value s t → v ≡ right_value s e → lacks ≡ lacks_value s e
     → to ≡ judged s found (target_parts t) → before ≡ judged s to (value_parts None e)

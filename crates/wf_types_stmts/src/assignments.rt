@@ -2,16 +2,15 @@
 
 ghost use Rattle.std.specs.Prelude.{◌≡◌, ◌<◌, ◌∷◌, ◌++◌, [], None, Some, not, length, IfOk, IfSome, IfNone, option_and_then};
 ghost use Rattle.wf_ast.specs.TypedTrees.{sort_of};
-ghost use Rattle.wf_ast.specs.WellTyped.{is_coroutine as marked_coroutine};
 ghost use Rattle.wf_named.specs.NamedParts.{exprs_of, ArgsBelow, NamedTargetBelow};
 ghost use Rattle.wf_named.specs.NamedTrees.{expr_at, call_at, target_at};
-ghost use Rattle.wf_types_rules.specs.Judgements.{at_if as at_place_if, type_in as typed_so, both_fail, fails, takes as takes_value, is_coroutine_called as calls_coroutine};
+ghost use Rattle.wf_types_rules.specs.Judgements.{right_value, at_if as at_place_if, type_in as typed_so, both_fail, fails, takes as takes_value, not_assigned, two_operands, outside_coroutine, is_coroutine_called as calls_coroutine};
 ghost use Rattle.wf_types_rules.specs.Meanings.{is_status as means_status};
 ghost use Rattle.wf_types_rules.specs.Operands.{not_taken as first_untaken, not_fitting as first_unfit};
 ghost use Rattle.wf_types_rules.specs.Parts.{assigned, kept, target_parts, value_parts, whole_call_parts};
-ghost use Rattle.wf_types_exprs.specs.Judged.{judged, value_of};
-ghost use Rattle.wf_types_stmts.specs.Statements.{type_of as type_meant, assigned_found, two_operands, operands_found, kept_found};
-ghost use Rattle.wf_types_stmts.specs.Targets.{call_in, right_value, lacks_value};
+ghost use Rattle.wf_types_exprs.specs.Judged.{judged};
+ghost use Rattle.wf_types_stmts.specs.Statements.{assigned_found, operands_found, kept_found};
+ghost use Rattle.wf_types_stmts.specs.Targets.{call_in, lacks_value};
 
 use crate::targets::judge_target;
 use std::alloc::Global;
@@ -21,7 +20,6 @@ use wf_text::Place;
 use wf_text::faults::NoMemory;
 use wf_text::precedence::sooner;
 use wf_text::rules::{Refusal, Rule};
-use wf_types_exprs::found::Value;
 use wf_types_exprs::reading::place_of;
 use wf_types_exprs::walk::judge_value;
 use wf_types_exprs::whole::judge_whole_call;
@@ -32,12 +30,12 @@ use wf_types_meanings::values::{takes, type_in};
 use wf_types_operators::fitting::not_fitting;
 use wf_types_operators::meanings::is_status;
 use wf_types_operators::taken::not_taken;
-use wf_types_rules::{Meaning, Operand, Setting};
+use wf_types_rules::{Around, Meaning, Operand, Value};
 
 /// The right side of `=`: what decides so far, what it means, with its place, and whether it is a call that gives no
 /// value.
 #[derive(Clone, Copy, PartialEq, Eq)]
-pub struct RightSide {
+pub(crate) struct RightSide {
     pub found: Option<Refusal>,
     pub value: Value,
     pub lacks: bool,
@@ -75,7 +73,7 @@ pub(crate) fn is_no_status(of: Option<Meaning>) -> bool
 }
 
 fn wrong_assigned(target: Value, value: Value) -> Option<Place>
-    ensures { result ≡ at_place_if (both_fail takes_value (type_meant target) value.of) target.at }
+    ensures { result ≡ not_assigned target value }
 {
     at_if(is_not_taken(type_of(target.of), value.of), target.at)
 }
@@ -147,10 +145,10 @@ pub(crate) fn judged_update(
     }
 }
 
-fn kept_outside(around: &Setting, at: Place) -> Option<Place>
-    ensures { result ≡ at_place_if (not (marked_coroutine around.now.mark)) at }
+fn kept_outside(around: &Around<'_>, at: Place) -> Option<Place>
+    ensures { result ≡ outside_coroutine around.now at }
 {
-    at_if(!is_coroutine(around.mark), at)
+    at_if(!is_coroutine(around.mark()), at)
 }
 
 fn not_kept_in_status(target: Option<Meaning>, at: Place) -> Option<Place>
@@ -159,7 +157,7 @@ fn not_kept_in_status(target: Option<Meaning>, at: Place) -> Option<Place>
     at_if(is_no_status(target), at)
 }
 
-fn keeps_no_coroutine(around: &Setting, callee: NamedCallee, at: Place) -> Option<Place>
+fn keeps_no_coroutine(around: &Around<'_>, callee: NamedCallee, at: Place) -> Option<Place>
     ensures { result ≡ at_place_if (not (calls_coroutine around.now callee)) at }
 {
     at_if(!is_coroutine_called(around, callee), at)
@@ -168,7 +166,7 @@ fn keeps_no_coroutine(around: &Setting, callee: NamedCallee, at: Place) -> Optio
 /// What `=?` breaks, by the meaning of its target.
 pub(crate) fn judged_kept(
     found: Option<Refusal>,
-    around: &Setting,
+    around: &Around<'_>,
     target: Option<Meaning>,
     callee: NamedCallee,
     at: Place,
@@ -207,7 +205,7 @@ fn judge_plain(
     alloc: Global,
     found: Option<Refusal>,
     nodes: &NamedNodes,
-    around: &Setting,
+    around: &Around<'_>,
     e: ExprId,
 ) -> Result<RightSide, NoMemory>
     requires e { e.0 < length nodes.now.exprs }
@@ -229,7 +227,7 @@ pub(crate) fn judge_right(
     alloc: Global,
     found: Option<Refusal>,
     nodes: &NamedNodes,
-    around: &Setting,
+    around: &Around<'_>,
     e: ExprId,
 ) -> Result<RightSide, NoMemory>
     requires { e.0 < length nodes.now.exprs }
@@ -258,7 +256,7 @@ pub(crate) fn judge_equal(
     alloc: Global,
     found: Option<Refusal>,
     nodes: &NamedNodes,
-    around: &Setting,
+    around: &Around<'_>,
     target: NamedTarget,
     e: ExprId,
 ) -> Result<Option<Refusal>, NoMemory>
@@ -276,7 +274,7 @@ pub(crate) fn judge_update(
     alloc: Global,
     found: Option<Refusal>,
     nodes: &NamedNodes,
-    around: &Setting,
+    around: &Around<'_>,
     target: NamedTarget,
     op: Op,
     e: ExprId,
@@ -295,7 +293,7 @@ pub(crate) fn judge_assign(
     alloc: Global,
     found: Option<Refusal>,
     nodes: &NamedNodes,
-    around: &Setting,
+    around: &Around<'_>,
     target: NamedTarget,
     op: Option<Op>,
     e: ExprId,
@@ -315,7 +313,7 @@ pub(crate) fn judge_keep(
     alloc: Global,
     found: Option<Refusal>,
     nodes: &NamedNodes,
-    around: &Setting,
+    around: &Around<'_>,
     target: NamedTarget,
     call: &NamedCall,
 ) -> Result<Option<Refusal>, NoMemory>

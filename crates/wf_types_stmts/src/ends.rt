@@ -1,12 +1,11 @@
 // Whether a body may reach its end.
 
-ghost use Rattle.std.specs.Prelude.{◌≡◌, ◌<◌, ◌≤◌, ◌+◌, ◌∷◌, [], not, ◌&&◌, is_some, length};
+ghost use Rattle.std.specs.Prelude.{◌≡◌, ◌<◌, ◌≤◌, ◌+◌, ◌∷◌, [], not, ◌&&◌, length};
 ghost use Rattle.std.specs.List.{AllByRecursion};
 ghost use Rattle.wf_ast.specs.ParsedParts.{BlockBelow, ElseBelow};
-ghost use Rattle.wf_ast.specs.WellTyped.{is_coroutine as marked_coroutine};
 ghost use Rattle.wf_named.specs.NamedParts.{exprs_of, stmts_of};
 ghost use Rattle.wf_named.specs.NamedTrees.{expr_at, stmt_at, block_at, else_at, arms_at};
-ghost use Rattle.wf_types_rules.specs.Judgements.{at_if as at_place_if, is_word_true as word_true, stmt_leaves as leaves_by_stmt, block_leaves as leaves_by_block, arms_leave as leaves_by_arms, stmt_stops as stops_at_stmt, block_stops as stops_in_block, arms_stop as stops_in_arms, closing_brace};
+ghost use Rattle.wf_types_rules.specs.Judgements.{at_if as at_place_if, is_word_true as word_true, ends_without_result, stmt_leaves as leaves_by_stmt, block_leaves as leaves_by_block, arms_leave as leaves_by_arms, stmt_stops as stops_at_stmt, block_stops as stops_in_block, arms_stop as stops_in_arms, closing_brace};
 ghost use Rattle.wf_types_rules.specs.Parts.{whole_body};
 ghost use Rattle.wf_types_exprs.specs.Judged.{judged};
 ghost use Rattle.wf_types_stmts.specs.Above.{above_block, above_else, above_arms};
@@ -20,7 +19,7 @@ use wf_text::precedence::sooner;
 use wf_text::rules::{Refusal, Rule};
 use wf_types_meanings::marks::is_coroutine;
 use wf_types_meanings::places::{at_if, told};
-use wf_types_rules::Setting;
+use wf_types_rules::Around;
 
 /// Whether an expression is the word `true`.
 pub(crate) fn is_word_true(nodes: &NamedNodes, e: ExprId) -> bool
@@ -194,11 +193,11 @@ fn arms_stop(nodes: &NamedNodes, arms: &[Arm], otherwise: &Option<Block>) -> boo
     else_stops(nodes, otherwise)
 }
 
-fn reaches_end(around: &Setting, stops: bool, at: Place) -> Option<Place>
-    ensures { result ≡ at_place_if (not (marked_coroutine around.now.mark) && (is_some around.now.gives && not stops)) at }
+fn reaches_end(around: &Around<'_>, stops: bool, at: Place) -> Option<Place>
+    ensures { result ≡ at_place_if (ends_without_result around.now stops) at }
 {
     at_if(
-        !is_coroutine(around.mark) && (around.gives.is_some() && !stops),
+        !is_coroutine(around.mark()) && (around.gives().is_some() && !stops),
         at,
     )
 }
@@ -206,7 +205,7 @@ fn reaches_end(around: &Setting, stops: bool, at: Place) -> Option<Place>
 /// What the end of a body at this closing brace breaks, by whether the body never goes on.
 pub(crate) fn judged_end(
     found: Option<Refusal>,
-    around: &Setting,
+    around: &Around<'_>,
     stops: bool,
     at: Place,
 ) -> Option<Refusal>
@@ -219,7 +218,7 @@ pub(crate) fn judged_end(
 pub fn judge_whole_body(
     found: Option<Refusal>,
     nodes: &NamedNodes,
-    around: &Setting,
+    around: &Around<'_>,
     body: &Block,
 ) -> Option<Refusal>
     requires { BlockBelow (length nodes.now.stmts) body.now }

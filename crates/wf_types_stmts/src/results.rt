@@ -3,14 +3,13 @@
 ghost use Rattle.std.specs.Prelude.{◌≡◌, ◌<◌, ◌∷◌, ◌++◌, not, length, slice_get, IfOk};
 ghost use Rattle.std.specs.List.{AllByRecursion};
 ghost use Rattle.wf_ast.specs.ParsedParts.{IsBelow};
-ghost use Rattle.wf_ast.specs.WellTyped.{is_coroutine as marked_coroutine, is_suspension};
+ghost use Rattle.wf_ast.specs.WellTyped.{is_suspension};
 ghost use Rattle.wf_named.specs.NamedParts.{exprs_of, LettersBelow, AxiomBelow};
 ghost use Rattle.wf_named.specs.NamedTrees.{expr_at, part_at, clauses_at, letters_at, via_at};
-ghost use Rattle.wf_types_rules.specs.Judgements.{at_if as at_place_if, fails, wrong_result, is_suspension_text};
-ghost use Rattle.wf_types_rules.specs.Meanings.{is_flag as means_flag, is_number as means_number};
+ghost use Rattle.wf_types_rules.specs.Judgements.{at_if as at_place_if, no_number, no_flag, wrong_result, is_wrong_return as wrong_return_in, outside_coroutine, is_suspension_text};
 ghost use Rattle.wf_types_rules.specs.Parts.{letter_value, returned, yielded, end_parts, expr_parts, condition_parts, clauses_parts, letters_parts, via_parts};
 ghost use Rattle.wf_types_exprs.specs.Judged.{judged};
-ghost use Rattle.wf_types_stmts.specs.Statements.{condition_found, letter_found, is_wrong_return as wrong_return_in, return_found, yield_found};
+ghost use Rattle.wf_types_stmts.specs.Statements.{condition_found, letter_found, return_found, yield_found};
 
 use crate::assignments::{is_no_status, is_not_taken};
 use std::alloc::Global;
@@ -23,16 +22,15 @@ use wf_text::precedence::sooner;
 use wf_text::rules::{Refusal, Rule};
 use wf_text::status_text::category;
 use wf_text::{Place, StatusId};
-use wf_types_exprs::found::Value;
 use wf_types_exprs::reading::place_of;
 use wf_types_exprs::walk::{judge_end, judge_value};
 use wf_types_meanings::marks::is_coroutine;
 use wf_types_meanings::places::{at_if, told};
 use wf_types_operators::meanings::{is_flag, is_number};
-use wf_types_rules::{Meaning, Setting};
+use wf_types_rules::{Around, Meaning, Value};
 
 fn wrong_condition(v: Value) -> Option<Place>
-    ensures { result ≡ at_place_if (fails means_flag v.of) v.at }
+    ensures { result ≡ no_flag v }
 {
     match v.of {
         Some(m) => at_if(!is_flag(m), v.at),
@@ -41,7 +39,7 @@ fn wrong_condition(v: Value) -> Option<Place>
 }
 
 fn wrong_letter(v: Value) -> Option<Place>
-    ensures { result ≡ at_place_if (fails means_number v.of) v.at }
+    ensures { result ≡ no_number v }
 {
     match v.of {
         Some(m) => at_if(!is_number(m), v.at),
@@ -72,22 +70,22 @@ fn is_no_result(gives: Option<Option<Ty>>, of: Option<Meaning>) -> bool
     }
 }
 
-fn is_wrong_return(around: &Setting, value: Option<Value>) -> bool
+fn is_wrong_return(around: &Around<'_>, value: Option<Value>) -> bool
     ensures { result ≡ wrong_return_in around.now value }
 {
     match value {
         Some(v) => {
-            if is_coroutine(around.mark) {
+            if is_coroutine(around.mark()) {
                 is_no_status(v.of)
             } else {
-                is_no_result(around.gives, v.of)
+                is_no_result(around.gives(), v.of)
             }
         }
-        None => is_coroutine(around.mark) || around.gives.is_some(),
+        None => is_coroutine(around.mark()) || around.gives().is_some(),
     }
 }
 
-fn wrong_return(around: &Setting, value: Option<Value>, at: Place) -> Option<Place>
+fn wrong_return(around: &Around<'_>, value: Option<Value>, at: Place) -> Option<Place>
     ensures { result ≡ at_place_if (wrong_return_in around.now value) at }
 {
     at_if(is_wrong_return(around, value), at)
@@ -96,7 +94,7 @@ fn wrong_return(around: &Setting, value: Option<Value>, at: Place) -> Option<Pla
 /// What a `return` breaks, whose value may be absent.
 pub(crate) fn judged_return(
     found: Option<Refusal>,
-    around: &Setting,
+    around: &Around<'_>,
     value: Option<Value>,
     at: Place,
 ) -> Option<Refusal>
@@ -105,10 +103,10 @@ pub(crate) fn judged_return(
     sooner(found, told(Rule::T4, wrong_return(around, value, at)))
 }
 
-fn yielded_outside(around: &Setting, at: Place) -> Option<Place>
-    ensures { result ≡ at_place_if (not (marked_coroutine around.now.mark)) at }
+fn yielded_outside(around: &Around<'_>, at: Place) -> Option<Place>
+    ensures { result ≡ outside_coroutine around.now at }
 {
-    at_if(!is_coroutine(around.mark), at)
+    at_if(!is_coroutine(around.mark()), at)
 }
 
 fn wrong_yield(suspends: bool, place: Place) -> Option<Place>
@@ -120,7 +118,7 @@ fn wrong_yield(suspends: bool, place: Place) -> Option<Place>
 /// What a `yield?` breaks. `suspends` tells whether a suspension's text stands there, at `place`.
 pub(crate) fn judged_yield(
     found: Option<Refusal>,
-    around: &Setting,
+    around: &Around<'_>,
     suspends: bool,
     place: Place,
     at: Place,
@@ -141,13 +139,13 @@ fn is_suspension_at(statuses: &[Sequence<u8>], status: StatusId) -> bool
 }
 
 /// Whether an expression is the text of a suspension.
-pub(crate) fn suspends(nodes: &NamedNodes, around: &Setting, e: ExprId) -> bool
+pub(crate) fn suspends(nodes: &NamedNodes, around: &Around<'_>, e: ExprId) -> bool
     requires { e.0 < length nodes.now.exprs }
     ensures { result ≡ is_suspension_text around.now (expr_at (exprs_of nodes.now) e) }
 {
     let node = nodes.expr(e);
     match &node.expr {
-        NamedExpr::Status(status) => is_suspension_at(around.statuses.as_slice(), *status),
+        NamedExpr::Status(status) => is_suspension_at(around.statuses(), *status),
         NamedExpr::Call(_) => false,
         NamedExpr::Path(_) => false,
         NamedExpr::Number(_) => false,
@@ -165,7 +163,7 @@ pub(crate) fn judge_condition(
     alloc: Global,
     found: Option<Refusal>,
     nodes: &NamedNodes,
-    around: &Setting,
+    around: &Around<'_>,
     e: ExprId,
 ) -> Result<Option<Refusal>, NoMemory>
     requires { e.0 < length nodes.now.exprs }
@@ -180,7 +178,7 @@ pub(crate) fn judge_clauses(
     alloc: Global,
     found: Option<Refusal>,
     nodes: &NamedNodes,
-    around: &Setting,
+    around: &Around<'_>,
     clauses: &[LoopClause],
 ) -> Result<Option<Refusal>, NoMemory>
     requires { AllByRecursion (λ c. c.condition.0 < length nodes.now.exprs) clauses.now }
@@ -197,7 +195,7 @@ fn judge_letter(
     alloc: Global,
     found: Option<Refusal>,
     nodes: &NamedNodes,
-    around: &Setting,
+    around: &Around<'_>,
     e: ExprId,
 ) -> Result<Option<Refusal>, NoMemory>
     requires { e.0 < length nodes.now.exprs }
@@ -212,7 +210,7 @@ pub(crate) fn judge_letters(
     alloc: Global,
     found: Option<Refusal>,
     nodes: &NamedNodes,
-    around: &Setting,
+    around: &Around<'_>,
     given: &[Given],
 ) -> Result<Option<Refusal>, NoMemory>
     requires { LettersBelow (length nodes.now.texts) (length nodes.now.exprs) given.now }
@@ -230,7 +228,7 @@ pub(crate) fn judge_via(
     alloc: Global,
     found: Option<Refusal>,
     nodes: &NamedNodes,
-    around: &Setting,
+    around: &Around<'_>,
     via: &Option<Via>,
 ) -> Result<Option<Refusal>, NoMemory>
     requires { AxiomBelow (length nodes.now.texts) (length nodes.now.exprs) via.now }
@@ -247,7 +245,7 @@ pub(crate) fn judge_claim(
     alloc: Global,
     found: Option<Refusal>,
     nodes: &NamedNodes,
-    around: &Setting,
+    around: &Around<'_>,
     goal: ExprId,
     via: &Option<Via>,
 ) -> Result<Option<Refusal>, NoMemory>
@@ -264,7 +262,7 @@ pub(crate) fn judge_return(
     alloc: Global,
     found: Option<Refusal>,
     nodes: &NamedNodes,
-    around: &Setting,
+    around: &Around<'_>,
     value: Option<ExprId>,
     at: Place,
 ) -> Result<Option<Refusal>, NoMemory>
@@ -280,7 +278,7 @@ pub(crate) fn judge_yield(
     alloc: Global,
     found: Option<Refusal>,
     nodes: &NamedNodes,
-    around: &Setting,
+    around: &Around<'_>,
     e: ExprId,
     at: Place,
 ) -> Result<Option<Refusal>, NoMemory>

@@ -1,4 +1,4 @@
-// The walk over statements: what decides of what was found before and of all that the rules say of their parts.
+// The walk over statements: the first refusal of what was found before and of all that the rules say of their parts.
 
 ghost use Rattle.std.specs.Prelude.{◌≡◌, ◌<◌, ◌++◌, length, IfOk};
 ghost use Rattle.std.specs.List.{AllByRecursion};
@@ -17,14 +17,14 @@ use wf_named::{NamedCall, NamedNodes, NamedStmt};
 use wf_text::faults::NoMemory;
 use wf_text::rules::Refusal;
 use wf_types_exprs::whole::judge_whole_call;
-use wf_types_rules::Setting;
+use wf_types_rules::Around;
 
 // A call that is a whole statement.
 fn judge_do_call(
     alloc: Global,
     found: Option<Refusal>,
     nodes: &NamedNodes,
-    around: &Setting,
+    around: &Around<'_>,
     call: &NamedCall,
 ) -> Result<Option<Refusal>, NoMemory>
     requires { ArgsBelow (length nodes.now.exprs) call.now.args }
@@ -39,7 +39,7 @@ fn judge_head(
     alloc: Global,
     found: Option<Refusal>,
     nodes: &NamedNodes,
-    around: &Setting,
+    around: &Around<'_>,
     condition: ExprId,
     clauses: &[LoopClause],
 ) -> Result<Option<Refusal>, NoMemory>
@@ -53,11 +53,11 @@ fn judge_head(
 
 /// A statement with all that stands in it.
 #[cycle(judge_stmts)]
-pub fn judge_stmt(
+pub(crate) fn judge_stmt(
     alloc: Global,
     found: Option<Refusal>,
     nodes: &NamedNodes,
-    around: &Setting,
+    around: &Around<'_>,
     s: StmtId,
 ) -> Result<Option<Refusal>, NoMemory>
     requires { s.0 < length nodes.now.stmts }
@@ -100,7 +100,7 @@ pub fn judge_block(
     alloc: Global,
     found: Option<Refusal>,
     nodes: &NamedNodes,
-    around: &Setting,
+    around: &Around<'_>,
     block: &Block,
 ) -> Result<Option<Refusal>, NoMemory>
     requires { BlockBelow (length nodes.now.stmts) block.now }
@@ -118,7 +118,7 @@ fn judge_arm(
     alloc: Global,
     found: Option<Refusal>,
     nodes: &NamedNodes,
-    around: &Setting,
+    around: &Around<'_>,
     arm: &Arm,
 ) -> Result<Option<Refusal>, NoMemory>
     requires condition { arm.now.condition.0 < length nodes.now.exprs }
@@ -134,7 +134,7 @@ fn judge_else(
     alloc: Global,
     found: Option<Refusal>,
     nodes: &NamedNodes,
-    around: &Setting,
+    around: &Around<'_>,
     otherwise: &Option<Block>,
 ) -> Result<Option<Refusal>, NoMemory>
     requires { ElseBelow (length nodes.now.stmts) otherwise.now }
@@ -152,7 +152,7 @@ fn judge_arms(
     alloc: Global,
     found: Option<Refusal>,
     nodes: &NamedNodes,
-    around: &Setting,
+    around: &Around<'_>,
     arms: &[Arm],
     otherwise: &Option<Block>,
 ) -> Result<Option<Refusal>, NoMemory>

@@ -6,13 +6,12 @@ ghost use Rattle.wf_named.specs.NamedTree as tree;
 ghost use Rattle.wf_named.specs.NamedTrees.{expr_at, target_at};
 ghost use Rattle.wf_types_rules.specs.ExprTypes.{meaning};
 ghost use Rattle.wf_types_rules.specs.Judgements as judgements;
-ghost use Rattle.wf_types_rules.specs.Judgements.{is_no_target_of as no_target_of, is_field as field_named, target_meaning, fails};
+ghost use Rattle.wf_types_rules.specs.Judgements.{is_no_target_of as no_target_of, is_field as field_named, target_meaning, target_value, fails};
 ghost use Rattle.wf_types_rules.specs.Meanings.{is_value as means_value};
 ghost use Rattle.wf_types_rules.specs.Parts as parts;
 ghost use Rattle.wf_types_rules.specs.Parts.{target_parts, expr_parts};
 ghost use Rattle.wf_types_exprs.specs.Judged.{judged};
 ghost use Rattle.wf_types_stmts.specs.Statements.{target_found as found_at_target};
-ghost use Rattle.wf_types_stmts.specs.Targets.{target_value};
 
 use std::alloc::Global;
 use wf_ast::ExprId;
@@ -21,14 +20,14 @@ use wf_text::Place;
 use wf_text::faults::NoMemory;
 use wf_text::precedence::sooner;
 use wf_text::rules::{Refusal, Rule};
-use wf_types_exprs::found::{Judged, JudgedValue, Value};
+use wf_types_exprs::found::{Judged, JudgedValue};
 use wf_types_exprs::parts::{base_value, judged_index};
 use wf_types_exprs::walk::judge_value;
 use wf_types_meanings::marks::is_pure;
 use wf_types_meanings::places::{at_if, told};
 use wf_types_meanings::variables::variable;
 use wf_types_operators::meanings::is_value;
-use wf_types_rules::{Meaning, Setting};
+use wf_types_rules::{Around, Meaning, Value};
 
 fn is_no_value(of: Option<Meaning>) -> bool
     ensures { result ≡ fails means_value of }
@@ -40,7 +39,7 @@ fn is_no_value(of: Option<Meaning>) -> bool
 }
 
 /// Whether nothing may be written to a variable: a constant, an argument, a whole array or a struct.
-pub(crate) fn is_no_target_of(around: &Setting, of: Variable) -> bool
+pub(crate) fn is_no_target_of(around: &Around<'_>, of: Variable) -> bool
     ensures { result ≡ no_target_of around.now of }
 {
     match of {
@@ -62,7 +61,7 @@ fn is_field(of: Variable) -> bool
     }
 }
 
-fn wrong_target(around: &Setting, target: NamedTarget) -> Option<Place>
+fn wrong_target(around: &Around<'_>, target: NamedTarget) -> Option<Place>
     ensures { (es : _) → result ≡ judgements.wrong_target around.now (parts.target (target_at es target)) }
 {
     match target {
@@ -71,17 +70,17 @@ fn wrong_target(around: &Setting, target: NamedTarget) -> Option<Place>
     }
 }
 
-fn impure_write(around: &Setting, target: NamedTarget) -> Option<Place>
+fn impure_write(around: &Around<'_>, target: NamedTarget) -> Option<Place>
     ensures { (es : _) → result ≡ judgements.impure_write around.now (parts.target (target_at es target)) }
 {
     match target {
-        NamedTarget::Path(path) => at_if(is_field(path.of) && is_pure(around.mark), path.at),
-        NamedTarget::Element { at, .. } => at_if(is_pure(around.mark), at),
+        NamedTarget::Path(path) => at_if(is_field(path.of) && is_pure(around.mark()), path.at),
+        NamedTarget::Element { at, .. } => at_if(is_pure(around.mark()), at),
     }
 }
 
 /// What a target breaks, whatever the index of an element breaks.
-fn target_found(found: Option<Refusal>, around: &Setting, target: NamedTarget) -> Option<Refusal>
+fn target_found(found: Option<Refusal>, around: &Around<'_>, target: NamedTarget) -> Option<Refusal>
     ensures { (es : _) → result ≡ found_at_target around.now (target_at es target) found }
 {
     let open = sooner(found, told(Rule::T2, wrong_target(around, target)));
@@ -89,7 +88,7 @@ fn target_found(found: Option<Refusal>, around: &Setting, target: NamedTarget) -
 }
 
 // What a path means as a target.
-fn path_written(around: &Setting, path: NamedPath) -> Option<Meaning>
+fn path_written(around: &Around<'_>, path: NamedPath) -> Option<Meaning>
     ensures { result ≡ target_meaning around.now (tree.to_path path) }
 {
     if is_no_target_of(around, path.of) {
@@ -100,7 +99,11 @@ fn path_written(around: &Setting, path: NamedPath) -> Option<Meaning>
 }
 
 /// A path as a target.
-pub(crate) fn judged_path(found: Option<Refusal>, around: &Setting, path: NamedPath) -> JudgedValue
+pub(crate) fn judged_path(
+    found: Option<Refusal>,
+    around: &Around<'_>,
+    path: NamedPath,
+) -> JudgedValue
     ensures found { result.found ≡ judged around.now found (target_parts (tree.to_path path)) }
     ensures value { result.value ≡ target_value around.now (tree.to_path path) }
 {
@@ -118,7 +121,7 @@ fn judge_element(
     alloc: Global,
     found: Option<Refusal>,
     nodes: &NamedNodes,
-    around: &Setting,
+    around: &Around<'_>,
     base: NamedPath,
     index: ExprId,
 ) -> Result<Judged, NoMemory>
@@ -136,7 +139,7 @@ pub(crate) fn judge_target(
     alloc: Global,
     found: Option<Refusal>,
     nodes: &NamedNodes,
-    around: &Setting,
+    around: &Around<'_>,
     target: NamedTarget,
 ) -> Result<JudgedValue, NoMemory>
     requires { NamedTargetBelow (length nodes.now.exprs) target }

@@ -2,9 +2,9 @@ use Rattle.std.proofs.Common.{◌≡◌, ◌∙◌, ◌∷◌, ◌++◌, [], len
 use Rattle.wf_ast.specs.ParsedParts.{LinksBelow}
 use Rattle.wf_named.specs.NamedTree.{index, slice, chain}
 use Rattle.wf_named.specs.NamedTrees.{expr_trees, expr_at, part_at, links_at, args_at, type_at}
+use Rattle.wf_types_rules.specs.declared.meanings.Value.{Value}
 use Rattle.wf_types_rules.specs.Meanings.{variable}
 use Rattle.wf_types_rules.specs.ExprTypes.{meaning}
-use Rattle.wf_types_exprs.specs.declared.found.Value.{Value}
 use Rattle.wf_types_exprs.proofs.AboveLemmas.{links_above, links_more, link_at_place}
 use Rattle.wf_typed_tree.specs.ElaboratedExprs.{path_tree}
 use Rattle.wf_typed_tree.specs.Entries.{path_entry, end_entries, expr_entries}

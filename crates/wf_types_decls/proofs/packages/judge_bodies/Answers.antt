@@ -5,7 +5,6 @@ use Rattle.wf_named.specs.NamedTrees.{expr_trees, stmt_trees, method_made}
 use Rattle.wf_types_decls.specs.Packages.{decided, body_sites}
 use Rattle.wf_types_decls.proofs.DeclarationLemmas.{all_passed, sites_next, decided-none}
 use Rattle.wf_types_decls.proofs.HeadLemmas.{heads_long, heads_at, body_decided}
-use Rattle.wf_types_decls.proofs.PackageLemmas.{around_method}
 use Rattle.wf_types_decls.proofs.packages.judge_bodies.Goals as goal
 
 pub bounds-heads-number : goal.bounds-heads-number
@@ -14,8 +13,8 @@ bounds-heads-number c =
     let same = ap length c.methods-methods.ensures.all in
     omega (arith, long, same, c.loop-number-test.true)
 
-pub round_body-requires-clause-head : goal.round_body-requires-clause-head
-round_body-requires-clause-head c =
+pub round_body-inside-requires-clause-head : goal.round_body-inside-requires-clause-head
+round_body-inside-requires-clause-head c =
     let n = c.args.nodes.now in
     let i = c.loop-number.number in
     let m = c.index-methods-number.result in
@@ -29,17 +28,15 @@ loop-number-preserved c =
     let p = named_package n in
     let made = method_made n.texts (expr_trees n.exprs) (stmt_trees n.texts n.exprs n.stmts) in
     let l = c.loop-number in
-    let m = c.index-methods-number.result in (
-      sites_next made c.methods-methods.result.now n.methods c.methods-methods.ensures.all l.number m m c.index-methods-number.is c.loop-number-test.true (body_sites p) l.found c.in_ok-found.found
-          (body_decided p (made m) c.in_ok-around.around l.found c.in_ok-found.found c.in_ok-around.ensures c.in_ok-found.ensures) ∙ l.invariant.0,
-      around_method p (made m) c.in_ok-around.around c.in_ok-around.ensures,
-    )
+    let m = c.index-methods-number.result in
+    sites_next made c.methods-methods.result.now n.methods c.methods-methods.ensures.all l.number m m c.index-methods-number.is c.loop-number-test.true (body_sites p) l.found c.in_ok-found.found
+    (body_decided p (made m) c.round_body-inside.result l.found c.in_ok-found.found c.round_body-inside.ensures c.in_ok-found.ensures) ∙ l.invariant
 
-pub returns-clause-found : goal.returns-clause-found
-returns-clause-found c =
+pub returns : goal.returns
+returns c =
     let n = c.args.nodes.now in
     let made = method_made n.texts (expr_trees n.exprs) (stmt_trees n.texts n.exprs n.stmts) in
     let l = c.loop-number in
     let past : length c.methods-methods.result.now ≤ l.number = omega (arith, c.loop-number-test.false) in
     let over : drop l.number n.methods ≡ [] = all_passed c.methods-methods.result.now n.methods l.number c.methods-methods.ensures.all past in
-    sym (decided-none l.found) ∙ sym (ap (λ xs. decided l.found (flat_map (body_sites (named_package n)) (map made xs))) over) ∙ l.invariant.0
+    sym (decided-none l.found) ∙ sym (ap (λ xs. decided l.found (flat_map (body_sites (named_package n)) (map made xs))) over) ∙ l.invariant

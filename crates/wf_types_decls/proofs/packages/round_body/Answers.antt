@@ -12,7 +12,7 @@ returns c =
     let n = c.args.nodes.now in
     let p = named_package n in
     let m = method_made n.texts (expr_trees n.exprs) (stmt_trees n.texts n.exprs n.stmts) c.args.method.now in
-    method_entered p m c.args.around _ _ _ m.mark c.args.head.now.gives c.requires.around
-    (c.in_ok-inside.ensures ∙ ap (λ fs. types_or_none (slice_get fs m.of)) c.requires.fields ∙ own_fields p m.of)
-    (c.in_ok-inside-2.ensures ∙ c.as_slice.ensures ∙ ap (λ (h : Head). h.args) c.requires.head) (c.in_ok-inside-3.ensures ∙ c.as_slice-2.ensures ∙ ap (λ (h : Head). h.locals) c.requires.head) refl
-    (ap (λ (h : Head). h.gives) c.requires.head) _ refl
+    method_entered p m c.args.around.now _ _ _ m.mark c.args.head.now.gives c.requires.around
+    (c.fields_of.ensures ∙ ap (λ fs. types_or_none (slice_get fs m.of)) c.requires.fields ∙ own_fields p m.of)
+    (c.as_slice.ensures ∙ ap (λ (h : Head). h.args) c.requires.head) (c.as_slice-2.ensures ∙ ap (λ (h : Head). h.locals) c.requires.head) refl
+    (ap (λ (h : Head). h.gives) c.requires.head) _ c.in_body.ensures

@@ -2,9 +2,10 @@ use Rattle.std.proofs.Common.{◌≡◌, ◌∙◌, ℕ, ◌-◌, ◌++◌, [], 
 use Rattle.std.proofs.lemmas.List.{drop_all}
 use Rattle.wf_ast.specs.ParsedParts.{LinksBelow}
 use Rattle.wf_named.specs.NamedTrees.{expr_trees, expr_at, part_at, links_at, args_at, type_at, all_prefixed}
+use Rattle.wf_types_rules.specs.Judgements.{value_of}
 use Rattle.wf_types_rules.specs.Parts.{expr_parts, end_parts, links_parts, args_parts}
 use Rattle.wf_types_exprs.specs.declared.found.JudgedOperands.{JudgedOperands}
-use Rattle.wf_types_exprs.specs.Judged.{judged, value_of, operand_behind, TellsType}
+use Rattle.wf_types_exprs.specs.Judged.{judged, operand_behind, TellsType}
 use Rattle.wf_types_exprs.proofs.AboveLemmas.{args_above, links_above, type_above, args_more, links_more, type_more, arg_at_place, link_at_place, prefix_at_place}
 use Rattle.wf_types_exprs.proofs.JudgedLaws.{judged-append, judged-none}
 use Rattle.wf_types_exprs.proofs.ListLemmas.{operands_begun, link_found, link_joined, arg_found, args_fit}
@@ -180,8 +181,9 @@ judge_args-returns-clause-found t c =
 
 pub judge_call-returns-clause-found : goal.judge_call-returns-clause-found
 judge_call-returns-clause-found t c =
-    let args = args_at (expr_trees c.args.nodes.now.exprs) c.args.call.now.args in
-    let all = rw (c.as_slice.ensures, c.judged_calling-begun.ensures) at c.in_ok-all.ensures.found in
+    let es = expr_trees c.args.nodes.now.exprs in
+    let args = args_at es c.args.call.now.args in
+    let all = rw (c.as_slice.ensures, c.judged_calling-begun.ensures es) at c.in_ok-all.ensures.found in
     call_found c.args.around.now c.args.found c.in_ok-all.all.found c.args.inside c.args.call.now.callee c.args.call.now.at c.args.call.now.mark args all
 
 pub judge_conversion-returns-clause-found : goal.judge_conversion-returns-clause-found
