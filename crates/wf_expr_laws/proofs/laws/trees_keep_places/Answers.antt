@@ -1,5 +1,0 @@
-use Rattle.wf_expr_laws.proofs.Places.{trees-keep-places}
-use Rattle.wf_expr_laws.proofs.laws.trees_keep_places.Goals as goal
-
-pub returns : goal.returns
-returns c = trees-keep-places

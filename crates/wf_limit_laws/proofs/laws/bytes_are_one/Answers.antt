@@ -1,5 +1,0 @@
-use Rattle.wf_limit_laws.proofs.SmallStructs.{bytes_are_one}
-use Rattle.wf_limit_laws.proofs.laws.bytes_are_one.Goals as goal
-
-pub returns : goal.returns
-returns c = bytes_are_one

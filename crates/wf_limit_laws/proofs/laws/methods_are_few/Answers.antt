@@ -1,5 +1,0 @@
-use Rattle.wf_limit_laws.proofs.Methods.{read_methods_are_few}
-use Rattle.wf_limit_laws.proofs.laws.methods_are_few.Goals as goal
-
-pub returns : goal.returns
-returns c = read_methods_are_few

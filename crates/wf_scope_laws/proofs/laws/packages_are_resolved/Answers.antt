@@ -1,5 +1,0 @@
-use Rattle.wf_scope_laws.proofs.Packages.{packages-are-resolved}
-use Rattle.wf_scope_laws.proofs.laws.packages_are_resolved.Goals as goal
-
-pub returns : goal.returns
-returns c = packages-are-resolved
