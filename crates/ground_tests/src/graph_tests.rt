@@ -3,7 +3,7 @@
 ghost use Rattle.std.specs.Prelude.{◌≡◌, ◌<◌, true, length};
 ghost use Rattle.graphs.specs.Graphs.{holds, AreWithin};
 
-use graphs::circles::find_cycles;
+use graphs::cycles::find_cycles;
 use graphs::rows::Row;
 use std::alloc::Global;
 use std::test::Fail;

@@ -70,7 +70,7 @@ pub enum Axiom {
 }
 
 /// The axiom as it is written, in ASCII.
-pub fn text_of_axiom(a: Axiom) -> &'static str
+pub(crate) fn text_of_axiom(a: Axiom) -> &'static str
     ensures { result.now ≡ axiom_text a }
 {
     match a {
@@ -96,7 +96,7 @@ pub fn text_of_axiom(a: Axiom) -> &'static str
 }
 
 /// What follows by an axiom.
-pub fn goal_of(a: Axiom) -> (Term, Cmp, Term)
+pub(crate) fn goal_of(a: Axiom) -> (Term, Cmp, Term)
     ensures { result ≡ (row_of a).goal }
 {
     match a {
@@ -122,7 +122,7 @@ pub fn goal_of(a: Axiom) -> (Term, Cmp, Term)
 }
 
 /// What it follows from.
-pub fn premises_of(a: Axiom) -> &'static [(Term, Cmp, Term)]
+pub(crate) fn premises_of(a: Axiom) -> &'static [(Term, Cmp, Term)]
     ensures { result.now ≡ (row_of a).premises }
 {
     match a {

@@ -12,5 +12,5 @@ mod matching;
 
 pub use asked::{AxiomFault, Premises};
 pub use asking::premises;
-pub use axioms::{Axiom, Letter, Term, goal_of, premises_of, text_of_axiom};
+pub use axioms::{Axiom, Letter, Term};
 pub use finding::axiom;

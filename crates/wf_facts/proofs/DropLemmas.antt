@@ -16,7 +16,7 @@ use Rattle.wf_facts.specs.FactLists.{without}
 use Rattle.wf_facts.specs.IndexedFacts.{FactList, IsOver, has_set, set_number, set_of, mentioning, words_at}
 use Rattle.wf_facts.proofs.SetLemmas.{length-members, unmarked-push, unmarked_none, unmarked_one, members_known, IsSetOf-put, all_stay, stays_before, empty_set, none_in_zeros}
 
--- What stays of the first `i` stands in front, and the rest is as it was.
+-- What stays of the first `i` stands at the front, and the rest is as it was.
 pub record Closes {X : Type 0} (dropped : List ℕ) (xs ys : List X) (stay i : ℕ) : Type 0 where
   pub front : take stay ys ≡ unmarked (members dropped i) (take i xs)
   pub rest : drop i ys ≡ drop i xs

@@ -27,7 +27,7 @@ impl FactSet {
     }
 
     /// Adds place `i`.
-    pub fn insert(&mut self, i: usize)
+    pub(crate) fn insert(&mut self, i: usize)
         requires { i < 512 }
         ensures { (k : ℕ) → k < 512 → member self.new.words k ≡ (nat_eq k i || member self.old.words k) }
     {

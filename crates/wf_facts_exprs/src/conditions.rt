@@ -1,4 +1,4 @@
-//! The demands of conditions and of values of every kind, and which conditions a list of facts gives.
+// The demands of conditions and of values of every kind, and which conditions a list of facts gives.
 
 ghost use Rattle.std.specs.Prelude.{◌≡◌, ◌≤◌, ◌<◌, length, map, false, true, nat_lt, IsTrue, None};
 ghost use Rattle.std.specs.List.{list_all};

@@ -1,5 +1,5 @@
-//! Facts: what is known at a place of a method. They name expressions by the numbers of their nodes; contracts see what
-//! they claim of the typed trees.
+// Facts: what is known at a place of a method. They name expressions by the numbers of their nodes; contracts see what
+// they claim of the typed trees.
 
 use wf_ast::ExprId;
 

@@ -1,4 +1,4 @@
-//! What a list of facts gives of two sides: by a fact that compares them, or by their ranges.
+// What a list of facts gives of two sides: by a fact that compares them, or by their ranges.
 
 ghost use Rattle.std.specs.Prelude.{◌≡◌, ◌||◌, IsTrue, pos, int_lt, int_le};
 ghost use Rattle.wf_facts_exprs.specs.Claims.{AreFacts, claim_in, claims_in, flip as flipped, is_fact, is_side, order_of, side_in, single};

@@ -1,4 +1,4 @@
-//! Which conditions a list of facts gives.
+// Which conditions a list of facts gives.
 
 ghost use Rattle.std.specs.Prelude.{◌≡◌, ◌&&◌, ◌||◌, length, map, false, true, nat_lt, IsTrue, None};
 ghost use Rattle.std.specs.List.{list_all};

@@ -1,5 +1,5 @@
-//! The demands and the range of an expression, found together: each node is looked at once, and each fact at each node.
-//! The recursion goes as deep as brackets nest; the operands of a chain stand side by side.
+// The demands and the range of an expression, found together: each node is looked at once, and each fact at each node.
+// The recursion goes as deep as brackets nest; the operands of a chain stand side by side.
 
 ghost use Rattle.std.specs.Prelude.{◌≡◌, ◌≤◌, ◌<◌, ◌||◌, length, map, true, false, nat_eq, nat_lt, ◌+◌, ◌-◌, IsTrue, IfOk, None, Some, drop};
 ghost use Rattle.std.specs.List.{list_all};

@@ -1,5 +1,5 @@
-//! The laws of facts, over every state of whole numbers. Each is the contract of a function that does nothing. A state is
-//! lawful where every variable of the method has a value of its type.
+// The laws of facts, over every state of whole numbers. Each is the contract of a function that does nothing. A state is
+// lawful where every variable of the method has a value of its type.
 
 ghost use Rattle.std.specs.Prelude.{◌≡◌, ℕ, Bool, List, None, Some, true, false, IsSome};
 ghost use Rattle.wf_num.specs.Ranges.{Holds};

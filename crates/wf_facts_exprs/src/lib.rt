@@ -1,5 +1,5 @@
-//! What a list of facts says of an expression: the facts themselves, which range a number has under a list, which
-//! conditions a list gives, and which demands the value of an expression makes. Nothing here takes memory.
+// What a list of facts says of an expression: the facts themselves, which range a number has under a list, which
+// conditions a list gives, and which demands the value of an expression makes. Nothing here takes memory.
 #![tactic(auto)]
 
 mod conditions;

@@ -1,4 +1,4 @@
-//! What a range is met with: the facts that compare the same tree with a number.
+// What a range is met with: the facts that compare the same tree with a number.
 
 ghost use Rattle.std.specs.Prelude.{◌≡◌, ℕ, ◌<◌, ◌^◌, length, IsTrue, nat_lt, IfSome};
 ghost use Rattle.wf_num.specs.Ranges.{IsSmall};

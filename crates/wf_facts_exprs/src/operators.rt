@@ -1,4 +1,4 @@
-//! The range of each operator, and what it asks of its right operand.
+// The range of each operator, and what it asks of its right operand.
 
 ghost use Rattle.std.specs.Prelude.{◌≡◌, ◌≤◌, ◌<◌, ◌⊎◌, true, false, IsTrue, pos, ◌≤ℤ◌};
 ghost use Rattle.wf_num.specs.Ranges.{IsSmall, div_ranges, low, rem_ranges};

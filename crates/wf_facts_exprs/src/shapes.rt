@@ -1,4 +1,4 @@
-//! What a side is, and whether two sides are one.
+// What a side is, and whether two sides are one.
 
 ghost use Rattle.std.specs.Prelude.{◌≡◌, ◌<◌, ◌^◌, length, map, IsTrue, nat_eq, nat_lt};
 ghost use Rattle.std.specs.List.{list_all};

@@ -1,4 +1,4 @@
-//! Whether two sides are one.
+// Whether two sides are one.
 
 ghost use Rattle.std.specs.Prelude.{◌≡◌, IsTrue};
 ghost use Rattle.wf_facts_exprs.specs.Claims.{is_side, side_in, same_side as same_trees};

@@ -133,7 +133,7 @@ pub fn value_on(t: &Typed, stage: &Stage, e: ExprId) -> Option<Slot>
 }
 
 /// The value of a number.
-pub fn number_on(t: &Typed, stage: &Stage, e: ExprId) -> Option<u64>
+pub(crate) fn number_on(t: &Typed, stage: &Stage, e: ExprId) -> Option<u64>
     requires typed { IsTyped t.now }
     requires node { IsTrue (is_expr t.now e) }
     ensures { result ≡ value (sight_on t.now stage.now) (node_number t.now e) }
@@ -151,7 +151,7 @@ pub fn condition_on(t: &Typed, stage: &Stage, e: ExprId) -> Option<bool>
 }
 
 /// A slice.
-pub fn slice_on(t: &Typed, stage: &Stage, e: ExprId) -> Option<SliceSpan>
+pub(crate) fn slice_on(t: &Typed, stage: &Stage, e: ExprId) -> Option<SliceSpan>
     requires typed { IsTyped t.now }
     requires node { IsTrue (is_expr t.now e) }
     ensures { option_map span_seen result ≡ span_of (sight_on t.now stage.now) (node_slice t.now e) }

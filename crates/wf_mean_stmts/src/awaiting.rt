@@ -142,7 +142,7 @@ fn buffer_named(t: &Typed, stage: &Stage, on: ExprId) -> Option<u16>
 }
 
 /// A skip takes up to so many bytes, and goes on when none is left to be taken. How many is evaluated once, and kept.
-pub fn skip(t: &Typed, stage: &mut Stage, on: ExprId, count: ExprId, done: Progress) -> Did
+pub(crate) fn skip(t: &Typed, stage: &mut Stage, on: ExprId, count: ExprId, done: Progress) -> Did
     requires typed { IsTyped t.now }
     requires on { IsTrue (is_expr t.now on) }
     requires count { IsTrue (is_expr t.now count) }
@@ -208,7 +208,7 @@ fn skip_at(bufs: &mut BufList, k: usize, left: u32) -> u32
 }
 
 /// A write appends its byte where there is room. The byte is evaluated once, and kept.
-pub fn write(t: &Typed, stage: &mut Stage, on: ExprId, byte: ExprId, done: Progress) -> Did
+pub(crate) fn write(t: &Typed, stage: &mut Stage, on: ExprId, byte: ExprId, done: Progress) -> Did
     requires typed { IsTyped t.now }
     requires on { IsTrue (is_expr t.now on) }
     requires byte { IsTrue (is_expr t.now byte) }

@@ -21,7 +21,7 @@ pub struct Stage {
 
 impl Stage {
     /// What the expressions of the body look at.
-    pub fn scene<'s>(&'s self, t: &'s Typed) -> Scene<'s>
+    pub(crate) fn scene<'s>(&'s self, t: &'s Typed) -> Scene<'s>
         ensures package { result.package.now ≡ t.now }
         ensures seen { seen_from result ≡ sight_on t.now self.now }
     {

@@ -17,10 +17,8 @@ const LEFT: &str =
     "pub struct s(\nn : base.u8,\n)\npub func s.f!() {\nreturn nothing\nthis.n = 1\n}\n";
 
 fn accepted(alloc: Global, text: &str) -> Result<Accepted, PhaseFault> {
-    match typed(alloc, text) {
-        Ok(typed) => check(alloc, typed),
-        Err(fault) => Err(fault),
-    }
+    let typed = typed(alloc, text)?;
+    check(alloc, typed)
 }
 
 // How the fact with this number compares.

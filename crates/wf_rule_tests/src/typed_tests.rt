@@ -24,27 +24,20 @@ fn read(alloc: Global, text: &str) -> Result<Package, PhaseFault> {
         return Err(PhaseFault::Memory);
     }
     let files = vec![in alloc; bytes]?;
-    match parse(alloc, "k", files.as_slice()) {
-        Ok(parsed) => Ok(parsed),
-        Err(fault) => Err(fault),
-    }
+    parse(alloc, "k", files.as_slice())
 }
 
 // The resolved package of one file.
 fn resolved(alloc: Global, text: &str) -> Result<Named, PhaseFault> {
-    match read(alloc, text) {
-        Ok(parsed) => resolve(alloc, parsed),
-        Err(fault) => Err(fault),
-    }
+    let parsed = read(alloc, text)?;
+    resolve(alloc, parsed)
 }
 
 pub(crate) fn typed(alloc: Global, text: &str) -> Result<Typed, PhaseFault>
     ensures { IfOk result (λ typed. IsTyped typed) }
 {
-    match resolved(alloc, text) {
-        Ok(named) => type_check(alloc, named),
-        Err(fault) => Err(fault),
-    }
+    let named = resolved(alloc, text)?;
+    type_check(alloc, named)
 }
 
 fn has_text(typed: &Typed, status: u32, text: &[u8]) -> bool {

@@ -24,7 +24,7 @@ use wf_script_rules::Thing;
 
 /// What a command does to the script.
 #[derive(Clone, Copy, PartialEq, Eq)]
-pub enum Step {
+pub(crate) enum Step {
     GoesOn,
     Turns,
     Undefined,
@@ -32,7 +32,7 @@ pub enum Step {
 
 /// What a script's commands speak of: what it declares, and the public surface that it was read over.
 #[derive(Clone, Copy)]
-pub struct Context<'s> {
+pub(crate) struct Context<'s> {
     pub declared: &'s Declared,
     pub surface: &'s PublicSurface,
 }

@@ -9,7 +9,7 @@ use wf_base::Mark;
 use wf_bufs::{AnswerKind, ArgKind};
 
 /// The kind of an argument of this type. A type that no argument has counts as a flag.
-pub fn arg_kind(ty: Ty) -> ArgKind
+pub(crate) fn arg_kind(ty: Ty) -> ArgKind
     ensures { arg_kind_of result ≡ kind_of ty }
 {
     match ty {

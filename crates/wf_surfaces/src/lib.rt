@@ -4,5 +4,5 @@
 pub mod kinds;
 pub mod surface;
 
-pub use kinds::{answer_kind, arg_kind};
+pub use kinds::answer_kind;
 pub use surface::public_surface;

@@ -32,8 +32,8 @@ use Rattle.wf_points.specs.PointNumbers.{HasTooMany}
 use Rattle.wf_bounds_stmts.specs.MethodRules.{facts_refusal}
 use Rattle.wf_bounds.specs.Acceptance.{AcceptedPackage, IsAccepted, IsRefusedFor}
 use Rattle.wf_tokens.specs.Runs.{is_run}
-use Rattle.wf_formed_laws.proofs.AcceptedForm.{read_texts_are_formed}
-use Rattle.wf_depth_laws.proofs.ReadTexts.{read_texts_are_shallow}
+use Rattle.wf_lower_formed_laws.proofs.AcceptedForm.{read_texts_are_formed}
+use Rattle.wf_lower_depth_laws.proofs.ReadTexts.{read_texts_are_shallow}
 use Rattle.wf_tool_runs.specs.Lowered.{IsLowered}
 use Rattle.wf_lower_names.specs.SpeltNodes.{IsPlainPackage}
 use Rattle.wf_lower_names.proofs.SpeltNodes.{nodes_are_spelt}

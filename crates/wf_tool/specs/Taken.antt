@@ -116,6 +116,11 @@ Judges name files (Ok a) = IsAcceptedAs name files (package_of a.nodes) × HasNa
 Judges name files (Err (phase.Refused refusal)) = IsRefused name files refusal
 Judges name files (Err phase.Memory) = ⊤
 
+-- Why a phase gives nothing is why the package isn't accepted.
+abbrev pub taking_fault : PhaseFault → TakingFault
+taking_fault (phase.Refused refusal) = Refused refusal
+taking_fault phase.Memory = Memory
+
 -- The same of files that have been taken.
 abbrev pub JudgesTaken : (name : List ℕ) → (files : List (List ℕ)) → Result AcceptedPackage TakingFault → Type 0
 JudgesTaken name files (Ok a) = IsAcceptedAs name files (package_of a.nodes) × HasNames a.nodes × IsSpelt a.nodes × IsLowered (package_of a.nodes)

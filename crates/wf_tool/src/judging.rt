@@ -74,11 +74,7 @@ fn judge_taken(alloc: Global, name: &str, files: &[Vec<u8>]) -> Result<Accepted,
     requires sized { too_large (map (λ bytes. bytes.items) files.now) ≡ None }
     ensures { JudgesTaken name.now (map (λ bytes. bytes.items) files.now) result }
 {
-    match judge_files(alloc, name, files) {
-        Ok(accepted) => Ok(accepted),
-        Err(PhaseFault::Refused(refusal)) => Err(TakingFault::Refused(refusal)),
-        Err(PhaseFault::Memory) => Err(TakingFault::Memory),
-    }
+    Ok(judge_files(alloc, name, files)?)
 }
 
 /// Takes the files of a package, where they aren't too many.
@@ -126,7 +122,7 @@ pub(crate) fn accept_package<I: Inputs>(
 }
 
 /// Judges the package with these words. Ok is the number of its methods.
-pub fn judge_package<I: Inputs>(
+pub(crate) fn judge_package<I: Inputs>(
     alloc: Global,
     asked: PackageWords<'_>,
     inputs: &mut I,
@@ -144,7 +140,7 @@ pub fn judge_package<I: Inputs>(
 
 /// A package that is accepted, with the bytes of a script that is to run over it.
 #[derive(Drop)]
-pub struct Ready {
+pub(crate) struct Ready {
     pub accepted: Accepted,
     pub script: Vec<u8>,
 }
@@ -205,7 +201,7 @@ pub(crate) fn ready_package<I: Inputs>(
 
 /// A package that is accepted, with the bytes of a script that is to run over these bytes as its C text.
 #[derive(Drop)]
-pub struct ReadyText {
+pub(crate) struct ReadyText {
     pub ready: Ready,
     pub text: Vec<u8>,
 }

@@ -4,12 +4,12 @@ ghost use Rattle.std.specs.Prelude.{◌≡◌, ◌-◌, ◌^◌, ◌≤◌, ◌<
 ghost use Rattle.wf_text.specs.declared.rules.Rule.TheVariants.{L1};
 ghost use Rattle.wf_tokens.specs.Places.{first_place};
 ghost use Rattle.wf_tool.specs.declared.taking.TakingFault.TheVariants as faults;
-ghost use Rattle.wf_tool.specs.Taken.{CountsTaking, NamesFailed, NamesFile, StopsFile, StopsFiles, StopsScript, TakesFile, TakesFiles, TakesScript};
+ghost use Rattle.wf_tool.specs.Taken.{CountsTaking, NamesFailed, NamesFile, StopsFile, StopsFiles, StopsScript, TakesFile, TakesFiles, TakesScript, taking_fault};
 
 use crate::words::file_name;
 use std::alloc::{AllocFailed, Global};
 use wf_outside::{Inputs, TakeFault};
-use wf_text::{NoMemory, Place, Refusal, Rule};
+use wf_text::{NoMemory, PhaseFault, Place, Refusal, Rule};
 
 /// Why files aren't taken, or a package isn't accepted.
 #[derive(Clone, Copy)]
@@ -38,8 +38,19 @@ impl From<NoMemory> for TakingFault {
     }
 }
 
+impl From<PhaseFault> for TakingFault {
+    ghost from_gives = { λ refused fault. fault ≡ taking_fault refused };
+
+    fn from(refused: PhaseFault) -> TakingFault {
+        match refused {
+            PhaseFault::Refused(refusal) => TakingFault::Refused(refusal),
+            PhaseFault::Memory => TakingFault::Memory,
+        }
+    }
+}
+
 /// The first place of the file with this number.
-pub fn first_place(number: usize) -> Place
+pub(crate) fn first_place(number: usize) -> Place
     requires { number < 2 ^ 16 }
     ensures { result ≡ first_place number }
 {

@@ -10,14 +10,14 @@ ghost use Rattle.wf_tool.specs.Words.{asked_of, command_of, is_between, is_packa
 
 /// A package by its words: its name, and the names of its files in order.
 #[derive(Clone, Copy)]
-pub struct PackageWords<'a> {
+pub(crate) struct PackageWords<'a> {
     pub name: &'a str,
     pub files: &'a [String],
 }
 
 /// A package, a script and a C text by their words.
 #[derive(Clone, Copy)]
-pub struct TextWords<'a> {
+pub(crate) struct TextWords<'a> {
     pub package_words: PackageWords<'a>,
     pub script: &'a str,
     pub text: &'a str,
@@ -25,7 +25,7 @@ pub struct TextWords<'a> {
 
 /// What words ask for.
 #[derive(Clone, Copy)]
-pub enum Command<'a> {
+pub(crate) enum Command<'a> {
     /// A package is to be checked.
     Check(PackageWords<'a>),
     /// Its C text is to be written.
@@ -40,7 +40,7 @@ pub enum Command<'a> {
 
 /// What words ask for: `check PACKAGE FILE...`, `gen PACKAGE FILE...`, `run PACKAGE SCRIPT FILE...`, `mean PACKAGE SCRIPT FILE...` or
 /// `exec PACKAGE SCRIPT TEXT FILE...`. None for other words, which are no command form.
-pub fn command_of(words: &[String]) -> Option<Command>
+pub(crate) fn command_of(words: &[String]) -> Option<Command>
     ensures command { option_map command_seen result ≡ command_of (map (λ word. string_bytes word) words.now) }
     ensures named { IfSome result (λ asked. is_package_name (asked_package (command_seen asked)).package_name ≡ true) }
 {

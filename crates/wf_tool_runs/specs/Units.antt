@@ -4,9 +4,14 @@ use Rattle.wf_text.specs.Surface.{Surface}
 use Rattle.c_text.specs.CTree.{ItemTree}
 use Rattle.c_read_grammar.specs.Outcomes.{HasOutcome, whole, too_deep, not_c}
 use Rattle.c_meaning.specs.UnitForm.{HasUnitForm, first_break}
+use Rattle.c_read.specs.declared.faults.ReadFault.{ReadFault}
+use Rattle.c_read.specs.declared.faults.ReadFault.TheVariants as reads
 use Rattle.c_form.specs.declared.faults.LoadFault.{LoadFault}
+use Rattle.c_form.specs.declared.faults.LoadFault.TheVariants as loads
 use Rattle.c_form.specs.Formed.{Refuses}
 use Rattle.c_step.specs.Loading.{SeenOf}
+use Rattle.wf_script.specs.declared.faults.ScriptFault.{ScriptFault}
+use Rattle.wf_script.specs.declared.faults.ScriptFault.TheVariants as scripts
 use Rattle.wf_script_rules.specs.Report.{Report, report_of}
 use Rattle.wf_script_rules.specs.Scripts.{Script, actions_of, script_of}
 use Rattle.wf_script_drive.specs.declared.driving.DriveEnd.{DriveEnd}
@@ -36,6 +41,20 @@ RefusesText surface text TooLong = most_text < length text
 RefusesText surface text (TooDeep at) = (length text ≤ most_text) × HasOutcome text (too_deep at)
 RefusesText surface text (NotC at) = (length text ≤ most_text) × HasOutcome text (not_c at)
 RefusesText surface text (NoSuchForm item) = (length text ≤ most_text) × ((items : List ItemTree) × HasOutcome text (whole items) × (first_break surface items ≡ Some item))
+
+-- Why a script isn't read, bytes give no unit or a unit isn't taken is why the script isn't run.
+abbrev pub script_fault : ScriptFault → RunFault
+script_fault (scripts.Refused line rule) = faults.Script line rule
+script_fault scripts.Memory = faults.Memory
+
+abbrev pub read_fault : ReadFault → RunFault
+read_fault (reads.TooDeep at) = faults.Text (TooDeep at)
+read_fault (reads.NotC at) = faults.Text (NotC at)
+read_fault reads.Memory = faults.Memory
+
+abbrev pub load_fault : LoadFault → RunFault
+load_fault (loads.NoSuchForm item) = faults.Text (NoSuchForm item)
+load_fault loads.Memory = faults.Memory
 
 -- They are the text of these items, which have the unit form, and the report was driven.
 pub record DrivesText (seen : SeenOf) (surface : Surface) (script : Script) (text : List ℕ) (old new : Option (List ℕ)) (room left : Option ℕ) (end : DriveEnd) : Type 0 where

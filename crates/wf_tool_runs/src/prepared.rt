@@ -55,7 +55,7 @@ impl Prepared {
 
     /// Performs the script over an engine of the package that was made for the script's receivers, and writes its report to `out`,
     /// in pieces of at most 4,096 bytes. It takes all its memory first, and writes nothing where it doesn't get it.
-    pub fn drive<E: Engine, O: Sink>(
+    pub(crate) fn drive<E: Engine, O: Sink>(
         &self,
         alloc: Global,
         engine: &mut E,

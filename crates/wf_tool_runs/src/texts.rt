@@ -6,7 +6,7 @@ ghost use Rattle.wf_ast.specs.TypedPackage.{package_of, surface_of};
 ghost use Rattle.wf_script_drive.specs.Lawful.{IsScript};
 ghost use Rattle.wf_surfaces.specs.Names.{HasNames};
 ghost use Rattle.wf_tool_runs.specs.Runs.{CountsRun};
-ghost use Rattle.wf_tool_runs.specs.Units.{RunsRead, RunsText};
+ghost use Rattle.wf_tool_runs.specs.Units.{RunsRead, RunsText, load_fault, read_fault, script_fault};
 
 use crate::prepared::Prepared;
 use crate::units::run_unit;
@@ -48,6 +48,40 @@ pub enum RunFault {
     Memory,
 }
 
+impl From<ScriptFault> for RunFault {
+    ghost from_gives = { λ refused fault. fault ≡ script_fault refused };
+
+    fn from(refused: ScriptFault) -> RunFault {
+        match refused {
+            ScriptFault::Refused { line, rule } => RunFault::Script { line, rule },
+            ScriptFault::Memory => RunFault::Memory,
+        }
+    }
+}
+
+impl From<ReadFault> for RunFault {
+    ghost from_gives = { λ refused fault. fault ≡ read_fault refused };
+
+    fn from(refused: ReadFault) -> RunFault {
+        match refused {
+            ReadFault::TooDeep { at } => RunFault::Text(TextFault::TooDeep { at }),
+            ReadFault::NotC { at } => RunFault::Text(TextFault::NotC { at }),
+            ReadFault::Memory => RunFault::Memory,
+        }
+    }
+}
+
+impl From<LoadFault> for RunFault {
+    ghost from_gives = { λ refused fault. fault ≡ load_fault refused };
+
+    fn from(refused: LoadFault) -> RunFault {
+        match refused {
+            LoadFault::NoSuchForm { item } => RunFault::Text(TextFault::NoSuchForm { item }),
+            LoadFault::Memory => RunFault::Memory,
+        }
+    }
+}
+
 /// Runs a script over these bytes as a C text of an accepted package, and writes its report to `out`, in pieces of at most 4,096
 /// bytes. It takes all its memory before the first byte. At an `Err` nothing is written; a script that breaks a rule comes before a
 /// text that is refused.
@@ -66,11 +100,8 @@ pub fn run_text<L: Loader, O: Sink>(
     ensures count { CountsRun (O.faults out.old) (O.faults out.new) result }
     ensures longest { KeepsLongest (O.longest out.old) (O.longest out.new) }
 {
-    match Prepared::read(alloc, a.typed(), bytes) {
-        Ok(prepared) => run_read(alloc, loader, a, &prepared, text, out),
-        Err(ScriptFault::Refused { line, rule }) => Err(RunFault::Script { line, rule }),
-        Err(ScriptFault::Memory) => Err(RunFault::Memory),
-    }
+    let prepared = Prepared::read(alloc, a.typed(), bytes)?;
+    run_read(alloc, loader, a, &prepared, text, out)
 }
 
 // The same of a script that is read over the package's surface.
@@ -116,16 +147,6 @@ fn run_short<L: Loader, O: Sink>(
     ensures count { CountsRun (O.faults out.old) (O.faults out.new) result }
     ensures longest { KeepsLongest (O.longest out.old) (O.longest out.new) }
 {
-    match read(alloc, text) {
-        Ok(unit) => match run_unit(alloc, loader, a.typed(), prepared, unit, out) {
-            Ok(end) => Ok(end),
-            Err(LoadFault::NoSuchForm { item }) => Err(RunFault::Text(TextFault::NoSuchForm {
-                item,
-            })),
-            Err(LoadFault::Memory) => Err(RunFault::Memory),
-        },
-        Err(ReadFault::TooDeep { at }) => Err(RunFault::Text(TextFault::TooDeep { at })),
-        Err(ReadFault::NotC { at }) => Err(RunFault::Text(TextFault::NotC { at })),
-        Err(ReadFault::Memory) => Err(RunFault::Memory),
-    }
+    let unit = read(alloc, text)?;
+    Ok(run_unit(alloc, loader, a.typed(), prepared, unit, out)?)
 }
