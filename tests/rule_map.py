@@ -5,7 +5,8 @@ The rules are the sections of docs/RULES.md. A rule's definitions are the rows o
 definitions in specs/ that name it, its functions those in src/ that answer it, its tests the examples of its section, the
 files of tests/ with a row that expects it, and the file of tests/second_opinion/ that refuses by it. A row of the rules of types names its judgement, and the function that decides it in src/ has
 the same name, with the kind of part after it where each kind has its own. --check writes nothing and fails where the page
-isn't what would be written, a rule lacks one of these, or a row of the rules of types has no such function.
+isn't what would be written, a rule lacks one of these, a row of the rules of types has no such function, or a function in
+wf_types_* answers such a rule that has no row's name.
 """
 import pathlib
 import re
@@ -174,6 +175,8 @@ def main():
         for what, there in (("definition", specs[rule]), ("code", code[rule]), ("test", shown)):
             if not there:
                 lacks.append(f"{rule} has no {what}")
+        lacks += [f"{rule} is answered by {name} of {crate}/{file}, which has no row's name" for (crate, file), names in code[rule].items()
+                  if crate.startswith("wf_types_") for name in names if not any(name in of_row for of_row in table.get(rule, {}).values())]
     text = HEAD + "".join(rows)
     if sys.argv[1:] == ["--check"]:
         if not PAGE.exists() or PAGE.read_text() != text:

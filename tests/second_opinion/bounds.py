@@ -12,8 +12,8 @@ CLAUSE_RULES = {"pre": "B10", "inv": "B11", "post": "B12"}
 
 
 def judge_bounds(declarations, notice=lambda key, facts: None):
-    """The first rule that isn't met, with its place, or None. `notice` is told of each list: by the statement in front of which
-    it stands, by the block at whose end it stands, or by ("resumed", statement) behind the drops of one that may suspend."""
+    """The first rule that isn't met, with its place, or None. `notice` is told of each list: by the statement before which
+    it stands, by the block at whose end it stands, or by ("resumed", statement) after the drops of one that may suspend."""
     package = Package()
     methods = sorted((it for it in declarations if isinstance(it, Method)), key=lambda it: it.place)
     try:

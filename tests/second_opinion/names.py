@@ -69,7 +69,7 @@ class Names:
         self.declare()
         self.limit_numbers()
         self.resolve()
-        self.find_circles()
+        self.find_cycles()
         self.limit_sizes()
         return self.violations
 
@@ -304,14 +304,14 @@ class Names:
         else:
             self.breaks(Rule.N5, jump.label[1] if jump.label else jump.place)
 
-    # Circles and sizes
+    # Cycles and sizes
 
     def held(self, struct):
         """The structs that stand in a struct's fields."""
         names = [it.type.name for it in struct.fields if isinstance(it.type, StructType)]
         return [self.structs[name] for name in names if name in self.structs]
 
-    def find_circles(self):
+    def find_cycles(self):
         structs = [it for it in self.declarations if isinstance(it, Struct)]
         self.circular = {it for it in structs if it in reached(it, self.held)}
         for it in self.circular | {it for it in self.methods if it in reached(it, lambda method: method.callees)}:

@@ -263,7 +263,7 @@ class BoundsWriter(NeedsWriter):
         return f"return {self.one_of(0, 0, min(self.most, self.high))}"
 
     def refused(self, depth):
-        """A statement behind blocks that leave where what it needs isn't so."""
+        """A statement after blocks that leave where what it needs isn't so."""
         conditions, use, about = self.need()
         found = []
         for condition in conditions:
@@ -272,7 +272,7 @@ class BoundsWriter(NeedsWriter):
         return found + self.between(about) + flat(use)
 
     def merge(self, depth):
-        """A statement behind arms each of which gives what it needs, or leaves."""
+        """A statement after arms each of which gives what it needs, or leaves."""
         conditions, use, about = self.need()
         local = dict(LOCALS).get(about)
         parts, arms = [], self.one_of(1, 2, 2)
@@ -349,7 +349,7 @@ class BoundsWriter(NeedsWriter):
         return [f"{x} = 0", [f"while{label} {x} < {edge},", f"{clause},", "{", body, f"}} endwhile{label}"]]
 
     def kept(self, depth, label):
-        """A loop that keeps what a statement inside or behind it needs."""
+        """A loop that keeps what a statement inside or after it needs."""
         conditions, use, about = self.need()
         conditions = [condition.join("()") if " or " in condition or " and " in condition else condition for condition in conditions]
         word = self.one_of("inv", "inv", "pre")

@@ -8,7 +8,7 @@ from .trees import (ArrayType, Assert, Assign, BaseType, Block, Call, CallStatem
 
 WORDS = set("""and args array as assert base break const continue else endwhile false func if inv not nothing ok or post pre
     pri pub return slice status struct this true var via while yield""".split())
-# Behind these words, as behind a name, a number, a text or a closing bracket, a line's end adds a semicolon.
+# After these words, as after a name, a number, a text or a closing bracket, a line's end adds a semicolon.
 ENDING_WORDS = set("args break continue endwhile false nothing ok return status this true".split())
 CHAINED = set("+ * & | ^ and or".split())
 SINGLE = set("- / % << >> == <> < <= > >= ~mod+ ~mod- ~mod* ~mod<< ~sat+ ~sat-".split())
@@ -78,7 +78,7 @@ def token_at(text, at, place):
 @functools.lru_cache(16)
 def tokens_of(text, file):
     """The tokens up to the first that breaks a rule, that one included, or up to the file's end."""
-    tokens, at, line, column, behind = [], 0, 1, 1, None
+    tokens, at, line, column, after = [], 0, 1, 1, None
     while True:
         gap = GAP.match(text, at)
         if gap:
@@ -86,7 +86,7 @@ def tokens_of(text, file):
             continue
         if at == len(text) or text[at] == "\n":
             if tokens and ends_a_line(tokens[-1]):
-                tokens.append(Token("symbol", ";", behind))
+                tokens.append(Token("symbol", ";", after))
             if at == len(text):
                 tokens.append(Token("end", "", (file, line, column)))
                 return tokens
@@ -97,7 +97,7 @@ def tokens_of(text, file):
         if token.kind == "wrong":
             return tokens
         at, column = at + length, column + length
-        behind = (file, line, column)
+        after = (file, line, column)
 
 
 def read(text, file):
@@ -198,7 +198,7 @@ class Reader:
         return self.take().text if self.stands("!") or self.stands("?") else ""
 
     def named(self, read):
-        """A list in parentheses, of names with what is read behind each."""
+        """A list in parentheses, of names with what is read after each."""
         self.expect("(")
         named = []
         while self.token().kind == "name":
@@ -356,7 +356,7 @@ class Reader:
                 and any(self.stands(text, 3) for text in "!?("))
 
     def call(self, receiver, marked):
-        """A call behind its receiver; as a statement it has a mark."""
+        """A call after its receiver; as a statement it has a mark."""
         self.expect(".")
         name = self.of_kind("name")
         mark = self.mark()

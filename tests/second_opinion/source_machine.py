@@ -77,7 +77,7 @@ class Frame:
 
 
 class Machine:
-    """Runs the methods of one package, which has the name `package`. `watch(key, frame)` is told of each statement in front of which the machine comes, of each
+    """Runs the methods of one package, which has the name `package`. `watch(key, frame)` is told of each statement before which the machine comes, of each
     block whose end it reaches, and of ("resumed", statement) where a suspended statement goes on."""
 
     def __init__(self, declarations, watch=lambda key, frame: None, package="k"):

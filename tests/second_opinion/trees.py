@@ -184,7 +184,7 @@ class Fine(Node):
 
 @node
 class StatusText(Node):
-    """A status by its text, of the language where `base.` stands in front of it."""
+    """A status by its text, of the language where `base.` stands before it."""
     place: tuple
     text: str
     text_place: tuple

@@ -140,7 +140,7 @@ class Types(Values):
         return True, value
 
     def is_whole_call(self, expression):
-        """Whether it is a call that stands by itself behind `=`; a base method without a mark is an ordinary expression."""
+        """Whether it is a call that stands by itself after `=`; a base method without a mark is an ordinary expression."""
         if not isinstance(expression, Call):
             return False
         return isinstance(expression.callee, Method) or expression.mark + expression.callee.mark != ""

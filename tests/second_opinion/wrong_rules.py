@@ -68,7 +68,7 @@ def cut_off(right):
 
 
 def cut_operands(right):
-    """Ranges of operands that the demands would have refused are cut, so that what comes behind has a range."""
+    """Ranges of operands that the demands would have refused are cut, so that what comes after has a range."""
     def applied(op, bits, a, b, ordered):
         if b and op in ("/", "%"):
             b = max(b[0], 1), max(b[1], 1)
@@ -100,10 +100,10 @@ SINGLE = [
     clauses_not_asked("nothing is asked at the entry", lambda loop, words, place: words[0] == "pre" and place == loop.place),
     clauses_not_asked("nothing is asked at `break`", lambda loop, words, place: words[0] == "inv" and place != loop.place),
     clauses_not_asked("nothing is asked at the exit", lambda loop, words, place: words[0] == "inv" and place == loop.place),
-    ("a pre stands behind its loop", Bounds, "clause_facts",
+    ("a pre stands after its loop", Bounds, "clause_facts",
      lambda right: lambda self, loop, words: right(self, loop, ("pre", "inv", "post"))),
-    ("the inverse condition stands behind a loop that is left", bounds, "leaves", lambda right: lambda block, loop: False),
-    ("all facts stand behind arms", Bounds, "common", all_together),
+    ("the inverse condition stands after a loop that is left", bounds, "leaves", lambda right: lambda block, loop: False),
+    ("all facts stand after arms", Bounds, "common", all_together),
     ("an `or` tells its first operand", Facts, "facts_of", first_operand),
     ("an index may be the length", Facts, "gives_sides", up_to_the_length),
     ("`<>` is taken for `<`", facts, "ALLOWS", lambda right: {**right, "<>": {-1}}),
