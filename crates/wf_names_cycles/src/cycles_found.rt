@@ -8,8 +8,8 @@ ghost use Rattle.wf_names_cycles.specs.CyclesFound.{DecidesWith, HoldsItself, Ca
 
 use graphs::cycles::Cycles;
 use wf_ast::parsed::Name;
+use wf_names_rules::found::Found;
 use wf_names_rules::lists::flagged;
-use wf_text::rules::Refusal;
 
 /// The structs of a package, or its methods: their names, in order, and the cycles of their graph.
 pub struct NamedCycles {
@@ -36,36 +36,31 @@ impl NamedCycles {
     }
 }
 
-// The first refusal of what was found before and of N4 at the names on cycles.
-fn recursive(found: Option<Refusal>, named: &NamedCycles) -> Option<Refusal>
-    ensures { (rows : List (List ℕ)) → AreCyclesOf rows named.now → DecidesWith (RecursName rows named.now.names.items) found result }
+// N4 at the names on cycles joins what was found before.
+fn recursive(found: &mut Found, named: &NamedCycles)
+    ensures { (rows : List (List ℕ)) → AreCyclesOf rows named.now → DecidesWith (RecursName rows named.now.names.items) found.old found.new }
 {
-    flagged(found, named.cycles.flags.as_slice(), named.names.as_slice())
+    flagged(found, named.cycles.flags.as_slice(), named.names.as_slice());
 }
 
-/// The first refusal of what was found before and of N4 at structs that hold themselves through fields.
-fn holds_itself(found: Option<Refusal>, structs: &NamedCycles) -> Option<Refusal>
-    ensures { (d : Declared) → AreStructCycles d structs.now → DecidesWith (HoldsItself d) found result }
+// N4 at structs that hold themselves through fields joins what was found before.
+fn holds_itself(found: &mut Found, structs: &NamedCycles)
+    ensures { (d : Declared) → AreStructCycles d structs.now → DecidesWith (HoldsItself d) found.old found.new }
 {
-    recursive(found, structs)
+    recursive(found, structs);
 }
 
-/// The first refusal of what was found before and of N4 at methods that can reach themselves by calls.
-fn recursion(found: Option<Refusal>, methods: &NamedCycles) -> Option<Refusal>
-    ensures { (d : Declared) → AreMethodCycles d methods.now → DecidesWith (CallsItself d) found result }
+// N4 at methods that can reach themselves by calls joins what was found before.
+fn recursion(found: &mut Found, methods: &NamedCycles)
+    ensures { (d : Declared) → AreMethodCycles d methods.now → DecidesWith (CallsItself d) found.old found.new }
 {
-    recursive(found, methods)
+    recursive(found, methods);
 }
 
-/// The first refusal of what was found before and of N4 at structs that hold themselves and methods that can reach
-/// themselves by calls.
-pub fn cycle_breaks(
-    found: Option<Refusal>,
-    structs: &NamedCycles,
-    methods: &NamedCycles,
-) -> Option<Refusal>
-    ensures { (d : Declared) → AreStructCycles d structs.now → AreMethodCycles d methods.now → DecidesWith (CycleBreaks d) found result }
+/// N4 at structs that hold themselves and methods that can reach themselves by calls joins what was found before.
+pub fn cycle_breaks(found: &mut Found, structs: &NamedCycles, methods: &NamedCycles)
+    ensures { (d : Declared) → AreStructCycles d structs.now → AreMethodCycles d methods.now → DecidesWith (CycleBreaks d) found.old found.new }
 {
-    let held = holds_itself(found, structs);
-    recursion(held, methods)
+    holds_itself(found, structs);
+    recursion(found, methods);
 }

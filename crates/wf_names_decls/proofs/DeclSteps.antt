@@ -1,5 +1,5 @@
 -- Passes over the declarations of a package, one by one.
-use Rattle.std.proofs.Common.{◌≡◌, ℕ, zero, suc, ◌+◌, ◌<◌, ◌≤◌, List, [], ◌∷◌, ◌++◌, fold, length, drop, map, slice_get, slice_index_or, Option, Some, Result, IfOk, refl, sym, ap, ◌∙◌, subst, arith}
+use Rattle.std.proofs.Common.{◌≡◌, ℕ, zero, suc, ◌+◌, ◌<◌, ◌≤◌, List, [], ◌∷◌, ◌++◌, fold, length, drop, map, slice_get, slice_index_or, Option, Some, Result, OnOk, refl, sym, ap, ◌∙◌, subst, arith}
 use Rattle.wf_text.specs.declared.faults.NoMemory.{NoMemory}
 use Rattle.wf_text.specs.declared.rules.Refusal.{Refusal}
 use Rattle.wf_ast.specs.declared.parsed.DeclNode.{DeclNode}
@@ -133,6 +133,6 @@ pub fields-same : (es : List ExprTree) (fs : List Field) → variable_names (var
 fields-same es [] = refl
 fields-same es (f ∷ fs) = ap (λ names. f.name ∷ names) (fields-same es fs)
 
--- An answer that is told of one value is told of what is the same.
-pub ok_same : (r : Result (Option Refusal) NoMemory) (s t : Option Refusal) → s ≡ t → IfOk r (λ all. all ≡ s) → IfOk r (λ all. all ≡ t)
-ok_same r s t e h = let P : Option Refusal → Type 0 = λ u. IfOk r (λ all. all ≡ u) in subst P e h
+-- What is found is one refusal, and so another that is the same.
+pub ok_same : {X : Type 0} (r : Result X NoMemory) (x s t : Option Refusal) → s ≡ t → OnOk r (x ≡ s) → OnOk r (x ≡ t)
+ok_same r x s t e h = let P : Option Refusal → Type 0 = λ u. OnOk r (x ≡ u) in subst P e h

@@ -1,6 +1,6 @@
 // What the declarations of a package break by their names and their number.
 
-ghost use Rattle.std.specs.Prelude.{◌≡◌, ℕ, [], ◌∷◌, fold, length, nat_eq, IfOk};
+ghost use Rattle.std.specs.Prelude.{◌≡◌, ℕ, [], ◌∷◌, fold, length, nat_eq, IfOk, OnOk};
 ghost use Rattle.indexmap.specs.IndexMap.{get};
 ghost use Rattle.wf_ast.specs.ParsedTrees.{expr_trees, stmt_trees, decl_trees, decl_made, block_at};
 ghost use Rattle.wf_ast.specs.ParsedParts.{BlockBelow, DeclParts};
@@ -17,38 +17,26 @@ use indexmap::IndexMap;
 use std::alloc::Global;
 use wf_ast::PackageNodes;
 use wf_ast::parsed::{Block, Decl, Field, Name};
+use wf_names_rules::found::Found;
 use wf_names_rules::lists::doubles;
 use wf_text::faults::NoMemory;
-use wf_text::rules::Refusal;
 
-fn judge_statuses(
-    alloc: Global,
-    found: Option<Refusal>,
-    parsed: &PackageNodes,
-) -> Result<Option<Refusal>, NoMemory>
-    ensures { IfOk result (λ all. all ≡ statuses_found (declared parsed.now.texts (decl_trees parsed.now.exprs parsed.now.stmts parsed.now.decls)) found) }
+fn judge_statuses(alloc: Global, found: &mut Found, parsed: &PackageNodes) -> Result<(), NoMemory>
+    ensures { OnOk result (found.new ≡ statuses_found (declared parsed.now.texts (decl_trees parsed.now.exprs parsed.now.stmts parsed.now.decls)) found.old) }
 {
     let names = status_names(alloc, parsed)?;
     doubles(alloc, found, names.as_slice())
 }
 
-fn judge_constants(
-    alloc: Global,
-    found: Option<Refusal>,
-    parsed: &PackageNodes,
-) -> Result<Option<Refusal>, NoMemory>
-    ensures { IfOk result (λ all. all ≡ constants_found (declared parsed.now.texts (decl_trees parsed.now.exprs parsed.now.stmts parsed.now.decls)) found) }
+fn judge_constants(alloc: Global, found: &mut Found, parsed: &PackageNodes) -> Result<(), NoMemory>
+    ensures { OnOk result (found.new ≡ constants_found (declared parsed.now.texts (decl_trees parsed.now.exprs parsed.now.stmts parsed.now.decls)) found.old) }
 {
     let names = constant_names(alloc, parsed)?;
     judge_names(alloc, found, parsed, names.as_slice())
 }
 
-fn judge_structs(
-    alloc: Global,
-    found: Option<Refusal>,
-    parsed: &PackageNodes,
-) -> Result<Option<Refusal>, NoMemory>
-    ensures { IfOk result (λ all. all ≡ structs_found (declared parsed.now.texts (decl_trees parsed.now.exprs parsed.now.stmts parsed.now.decls)) found) }
+fn judge_structs(alloc: Global, found: &mut Found, parsed: &PackageNodes) -> Result<(), NoMemory>
+    ensures { OnOk result (found.new ≡ structs_found (declared parsed.now.texts (decl_trees parsed.now.exprs parsed.now.stmts parsed.now.decls)) found.old) }
 {
     let names = struct_names(alloc, parsed)?;
     judge_names(alloc, found, parsed, names.as_slice())
@@ -56,36 +44,32 @@ fn judge_structs(
 
 fn judge_all_methods(
     alloc: Global,
-    found: Option<Refusal>,
+    found: &mut Found,
     parsed: &PackageNodes,
-) -> Result<Option<Refusal>, NoMemory>
-    ensures { IfOk result (λ all. all ≡ methods_found (declared parsed.now.texts (decl_trees parsed.now.exprs parsed.now.stmts parsed.now.decls)) found) }
+) -> Result<(), NoMemory>
+    ensures { OnOk result (found.new ≡ methods_found (declared parsed.now.texts (decl_trees parsed.now.exprs parsed.now.stmts parsed.now.decls)) found.old) }
 {
     let methods = owned_methods(alloc, parsed)?;
     judge_methods(alloc, found, parsed, methods.as_slice())
 }
 
 // The names of statuses, constants, structs and methods.
-fn judge_package(
-    alloc: Global,
-    found: Option<Refusal>,
-    parsed: &PackageNodes,
-) -> Result<Option<Refusal>, NoMemory>
-    ensures { IfOk result (λ all. all ≡ names_found (declared parsed.now.texts (decl_trees parsed.now.exprs parsed.now.stmts parsed.now.decls)) found) }
+fn judge_package(alloc: Global, found: &mut Found, parsed: &PackageNodes) -> Result<(), NoMemory>
+    ensures { OnOk result (found.new ≡ names_found (declared parsed.now.texts (decl_trees parsed.now.exprs parsed.now.stmts parsed.now.decls)) found.old) }
 {
-    let found = judge_statuses(alloc, found, parsed)?;
-    let found = judge_constants(alloc, found, parsed)?;
-    let found = judge_structs(alloc, found, parsed)?;
+    judge_statuses(alloc, found, parsed)?;
+    judge_constants(alloc, found, parsed)?;
+    judge_structs(alloc, found, parsed)?;
     judge_all_methods(alloc, found, parsed)
 }
 
 fn judge_fields(
     alloc: Global,
-    found: Option<Refusal>,
+    found: &mut Found,
     parsed: &PackageNodes,
     fields: &[Field],
-) -> Result<Option<Refusal>, NoMemory>
-    ensures { IfOk result (λ all. all ≡ names_judged parsed.now.texts found (names_of_fields fields.now)) }
+) -> Result<(), NoMemory>
+    ensures { OnOk result (found.new ≡ names_judged parsed.now.texts found.old (names_of_fields fields.now)) }
 {
     let names = field_names(alloc, fields)?;
     judge_names(alloc, found, parsed, names.as_slice())
@@ -94,41 +78,36 @@ fn judge_fields(
 // The fields of a struct; other declarations have none.
 fn judge_struct(
     alloc: Global,
-    found: Option<Refusal>,
+    found: &mut Found,
     parsed: &PackageNodes,
     decl: &Decl,
-) -> Result<Option<Refusal>, NoMemory>
-    ensures { (public : _) (at : _) → IfOk result (λ all. all ≡ fold (struct_judged parsed.now.texts) found (structs_of (decl_made (expr_trees parsed.now.exprs) (stmt_trees parsed.now.exprs parsed.now.stmts) public decl.now at ∷ []))) }
+) -> Result<(), NoMemory>
+    ensures { (public : _) (at : _) → OnOk result (found.new ≡ fold (struct_judged parsed.now.texts) found.old (structs_of (decl_made (expr_trees parsed.now.exprs) (stmt_trees parsed.now.exprs parsed.now.stmts) public decl.now at ∷ []))) }
 {
     match decl {
         Decl::Struct { fields, .. } => judge_fields(alloc, found, parsed, fields.as_slice()),
-        Decl::Status(_) => Ok(found),
-        Decl::Const { .. } => Ok(found),
-        Decl::Method { .. } => Ok(found),
+        Decl::Status(_) => Ok(()),
+        Decl::Const { .. } => Ok(()),
+        Decl::Method { .. } => Ok(()),
     }
 }
 
-fn judge_all_fields(
-    alloc: Global,
-    found: Option<Refusal>,
-    parsed: &PackageNodes,
-) -> Result<Option<Refusal>, NoMemory>
-    ensures { IfOk result (λ all. all ≡ fields_found (declared parsed.now.texts (decl_trees parsed.now.exprs parsed.now.stmts parsed.now.decls)) found) }
+fn judge_all_fields(alloc: Global, found: &mut Found, parsed: &PackageNodes) -> Result<(), NoMemory>
+    ensures { OnOk result (found.new ≡ fields_found (declared parsed.now.texts (decl_trees parsed.now.exprs parsed.now.stmts parsed.now.decls)) found.old) }
 {
-    let mut found = found;
     for number in 0..parsed.decls().len() {
-        found = judge_struct(alloc, found, parsed, &parsed.decl(number).decl)?;
+        judge_struct(alloc, found, parsed, &parsed.decl(number).decl)?;
     }
-    Ok(found)
+    Ok(())
 }
 
 fn judge_arg_list(
     alloc: Global,
-    found: Option<Refusal>,
+    found: &mut Found,
     parsed: &PackageNodes,
     args: &[Field],
-) -> Result<Option<Refusal>, NoMemory>
-    ensures { IfOk result (λ all. all ≡ args_judged parsed.now.texts found (names_of_fields args.now)) }
+) -> Result<(), NoMemory>
+    ensures { OnOk result (found.new ≡ args_judged parsed.now.texts found.old (names_of_fields args.now)) }
 {
     let names = field_names(alloc, args)?;
     judge_args(alloc, found, parsed, names.as_slice())
@@ -136,13 +115,13 @@ fn judge_arg_list(
 
 fn judge_body(
     alloc: Global,
-    found: Option<Refusal>,
+    found: &mut Found,
     parsed: &PackageNodes,
     constants: &IndexMap<u32, Name>,
     body: &Block,
-) -> Result<Option<Refusal>, NoMemory>
+) -> Result<(), NoMemory>
     requires { BlockBelow (length parsed.now.stmts) body.now }
-    ensures { IfOk result (λ all. all ≡ locals_judged (get nat_eq constants.now) parsed.now.texts found (variable_names (locals_of (block_at (stmt_trees parsed.now.exprs parsed.now.stmts) body.now)))) }
+    ensures { OnOk result (found.new ≡ locals_judged (get nat_eq constants.now) parsed.now.texts found.old (variable_names (locals_of (block_at (stmt_trees parsed.now.exprs parsed.now.stmts) body.now)))) }
 {
     let names = local_names(alloc, parsed, body)?;
     judge_locals(alloc, found, parsed, constants, names.as_slice())
@@ -150,53 +129,52 @@ fn judge_body(
 
 fn judge_variables(
     alloc: Global,
-    found: Option<Refusal>,
+    found: &mut Found,
     parsed: &PackageNodes,
     constants: &IndexMap<u32, Name>,
     args: &[Field],
     body: &Block,
-) -> Result<Option<Refusal>, NoMemory>
+) -> Result<(), NoMemory>
     requires { BlockBelow (length parsed.now.stmts) body.now }
-    ensures { IfOk result (λ all. all ≡ locals_judged (get nat_eq constants.now) parsed.now.texts (args_judged parsed.now.texts found (names_of_fields args.now)) (variable_names (locals_of (block_at (stmt_trees parsed.now.exprs parsed.now.stmts) body.now)))) }
+    ensures { OnOk result (found.new ≡ locals_judged (get nat_eq constants.now) parsed.now.texts (args_judged parsed.now.texts found.old (names_of_fields args.now)) (variable_names (locals_of (block_at (stmt_trees parsed.now.exprs parsed.now.stmts) body.now)))) }
 {
-    let found = judge_arg_list(alloc, found, parsed, args)?;
+    judge_arg_list(alloc, found, parsed, args)?;
     judge_body(alloc, found, parsed, constants, body)
 }
 
 // The arguments and locals of a method; other declarations have none.
 fn judge_method(
     alloc: Global,
-    found: Option<Refusal>,
+    found: &mut Found,
     parsed: &PackageNodes,
     constants: &IndexMap<u32, Name>,
     decl: &Decl,
-) -> Result<Option<Refusal>, NoMemory>
+) -> Result<(), NoMemory>
     requires { DeclParts (length parsed.now.exprs) (length parsed.now.stmts) decl.now }
-    ensures { (public : _) (at : _) → IfOk result (λ all. all ≡ fold (method_judged (get nat_eq constants.now) parsed.now.texts) found (methods_of (decl_made (expr_trees parsed.now.exprs) (stmt_trees parsed.now.exprs parsed.now.stmts) public decl.now at ∷ []))) }
+    ensures { (public : _) (at : _) → OnOk result (found.new ≡ fold (method_judged (get nat_eq constants.now) parsed.now.texts) found.old (methods_of (decl_made (expr_trees parsed.now.exprs) (stmt_trees parsed.now.exprs parsed.now.stmts) public decl.now at ∷ []))) }
 {
     match decl {
         Decl::Method { args, body, .. } => {
             judge_variables(alloc, found, parsed, constants, args.as_slice(), body)
         }
-        Decl::Status(_) => Ok(found),
-        Decl::Const { .. } => Ok(found),
-        Decl::Struct { .. } => Ok(found),
+        Decl::Status(_) => Ok(()),
+        Decl::Const { .. } => Ok(()),
+        Decl::Struct { .. } => Ok(()),
     }
 }
 
 fn judge_all_variables(
     alloc: Global,
-    found: Option<Refusal>,
+    found: &mut Found,
     parsed: &PackageNodes,
     constants: &IndexMap<u32, Name>,
-) -> Result<Option<Refusal>, NoMemory>
-    ensures { IfOk result (λ all. all ≡ fold (method_judged (get nat_eq constants.now) parsed.now.texts) found (methods_of (decl_trees parsed.now.exprs parsed.now.stmts parsed.now.decls))) }
+) -> Result<(), NoMemory>
+    ensures { OnOk result (found.new ≡ fold (method_judged (get nat_eq constants.now) parsed.now.texts) found.old (methods_of (decl_trees parsed.now.exprs parsed.now.stmts parsed.now.decls))) }
 {
-    let mut found = found;
     for number in 0..parsed.decls().len() {
-        found = judge_method(alloc, found, parsed, constants, &parsed.decl(number).decl)?;
+        judge_method(alloc, found, parsed, constants, &parsed.decl(number).decl)?;
     }
-    Ok(found)
+    Ok(())
 }
 
 fn constants_by_text(alloc: Global, parsed: &PackageNodes) -> Result<IndexMap<u32, Name>, NoMemory>
@@ -208,26 +186,22 @@ fn constants_by_text(alloc: Global, parsed: &PackageNodes) -> Result<IndexMap<u3
 
 fn judge_methods_within(
     alloc: Global,
-    found: Option<Refusal>,
+    found: &mut Found,
     parsed: &PackageNodes,
-) -> Result<Option<Refusal>, NoMemory>
-    ensures { IfOk result (λ all. all ≡ variables_found (declared parsed.now.texts (decl_trees parsed.now.exprs parsed.now.stmts parsed.now.decls)) found) }
+) -> Result<(), NoMemory>
+    ensures { OnOk result (found.new ≡ variables_found (declared parsed.now.texts (decl_trees parsed.now.exprs parsed.now.stmts parsed.now.decls)) found.old) }
 {
     let constants = constants_by_text(alloc, parsed)?;
     judge_all_variables(alloc, found, parsed, &constants)
 }
 
-/// The first refusal of what was found before and what the declarations of a package break: a name that is declared twice,
-/// a local of the name of a constant, a reserved name, and more methods than 1,024, or locals than 256 or arguments
-/// than 64 of a method. `Err` only where memory was refused.
-pub fn declarations(
-    alloc: Global,
-    found: Option<Refusal>,
-    parsed: &PackageNodes,
-) -> Result<Option<Refusal>, NoMemory>
-    ensures { IfOk result (λ all. all ≡ declarations_found (declared parsed.now.texts (decl_trees parsed.now.exprs parsed.now.stmts parsed.now.decls)) found) }
+/// What the declarations of a package break joins what was found before: a name that is declared twice, a local of the name
+/// of a constant, a reserved name, and more methods than 1,024, or locals than 256 or arguments than 64 of a method. `Err`
+/// only where memory was refused.
+pub fn declarations(alloc: Global, found: &mut Found, parsed: &PackageNodes) -> Result<(), NoMemory>
+    ensures { OnOk result (found.new ≡ declarations_found (declared parsed.now.texts (decl_trees parsed.now.exprs parsed.now.stmts parsed.now.decls)) found.old) }
 {
-    let found = judge_package(alloc, found, parsed)?;
-    let found = judge_all_fields(alloc, found, parsed)?;
+    judge_package(alloc, found, parsed)?;
+    judge_all_fields(alloc, found, parsed)?;
     judge_methods_within(alloc, found, parsed)
 }

@@ -13,22 +13,24 @@ use indexmap::{IndexMap, IndexSet};
 use std::alloc::Global;
 use wf_ast::PackageNodes;
 use wf_ast::parsed::Name;
+use wf_names_rules::found::Found;
 use wf_names_rules::lists::{beyond, doubles, initializes, reserved};
 use wf_text::faults::NoMemory;
-use wf_text::precedence::{is_before, sooner};
+use wf_text::precedence::is_before;
 use wf_text::rules::{Refusal, Rule};
 
 /// Of a list of names those that are declared twice, and the reserved ones.
 pub(crate) fn judge_names(
     alloc: Global,
-    found: Option<Refusal>,
+    found: &mut Found,
     parsed: &PackageNodes,
     names: &[Name],
-) -> Result<Option<Refusal>, NoMemory>
-    ensures { IfOk result (λ all. all ≡ names_judged parsed.now.texts found names.now) }
+) -> Result<(), NoMemory>
+    ensures { OnOk result (found.new ≡ names_judged parsed.now.texts found.old names.now) }
 {
-    let found = doubles(alloc, found, names)?;
-    Ok(reserved(found, parsed, names))
+    doubles(alloc, found, names)?;
+    reserved(found, parsed, names);
+    Ok(())
 }
 
 fn double_method(fresh: bool, name: Name) -> Option<Refusal>
@@ -44,37 +46,33 @@ fn double_method(fresh: bool, name: Name) -> Option<Refusal>
     }
 }
 
-fn owned_doubles(
-    alloc: Global,
-    found: Option<Refusal>,
-    methods: &[Owned],
-) -> Result<Option<Refusal>, NoMemory>
-    ensures { IfOk result (λ all. all ≡ soonest found (doubles_of_owned [] methods.now)) }
+fn owned_doubles(alloc: Global, found: &mut Found, methods: &[Owned]) -> Result<(), NoMemory>
+    ensures { OnOk result (found.new ≡ soonest found.old (doubles_of_owned [] methods.now)) }
 {
-    let mut found = found;
     let mut seen: IndexSet<(u32, u32)> = IndexSet::new(alloc);
     for method in methods {
         let fresh = seen.insert((method.owner.text.0, method.name.text.0))?;
-        found = sooner(found, double_method(fresh, method.name));
+        found.refuse(double_method(fresh, method.name));
     }
-    Ok(found)
+    Ok(())
 }
 
 /// The methods of a package: those of a struct that are declared twice, reserved names, `initialize`, and the one
 /// after the 1,024 that a package may have.
 pub(crate) fn judge_methods(
     alloc: Global,
-    found: Option<Refusal>,
+    found: &mut Found,
     parsed: &PackageNodes,
     methods: &[Owned],
-) -> Result<Option<Refusal>, NoMemory>
-    ensures { IfOk result (λ all. all ≡ methods_judged parsed.now.texts found methods.now) }
+) -> Result<(), NoMemory>
+    ensures { OnOk result (found.new ≡ methods_judged parsed.now.texts found.old methods.now) }
 {
-    let found = owned_doubles(alloc, found, methods)?;
+    owned_doubles(alloc, found, methods)?;
     let names = owned_names(alloc, methods)?;
-    let found = reserved(found, parsed, names.as_slice());
-    let found = initializes(found, parsed, names.as_slice());
-    Ok(sooner(found, beyond(names.as_slice(), Rule::L6, 1024)))
+    reserved(found, parsed, names.as_slice());
+    initializes(found, parsed, names.as_slice());
+    found.refuse(beyond(names.as_slice(), Rule::L6, 1024));
+    Ok(())
 }
 
 /// Each name by its text; of names that are spelt alike the first.
@@ -118,45 +116,41 @@ fn hidden_local(constants: &IndexMap<u32, Name>, local: Name) -> Option<Refusal>
     }
 }
 
-fn hidden_locals(
-    found: Option<Refusal>,
-    constants: &IndexMap<u32, Name>,
-    locals: &[Name],
-) -> Option<Refusal>
-    ensures { result ≡ soonest found (hidden_of (get nat_eq constants.now) locals.now) }
+fn hidden_locals(found: &mut Found, constants: &IndexMap<u32, Name>, locals: &[Name])
+    ensures { found.new ≡ soonest found.old (hidden_of (get nat_eq constants.now) locals.now) }
 {
-    let mut found = found;
     for local in locals {
-        found = sooner(found, hidden_local(constants, *local));
+        found.refuse(hidden_local(constants, *local));
     }
-    found
 }
 
 /// The arguments of a method: declared twice, reserved, and the one after the 64 that a method may have.
 pub(crate) fn judge_args(
     alloc: Global,
-    found: Option<Refusal>,
+    found: &mut Found,
     parsed: &PackageNodes,
     args: &[Name],
-) -> Result<Option<Refusal>, NoMemory>
-    ensures { IfOk result (λ all. all ≡ args_judged parsed.now.texts found args.now) }
+) -> Result<(), NoMemory>
+    ensures { OnOk result (found.new ≡ args_judged parsed.now.texts found.old args.now) }
 {
-    let found = judge_names(alloc, found, parsed, args)?;
-    Ok(sooner(found, beyond(args, Rule::L7, 64)))
+    judge_names(alloc, found, parsed, args)?;
+    found.refuse(beyond(args, Rule::L7, 64));
+    Ok(())
 }
 
 /// The locals of a method: declared twice, reserved, named as a constant, and the one after the 256 that a method
 /// may have.
 pub(crate) fn judge_locals(
     alloc: Global,
-    found: Option<Refusal>,
+    found: &mut Found,
     parsed: &PackageNodes,
     constants: &IndexMap<u32, Name>,
     locals: &[Name],
-) -> Result<Option<Refusal>, NoMemory>
-    ensures { IfOk result (λ all. all ≡ locals_judged (get nat_eq constants.now) parsed.now.texts found locals.now) }
+) -> Result<(), NoMemory>
+    ensures { OnOk result (found.new ≡ locals_judged (get nat_eq constants.now) parsed.now.texts found.old locals.now) }
 {
-    let found = judge_names(alloc, found, parsed, locals)?;
-    let found = hidden_locals(found, constants, locals);
-    Ok(sooner(found, beyond(locals, Rule::L7, 256)))
+    judge_names(alloc, found, parsed, locals)?;
+    hidden_locals(found, constants, locals);
+    found.refuse(beyond(locals, Rule::L7, 256));
+    Ok(())
 }

@@ -12,11 +12,12 @@ ghost use Rattle.wf_names_resolve.specs.Package.{resolved_consts, struct_in, met
 ghost use Rattle.wf_names_nodes.specs.Declaring.{method_parsed, with_consts, with_structs, with_methods, with_others};
 
 use crate::adding::{put_const, put_method, put_status, put_struct};
-use crate::declarations::{WrittenConst, WrittenMethod};
+use crate::declarations::{WrittenConst, WrittenMethod, WrittenStruct};
 use std::alloc::Global;
 use wf_ast::PackageNodes;
-use wf_ast::parsed::{Decl, DeclNode, Field, Name};
+use wf_ast::parsed::{Decl, DeclNode};
 use wf_named::NamedNodes;
+use wf_names_rules::here::Here;
 use wf_names_rules::tables::{Scope, Tables};
 use wf_names_scopes::scopes::{add_constant, enter_method, enter_struct, outside};
 use wf_text::faults::NoMemory;
@@ -38,7 +39,12 @@ fn next_const(
     ensures known { OnOk result ((known : List Variable) → TellsScope (package_of parsed.now) (constant_scope known) scope.old
         → TellsScope (package_of parsed.now) (constant_scope (known ++ record { name = constant.entry.name; of = type_at (expr_trees parsed.now.exprs) constant.entry.of.now } ∷ [])) scope.new) }
 {
-    put_const(alloc, nodes, parsed, tables, scope, constant)?;
+    let here = Here {
+        parsed,
+        tables,
+        scope,
+    };
+    put_const(alloc, nodes, &here, constant)?;
     add_constant(scope, parsed, constant.name, constant.of)
 }
 
@@ -101,18 +107,21 @@ fn next_struct(
     parsed: &PackageNodes,
     tables: &Tables,
     scope: &mut Scope,
-    public: bool,
-    name: Name,
-    fields: &[Field],
+    structure: WrittenStruct<'_>,
 ) -> Result<(), NoMemory>
-    requires fields { FieldsBelow (length parsed.now.exprs) fields.now }
+    requires fields { FieldsBelow (length parsed.now.exprs) structure.fields.now }
     requires tables { TellsPackage (package_of parsed.now) tables.now }
     requires constants { TellsConstants (package_of parsed.now) scope.old }
-    ensures added { OnOk result (named_package nodes.new ≡ with_structs (named_package nodes.old) (struct_in (package_of parsed.now) public (record { name = name; fields = variables (fields_at (expr_trees parsed.now.exprs) fields.now) }) ∷ [])) }
+    ensures added { OnOk result (named_package nodes.new ≡ with_structs (named_package nodes.old) (struct_in (package_of parsed.now) structure.entry.public (record { name = structure.entry.name; fields = variables (fields_at (expr_trees parsed.now.exprs) structure.entry.fields.now) }) ∷ [])) }
     ensures known { OnOk result (TellsConstants (package_of parsed.now) scope.new) }
 {
-    enter_struct(alloc, scope, name);
-    put_struct(alloc, nodes, parsed, tables, scope, public, name, fields)
+    enter_struct(alloc, scope, structure.name);
+    let here = Here {
+        parsed,
+        tables,
+        scope,
+    };
+    put_struct(alloc, nodes, &here, structure)
 }
 
 // A method, in its own scope.
@@ -134,7 +143,12 @@ fn next_method(
     ensures known { OnOk result (TellsConstants (package_of parsed.now) scope.new) }
 {
     enter_method(alloc, scope, parsed, method.owner, method.args, method.body)?;
-    put_method(alloc, nodes, parsed, tables, scope, method)
+    let here = Here {
+        parsed,
+        tables,
+        scope,
+    };
+    put_method(alloc, nodes, &here, method)
 }
 
 // A declaration, where all constants are known; those of constants are passed.
@@ -155,16 +169,14 @@ fn other_decl(
     match &node.decl {
         Decl::Status(text) => put_status(nodes, parsed, *text),
         Decl::Const { .. } => Ok(()),
-        Decl::Struct { name, fields, .. } => next_struct(
-            alloc,
-            nodes,
-            parsed,
-            tables,
-            scope,
-            node.public,
-            *name,
-            fields.as_slice(),
-        ),
+        Decl::Struct { name, fields, .. } => {
+            let structure = WrittenStruct {
+                public: node.public,
+                name: *name,
+                fields: fields.as_slice(),
+            };
+            next_struct(alloc, nodes, parsed, tables, scope, structure)
+        }
         Decl::Method {
             of,
             name,

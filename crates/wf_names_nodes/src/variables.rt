@@ -7,38 +7,36 @@ ghost use Rattle.wf_ast.specs.ParsedParts.{TypeBelow, FieldsBelow, ResultBelow, 
 ghost use Rattle.wf_named.specs.NamedParts.{exprs_of, NamedVarBelow, NamedResultBelow};
 ghost use Rattle.wf_named.specs.NamedTrees.{type_at, var_made};
 ghost use Rattle.wf_names_rules.specs.Declarations.{variables, local_of, locals_of};
-ghost use Rattle.wf_names_resolve.specs.Standing.{standing_by};
+ghost use Rattle.wf_names_resolve.specs.Standing.{standing_here};
 ghost use Rattle.wf_names_resolve.specs.Package.{resolved_variable, resolved_result};
 ghost use Rattle.wf_names_resolve.specs.Growth.{Grows};
 ghost use Rattle.wf_names_resolve.specs.Statements.{listed};
 
 use std::alloc::Global;
 use wf_ast::parsed::{Block, Field, Name, Stmt, TypeExpr};
-use wf_ast::{PackageNodes, Sequence, StmtId};
+use wf_ast::{Sequence, StmtId};
 use wf_named::nodes::NamedType;
 use wf_named::{NamedNodes, NamedVar};
 use wf_names_resolve::resolve_exprs::resolve_type;
 use wf_names_resolve::words::named_word;
-use wf_names_rules::tables::{Scope, Tables};
+use wf_names_rules::here::Here;
 use wf_text::faults::NoMemory;
 
 /// Adds the nodes of a variable's type, and answers the variable.
 pub(crate) fn resolve_variable(
     alloc: Global,
     nodes: &mut NamedNodes,
-    parsed: &PackageNodes,
-    tables: &Tables,
-    scope: &Scope,
+    here: &Here<'_>,
     name: Name,
     of: &TypeExpr,
 ) -> Result<NamedVar, NoMemory>
-    requires { TypeBelow (length parsed.now.exprs) of.now }
+    requires { TypeBelow (length here.now.parsed.now.exprs) of.now }
     ensures grows { OnOk result (Grows nodes.old nodes.new) }
     ensures below { IfOk result (NamedVarBelow (length nodes.new.texts) (length nodes.new.exprs)) }
-    ensures made { IfOk result (λ r. var_made nodes.new.texts (exprs_of nodes.new) r ≡ resolved_variable (standing_by parsed.now.texts tables.now scope.now) (record { name = name; of = parsed_type_at (expr_trees parsed.now.exprs) of.now })) }
+    ensures made { IfOk result (λ r. var_made nodes.new.texts (exprs_of nodes.new) r ≡ resolved_variable (standing_here here.now) (record { name = name; of = parsed_type_at (expr_trees here.now.parsed.now.exprs) of.now })) }
 {
-    let name = named_word(nodes, parsed, name)?;
-    let of = resolve_type(alloc, nodes, parsed, tables, scope, of)?;
+    let name = named_word(nodes, here.parsed, name)?;
+    let of = resolve_type(alloc, nodes, here, of)?;
     Ok(NamedVar { name, of })
 }
 
@@ -46,19 +44,17 @@ pub(crate) fn resolve_variable(
 pub(crate) fn resolve_fields(
     alloc: Global,
     nodes: &mut NamedNodes,
-    parsed: &PackageNodes,
-    tables: &Tables,
-    scope: &Scope,
+    here: &Here<'_>,
     fields: &[Field],
 ) -> Result<Sequence<NamedVar>, NoMemory>
-    requires { FieldsBelow (length parsed.now.exprs) fields.now }
+    requires { FieldsBelow (length here.now.parsed.now.exprs) fields.now }
     ensures grows { OnOk result (Grows nodes.old nodes.new) }
     ensures below { IfOk result (λ r. AllByRecursion (NamedVarBelow (length nodes.new.texts) (length nodes.new.exprs)) r) }
-    ensures made { IfOk result (λ r. map (var_made nodes.new.texts (exprs_of nodes.new)) r ≡ map (resolved_variable (standing_by parsed.now.texts tables.now scope.now)) (variables (parsed_fields_at (expr_trees parsed.now.exprs) fields.now))) }
+    ensures made { IfOk result (λ r. map (var_made nodes.new.texts (exprs_of nodes.new)) r ≡ map (resolved_variable (standing_here here.now)) (variables (parsed_fields_at (expr_trees here.now.parsed.now.exprs) fields.now))) }
 {
     let mut made = Sequence::new(alloc);
     for field in fields {
-        let one = resolve_variable(alloc, nodes, parsed, tables, scope, field.name, &field.of)?;
+        let one = resolve_variable(alloc, nodes, here, field.name, &field.of)?;
         made.push(one)?;
     }
     Ok(made)
@@ -68,19 +64,17 @@ pub(crate) fn resolve_fields(
 fn resolve_local(
     alloc: Global,
     nodes: &mut NamedNodes,
-    parsed: &PackageNodes,
-    tables: &Tables,
-    scope: &Scope,
+    here: &Here<'_>,
     s: StmtId,
 ) -> Result<Option<NamedVar>, NoMemory>
-    requires { s.0 < length parsed.now.stmts }
+    requires { s.0 < length here.now.parsed.now.stmts }
     ensures grows { OnOk result (Grows nodes.old nodes.new) }
     ensures below { IfOk result (λ r. AllByRecursion (NamedVarBelow (length nodes.new.texts) (length nodes.new.exprs)) (listed r)) }
-    ensures made { IfOk result (λ r. map (var_made nodes.new.texts (exprs_of nodes.new)) (listed r) ≡ map (resolved_variable (standing_by parsed.now.texts tables.now scope.now)) (local_of (parsed_stmt_at (stmt_trees parsed.now.exprs parsed.now.stmts) s))) }
+    ensures made { IfOk result (λ r. map (var_made nodes.new.texts (exprs_of nodes.new)) (listed r) ≡ map (resolved_variable (standing_here here.now)) (local_of (parsed_stmt_at (stmt_trees here.now.parsed.now.exprs here.now.parsed.now.stmts) s))) }
 {
-    match &parsed.stmt(s).stmt {
+    match &here.parsed.stmt(s).stmt {
         Stmt::Var { name, of } => {
-            let one = resolve_variable(alloc, nodes, parsed, tables, scope, *name, of)?;
+            let one = resolve_variable(alloc, nodes, here, *name, of)?;
             Ok(Some(one))
         }
         _ => Ok(None),
@@ -104,19 +98,17 @@ fn add_variable(made: &mut Sequence<NamedVar>, one: Option<NamedVar>) -> Result<
 pub(crate) fn resolve_locals(
     alloc: Global,
     nodes: &mut NamedNodes,
-    parsed: &PackageNodes,
-    tables: &Tables,
-    scope: &Scope,
+    here: &Here<'_>,
     body: &Block,
 ) -> Result<Sequence<NamedVar>, NoMemory>
-    requires { BlockBelow (length parsed.now.stmts) body.now }
+    requires { BlockBelow (length here.now.parsed.now.stmts) body.now }
     ensures grows { OnOk result (Grows nodes.old nodes.new) }
     ensures below { IfOk result (λ r. AllByRecursion (NamedVarBelow (length nodes.new.texts) (length nodes.new.exprs)) r) }
-    ensures made { IfOk result (λ r. map (var_made nodes.new.texts (exprs_of nodes.new)) r ≡ map (resolved_variable (standing_by parsed.now.texts tables.now scope.now)) (locals_of (parsed_block_at (stmt_trees parsed.now.exprs parsed.now.stmts) body.now))) }
+    ensures made { IfOk result (λ r. map (var_made nodes.new.texts (exprs_of nodes.new)) r ≡ map (resolved_variable (standing_here here.now)) (locals_of (parsed_block_at (stmt_trees here.now.parsed.now.exprs here.now.parsed.now.stmts) body.now))) }
 {
     let mut made = Sequence::new(alloc);
     for s in body.items.as_slice() {
-        let one = resolve_local(alloc, nodes, parsed, tables, scope, *s)?;
+        let one = resolve_local(alloc, nodes, here, *s)?;
         add_variable(&mut made, one)?;
     }
     Ok(made)
@@ -126,19 +118,17 @@ pub(crate) fn resolve_locals(
 pub(crate) fn resolve_result(
     alloc: Global,
     nodes: &mut NamedNodes,
-    parsed: &PackageNodes,
-    tables: &Tables,
-    scope: &Scope,
+    here: &Here<'_>,
     gives: &Option<TypeExpr>,
 ) -> Result<Option<NamedType>, NoMemory>
-    requires { ResultBelow (length parsed.now.exprs) gives.now }
+    requires { ResultBelow (length here.now.parsed.now.exprs) gives.now }
     ensures grows { OnOk result (Grows nodes.old nodes.new) }
     ensures below { IfOk result (NamedResultBelow (length nodes.new.exprs)) }
-    ensures made { IfOk result (λ r. option_map (type_at (exprs_of nodes.new)) r ≡ resolved_result (standing_by parsed.now.texts tables.now scope.now) (parsed_result_at (expr_trees parsed.now.exprs) gives.now)) }
+    ensures made { IfOk result (λ r. option_map (type_at (exprs_of nodes.new)) r ≡ resolved_result (standing_here here.now) (parsed_result_at (expr_trees here.now.parsed.now.exprs) gives.now)) }
 {
     match gives {
         Some(of) => {
-            let of = resolve_type(alloc, nodes, parsed, tables, scope, of)?;
+            let of = resolve_type(alloc, nodes, here, of)?;
             Ok(Some(of))
         }
         None => Ok(None),

@@ -2,6 +2,7 @@
 use Rattle.std.specs.Prelude.{◌+◌, ℕ, List, Option, Some, None, option_map}
 use Rattle.wf_ast.specs.declared.parsed.Receiver.{Receiver}
 use Rattle.wf_names_rules.specs.declared.callees.Callee.{Callee}
+use Rattle.wf_names_rules.specs.declared.here.Here.{Here}
 use Rattle.wf_names_rules.specs.declared.tables.Tables.{Tables}
 use Rattle.wf_names_rules.specs.declared.tables.Scope.{Scope as ScopeTables}
 use Rattle.wf_names_rules.specs.Declarations.{Declared, text_of, status_named, struct_named, place_in}
@@ -58,3 +59,6 @@ standing_by texts t s = record {
   callee = callee_on (known_by texts t s);
   args = args_at t;
 }
+
+abbrev pub standing_here : Here → Standing
+standing_here here = standing_by here.parsed.now.texts here.tables.now here.scope.now

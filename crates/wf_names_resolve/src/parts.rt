@@ -17,6 +17,7 @@ use wf_base::Mark;
 use wf_base::base_methods::BaseSig;
 use wf_named::{BaseType, NamedCallee, NamedCore, NamedPath, Variable};
 use wf_names_rules::callees::Callee;
+use wf_names_rules::here::Here;
 use wf_names_rules::tables::{Scope, Tables, Variables, callee_on, text_bytes};
 use wf_names_rules::types::width_named;
 use wf_text::faults::NoMemory;
@@ -134,16 +135,10 @@ pub fn path(tables: &Tables, scope: &Scope, path: Path) -> NamedPath
 }
 
 /// What the method name of a call stands for, as the rules of names say it.
-pub(crate) fn callee(
-    parsed: &PackageNodes,
-    tables: &Tables,
-    scope: &Scope,
-    on: Receiver,
-    text: TextId,
-) -> Callee
-    ensures { result ≡ callee_of_name (known_by parsed.now.texts tables.now scope.now) on text.0 }
+pub(crate) fn callee(here: &Here<'_>, on: Receiver, text: TextId) -> Callee
+    ensures { result ≡ callee_of_name (known_by here.now.parsed.now.texts here.now.tables.now here.now.scope.now) on text.0 }
 {
-    callee_on(parsed, tables, scope, on, text)
+    callee_on(here.parsed, here.tables, here.scope, on, text)
 }
 
 // A number as nodes have it.

@@ -8,7 +8,7 @@ ghost use Rattle.wf_ast.specs.ParsedParts.{BlockBelow, ElseBelow, StmtParts};
 ghost use Rattle.wf_named.specs.NamedParts.{exprs_of, stmts_of, NamedStmtParts};
 ghost use Rattle.wf_named.specs.NamedTree as named_tree;
 ghost use Rattle.wf_named.specs.NamedTrees.{expr_at, stmt_at, block_at, else_at, arms_at, clauses_at, stmt_made};
-ghost use Rattle.wf_names_resolve.specs.Standing.{standing_by};
+ghost use Rattle.wf_names_resolve.specs.Standing.{standing_here};
 ghost use Rattle.wf_names_resolve.specs.Resolved.{resolved_expr, resolved_clauses, resolved_stmt, resolved_block, resolved_arms};
 ghost use Rattle.wf_names_resolve.specs.Growth.{Grows};
 ghost use Rattle.wf_names_resolve.specs.Statements.{listed, stmt_in, made_in, PartsBelow, IsStmtBelow, ArmsBelow};
@@ -18,9 +18,9 @@ use crate::simple_stmts::resolve_simple;
 use crate::stmt_parts::resolve_head;
 use std::alloc::Global;
 use wf_ast::parsed::{Arm, Block, LoopClause, Name, Stmt};
-use wf_ast::{ExprId, PackageNodes, Sequence, StmtId};
+use wf_ast::{ExprId, Sequence, StmtId};
 use wf_named::{NamedNodes, NamedStmt, NamedStmtNode};
-use wf_names_rules::tables::{Scope, Tables};
+use wf_names_rules::here::Here;
 use wf_text::Place;
 use wf_text::faults::NoMemory;
 
@@ -73,20 +73,18 @@ fn add_stmt(made: &mut Sequence<StmtId>, one: Option<StmtId>) -> Result<(), NoMe
 fn resolve_stmt(
     alloc: Global,
     nodes: &mut NamedNodes,
-    parsed: &PackageNodes,
-    tables: &Tables,
-    scope: &Scope,
+    here: &Here<'_>,
     labels: &mut Vec<Option<Name>>,
     s: StmtId,
 ) -> Result<Option<StmtId>, NoMemory>
-    requires { s.0 < length parsed.now.stmts }
+    requires { s.0 < length here.now.parsed.now.stmts }
     ensures grows { OnOk result (Grows nodes.old nodes.new) }
     ensures labels { OnOk result (labels.new.items ≡ labels.old.items) }
     ensures below { IfOk result (λ r. IsStmtBelow (length nodes.new.stmts) r) }
-    ensures made { IfOk result (λ r. stmt_in (stmts_of nodes.new) r ≡ resolved_stmt (standing_by parsed.now.texts tables.now scope.now) labels.old.items (parsed_stmt_at (stmt_trees parsed.now.exprs parsed.now.stmts) s)) }
+    ensures made { IfOk result (λ r. stmt_in (stmts_of nodes.new) r ≡ resolved_stmt (standing_here here.now) labels.old.items (parsed_stmt_at (stmt_trees here.now.parsed.now.exprs here.now.parsed.now.stmts) s)) }
 {
-    let node = parsed.stmt(s);
-    let stmt = resolve_parts(alloc, nodes, parsed, tables, scope, labels, &node.stmt)?;
+    let node = here.parsed.stmt(s);
+    let stmt = resolve_parts(alloc, nodes, here, labels, &node.stmt)?;
     put_made(nodes, stmt, node.at)
 }
 
@@ -95,30 +93,19 @@ fn resolve_stmt(
 fn resolve_parts(
     alloc: Global,
     nodes: &mut NamedNodes,
-    parsed: &PackageNodes,
-    tables: &Tables,
-    scope: &Scope,
+    here: &Here<'_>,
     labels: &mut Vec<Option<Name>>,
     stmt: &Stmt,
 ) -> Result<Option<NamedStmt>, NoMemory>
-    requires { StmtParts (length parsed.now.exprs) (length parsed.now.stmts) stmt.now }
+    requires { StmtParts (length here.now.parsed.now.exprs) (length here.now.parsed.now.stmts) stmt.now }
     ensures grows { OnOk result (Grows nodes.old nodes.new) }
     ensures labels { OnOk result (labels.new.items ≡ labels.old.items) }
     ensures below { IfOk result (λ r. PartsBelow (length nodes.new.texts) (length nodes.new.exprs) (length nodes.new.stmts) r) }
-    ensures made { IfOk result (λ r. (at : _) → made_in nodes.new.texts (exprs_of nodes.new) (stmts_of nodes.new) r at ≡ resolved_stmt (standing_by parsed.now.texts tables.now scope.now) labels.old.items (parsed_stmt_made (expr_trees parsed.now.exprs) (stmt_trees parsed.now.exprs parsed.now.stmts) stmt.now at)) }
+    ensures made { IfOk result (λ r. (at : _) → made_in nodes.new.texts (exprs_of nodes.new) (stmts_of nodes.new) r at ≡ resolved_stmt (standing_here here.now) labels.old.items (parsed_stmt_made (expr_trees here.now.parsed.now.exprs) (stmt_trees here.now.parsed.now.exprs here.now.parsed.now.stmts) stmt.now at)) }
 {
     match stmt {
         Stmt::If { arms, otherwise } => {
-            let stmt = resolve_if(
-                alloc,
-                nodes,
-                parsed,
-                tables,
-                scope,
-                labels,
-                arms.as_slice(),
-                otherwise,
-            )?;
+            let stmt = resolve_if(alloc, nodes, here, labels, arms.as_slice(), otherwise)?;
             Ok(Some(stmt))
         }
         Stmt::While {
@@ -133,10 +120,10 @@ fn resolve_parts(
                 clauses: clauses.as_slice(),
                 body,
             };
-            let stmt = resolve_loop(alloc, nodes, parsed, tables, scope, labels, it)?;
+            let stmt = resolve_loop(alloc, nodes, here, labels, it)?;
             Ok(Some(stmt))
         }
-        _ => resolve_simple(alloc, nodes, parsed, tables, scope, labels.as_slice(), stmt),
+        _ => resolve_simple(alloc, nodes, here, labels.as_slice(), stmt),
     }
 }
 
@@ -144,21 +131,19 @@ fn resolve_parts(
 fn resolve_block(
     alloc: Global,
     nodes: &mut NamedNodes,
-    parsed: &PackageNodes,
-    tables: &Tables,
-    scope: &Scope,
+    here: &Here<'_>,
     labels: &mut Vec<Option<Name>>,
     block: &Block,
 ) -> Result<Block, NoMemory>
-    requires { BlockBelow (length parsed.now.stmts) block.now }
+    requires { BlockBelow (length here.now.parsed.now.stmts) block.now }
     ensures grows { OnOk result (Grows nodes.old nodes.new) }
     ensures labels { OnOk result (labels.new.items ≡ labels.old.items) }
     ensures below { IfOk result (λ r. BlockBelow (length nodes.new.stmts) r) }
-    ensures made { IfOk result (λ r. block_at (stmts_of nodes.new) r ≡ resolved_block (standing_by parsed.now.texts tables.now scope.now) labels.old.items (parsed_block_at (stmt_trees parsed.now.exprs parsed.now.stmts) block.now)) }
+    ensures made { IfOk result (λ r. block_at (stmts_of nodes.new) r ≡ resolved_block (standing_here here.now) labels.old.items (parsed_block_at (stmt_trees here.now.parsed.now.exprs here.now.parsed.now.stmts) block.now)) }
 {
     let mut made = Sequence::new(alloc);
     for s in block.items.as_slice() {
-        let one = resolve_stmt(alloc, nodes, parsed, tables, scope, labels, *s)?;
+        let one = resolve_stmt(alloc, nodes, here, labels, *s)?;
         add_stmt(&mut made, one)?;
     }
     Ok(Block {
@@ -171,22 +156,20 @@ fn resolve_block(
 fn resolve_arm(
     alloc: Global,
     nodes: &mut NamedNodes,
-    parsed: &PackageNodes,
-    tables: &Tables,
-    scope: &Scope,
+    here: &Here<'_>,
     labels: &mut Vec<Option<Name>>,
     arm: &Arm,
 ) -> Result<Arm, NoMemory>
-    requires condition { arm.now.condition.0 < length parsed.now.exprs }
-    requires body { BlockBelow (length parsed.now.stmts) arm.now.body }
+    requires condition { arm.now.condition.0 < length here.now.parsed.now.exprs }
+    requires body { BlockBelow (length here.now.parsed.now.stmts) arm.now.body }
     ensures grows { OnOk result (Grows nodes.old nodes.new) }
     ensures labels { OnOk result (labels.new.items ≡ labels.old.items) }
     ensures below { IfOk result (λ r. (r.condition.0 < length nodes.new.exprs) × BlockBelow (length nodes.new.stmts) r.body) }
-    ensures condition { IfOk result (λ r. expr_at (exprs_of nodes.new) r.condition ≡ resolved_expr (standing_by parsed.now.texts tables.now scope.now) (parsed_expr_at (expr_trees parsed.now.exprs) arm.now.condition)) }
-    ensures body { IfOk result (λ r. block_at (stmts_of nodes.new) r.body ≡ resolved_block (standing_by parsed.now.texts tables.now scope.now) labels.old.items (parsed_block_at (stmt_trees parsed.now.exprs parsed.now.stmts) arm.now.body)) }
+    ensures condition { IfOk result (λ r. expr_at (exprs_of nodes.new) r.condition ≡ resolved_expr (standing_here here.now) (parsed_expr_at (expr_trees here.now.parsed.now.exprs) arm.now.condition)) }
+    ensures body { IfOk result (λ r. block_at (stmts_of nodes.new) r.body ≡ resolved_block (standing_here here.now) labels.old.items (parsed_block_at (stmt_trees here.now.parsed.now.exprs here.now.parsed.now.stmts) arm.now.body)) }
 {
-    let condition = resolve_expr(alloc, nodes, parsed, tables, scope, arm.condition)?;
-    let body = resolve_block(alloc, nodes, parsed, tables, scope, labels, &arm.body)?;
+    let condition = resolve_expr(alloc, nodes, here, arm.condition)?;
+    let body = resolve_block(alloc, nodes, here, labels, &arm.body)?;
     Ok(Arm { condition, body })
 }
 
@@ -195,21 +178,19 @@ fn resolve_arm(
 fn resolve_arms(
     alloc: Global,
     nodes: &mut NamedNodes,
-    parsed: &PackageNodes,
-    tables: &Tables,
-    scope: &Scope,
+    here: &Here<'_>,
     labels: &mut Vec<Option<Name>>,
     arms: &[Arm],
 ) -> Result<Sequence<Arm>, NoMemory>
-    requires { ArmsBelow (length parsed.now.exprs) (length parsed.now.stmts) arms.now }
+    requires { ArmsBelow (length here.now.parsed.now.exprs) (length here.now.parsed.now.stmts) arms.now }
     ensures grows { OnOk result (Grows nodes.old nodes.new) }
     ensures labels { OnOk result (labels.new.items ≡ labels.old.items) }
     ensures below { IfOk result (λ r. ArmsBelow (length nodes.new.exprs) (length nodes.new.stmts) r) }
-    ensures made { IfOk result (λ r. (last : _) → arms_at (exprs_of nodes.new) (stmts_of nodes.new) r (resolved_arms (standing_by parsed.now.texts tables.now scope.now) labels.old.items last) ≡ resolved_arms (standing_by parsed.now.texts tables.now scope.now) labels.old.items (parsed_arms_at (expr_trees parsed.now.exprs) (stmt_trees parsed.now.exprs parsed.now.stmts) arms.now last)) }
+    ensures made { IfOk result (λ r. (last : _) → arms_at (exprs_of nodes.new) (stmts_of nodes.new) r (resolved_arms (standing_here here.now) labels.old.items last) ≡ resolved_arms (standing_here here.now) labels.old.items (parsed_arms_at (expr_trees here.now.parsed.now.exprs) (stmt_trees here.now.parsed.now.exprs here.now.parsed.now.stmts) arms.now last)) }
 {
     let mut made = Sequence::new(alloc);
     for arm in arms {
-        let one = resolve_arm(alloc, nodes, parsed, tables, scope, labels, arm)?;
+        let one = resolve_arm(alloc, nodes, here, labels, arm)?;
         made.push(one)?;
     }
     Ok(made)
@@ -219,21 +200,19 @@ fn resolve_arms(
 fn resolve_else(
     alloc: Global,
     nodes: &mut NamedNodes,
-    parsed: &PackageNodes,
-    tables: &Tables,
-    scope: &Scope,
+    here: &Here<'_>,
     labels: &mut Vec<Option<Name>>,
     otherwise: &Option<Block>,
 ) -> Result<Option<Block>, NoMemory>
-    requires { ElseBelow (length parsed.now.stmts) otherwise.now }
+    requires { ElseBelow (length here.now.parsed.now.stmts) otherwise.now }
     ensures grows { OnOk result (Grows nodes.old nodes.new) }
     ensures labels { OnOk result (labels.new.items ≡ labels.old.items) }
     ensures below { IfOk result (λ r. ElseBelow (length nodes.new.stmts) r) }
-    ensures made { IfOk result (λ r. else_at (stmts_of nodes.new) r ≡ resolved_arms (standing_by parsed.now.texts tables.now scope.now) labels.old.items (parsed_else_at (stmt_trees parsed.now.exprs parsed.now.stmts) otherwise.now)) }
+    ensures made { IfOk result (λ r. else_at (stmts_of nodes.new) r ≡ resolved_arms (standing_here here.now) labels.old.items (parsed_else_at (stmt_trees here.now.parsed.now.exprs here.now.parsed.now.stmts) otherwise.now)) }
 {
     match otherwise {
         Some(block) => {
-            let block = resolve_block(alloc, nodes, parsed, tables, scope, labels, block)?;
+            let block = resolve_block(alloc, nodes, here, labels, block)?;
             Ok(Some(block))
         }
         None => Ok(None),
@@ -245,22 +224,20 @@ fn resolve_else(
 fn resolve_if(
     alloc: Global,
     nodes: &mut NamedNodes,
-    parsed: &PackageNodes,
-    tables: &Tables,
-    scope: &Scope,
+    here: &Here<'_>,
     labels: &mut Vec<Option<Name>>,
     arms: &[Arm],
     otherwise: &Option<Block>,
 ) -> Result<NamedStmt, NoMemory>
-    requires arms { ArmsBelow (length parsed.now.exprs) (length parsed.now.stmts) arms.now }
-    requires otherwise { ElseBelow (length parsed.now.stmts) otherwise.now }
+    requires arms { ArmsBelow (length here.now.parsed.now.exprs) (length here.now.parsed.now.stmts) arms.now }
+    requires otherwise { ElseBelow (length here.now.parsed.now.stmts) otherwise.now }
     ensures grows { OnOk result (Grows nodes.old nodes.new) }
     ensures labels { OnOk result (labels.new.items ≡ labels.old.items) }
     ensures below { IfOk result (λ r. NamedStmtParts (length nodes.new.texts) (length nodes.new.exprs) (length nodes.new.stmts) r) }
-    ensures made { IfOk result (λ r. (at : _) → stmt_made nodes.new.texts (exprs_of nodes.new) (stmts_of nodes.new) r at ≡ named_tree.branch (resolved_arms (standing_by parsed.now.texts tables.now scope.now) labels.old.items (parsed_arms_at (expr_trees parsed.now.exprs) (stmt_trees parsed.now.exprs parsed.now.stmts) arms.now (parsed_else_at (stmt_trees parsed.now.exprs parsed.now.stmts) otherwise.now))) at) }
+    ensures made { IfOk result (λ r. (at : _) → stmt_made nodes.new.texts (exprs_of nodes.new) (stmts_of nodes.new) r at ≡ named_tree.branch (resolved_arms (standing_here here.now) labels.old.items (parsed_arms_at (expr_trees here.now.parsed.now.exprs) (stmt_trees here.now.parsed.now.exprs here.now.parsed.now.stmts) arms.now (parsed_else_at (stmt_trees here.now.parsed.now.exprs here.now.parsed.now.stmts) otherwise.now))) at) }
 {
-    let arms = resolve_arms(alloc, nodes, parsed, tables, scope, labels, arms)?;
-    let otherwise = resolve_else(alloc, nodes, parsed, tables, scope, labels, otherwise)?;
+    let arms = resolve_arms(alloc, nodes, here, labels, arms)?;
+    let otherwise = resolve_else(alloc, nodes, here, labels, otherwise)?;
     Ok(NamedStmt::If { arms, otherwise })
 }
 
@@ -269,21 +246,19 @@ fn resolve_if(
 fn resolve_inside(
     alloc: Global,
     nodes: &mut NamedNodes,
-    parsed: &PackageNodes,
-    tables: &Tables,
-    scope: &Scope,
+    here: &Here<'_>,
     labels: &mut Vec<Option<Name>>,
     label: Option<Name>,
     body: &Block,
 ) -> Result<Block, NoMemory>
-    requires { BlockBelow (length parsed.now.stmts) body.now }
+    requires { BlockBelow (length here.now.parsed.now.stmts) body.now }
     ensures grows { OnOk result (Grows nodes.old nodes.new) }
     ensures labels { OnOk result (labels.new.items ≡ labels.old.items) }
     ensures below { IfOk result (λ r. BlockBelow (length nodes.new.stmts) r) }
-    ensures made { IfOk result (λ r. block_at (stmts_of nodes.new) r ≡ resolved_block (standing_by parsed.now.texts tables.now scope.now) (labels.old.items ++ label ∷ []) (parsed_block_at (stmt_trees parsed.now.exprs parsed.now.stmts) body.now)) }
+    ensures made { IfOk result (λ r. block_at (stmts_of nodes.new) r ≡ resolved_block (standing_here here.now) (labels.old.items ++ label ∷ []) (parsed_block_at (stmt_trees here.now.parsed.now.exprs here.now.parsed.now.stmts) body.now)) }
 {
     labels.push(label)?;
-    let block = resolve_block(alloc, nodes, parsed, tables, scope, labels, body)?;
+    let block = resolve_block(alloc, nodes, here, labels, body)?;
     labels.pop();
     Ok(block)
 }
@@ -302,32 +277,20 @@ struct Loop<'a> {
 fn resolve_loop(
     alloc: Global,
     nodes: &mut NamedNodes,
-    parsed: &PackageNodes,
-    tables: &Tables,
-    scope: &Scope,
+    here: &Here<'_>,
     labels: &mut Vec<Option<Name>>,
     it: Loop<'_>,
 ) -> Result<NamedStmt, NoMemory>
-    requires condition { it.condition.0 < length parsed.now.exprs }
-    requires clauses { AllByRecursion (λ c. c.condition.0 < length parsed.now.exprs) it.clauses.now }
-    requires body { BlockBelow (length parsed.now.stmts) it.body.now }
+    requires condition { it.condition.0 < length here.now.parsed.now.exprs }
+    requires clauses { AllByRecursion (λ c. c.condition.0 < length here.now.parsed.now.exprs) it.clauses.now }
+    requires body { BlockBelow (length here.now.parsed.now.stmts) it.body.now }
     ensures grows { OnOk result (Grows nodes.old nodes.new) }
     ensures labels { OnOk result (labels.new.items ≡ labels.old.items) }
     ensures below { IfOk result (λ r. NamedStmtParts (length nodes.new.texts) (length nodes.new.exprs) (length nodes.new.stmts) r) }
-    ensures made { IfOk result (λ r. (at : _) → stmt_made nodes.new.texts (exprs_of nodes.new) (stmts_of nodes.new) r at ≡ named_tree.loop (resolved_expr (standing_by parsed.now.texts tables.now scope.now) (parsed_expr_at (expr_trees parsed.now.exprs) it.entry.condition)) (resolved_clauses (standing_by parsed.now.texts tables.now scope.now) (parsed_clauses_at (expr_trees parsed.now.exprs) it.entry.clauses.now)) (resolved_block (standing_by parsed.now.texts tables.now scope.now) (labels.old.items ++ it.entry.label ∷ []) (parsed_block_at (stmt_trees parsed.now.exprs parsed.now.stmts) it.entry.body.now)) at) }
+    ensures made { IfOk result (λ r. (at : _) → stmt_made nodes.new.texts (exprs_of nodes.new) (stmts_of nodes.new) r at ≡ named_tree.loop (resolved_expr (standing_here here.now) (parsed_expr_at (expr_trees here.now.parsed.now.exprs) it.entry.condition)) (resolved_clauses (standing_here here.now) (parsed_clauses_at (expr_trees here.now.parsed.now.exprs) it.entry.clauses.now)) (resolved_block (standing_here here.now) (labels.old.items ++ it.entry.label ∷ []) (parsed_block_at (stmt_trees here.now.parsed.now.exprs here.now.parsed.now.stmts) it.entry.body.now)) at) }
 {
-    let (condition, clauses) = resolve_head(
-        alloc,
-        nodes,
-        parsed,
-        tables,
-        scope,
-        it.condition,
-        it.clauses,
-    )?;
-    let body = resolve_inside(
-        alloc, nodes, parsed, tables, scope, labels, it.label, it.body,
-    )?;
+    let (condition, clauses) = resolve_head(alloc, nodes, here, it.condition, it.clauses)?;
+    let body = resolve_inside(alloc, nodes, here, labels, it.label, it.body)?;
     Ok(NamedStmt::While {
         condition,
         clauses,
@@ -339,23 +302,13 @@ fn resolve_loop(
 pub fn resolve_body(
     alloc: Global,
     nodes: &mut NamedNodes,
-    parsed: &PackageNodes,
-    tables: &Tables,
-    scope: &Scope,
+    here: &Here<'_>,
     body: &Block,
 ) -> Result<Block, NoMemory>
-    requires { BlockBelow (length parsed.now.stmts) body.now }
+    requires { BlockBelow (length here.now.parsed.now.stmts) body.now }
     ensures grows { OnOk result (Grows nodes.old nodes.new) }
     ensures below { IfOk result (λ r. BlockBelow (length nodes.new.stmts) r) }
-    ensures made { IfOk result (λ r. block_at (stmts_of nodes.new) r ≡ resolved_block (standing_by parsed.now.texts tables.now scope.now) [] (parsed_block_at (stmt_trees parsed.now.exprs parsed.now.stmts) body.now)) }
+    ensures made { IfOk result (λ r. block_at (stmts_of nodes.new) r ≡ resolved_block (standing_here here.now) [] (parsed_block_at (stmt_trees here.now.parsed.now.exprs here.now.parsed.now.stmts) body.now)) }
 {
-    resolve_block(
-        alloc,
-        nodes,
-        parsed,
-        tables,
-        scope,
-        &mut Vec::new(alloc),
-        body,
-    )
+    resolve_block(alloc, nodes, here, &mut Vec::new(alloc), body)
 }

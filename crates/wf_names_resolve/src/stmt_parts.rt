@@ -6,7 +6,7 @@ ghost use Rattle.wf_ast.specs.ParsedTrees.{expr_trees, expr_at as parsed_expr_at
 ghost use Rattle.wf_ast.specs.ParsedParts.{GivenBelow, TargetBelow};
 ghost use Rattle.wf_named.specs.NamedParts.{exprs_of, ArgsBelow, NamedTargetBelow};
 ghost use Rattle.wf_named.specs.NamedTrees.{expr_at, call_at, target_at, clauses_at};
-ghost use Rattle.wf_names_resolve.specs.Standing.{standing_by};
+ghost use Rattle.wf_names_resolve.specs.Standing.{standing_here};
 ghost use Rattle.wf_names_resolve.specs.Resolved.{resolved_expr, resolved_call, resolved_target, resolved_clauses, is_label as has_label, loops_behind, outwards as outwards_by_labels};
 ghost use Rattle.wf_names_resolve.specs.Growth.{Grows};
 
@@ -14,9 +14,9 @@ use crate::parts::path;
 use crate::resolve_exprs::{resolve_call, resolve_expr};
 use std::alloc::Global;
 use wf_ast::parsed::{Call, LoopClause, Name, Target};
-use wf_ast::{ExprId, PackageNodes, Sequence};
+use wf_ast::{ExprId, Sequence};
 use wf_named::{NamedCall, NamedNodes, NamedTarget};
-use wf_names_rules::tables::{Scope, Tables};
+use wf_names_rules::here::Here;
 use wf_text::faults::NoMemory;
 
 // How many numbers there are.
@@ -67,21 +67,19 @@ pub fn outwards(labels: &[Option<Name>], label: Option<Name>) -> Result<u32, NoM
 pub(crate) fn resolve_target(
     alloc: Global,
     nodes: &mut NamedNodes,
-    parsed: &PackageNodes,
-    tables: &Tables,
-    scope: &Scope,
+    here: &Here<'_>,
     target: Target,
 ) -> Result<NamedTarget, NoMemory>
-    requires { TargetBelow (length parsed.now.exprs) target }
+    requires { TargetBelow (length here.now.parsed.now.exprs) target }
     ensures grows { OnOk result (Grows nodes.old nodes.new) }
     ensures below { IfOk result (λ r. NamedTargetBelow (length nodes.new.exprs) r) }
-    ensures made { IfOk result (λ r. target_at (exprs_of nodes.new) r ≡ resolved_target (standing_by parsed.now.texts tables.now scope.now) (parsed_target_at (expr_trees parsed.now.exprs) target)) }
+    ensures made { IfOk result (λ r. target_at (exprs_of nodes.new) r ≡ resolved_target (standing_here here.now) (parsed_target_at (expr_trees here.now.parsed.now.exprs) target)) }
 {
     match target {
-        Target::Path(of) => Ok(NamedTarget::Path(path(tables, scope, of))),
+        Target::Path(of) => Ok(NamedTarget::Path(path(here.tables, here.scope, of))),
         Target::Element { base, index, at } => {
-            let array = path(tables, scope, base);
-            let index = resolve_expr(alloc, nodes, parsed, tables, scope, index)?;
+            let array = path(here.tables, here.scope, base);
+            let index = resolve_expr(alloc, nodes, here, index)?;
             Ok(NamedTarget::Element {
                 base: array,
                 index,
@@ -95,19 +93,17 @@ pub(crate) fn resolve_target(
 pub(crate) fn resolve_clauses(
     alloc: Global,
     nodes: &mut NamedNodes,
-    parsed: &PackageNodes,
-    tables: &Tables,
-    scope: &Scope,
+    here: &Here<'_>,
     clauses: &[LoopClause],
 ) -> Result<Sequence<LoopClause>, NoMemory>
-    requires { AllByRecursion (λ c. c.condition.0 < length parsed.now.exprs) clauses.now }
+    requires { AllByRecursion (λ c. c.condition.0 < length here.now.parsed.now.exprs) clauses.now }
     ensures grows { OnOk result (Grows nodes.old nodes.new) }
     ensures below { IfOk result (λ r. AllByRecursion (λ c. c.condition.0 < length nodes.new.exprs) r) }
-    ensures made { IfOk result (λ r. clauses_at (exprs_of nodes.new) r ≡ resolved_clauses (standing_by parsed.now.texts tables.now scope.now) (parsed_clauses_at (expr_trees parsed.now.exprs) clauses.now)) }
+    ensures made { IfOk result (λ r. clauses_at (exprs_of nodes.new) r ≡ resolved_clauses (standing_here here.now) (parsed_clauses_at (expr_trees here.now.parsed.now.exprs) clauses.now)) }
 {
     let mut made = Sequence::new(alloc);
     for clause in clauses {
-        let condition = resolve_expr(alloc, nodes, parsed, tables, scope, clause.condition)?;
+        let condition = resolve_expr(alloc, nodes, here, clause.condition)?;
         made.push(LoopClause {
             kind: clause.kind,
             condition,
@@ -121,21 +117,19 @@ pub(crate) fn resolve_clauses(
 pub(crate) fn resolve_assign(
     alloc: Global,
     nodes: &mut NamedNodes,
-    parsed: &PackageNodes,
-    tables: &Tables,
-    scope: &Scope,
+    here: &Here<'_>,
     target: Target,
     value: ExprId,
 ) -> Result<(NamedTarget, ExprId), NoMemory>
-    requires target { TargetBelow (length parsed.now.exprs) target }
-    requires value { value.0 < length parsed.now.exprs }
+    requires target { TargetBelow (length here.now.parsed.now.exprs) target }
+    requires value { value.0 < length here.now.parsed.now.exprs }
     ensures grows { OnOk result (Grows nodes.old nodes.new) }
     ensures below { IfOk result (λ r. NamedTargetBelow (length nodes.new.exprs) r.0 × (r.1.0 < length nodes.new.exprs)) }
-    ensures target { IfOk result (λ r. target_at (exprs_of nodes.new) r.0 ≡ resolved_target (standing_by parsed.now.texts tables.now scope.now) (parsed_target_at (expr_trees parsed.now.exprs) target)) }
-    ensures value { IfOk result (λ r. expr_at (exprs_of nodes.new) r.1 ≡ resolved_expr (standing_by parsed.now.texts tables.now scope.now) (parsed_expr_at (expr_trees parsed.now.exprs) value)) }
+    ensures target { IfOk result (λ r. target_at (exprs_of nodes.new) r.0 ≡ resolved_target (standing_here here.now) (parsed_target_at (expr_trees here.now.parsed.now.exprs) target)) }
+    ensures value { IfOk result (λ r. expr_at (exprs_of nodes.new) r.1 ≡ resolved_expr (standing_here here.now) (parsed_expr_at (expr_trees here.now.parsed.now.exprs) value)) }
 {
-    let target = resolve_target(alloc, nodes, parsed, tables, scope, target)?;
-    let value = resolve_expr(alloc, nodes, parsed, tables, scope, value)?;
+    let target = resolve_target(alloc, nodes, here, target)?;
+    let value = resolve_expr(alloc, nodes, here, value)?;
     Ok((target, value))
 }
 
@@ -143,21 +137,19 @@ pub(crate) fn resolve_assign(
 pub(crate) fn resolve_keep(
     alloc: Global,
     nodes: &mut NamedNodes,
-    parsed: &PackageNodes,
-    tables: &Tables,
-    scope: &Scope,
+    here: &Here<'_>,
     target: Target,
     call: &Call,
 ) -> Result<(NamedTarget, NamedCall), NoMemory>
-    requires target { TargetBelow (length parsed.now.exprs) target }
-    requires call { GivenBelow (length parsed.now.exprs) call.now.args }
+    requires target { TargetBelow (length here.now.parsed.now.exprs) target }
+    requires call { GivenBelow (length here.now.parsed.now.exprs) call.now.args }
     ensures grows { OnOk result (Grows nodes.old nodes.new) }
     ensures below { IfOk result (λ r. NamedTargetBelow (length nodes.new.exprs) r.0 × ArgsBelow (length nodes.new.exprs) r.1.args) }
-    ensures target { IfOk result (λ r. target_at (exprs_of nodes.new) r.0 ≡ resolved_target (standing_by parsed.now.texts tables.now scope.now) (parsed_target_at (expr_trees parsed.now.exprs) target)) }
-    ensures call { IfOk result (λ r. call_at (exprs_of nodes.new) r.1 ≡ resolved_call (standing_by parsed.now.texts tables.now scope.now) (parsed_call_at (expr_trees parsed.now.exprs) call.now)) }
+    ensures target { IfOk result (λ r. target_at (exprs_of nodes.new) r.0 ≡ resolved_target (standing_here here.now) (parsed_target_at (expr_trees here.now.parsed.now.exprs) target)) }
+    ensures call { IfOk result (λ r. call_at (exprs_of nodes.new) r.1 ≡ resolved_call (standing_here here.now) (parsed_call_at (expr_trees here.now.parsed.now.exprs) call.now)) }
 {
-    let target = resolve_target(alloc, nodes, parsed, tables, scope, target)?;
-    let call = resolve_call(alloc, nodes, parsed, tables, scope, call)?;
+    let target = resolve_target(alloc, nodes, here, target)?;
+    let call = resolve_call(alloc, nodes, here, call)?;
     Ok((target, call))
 }
 
@@ -165,20 +157,18 @@ pub(crate) fn resolve_keep(
 pub(crate) fn resolve_head(
     alloc: Global,
     nodes: &mut NamedNodes,
-    parsed: &PackageNodes,
-    tables: &Tables,
-    scope: &Scope,
+    here: &Here<'_>,
     condition: ExprId,
     clauses: &[LoopClause],
 ) -> Result<(ExprId, Sequence<LoopClause>), NoMemory>
-    requires condition { condition.0 < length parsed.now.exprs }
-    requires clauses { AllByRecursion (λ c. c.condition.0 < length parsed.now.exprs) clauses.now }
+    requires condition { condition.0 < length here.now.parsed.now.exprs }
+    requires clauses { AllByRecursion (λ c. c.condition.0 < length here.now.parsed.now.exprs) clauses.now }
     ensures grows { OnOk result (Grows nodes.old nodes.new) }
     ensures below { IfOk result (λ r. (r.0.0 < length nodes.new.exprs) × AllByRecursion (λ c. c.condition.0 < length nodes.new.exprs) r.1) }
-    ensures condition { IfOk result (λ r. expr_at (exprs_of nodes.new) r.0 ≡ resolved_expr (standing_by parsed.now.texts tables.now scope.now) (parsed_expr_at (expr_trees parsed.now.exprs) condition)) }
-    ensures clauses { IfOk result (λ r. clauses_at (exprs_of nodes.new) r.1 ≡ resolved_clauses (standing_by parsed.now.texts tables.now scope.now) (parsed_clauses_at (expr_trees parsed.now.exprs) clauses.now)) }
+    ensures condition { IfOk result (λ r. expr_at (exprs_of nodes.new) r.0 ≡ resolved_expr (standing_here here.now) (parsed_expr_at (expr_trees here.now.parsed.now.exprs) condition)) }
+    ensures clauses { IfOk result (λ r. clauses_at (exprs_of nodes.new) r.1 ≡ resolved_clauses (standing_here here.now) (parsed_clauses_at (expr_trees here.now.parsed.now.exprs) clauses.now)) }
 {
-    let condition = resolve_expr(alloc, nodes, parsed, tables, scope, condition)?;
-    let clauses = resolve_clauses(alloc, nodes, parsed, tables, scope, clauses)?;
+    let condition = resolve_expr(alloc, nodes, here, condition)?;
+    let clauses = resolve_clauses(alloc, nodes, here, clauses)?;
     Ok((condition, clauses))
 }

@@ -6,7 +6,7 @@ ghost use Rattle.wf_ast.specs.ParsedParts.{GivenBelow, ViaBelow};
 ghost use Rattle.wf_named.specs.NamedParts.{exprs_of, LettersBelow, AxiomBelow};
 ghost use Rattle.wf_named.specs.NamedTrees.{expr_at, letters_at, via_at, word_at};
 ghost use Rattle.wf_names_rules.specs.Declarations.{bytes_of};
-ghost use Rattle.wf_names_resolve.specs.Standing.{standing_by};
+ghost use Rattle.wf_names_resolve.specs.Standing.{standing_here};
 ghost use Rattle.wf_names_resolve.specs.Resolved.{resolved_expr, resolved_via, word_of};
 ghost use Rattle.wf_names_resolve.specs.Ordered.{given_trees};
 ghost use Rattle.wf_names_resolve.specs.Growth.{Grows};
@@ -17,7 +17,8 @@ use std::alloc::Global;
 use wf_ast::parsed::{Given, Name, Via};
 use wf_ast::{ExprId, PackageNodes, Sequence};
 use wf_named::NamedNodes;
-use wf_names_rules::tables::{Scope, Tables, text_bytes};
+use wf_names_rules::here::Here;
+use wf_names_rules::tables::text_bytes;
 use wf_text::faults::NoMemory;
 
 /// A name whose text is one of the resolved package, which it joins where it isn't.
@@ -79,18 +80,16 @@ fn finish_via(
 fn resolve_named(
     alloc: Global,
     nodes: &mut NamedNodes,
-    parsed: &PackageNodes,
-    tables: &Tables,
-    scope: &Scope,
+    here: &Here<'_>,
     via: &Via,
 ) -> Result<Option<Via>, NoMemory>
-    requires { GivenBelow (length parsed.now.exprs) via.now.given }
+    requires { GivenBelow (length here.now.parsed.now.exprs) via.now.given }
     ensures grows { OnOk result (Grows nodes.old nodes.new) }
     ensures below { IfOk result (λ r. AxiomBelow (length nodes.new.texts) (length nodes.new.exprs) r) }
-    ensures made { IfOk result (λ r. via_at nodes.new.texts (exprs_of nodes.new) r ≡ resolved_via (standing_by parsed.now.texts tables.now scope.now) (parsed_via_at (expr_trees parsed.now.exprs) (Some via.now))) }
+    ensures made { IfOk result (λ r. via_at nodes.new.texts (exprs_of nodes.new) r ≡ resolved_via (standing_here here.now) (parsed_via_at (expr_trees here.now.parsed.now.exprs) (Some via.now))) }
 {
-    let given = resolve_given(alloc, nodes, parsed, tables, scope, via.given.as_slice())?;
-    let via = finish_via(alloc, nodes, parsed, via.axiom, &given)?;
+    let given = resolve_given(alloc, nodes, here, via.given.as_slice())?;
+    let via = finish_via(alloc, nodes, here.parsed, via.axiom, &given)?;
     Ok(Some(via))
 }
 
@@ -98,18 +97,16 @@ fn resolve_named(
 pub(crate) fn resolve_via(
     alloc: Global,
     nodes: &mut NamedNodes,
-    parsed: &PackageNodes,
-    tables: &Tables,
-    scope: &Scope,
+    here: &Here<'_>,
     via: &Option<Via>,
 ) -> Result<Option<Via>, NoMemory>
-    requires { ViaBelow (length parsed.now.exprs) via.now }
+    requires { ViaBelow (length here.now.parsed.now.exprs) via.now }
     ensures grows { OnOk result (Grows nodes.old nodes.new) }
     ensures below { IfOk result (λ r. AxiomBelow (length nodes.new.texts) (length nodes.new.exprs) r) }
-    ensures made { IfOk result (λ r. via_at nodes.new.texts (exprs_of nodes.new) r ≡ resolved_via (standing_by parsed.now.texts tables.now scope.now) (parsed_via_at (expr_trees parsed.now.exprs) via.now)) }
+    ensures made { IfOk result (λ r. via_at nodes.new.texts (exprs_of nodes.new) r ≡ resolved_via (standing_here here.now) (parsed_via_at (expr_trees here.now.parsed.now.exprs) via.now)) }
 {
     match via {
-        Some(via) => resolve_named(alloc, nodes, parsed, tables, scope, via),
+        Some(via) => resolve_named(alloc, nodes, here, via),
         None => Ok(None),
     }
 }
@@ -118,20 +115,18 @@ pub(crate) fn resolve_via(
 pub(crate) fn resolve_assert(
     alloc: Global,
     nodes: &mut NamedNodes,
-    parsed: &PackageNodes,
-    tables: &Tables,
-    scope: &Scope,
+    here: &Here<'_>,
     goal: ExprId,
     via: &Option<Via>,
 ) -> Result<(ExprId, Option<Via>), NoMemory>
-    requires goal { goal.0 < length parsed.now.exprs }
-    requires via { ViaBelow (length parsed.now.exprs) via.now }
+    requires goal { goal.0 < length here.now.parsed.now.exprs }
+    requires via { ViaBelow (length here.now.parsed.now.exprs) via.now }
     ensures grows { OnOk result (Grows nodes.old nodes.new) }
     ensures below { IfOk result (λ r. (r.0.0 < length nodes.new.exprs) × AxiomBelow (length nodes.new.texts) (length nodes.new.exprs) r.1) }
-    ensures goal { IfOk result (λ r. expr_at (exprs_of nodes.new) r.0 ≡ resolved_expr (standing_by parsed.now.texts tables.now scope.now) (parsed_expr_at (expr_trees parsed.now.exprs) goal)) }
-    ensures via { IfOk result (λ r. via_at nodes.new.texts (exprs_of nodes.new) r.1 ≡ resolved_via (standing_by parsed.now.texts tables.now scope.now) (parsed_via_at (expr_trees parsed.now.exprs) via.now)) }
+    ensures goal { IfOk result (λ r. expr_at (exprs_of nodes.new) r.0 ≡ resolved_expr (standing_here here.now) (parsed_expr_at (expr_trees here.now.parsed.now.exprs) goal)) }
+    ensures via { IfOk result (λ r. via_at nodes.new.texts (exprs_of nodes.new) r.1 ≡ resolved_via (standing_here here.now) (parsed_via_at (expr_trees here.now.parsed.now.exprs) via.now)) }
 {
-    let goal = resolve_expr(alloc, nodes, parsed, tables, scope, goal)?;
-    let via = resolve_via(alloc, nodes, parsed, tables, scope, via)?;
+    let goal = resolve_expr(alloc, nodes, here, goal)?;
+    let via = resolve_via(alloc, nodes, here, via)?;
     Ok((goal, via))
 }

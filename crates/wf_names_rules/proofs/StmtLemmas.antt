@@ -1,5 +1,5 @@
 -- Walks over statements.
-use Rattle.std.proofs.Common.{◌≡◌, ℕ, zero, suc, ◌+◌, ◌<◌, ◌≤◌, List, [], ◌∷◌, ◌++◌, length, drop, slice_index_or, Option, Some, None, Result, IfOk, sym, ap, ◌∙◌, subst, arith}
+use Rattle.std.proofs.Common.{◌≡◌, ℕ, zero, suc, ◌+◌, ◌<◌, ◌≤◌, List, [], ◌∷◌, ◌++◌, length, drop, slice_index_or, Option, Some, None, Result, OnOk, sym, ap, ◌∙◌, subst, arith}
 use Rattle.std.specs.List.{AllByRecursion}
 use Rattle.wf_text.specs.declared.faults.NoMemory.{NoMemory}
 use Rattle.wf_text.specs.declared.place.Place.{Place}
@@ -18,17 +18,18 @@ use Rattle.wf_names_rules.specs.Meanings.{Known}
 use Rattle.wf_names_rules.specs.Judged.{walked}
 use Rattle.wf_names_rules.proofs.WalkLemmas.{walked-append, ok_same, drop-one}
 
--- An answer after two walks, and after three.
-pub ok_append : (k : Known) (seen next : Seen) (us vs : List Use) (r : Result Seen NoMemory) → next ≡ walked k seen us
-    → IfOk r (λ all. all ≡ walked k next vs) → IfOk r (λ all. all ≡ walked k seen (us ++ vs))
-ok_append k seen next us vs r e h = ok_same r (walked k next vs) (walked k seen (us ++ vs)) (ap (λ s. walked k s vs) e ∙ sym (walked-append k seen us vs)) h
+-- What was seen after two walks, and after three.
+module _ {X : Type 0} (k : Known) (seen next : Seen) where
+  pub ok_append : (us vs : List Use) (r : Result X NoMemory) (x : Seen) → next ≡ walked k seen us
+      → OnOk r (x ≡ walked k next vs) → OnOk r (x ≡ walked k seen (us ++ vs))
+  ok_append us vs r x e h = ok_same r x (walked k next vs) (walked k seen (us ++ vs)) (ap (λ s. walked k s vs) e ∙ sym (walked-append k seen us vs)) h
 
-pub ok_append_more : (k : Known) (seen next : Seen) (us vs ws : List Use) (r : Result Seen NoMemory) → next ≡ walked k seen (us ++ vs)
-    → IfOk r (λ all. all ≡ walked k next ws) → IfOk r (λ all. all ≡ walked k seen (us ++ (vs ++ ws)))
-ok_append_more k seen next us vs ws r e h =
-    let way : walked k next ws ≡ walked k seen (us ++ (vs ++ ws)) =
-    ap (λ s. walked k s ws) (e ∙ walked-append k seen us vs) ∙ sym (walked-append k (walked k seen us) vs ws) ∙ sym (walked-append k seen us (vs ++ ws)) in
-    ok_same r (walked k next ws) (walked k seen (us ++ (vs ++ ws))) way h
+  pub ok_append_more : (us vs ws : List Use) (r : Result X NoMemory) (x : Seen) → next ≡ walked k seen (us ++ vs)
+      → OnOk r (x ≡ walked k next ws) → OnOk r (x ≡ walked k seen (us ++ (vs ++ ws)))
+  ok_append_more us vs ws r x e h =
+      let way : walked k next ws ≡ walked k seen (us ++ (vs ++ ws)) =
+      ap (λ s. walked k s ws) (e ∙ walked-append k seen us vs) ∙ sym (walked-append k (walked k seen us) vs ws) ∙ sym (walked-append k seen us (vs ++ ws)) in
+      ok_same r x (walked k next ws) (walked k seen (us ++ (vs ++ ws))) way h
 
 -- Numbers above those of parts.
 pub stmts_above : (k : ℕ) (ss : List StmtId) → AllByRecursion (λ s. s.0 < k) ss → above_stmts ss ≤ k

@@ -1,5 +1,5 @@
 -- Walks over expressions: what a walk past one list of uses and then another comes to.
-use Rattle.std.proofs.Common.{◌≡◌, ℕ, zero, suc, ◌+◌, ◌<◌, ◌≤◌, Bool, true, false, ◌&&◌, List, [], ◌∷◌, ◌++◌, length, drop, slice_index_or, Option, Some, None, Result, map, IfOk, refl, sym, ap, ◌∙◌, subst, arith, add-one, drop-cons}
+use Rattle.std.proofs.Common.{◌≡◌, ℕ, zero, suc, ◌+◌, ◌<◌, ◌≤◌, Bool, true, false, ◌&&◌, List, [], ◌∷◌, ◌++◌, length, drop, slice_index_or, Option, Some, None, Result, map, OnOk, refl, sym, ap, ◌∙◌, subst, arith, add-one, drop-cons}
 use Rattle.std.specs.List.{list_all, flat_map, AllByRecursion}
 use Rattle.wf_text.specs.declared.faults.NoMemory.{NoMemory}
 use Rattle.wf_text.specs.declared.rules.Refusal.{Refusal}
@@ -37,9 +37,9 @@ pub walked-append : (k : Known) (seen : Seen) (us vs : List Use) → walked k se
 walked-append k seen [] vs = refl
 walked-append k seen (u ∷ us) vs = walked-append k (walked_one k seen u) us vs
 
--- An answer that is the same.
-pub ok_same : (r : Result Seen NoMemory) (s t : Seen) → s ≡ t → IfOk r (λ all. all ≡ s) → IfOk r (λ all. all ≡ t)
-ok_same r s t e h = let P : Seen → Type 0 = λ u. IfOk r (λ all. all ≡ u) in subst P e h
+-- What was seen is the same.
+pub ok_same : {X : Type 0} (r : Result X NoMemory) (x s t : Seen) → s ≡ t → OnOk r (x ≡ s) → OnOk r (x ≡ t)
+ok_same r x s t e h = let P : Seen → Type 0 = λ u. OnOk r (x ≡ u) in subst P e h
 
 -- What decides doesn't depend on what has a meaning before it.
 pub walked-found : (k : Known) (s t : Seen) (us : List Use) → s.found ≡ t.found → (walked k s us).found ≡ (walked k t us).found

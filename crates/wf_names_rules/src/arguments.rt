@@ -15,6 +15,7 @@ ghost use Rattle.wf_names_rules.specs.Passes.{refused_if as refuses_if};
 ghost use Rattle.wf_names_rules.specs.Judged.{arg_path, arg_path_at, passed_item, passed_seen, passed_of, unknown_item, unknown_of, args_judged};
 
 use crate::callees::Callee;
+use crate::found::Found;
 use crate::here::Here;
 use crate::lists::{doubles, refused_if};
 use crate::sorts::Sort;
@@ -25,7 +26,6 @@ use wf_ast::parsed::{Expr, Given, Name, Path, Root};
 use wf_ast::{ExprId, PackageNodes, TextId};
 use wf_base::base_methods::{BaseSig, Kind};
 use wf_text::faults::NoMemory;
-use wf_text::precedence::sooner;
 use wf_text::rules::{Refusal, Rule};
 
 fn given_names(alloc: Global, args: &[Given]) -> Result<Vec<Name>, NoMemory>
@@ -99,21 +99,20 @@ fn passed_again(
 
 fn passed_twice(
     alloc: Global,
-    found: Option<Refusal>,
+    found: &mut Found,
     parsed: &PackageNodes,
     scope: &Scope,
     args: &[Given],
-) -> Result<Option<Refusal>, NoMemory>
+) -> Result<(), NoMemory>
     requires { GivenBelow (length parsed.now.exprs) args.now }
-    ensures { IfOk result (λ all. all ≡ soonest found (passed_of (sort_at scope.now.args) [] (given_values (given_at (expr_trees parsed.now.exprs) args.now)))) }
+    ensures { OnOk result (found.new ≡ soonest found.old (passed_of (sort_at scope.now.args) [] (given_values (given_at (expr_trees parsed.now.exprs) args.now)))) }
 {
-    let mut found = found;
     let mut seen = IndexSet::new(alloc);
     for given in args {
         let now = passed_again(scope, &mut seen, passed(parsed, given.value))?;
-        found = sooner(found, now);
+        found.refuse(now);
     }
-    Ok(found)
+    Ok(())
 }
 
 fn is_spelt(parsed: &PackageNodes, name: &[u8], text: TextId) -> bool
@@ -201,19 +200,17 @@ fn unknown_arg(
 }
 
 fn unknown_args(
-    found: Option<Refusal>,
+    found: &mut Found,
     parsed: &PackageNodes,
     tables: &Tables,
     callee: Callee,
     names: &[Name],
-) -> Option<Refusal>
-    ensures { result ≡ soonest found (unknown_of (bytes_of parsed.now.texts) (parameters_of (args_at tables.now) callee) names.now) }
+)
+    ensures { found.new ≡ soonest found.old (unknown_of (bytes_of parsed.now.texts) (parameters_of (args_at tables.now) callee) names.now) }
 {
-    let mut found = found;
     for name in names {
-        found = sooner(found, unknown_arg(parsed, tables, callee, *name));
+        found.refuse(unknown_arg(parsed, tables, callee, *name));
     }
-    found
 }
 
 // The texts of names, each once.
@@ -275,22 +272,23 @@ fn lacks_one(
     }
 }
 
-/// What the arguments of a call break, and what decides of that and of what was found before.
+/// What the arguments of a call break joins what was found before.
 pub(crate) fn arguments(
     alloc: Global,
-    found: Option<Refusal>,
+    found: &mut Found,
     here: &Here<'_>,
     callee: Callee,
     name: Name,
     args: &[Given],
-) -> Result<Option<Refusal>, NoMemory>
+) -> Result<(), NoMemory>
     requires { GivenBelow (length here.now.parsed.now.exprs) args.now }
-    ensures { IfOk result (λ all. all ≡ args_judged (known_here here.now) found (parameters_of (args_at here.now.tables.now) callee) name (map (λ g. g.name) args.now) (given_values (given_at (expr_trees here.now.parsed.now.exprs) args.now))) }
+    ensures { OnOk result (found.new ≡ args_judged (known_here here.now) found.old (parameters_of (args_at here.now.tables.now) callee) name (map (λ g. g.name) args.now) (given_values (given_at (expr_trees here.now.parsed.now.exprs) args.now))) }
 {
     let names = given_names(alloc, args)?;
-    let doubled = doubles(alloc, found, names.as_slice())?;
-    let passed = passed_twice(alloc, doubled, here.parsed, here.scope, args)?;
-    let unknown = unknown_args(passed, here.parsed, here.tables, callee, names.as_slice());
+    doubles(alloc, found, names.as_slice())?;
+    passed_twice(alloc, found, here.parsed, here.scope, args)?;
+    unknown_args(found, here.parsed, here.tables, callee, names.as_slice());
     let lacking = lacks_one(alloc, here.parsed, here.tables, callee, names.as_slice())?;
-    Ok(sooner(unknown, refused_if(lacking, Rule::N7, name.at)))
+    found.refuse(refused_if(lacking, Rule::N7, name.at));
+    Ok(())
 }

@@ -4,13 +4,13 @@
 ghost use Rattle.std.specs.Prelude.{◌≡◌, ◌++◌, ◌∷◌, [], OnOk};
 ghost use Rattle.wf_names_rules.specs.Jumps.{labelled, to_innermost, label_jumps, jump as jump_of, is_labelled as labels_it, has_label as among_labels, jump_judged, jumped};
 
+use crate::found::Found;
 use crate::lists::{refused_if, reserved_name};
 use crate::seen::Gathered;
 use wf_ast::parsed::Name;
 use wf_ast::{PackageNodes, TextId};
 use wf_text::Place;
 use wf_text::faults::NoMemory;
-use wf_text::precedence::sooner;
 use wf_text::rules::{Refusal, Rule};
 
 fn is_labelled(text: TextId, label: Option<Name>) -> bool
@@ -29,59 +29,45 @@ fn has_label(loops: &[Option<Name>], text: TextId) -> bool
     loops.iter().any(|label| is_labelled(text, *label))
 }
 
-fn judge_label(
-    found: Option<Refusal>,
-    parsed: &PackageNodes,
-    loops: &[Option<Name>],
-    label: Name,
-) -> Option<Refusal>
-    ensures { result ≡ jump_judged parsed.now.texts found (labelled loops.now label) }
+fn judge_label(found: &mut Found, parsed: &PackageNodes, loops: &[Option<Name>], label: Name)
+    ensures { found.new ≡ jump_judged parsed.now.texts found.old (labelled loops.now label) }
 {
-    let twice = refused_if(has_label(loops, label.text), Rule::N2, label.at);
-    sooner(sooner(found, twice), reserved_name(parsed, label))
+    let twice = has_label(loops, label.text);
+    found.refuse(refused_if(twice, Rule::N2, label.at));
+    found.refuse(reserved_name(parsed, label));
 }
 
-fn judge_loop(
-    found: Option<Refusal>,
-    parsed: &PackageNodes,
-    loops: &[Option<Name>],
-    label: Option<Name>,
-) -> Option<Refusal>
-    ensures { result ≡ jumped parsed.now.texts found (label_jumps loops.now label) }
+fn judge_loop(found: &mut Found, parsed: &PackageNodes, loops: &[Option<Name>], label: Option<Name>)
+    ensures { found.new ≡ jumped parsed.now.texts found.old (label_jumps loops.now label) }
 {
     match label {
         Some(label) => judge_label(found, parsed, loops, label),
-        None => found,
+        None => {}
     }
 }
 
-fn judge_unlabelled(
-    found: Option<Refusal>,
-    parsed: &PackageNodes,
-    loops: &[Option<Name>],
-    at: Place,
-) -> Option<Refusal>
-    ensures { result ≡ jump_judged parsed.now.texts found (to_innermost loops.now at) }
+fn judge_unlabelled(found: &mut Found, parsed: &PackageNodes, loops: &[Option<Name>], at: Place)
+    ensures { found.new ≡ jump_judged parsed.now.texts found.old (to_innermost loops.now at) }
 {
     match loops.first() {
-        Some(_) => found,
-        None => sooner(found, Some(Refusal { rule: Rule::N5, at })),
+        Some(_) => {}
+        None => found.refuse(Some(Refusal { rule: Rule::N5, at })),
     }
 }
 
 fn judge_jump(
-    found: Option<Refusal>,
+    found: &mut Found,
     parsed: &PackageNodes,
     loops: &[Option<Name>],
     label: Option<Name>,
     at: Place,
-) -> Option<Refusal>
-    ensures { result ≡ jump_judged parsed.now.texts found (jump_of loops.now label at) }
+)
+    ensures { found.new ≡ jump_judged parsed.now.texts found.old (jump_of loops.now label at) }
 {
     match label {
         Some(label) => {
             let unknown = !has_label(loops, label.text);
-            sooner(found, refused_if(unknown, Rule::N5, label.at))
+            found.refuse(refused_if(unknown, Rule::N5, label.at));
         }
         None => judge_unlabelled(found, parsed, loops, at),
     }
@@ -96,8 +82,8 @@ pub(crate) fn pass_jump(
 )
     ensures { gathered.new ≡ record { row = gathered.old.row; loops = gathered.old.loops; labels = jump_judged parsed.now.texts gathered.old.labels (jump_of gathered.old.loops.items label at) } }
 {
-    gathered.labels = judge_jump(
-        gathered.labels,
+    judge_jump(
+        &mut gathered.labels,
         parsed,
         gathered.loops.as_slice(),
         label,
@@ -115,7 +101,12 @@ pub(crate) fn enter_loop(
     ensures labels { OnOk result (gathered.new.labels ≡ jumped parsed.now.texts gathered.old.labels (label_jumps gathered.old.loops.items label)) }
     ensures loops { OnOk result (gathered.new.loops.items ≡ gathered.old.loops.items ++ label ∷ []) }
 {
-    gathered.labels = judge_loop(gathered.labels, parsed, gathered.loops.as_slice(), label);
+    judge_loop(
+        &mut gathered.labels,
+        parsed,
+        gathered.loops.as_slice(),
+        label,
+    );
     gathered.loops.push(label)?;
     Ok(())
 }

@@ -4,6 +4,7 @@
 
 pub mod arguments;
 pub mod callees;
+pub mod found;
 pub mod here;
 pub mod labels;
 pub mod laws;

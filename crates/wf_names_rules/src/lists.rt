@@ -1,10 +1,10 @@
-// The passes over lists of names: each finds what it can refuse, and what decides of that and of what was found
-// before.
+// The passes over lists of names: each adds what it can refuse to what was found before.
 
-ghost use Rattle.std.specs.Prelude.{◌≡◌, ◌<◌, not, [], length, slice_get, IfOk};
-ghost use Rattle.wf_text.specs.Precedence.{sooner as sooner_of, soonest};
+ghost use Rattle.std.specs.Prelude.{◌≡◌, ◌<◌, not, [], length, slice_get, OnOk};
+ghost use Rattle.wf_text.specs.Precedence.{soonest};
 ghost use Rattle.wf_names_rules.specs.Passes.{refused_if as refuses_if, doubles_of, reserved_item, reserved_of, initialize_item, initializes_of, is_flagged as flags_at, flagged_from, beyond as beyond_of};
 
+use crate::found::Found;
 use crate::reserved::{is_initialize, is_reserved};
 use crate::tables::text_bytes;
 use indexmap::IndexSet;
@@ -13,7 +13,6 @@ use wf_ast::PackageNodes;
 use wf_ast::parsed::Name;
 use wf_text::Place;
 use wf_text::faults::NoMemory;
-use wf_text::precedence::sooner;
 use wf_text::rules::{Refusal, Rule};
 
 /// That a rule is broken at a place, if it is.
@@ -41,20 +40,15 @@ fn double_name(fresh: bool, name: Name) -> Option<Refusal>
 }
 
 /// Names that an earlier one of the list has too, each refused at the later.
-pub fn doubles(
-    alloc: Global,
-    found: Option<Refusal>,
-    names: &[Name],
-) -> Result<Option<Refusal>, NoMemory>
-    ensures { IfOk result (λ all. all ≡ soonest found (doubles_of [] names.now)) }
+pub fn doubles(alloc: Global, found: &mut Found, names: &[Name]) -> Result<(), NoMemory>
+    ensures { OnOk result (found.new ≡ soonest found.old (doubles_of [] names.now)) }
 {
-    let mut found = found;
     let mut seen = IndexSet::new(alloc);
     for name in names {
         let fresh = seen.insert(name.text.0)?;
-        found = sooner(found, double_name(fresh, *name));
+        found.refuse(double_name(fresh, *name));
     }
-    Ok(found)
+    Ok(())
 }
 
 /// A name that nothing may be declared under.
@@ -69,14 +63,12 @@ pub fn reserved_name(parsed: &PackageNodes, name: Name) -> Option<Refusal>
 }
 
 /// Names that nothing may be declared under.
-pub fn reserved(found: Option<Refusal>, parsed: &PackageNodes, names: &[Name]) -> Option<Refusal>
-    ensures { result ≡ soonest found (reserved_of parsed.now.texts names.now) }
+pub fn reserved(found: &mut Found, parsed: &PackageNodes, names: &[Name])
+    ensures { found.new ≡ soonest found.old (reserved_of parsed.now.texts names.now) }
 {
-    let mut found = found;
     for name in names {
-        found = sooner(found, reserved_name(parsed, *name));
+        found.refuse(reserved_name(parsed, *name));
     }
-    found
 }
 
 fn initialize_name(parsed: &PackageNodes, name: Name) -> Option<Refusal>
@@ -90,14 +82,12 @@ fn initialize_name(parsed: &PackageNodes, name: Name) -> Option<Refusal>
 }
 
 /// Methods of the name `initialize`.
-pub fn initializes(found: Option<Refusal>, parsed: &PackageNodes, names: &[Name]) -> Option<Refusal>
-    ensures { result ≡ soonest found (initializes_of parsed.now.texts names.now) }
+pub fn initializes(found: &mut Found, parsed: &PackageNodes, names: &[Name])
+    ensures { found.new ≡ soonest found.old (initializes_of parsed.now.texts names.now) }
 {
-    let mut found = found;
     for name in names {
-        found = sooner(found, initialize_name(parsed, *name));
+        found.refuse(initialize_name(parsed, *name));
     }
-    found
 }
 
 fn is_flagged(flags: &[bool], a: usize) -> bool
@@ -110,16 +100,14 @@ fn is_flagged(flags: &[bool], a: usize) -> bool
 }
 
 /// Names whose number is flagged: methods or structs that can reach themselves.
-pub fn flagged(found: Option<Refusal>, flags: &[bool], names: &[Name]) -> Option<Refusal>
-    ensures { result ≡ soonest found (flagged_from 0 flags.now names.now) }
+pub fn flagged(found: &mut Found, flags: &[bool], names: &[Name])
+    ensures { found.new ≡ soonest found.old (flagged_from 0 flags.now names.now) }
 {
-    let mut found = found;
     let mut a = 0;
     for name in names {
-        found = sooner(found, refused_if(is_flagged(flags, a), Rule::N4, name.at));
+        found.refuse(refused_if(is_flagged(flags, a), Rule::N4, name.at));
         a += 1;
     }
-    found
 }
 
 /// The name after the first `limit` ones, if there are so many.

@@ -1,13 +1,13 @@
 // What a walk has found so far.
 
+use crate::found::Found;
 use graphs::rows::Row;
 use wf_ast::parsed::Name;
-use wf_text::rules::Refusal;
 
-/// What decides of what was found so far, and whether all names that were used have a meaning.
-#[derive(Clone, Copy, PartialEq, Eq)]
+/// The first refusal so far, and whether all names that were used have a meaning.
+#[derive(Clone, Copy)]
 pub struct Seen {
-    pub found: Option<Refusal>,
+    pub found: Found,
     pub known: bool,
 }
 
@@ -18,6 +18,6 @@ pub struct Gathered {
     pub row: Row,
     /// The loops that stand round the next statement, the outermost first, each with its label if it has one.
     pub loops: Vec<Option<Name>>,
-    /// What decides of what the loops and the jumps so far break.
-    pub labels: Option<Refusal>,
+    /// The first refusal of the loops and the jumps so far.
+    pub labels: Found,
 }

@@ -14,6 +14,7 @@ ghost use Rattle.wf_names_rules.specs.Called.{with_callee, with_calls};
 
 use crate::arguments::arguments;
 use crate::callees::{Callee, add_callee};
+use crate::found::Found;
 use crate::here::Here;
 use crate::lists::refused_if;
 use crate::seen::Seen;
@@ -26,7 +27,6 @@ use wf_ast::parsed::{
 use wf_ast::{ExprId, PackageNodes};
 use wf_text::Place;
 use wf_text::faults::NoMemory;
-use wf_text::precedence::sooner;
 use wf_text::rules::{Refusal, Rule};
 
 const BASE_STATUSES: [&str; 9] = [
@@ -55,58 +55,56 @@ pub(crate) fn is_base_status(text: &[u8]) -> bool
 }
 
 // A use that has a meaning or not, by N1 at its place.
-fn used(seen: Seen, has_meaning: bool, at: Place) -> Seen
-    ensures { result ≡ used_so seen has_meaning at }
+fn used(seen: &mut Seen, has_meaning: bool, at: Place)
+    ensures { seen.new ≡ used_so seen.old has_meaning at }
 {
-    Seen {
-        found: sooner(seen.found, refused_if(!has_meaning, Rule::N1, at)),
-        known: seen.known && has_meaning,
-    }
+    seen.found.refuse(refused_if(!has_meaning, Rule::N1, at));
+    seen.known = seen.known && has_meaning;
 }
 
-fn walk_own_status(seen: Seen, tables: &Tables, text: Name) -> Seen
-    ensures { (texts : _) (scope : _) → result ≡ walked_one (known_by texts tables.now scope) seen (own_status text) }
+fn walk_own_status(seen: &mut Seen, tables: &Tables, text: Name)
+    ensures { (texts : _) (scope : _) → seen.new ≡ walked_one (known_by texts tables.now scope) seen.old (own_status text) }
 {
     used(
         seen,
         tables.statuses.numbers.contains_key(&text.text.0),
         text.at,
-    )
+    );
 }
 
-fn walk_base_status(seen: Seen, parsed: &PackageNodes, text: Name) -> Seen
-    ensures { (tables : _) (scope : _) → result ≡ walked_one (known_by parsed.now.texts tables scope) seen (base_status text) }
+fn walk_base_status(seen: &mut Seen, parsed: &PackageNodes, text: Name)
+    ensures { (tables : _) (scope : _) → seen.new ≡ walked_one (known_by parsed.now.texts tables scope) seen.old (base_status text) }
 {
-    used(seen, is_base_status(text_bytes(parsed, text.text)), text.at)
+    used(seen, is_base_status(text_bytes(parsed, text.text)), text.at);
 }
 
 /// A use of a path.
-pub(crate) fn walk_path(seen: Seen, here: &Here<'_>, path: Path) -> Seen
-    ensures { result ≡ walked_one (known_here here.now) seen (variable path) }
+pub(crate) fn walk_path(seen: &mut Seen, here: &Here<'_>, path: Path)
+    ensures { seen.new ≡ walked_one (known_here here.now) seen.old (variable path) }
 {
     used(
         seen,
         path_sort(here.parsed, here.tables, here.scope, path).is_some(),
         path.name.at,
-    )
+    );
 }
 
 /// A use of a struct's name.
-pub fn walk_struct(seen: Seen, tables: &Tables, name: Name) -> Seen
-    ensures { (texts : _) (scope : _) → result ≡ walked_one (known_by texts tables.now scope) seen (structure name) }
+pub fn walk_struct(seen: &mut Seen, tables: &Tables, name: Name)
+    ensures { (texts : _) (scope : _) → seen.new ≡ walked_one (known_by texts tables.now scope) seen.old (structure name) }
 {
     used(
         seen,
         tables.structs.numbers.contains_key(&name.text.0),
         name.at,
-    )
+    );
 }
 
-fn walk_receiver(seen: Seen, here: &Here<'_>, on: Receiver) -> Seen
-    ensures { result ≡ walked (known_here here.now) seen (receiver_uses on) }
+fn walk_receiver(seen: &mut Seen, here: &Here<'_>, on: Receiver)
+    ensures { seen.new ≡ walked (known_here here.now) seen.old (receiver_uses on) }
 {
     match on {
-        Receiver::This(_) => seen,
+        Receiver::This(_) => {}
         Receiver::Path(path) => walk_path(seen, here, path),
     }
 }
@@ -156,13 +154,13 @@ fn both(a: bool, b: bool) -> bool
 fn arguments_if(
     alloc: Global,
     known: bool,
-    found: Option<Refusal>,
+    found: &mut Found,
     here: &Here<'_>,
     callee: Callee,
     call: &Call,
-) -> Result<Option<Refusal>, NoMemory>
+) -> Result<(), NoMemory>
     requires { GivenBelow (length here.now.parsed.now.exprs) call.now.args }
-    ensures { IfOk result (λ all. all ≡ args_judged_if known (known_here here.now) found (parameters_of (args_at here.now.tables.now) callee) call.now.method (given_values (given_at (expr_trees here.now.parsed.now.exprs) call.now.args))) }
+    ensures { OnOk result (found.new ≡ args_judged_if known (known_here here.now) found.old (parameters_of (args_at here.now.tables.now) callee) call.now.method (given_values (given_at (expr_trees here.now.parsed.now.exprs) call.now.args))) }
 {
     if known {
         arguments(
@@ -174,21 +172,21 @@ fn arguments_if(
             call.args.as_slice(),
         )
     } else {
-        Ok(found)
+        Ok(())
     }
 }
 
-// A call after what it is made on and its arguments' values; `given` tells what these broke, and whether all in them
+// A call after what it is made on and its arguments' values; `seen` tells what these broke, and whether all in them
 // has a meaning. Its method joins the row.
 fn finish_call(
     alloc: Global,
-    given: Seen,
+    seen: &mut Seen,
     row: &mut Row,
     here: &Here<'_>,
     call: &Call,
-) -> Result<Seen, NoMemory>
+) -> Result<(), NoMemory>
     requires { GivenBelow (length here.now.parsed.now.exprs) call.now.args }
-    ensures seen { IfOk result (λ seen. seen ≡ call_finished (known_here here.now) given (call_at (expr_trees here.now.parsed.now.exprs) call.now)) }
+    ensures seen { OnOk result (seen.new ≡ call_finished (known_here here.now) seen.old (call_at (expr_trees here.now.parsed.now.exprs) call.now)) }
     ensures row { OnOk result (row.new ≡ with_callee row.old (callee_of (known_here here.now) (call_at (expr_trees here.now.parsed.now.exprs) call.now))) }
 {
     let callee = callee_on(
@@ -199,10 +197,9 @@ fn finish_call(
         call.method.text,
     );
     add_callee(row, callee)?;
-    let found = sooner(given.found, callee_refusal(callee, call.method));
-    let known = both(is_known(callee), given.known);
-    let found = arguments_if(alloc, known, found, here, callee, call)?;
-    Ok(Seen { found, known })
+    seen.found.refuse(callee_refusal(callee, call.method));
+    seen.known = both(is_known(callee), seen.known);
+    arguments_if(alloc, seen.known, &mut seen.found, here, callee, call)
 }
 
 /// A walk past an expression. The methods that it calls join the row at its end, by their numbers, in order and each as
@@ -210,38 +207,47 @@ fn finish_call(
 #[cycle(walk_exprs)]
 pub fn walk_expr(
     alloc: Global,
-    seen: Seen,
+    seen: &mut Seen,
     row: &mut Row,
     here: &Here<'_>,
     e: ExprId,
-) -> Result<Seen, NoMemory>
+) -> Result<(), NoMemory>
     requires { e.0 < length here.now.parsed.now.exprs }
-    ensures seen { IfOk result (λ all. all ≡ walked (known_here here.now) seen (uses_of (expr_at (expr_trees here.now.parsed.now.exprs) e))) }
+    ensures seen { OnOk result (seen.new ≡ walked (known_here here.now) seen.old (uses_of (expr_at (expr_trees here.now.parsed.now.exprs) e))) }
     ensures row { OnOk result (row.new ≡ with_calls (known_here here.now) row.old (uses_of (expr_at (expr_trees here.now.parsed.now.exprs) e))) }
 {
     let node = here.parsed.expr(e);
     match &node.expr {
-        Expr::Number(_) => Ok(seen),
-        Expr::OwnStatus(text) => Ok(walk_own_status(seen, here.tables, *text)),
-        Expr::BaseStatus(text) => Ok(walk_base_status(seen, here.parsed, *text)),
-        Expr::Fine => Ok(seen),
-        Expr::Truth(_) => Ok(seen),
-        Expr::Path(path) => Ok(walk_path(seen, here, *path)),
+        Expr::Number(_) => Ok(()),
+        Expr::OwnStatus(text) => {
+            walk_own_status(seen, here.tables, *text);
+            Ok(())
+        }
+        Expr::BaseStatus(text) => {
+            walk_base_status(seen, here.parsed, *text);
+            Ok(())
+        }
+        Expr::Fine => Ok(()),
+        Expr::Truth(_) => Ok(()),
+        Expr::Path(path) => {
+            walk_path(seen, here, *path);
+            Ok(())
+        }
         Expr::Index { base, index } => {
-            let seen = walk_path(seen, here, *base);
+            walk_path(seen, here, *base);
             walk_expr(alloc, seen, row, here, *index)
         }
         Expr::Slice { base, from, to } => {
-            let seen = walk_path(seen, here, *base);
+            walk_path(seen, here, *base);
             walk_parts(alloc, seen, row, here, *from, *to)
         }
         Expr::Call(call) => walk_call(alloc, seen, row, here, call),
         Expr::Chain { first, links, .. } => {
-            let seen = walk_expr(alloc, seen, row, here, *first)?;
+            walk_expr(alloc, seen, row, here, *first)?;
             walk_links(alloc, seen, row, here, links.as_slice())
         }
         Expr::Convert { of, to } => {
-            let seen = walk_expr(alloc, seen, row, here, *of)?;
+            walk_expr(alloc, seen, row, here, *of)?;
             walk_type(alloc, seen, row, here, to)
         }
         Expr::Not(of) => walk_expr(alloc, seen, row, here, *of),
@@ -252,131 +258,112 @@ pub fn walk_expr(
 #[cycle(walk_exprs)]
 pub(crate) fn walk_part(
     alloc: Global,
-    seen: Seen,
+    seen: &mut Seen,
     row: &mut Row,
     here: &Here<'_>,
     part: Option<ExprId>,
-) -> Result<Seen, NoMemory>
+) -> Result<(), NoMemory>
     requires { IsBelow (length here.now.parsed.now.exprs) part }
-    ensures seen { IfOk result (λ all. all ≡ walked (known_here here.now) seen (part_uses (part_at (expr_trees here.now.parsed.now.exprs) part))) }
+    ensures seen { OnOk result (seen.new ≡ walked (known_here here.now) seen.old (part_uses (part_at (expr_trees here.now.parsed.now.exprs) part))) }
     ensures row { OnOk result (row.new ≡ with_calls (known_here here.now) row.old (part_uses (part_at (expr_trees here.now.parsed.now.exprs) part))) }
 {
     match part {
         Some(e) => walk_expr(alloc, seen, row, here, e),
-        None => Ok(seen),
+        None => Ok(()),
     }
 }
 
 #[cycle(walk_exprs)]
 fn walk_parts(
     alloc: Global,
-    seen: Seen,
+    seen: &mut Seen,
     row: &mut Row,
     here: &Here<'_>,
     from: Option<ExprId>,
     to: Option<ExprId>,
-) -> Result<Seen, NoMemory>
+) -> Result<(), NoMemory>
     requires from { IsBelow (length here.now.parsed.now.exprs) from }
     requires to { IsBelow (length here.now.parsed.now.exprs) to }
-    ensures seen { IfOk result (λ all. all ≡ walked (known_here here.now) seen (part_uses (part_at (expr_trees here.now.parsed.now.exprs) from) ++ part_uses (part_at (expr_trees here.now.parsed.now.exprs) to))) }
+    ensures seen { OnOk result (seen.new ≡ walked (known_here here.now) seen.old (part_uses (part_at (expr_trees here.now.parsed.now.exprs) from) ++ part_uses (part_at (expr_trees here.now.parsed.now.exprs) to))) }
     ensures row { OnOk result (row.new ≡ with_calls (known_here here.now) row.old (part_uses (part_at (expr_trees here.now.parsed.now.exprs) from) ++ part_uses (part_at (expr_trees here.now.parsed.now.exprs) to))) }
 {
-    let seen = walk_part(alloc, seen, row, here, from)?;
+    walk_part(alloc, seen, row, here, from)?;
     walk_part(alloc, seen, row, here, to)
 }
 
 #[cycle(walk_exprs)]
 fn walk_links(
     alloc: Global,
-    seen: Seen,
+    seen: &mut Seen,
     row: &mut Row,
     here: &Here<'_>,
     links: &[Link],
-) -> Result<Seen, NoMemory>
+) -> Result<(), NoMemory>
     requires { LinksBelow (length here.now.parsed.now.exprs) links.now }
-    ensures seen { IfOk result (λ all. all ≡ walked (known_here here.now) seen (link_uses (links_at (expr_trees here.now.parsed.now.exprs) links.now))) }
+    ensures seen { OnOk result (seen.new ≡ walked (known_here here.now) seen.old (link_uses (links_at (expr_trees here.now.parsed.now.exprs) links.now))) }
     ensures row { OnOk result (row.new ≡ with_calls (known_here here.now) row.old (link_uses (links_at (expr_trees here.now.parsed.now.exprs) links.now))) }
 {
-    let mut seen = seen;
     for link in links {
-        seen = walk_expr(alloc, seen, row, here, link.operand)?;
+        walk_expr(alloc, seen, row, here, link.operand)?;
     }
-    Ok(seen)
+    Ok(())
 }
 
 /// A walk past the values of arguments, or past what is given to an axiom.
 #[cycle(walk_exprs)]
 pub(crate) fn walk_given(
     alloc: Global,
-    seen: Seen,
+    seen: &mut Seen,
     row: &mut Row,
     here: &Here<'_>,
     args: &[Given],
-) -> Result<Seen, NoMemory>
+) -> Result<(), NoMemory>
     requires { GivenBelow (length here.now.parsed.now.exprs) args.now }
-    ensures seen { IfOk result (λ all. all ≡ walked (known_here here.now) seen (given_uses (given_at (expr_trees here.now.parsed.now.exprs) args.now))) }
+    ensures seen { OnOk result (seen.new ≡ walked (known_here here.now) seen.old (given_uses (given_at (expr_trees here.now.parsed.now.exprs) args.now))) }
     ensures row { OnOk result (row.new ≡ with_calls (known_here here.now) row.old (given_uses (given_at (expr_trees here.now.parsed.now.exprs) args.now))) }
 {
-    let mut seen = seen;
     for given in args {
-        seen = walk_expr(alloc, seen, row, here, given.value)?;
+        walk_expr(alloc, seen, row, here, given.value)?;
     }
-    Ok(seen)
+    Ok(())
 }
 
 /// A walk past a call.
 #[cycle(walk_exprs)]
 pub(crate) fn walk_call(
     alloc: Global,
-    seen: Seen,
+    seen: &mut Seen,
     row: &mut Row,
     here: &Here<'_>,
     call: &Call,
-) -> Result<Seen, NoMemory>
+) -> Result<(), NoMemory>
     requires { GivenBelow (length here.now.parsed.now.exprs) call.now.args }
-    ensures seen { IfOk result (λ all. all ≡ walked (known_here here.now) seen (call_uses (call_at (expr_trees here.now.parsed.now.exprs) call.now))) }
+    ensures seen { OnOk result (seen.new ≡ walked (known_here here.now) seen.old (call_uses (call_at (expr_trees here.now.parsed.now.exprs) call.now))) }
     ensures row { OnOk result (row.new ≡ with_calls (known_here here.now) row.old (call_uses (call_at (expr_trees here.now.parsed.now.exprs) call.now))) }
 {
-    let on = walk_receiver(seen, here, call.on);
-    let given = walk_given(alloc, afresh(on), row, here, call.args.as_slice())?;
-    let all = finish_call(alloc, given, row, here, call)?;
-    Ok(joined(on, all))
-}
-
-// What was found, where nothing without a meaning has been seen yet.
-fn afresh(seen: Seen) -> Seen
-    ensures { result ≡ record { found = seen.found; known = true } }
-{
-    Seen {
-        found: seen.found,
-        known: true,
-    }
-}
-
-// What was found at last, with whether all had a meaning before and since.
-fn joined(before: Seen, since: Seen) -> Seen
-    ensures { result ≡ record { found = since.found; known = before.known && since.known } }
-{
-    Seen {
-        found: since.found,
-        known: both(before.known, since.known),
-    }
+    walk_receiver(seen, here, call.on);
+    let before = seen.known;
+    seen.known = true;
+    walk_given(alloc, seen, row, here, call.args.as_slice())?;
+    finish_call(alloc, seen, row, here, call)?;
+    seen.known = both(before, seen.known);
+    Ok(())
 }
 
 #[cycle(walk_exprs)]
 fn walk_prefix(
     alloc: Global,
-    seen: Seen,
+    seen: &mut Seen,
     row: &mut Row,
     here: &Here<'_>,
     prefix: Prefix,
-) -> Result<Seen, NoMemory>
+) -> Result<(), NoMemory>
     requires { PrefixBelow (length here.now.parsed.now.exprs) prefix }
-    ensures seen { IfOk result (λ all. all ≡ walked (known_here here.now) seen (prefix_uses (expr_trees here.now.parsed.now.exprs) prefix)) }
+    ensures seen { OnOk result (seen.new ≡ walked (known_here here.now) seen.old (prefix_uses (expr_trees here.now.parsed.now.exprs) prefix)) }
     ensures row { OnOk result (row.new ≡ with_calls (known_here here.now) row.old (prefix_uses (expr_trees here.now.parsed.now.exprs) prefix)) }
 {
     match prefix {
-        Prefix::Slice(_) => Ok(seen),
+        Prefix::Slice(_) => Ok(()),
         Prefix::Array { length, .. } => walk_expr(alloc, seen, row, here, length),
     }
 }
@@ -384,57 +371,59 @@ fn walk_prefix(
 #[cycle(walk_exprs)]
 fn walk_prefixes(
     alloc: Global,
-    seen: Seen,
+    seen: &mut Seen,
     row: &mut Row,
     here: &Here<'_>,
     prefixes: &[Prefix],
-) -> Result<Seen, NoMemory>
+) -> Result<(), NoMemory>
     requires { AllByRecursion (PrefixBelow (length here.now.parsed.now.exprs)) prefixes.now }
-    ensures seen { IfOk result (λ all. all ≡ walked (known_here here.now) seen (flat_map (prefix_uses (expr_trees here.now.parsed.now.exprs)) prefixes.now)) }
+    ensures seen { OnOk result (seen.new ≡ walked (known_here here.now) seen.old (flat_map (prefix_uses (expr_trees here.now.parsed.now.exprs)) prefixes.now)) }
     ensures row { OnOk result (row.new ≡ with_calls (known_here here.now) row.old (flat_map (prefix_uses (expr_trees here.now.parsed.now.exprs)) prefixes.now)) }
 {
-    let mut seen = seen;
     for prefix in prefixes {
-        seen = walk_prefix(alloc, seen, row, here, *prefix)?;
+        walk_prefix(alloc, seen, row, here, *prefix)?;
     }
-    Ok(seen)
+    Ok(())
 }
 
 #[cycle(walk_exprs)]
 fn walk_bounds(
     alloc: Global,
-    seen: Seen,
+    seen: &mut Seen,
     row: &mut Row,
     here: &Here<'_>,
     bounds: Option<Bounds>,
-) -> Result<Seen, NoMemory>
+) -> Result<(), NoMemory>
     requires { BoundsBelow (length here.now.parsed.now.exprs) bounds }
-    ensures seen { IfOk result (λ all. all ≡ walked (known_here here.now) seen (bounds_uses (bounds_at (expr_trees here.now.parsed.now.exprs) bounds))) }
+    ensures seen { OnOk result (seen.new ≡ walked (known_here here.now) seen.old (bounds_uses (bounds_at (expr_trees here.now.parsed.now.exprs) bounds))) }
     ensures row { OnOk result (row.new ≡ with_calls (known_here here.now) row.old (bounds_uses (bounds_at (expr_trees here.now.parsed.now.exprs) bounds))) }
 {
     match bounds {
         Some(bounds) => walk_parts(alloc, seen, row, here, bounds.low, Some(bounds.high)),
-        None => Ok(seen),
+        None => Ok(()),
     }
 }
 
 #[cycle(walk_exprs)]
 fn walk_core(
     alloc: Global,
-    seen: Seen,
+    seen: &mut Seen,
     row: &mut Row,
     here: &Here<'_>,
     core: Core,
     bounds: Option<Bounds>,
-) -> Result<Seen, NoMemory>
+) -> Result<(), NoMemory>
     requires { BoundsBelow (length here.now.parsed.now.exprs) bounds }
-    ensures seen { IfOk result (λ all. all ≡ walked (known_here here.now) seen (type_uses (core_at (expr_trees here.now.parsed.now.exprs) core bounds))) }
+    ensures seen { OnOk result (seen.new ≡ walked (known_here here.now) seen.old (type_uses (core_at (expr_trees here.now.parsed.now.exprs) core bounds))) }
     ensures row { OnOk result (row.new ≡ with_calls (known_here here.now) row.old (type_uses (core_at (expr_trees here.now.parsed.now.exprs) core bounds))) }
 {
     match core {
         Core::Base { .. } => walk_bounds(alloc, seen, row, here, bounds),
         Core::BaseStatus { .. } => walk_bounds(alloc, seen, row, here, bounds),
-        Core::Struct(name) => Ok(walk_struct(seen, here.tables, name)),
+        Core::Struct(name) => {
+            walk_struct(seen, here.tables, name);
+            Ok(())
+        }
     }
 }
 
@@ -442,15 +431,15 @@ fn walk_core(
 #[cycle(walk_exprs)]
 pub fn walk_type(
     alloc: Global,
-    seen: Seen,
+    seen: &mut Seen,
     row: &mut Row,
     here: &Here<'_>,
     of: &TypeExpr,
-) -> Result<Seen, NoMemory>
+) -> Result<(), NoMemory>
     requires { TypeBelow (length here.now.parsed.now.exprs) of.now }
-    ensures seen { IfOk result (λ all. all ≡ walked (known_here here.now) seen (type_uses (type_at (expr_trees here.now.parsed.now.exprs) of.now))) }
+    ensures seen { OnOk result (seen.new ≡ walked (known_here here.now) seen.old (type_uses (type_at (expr_trees here.now.parsed.now.exprs) of.now))) }
     ensures row { OnOk result (row.new ≡ with_calls (known_here here.now) row.old (type_uses (type_at (expr_trees here.now.parsed.now.exprs) of.now))) }
 {
-    let seen = walk_prefixes(alloc, seen, row, here, of.prefixes.as_slice())?;
+    walk_prefixes(alloc, seen, row, here, of.prefixes.as_slice())?;
     walk_core(alloc, seen, row, here, of.core, of.bounds)
 }

@@ -147,7 +147,7 @@ module _ (texts : List (List ℕ)) (ds : List DeclTree) where
       subst P (sym e) (record { statuses = p.statuses; structs = p.structs; fields = p.fields; places = p.places; methods = p.methods; method_names = p.method_names; publics = p.publics; args = p.args })
 
 -- An answer that says more.
-pub on_ok : {P Q : Type 0} (r : Result (Unit {0}) NoMemory) → (P → Q) → OnOk r P → OnOk r Q
+pub on_ok : {X P Q : Type 0} (r : Result X NoMemory) → (P → Q) → OnOk r P → OnOk r Q
 on_ok (Ok u) f h = f h
 on_ok (Err e) f h = h
 

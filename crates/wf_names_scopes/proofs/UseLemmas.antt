@@ -35,11 +35,11 @@ walked_sites d scope seen [] = refl
 walked_sites d scope seen (u ∷ us) = walked_sites d scope (walked_one (known_at d scope) seen u) us
 
 -- So does a walk by tables that tell the package and the scope.
-pub walk_judged : (p : Parsed) (t : Tables) (s : ScopeTables) (scope : Scope) (found : Option Refusal) (seen all : Seen) (us : List Use) → TellsPackage (package_of p) t → TellsScope (package_of p) scope s
-    → seen ≡ record { found = found; known = true } → all ≡ walked (known_by p.texts t s) seen us → all.found ≡ sites_judged (package_of p) found (sites_in scope us)
-walk_judged p t s scope found seen all us tells known begun e =
+pub walk_judged : (p : Parsed) (t : Tables) (s : ScopeTables) (scope : Scope) (seen all : Seen) (us : List Use) → TellsPackage (package_of p) t → TellsScope (package_of p) scope s
+    → all ≡ walked (known_by p.texts t s) seen us → all.found ≡ sites_judged (package_of p) seen.found (sites_in scope us)
+walk_judged p t s scope seen all us tells known e =
     ap (λ a. a.found) e ∙ ap (λ k. (walked k seen us).found) (agree_same (known_by p.texts t s) (known_at (package_of p) scope) (agree_by (package_of p) scope t s tells known))
-    ∙ walked_sites (package_of p) scope seen us ∙ ap (λ b. sites_judged (package_of p) b.found (sites_in scope us)) begun
+    ∙ walked_sites (package_of p) scope seen us
 
 -- The types of fields.
 pub field_walked : (k : Known) (es : List ExprTree) (seen next : Seen) (fields : List Field) (i : ℕ) (x : Field) → x ≡ slice_index_or fields i x → i < length fields

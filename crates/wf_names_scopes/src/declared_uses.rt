@@ -1,6 +1,6 @@
 // The walk over one declaration, where its scope is known: what it uses, which methods it calls, and its loops and jumps.
 
-ghost use Rattle.std.specs.Prelude.{◌≡◌, ◌<◌, ◌++◌, ◌∷◌, length, IfOk, OnOk};
+ghost use Rattle.std.specs.Prelude.{◌≡◌, ◌<◌, ◌++◌, ◌∷◌, length, OnOk};
 ghost use Rattle.wf_ast.specs.ParsedTrees.{expr_trees, stmt_trees, expr_at, type_at, fields_at, result_at, block_at};
 ghost use Rattle.wf_ast.specs.ParsedParts.{TypeBelow, FieldsBelow, ResultBelow, BlockBelow};
 ghost use Rattle.wf_names_rules.specs.Declarations.{variables};
@@ -23,73 +23,72 @@ use wf_text::faults::NoMemory;
 /// A walk past the types of fields or arguments.
 pub(crate) fn walk_fields(
     alloc: Global,
-    seen: Seen,
+    seen: &mut Seen,
     row: &mut Row,
     here: &Here<'_>,
     fields: &[Field],
-) -> Result<Seen, NoMemory>
+) -> Result<(), NoMemory>
     requires { FieldsBelow (length here.now.parsed.now.exprs) fields.now }
-    ensures seen { IfOk result (λ all. all ≡ walked (known_here here.now) seen (variable_uses (variables (fields_at (expr_trees here.now.parsed.now.exprs) fields.now)))) }
+    ensures seen { OnOk result (seen.new ≡ walked (known_here here.now) seen.old (variable_uses (variables (fields_at (expr_trees here.now.parsed.now.exprs) fields.now)))) }
     ensures row { OnOk result (row.new ≡ with_calls (known_here here.now) row.old (variable_uses (variables (fields_at (expr_trees here.now.parsed.now.exprs) fields.now)))) }
 {
-    let mut seen = seen;
     for field in fields {
-        seen = walk_type(alloc, seen, row, here, &field.of)?;
+        walk_type(alloc, seen, row, here, &field.of)?;
     }
-    Ok(seen)
+    Ok(())
 }
 
 fn walk_result(
     alloc: Global,
-    seen: Seen,
+    seen: &mut Seen,
     row: &mut Row,
     here: &Here<'_>,
     gives: &Option<TypeExpr>,
-) -> Result<Seen, NoMemory>
+) -> Result<(), NoMemory>
     requires { ResultBelow (length here.now.parsed.now.exprs) gives.now }
-    ensures seen { IfOk result (λ all. all ≡ walked (known_here here.now) seen (result_uses (result_at (expr_trees here.now.parsed.now.exprs) gives.now))) }
+    ensures seen { OnOk result (seen.new ≡ walked (known_here here.now) seen.old (result_uses (result_at (expr_trees here.now.parsed.now.exprs) gives.now))) }
     ensures row { OnOk result (row.new ≡ with_calls (known_here here.now) row.old (result_uses (result_at (expr_trees here.now.parsed.now.exprs) gives.now))) }
 {
     match gives {
         Some(of) => walk_type(alloc, seen, row, here, of),
-        None => Ok(seen),
+        None => Ok(()),
     }
 }
 
 /// A walk past the type of a constant and its value.
 pub(crate) fn walk_constant(
     alloc: Global,
-    seen: Seen,
+    seen: &mut Seen,
     row: &mut Row,
     here: &Here<'_>,
     of: &TypeExpr,
     value: ExprId,
-) -> Result<Seen, NoMemory>
+) -> Result<(), NoMemory>
     requires of { TypeBelow (length here.now.parsed.now.exprs) of.now }
     requires value { value.0 < length here.now.parsed.now.exprs }
-    ensures seen { IfOk result (λ all. all ≡ walked (known_here here.now) seen (type_uses (type_at (expr_trees here.now.parsed.now.exprs) of.now) ++ uses_of (expr_at (expr_trees here.now.parsed.now.exprs) value))) }
+    ensures seen { OnOk result (seen.new ≡ walked (known_here here.now) seen.old (type_uses (type_at (expr_trees here.now.parsed.now.exprs) of.now) ++ uses_of (expr_at (expr_trees here.now.parsed.now.exprs) value))) }
     ensures row { OnOk result (row.new ≡ with_calls (known_here here.now) row.old (type_uses (type_at (expr_trees here.now.parsed.now.exprs) of.now) ++ uses_of (expr_at (expr_trees here.now.parsed.now.exprs) value))) }
 {
-    let seen = walk_type(alloc, seen, row, here, of)?;
+    walk_type(alloc, seen, row, here, of)?;
     walk_expr(alloc, seen, row, here, value)
 }
 
 // A walk past what a method gives and its body.
 fn walk_inside(
     alloc: Global,
-    seen: Seen,
+    seen: &mut Seen,
     gathered: &mut Gathered,
     here: &Here<'_>,
     gives: &Option<TypeExpr>,
     body: &Block,
-) -> Result<Seen, NoMemory>
+) -> Result<(), NoMemory>
     requires gives { ResultBelow (length here.now.parsed.now.exprs) gives.now }
     requires body { BlockBelow (length here.now.parsed.now.stmts) body.now }
-    ensures seen { IfOk result (λ all. all ≡ walked (known_here here.now) seen (result_uses (result_at (expr_trees here.now.parsed.now.exprs) gives.now) ++ block_uses (block_at (stmt_trees here.now.parsed.now.exprs here.now.parsed.now.stmts) body.now))) }
+    ensures seen { OnOk result (seen.new ≡ walked (known_here here.now) seen.old (result_uses (result_at (expr_trees here.now.parsed.now.exprs) gives.now) ++ block_uses (block_at (stmt_trees here.now.parsed.now.exprs here.now.parsed.now.stmts) body.now))) }
     ensures row { OnOk result (gathered.new.row ≡ with_calls (known_here here.now) gathered.old.row (result_uses (result_at (expr_trees here.now.parsed.now.exprs) gives.now) ++ block_uses (block_at (stmt_trees here.now.parsed.now.exprs here.now.parsed.now.stmts) body.now))) }
     ensures labels { OnOk result (gathered.new.labels ≡ jumped here.now.parsed.now.texts gathered.old.labels (block_jumps gathered.old.loops.items (block_at (stmt_trees here.now.parsed.now.exprs here.now.parsed.now.stmts) body.now))) }
 {
-    let seen = walk_result(alloc, seen, &mut gathered.row, here, gives)?;
+    walk_result(alloc, seen, &mut gathered.row, here, gives)?;
     walk_block(alloc, seen, gathered, here, body)
 }
 
@@ -105,21 +104,21 @@ pub struct WrittenMethod<'a> {
 /// A walk past a method: its owner, its arguments, what it gives, and its body.
 pub(crate) fn walk_method(
     alloc: Global,
-    seen: Seen,
+    seen: &mut Seen,
     gathered: &mut Gathered,
     here: &Here<'_>,
     method: WrittenMethod<'_>,
-) -> Result<Seen, NoMemory>
+) -> Result<(), NoMemory>
     requires args { FieldsBelow (length here.now.parsed.now.exprs) method.args.now }
     requires gives { ResultBelow (length here.now.parsed.now.exprs) method.gives.now }
     requires body { BlockBelow (length here.now.parsed.now.stmts) method.body.now }
-    ensures seen { IfOk result (λ all. all ≡ walked (known_here here.now) seen (structure method.entry.owner
+    ensures seen { OnOk result (seen.new ≡ walked (known_here here.now) seen.old (structure method.entry.owner
         ∷ (variable_uses (variables (fields_at (expr_trees here.now.parsed.now.exprs) method.entry.args.now)) ++ (result_uses (result_at (expr_trees here.now.parsed.now.exprs) method.entry.gives.now) ++ block_uses (block_at (stmt_trees here.now.parsed.now.exprs here.now.parsed.now.stmts) method.entry.body.now))))) }
     ensures row { OnOk result (gathered.new.row ≡ with_calls (known_here here.now) gathered.old.row (structure method.entry.owner
         ∷ (variable_uses (variables (fields_at (expr_trees here.now.parsed.now.exprs) method.entry.args.now)) ++ (result_uses (result_at (expr_trees here.now.parsed.now.exprs) method.entry.gives.now) ++ block_uses (block_at (stmt_trees here.now.parsed.now.exprs here.now.parsed.now.stmts) method.entry.body.now))))) }
     ensures labels { OnOk result (gathered.new.labels ≡ jumped here.now.parsed.now.texts gathered.old.labels (block_jumps gathered.old.loops.items (block_at (stmt_trees here.now.parsed.now.exprs here.now.parsed.now.stmts) method.entry.body.now))) }
 {
-    let owned = walk_struct(seen, here.tables, method.owner);
-    let seen = walk_fields(alloc, owned, &mut gathered.row, here, method.args)?;
+    walk_struct(seen, here.tables, method.owner);
+    walk_fields(alloc, seen, &mut gathered.row, here, method.args)?;
     walk_inside(alloc, seen, gathered, here, method.gives, method.body)
 }

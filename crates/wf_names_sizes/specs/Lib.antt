@@ -5,3 +5,4 @@ pub mod Orders
 pub mod Packages
 pub mod StructSizes
 pub mod ValuesBy
+pub mod Settings

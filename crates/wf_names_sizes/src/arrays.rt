@@ -21,10 +21,10 @@ use indexmap::{IndexMap, IndexSet};
 use std::alloc::Global;
 use wf_ast::parsed::{Block, Decl, Field, Prefix, Stmt, TypeExpr};
 use wf_ast::{ExprId, PackageNodes, StmtId};
+use wf_names_rules::found::Found;
 use wf_names_rules::lists::refused_if;
 use wf_text::faults::NoMemory;
-use wf_text::precedence::sooner;
-use wf_text::rules::{Refusal, Rule};
+use wf_text::rules::Rule;
 
 // The longest array.
 const MOST_ELEMENTS: u64 = 65_536;
@@ -80,69 +80,65 @@ fn is_too_long(
 
 // Fields or arguments with arrays that are too long.
 fn long_fields(
-    found: Option<Refusal>,
+    found: &mut Found,
     parsed: &PackageNodes,
     constants: &IndexMap<u32, Option<Value>>,
     hidden: &IndexSet<u32>,
     fields: &[Field],
-) -> Option<Refusal>
+)
     requires { FieldsBelow (length parsed.now.exprs) fields.now }
-    ensures { result ≡ soonest found (map (long_by (value_by (bytes_of parsed.now.texts) (constant_by constants.now hidden.now))) (variables (fields_at (expr_trees parsed.now.exprs) fields.now))) }
+    ensures { found.new ≡ soonest found.old (map (long_by (value_by (bytes_of parsed.now.texts) (constant_by constants.now hidden.now))) (variables (fields_at (expr_trees parsed.now.exprs) fields.now))) }
 {
-    let mut found = found;
     for field in fields {
         let long = is_too_long(parsed, constants, hidden, &field.of);
-        found = sooner(found, refused_if(long, Rule::L7, field.name.at));
+        found.refuse(refused_if(long, Rule::L7, field.name.at));
     }
-    found
 }
 
 // A local, if the statement declares one, with an array that is too long.
 fn long_local(
-    found: Option<Refusal>,
+    found: &mut Found,
     parsed: &PackageNodes,
     constants: &IndexMap<u32, Option<Value>>,
     hidden: &IndexSet<u32>,
     s: StmtId,
-) -> Option<Refusal>
+)
     requires { s.0 < length parsed.now.stmts }
-    ensures { result ≡ soonest found (map (long_by (value_by (bytes_of parsed.now.texts) (constant_by constants.now hidden.now))) (local_of (stmt_at (stmt_trees parsed.now.exprs parsed.now.stmts) s))) }
+    ensures { found.new ≡ soonest found.old (map (long_by (value_by (bytes_of parsed.now.texts) (constant_by constants.now hidden.now))) (local_of (stmt_at (stmt_trees parsed.now.exprs parsed.now.stmts) s))) }
 {
     let node = parsed.stmt(s);
     match &node.stmt {
         Stmt::Var { name, of } => {
             let long = is_too_long(parsed, constants, hidden, of);
-            sooner(found, refused_if(long, Rule::L7, name.at))
+            found.refuse(refused_if(long, Rule::L7, name.at));
         }
-        Stmt::Assign { .. } => found,
-        Stmt::Keep { .. } => found,
-        Stmt::Call(_) => found,
-        Stmt::If { .. } => found,
-        Stmt::While { .. } => found,
-        Stmt::Break(_) => found,
-        Stmt::Continue(_) => found,
-        Stmt::Return(_) => found,
-        Stmt::Yield(_) => found,
-        Stmt::Assert { .. } => found,
+        Stmt::Assign { .. } => {}
+        Stmt::Keep { .. } => {}
+        Stmt::Call(_) => {}
+        Stmt::If { .. } => {}
+        Stmt::While { .. } => {}
+        Stmt::Break(_) => {}
+        Stmt::Continue(_) => {}
+        Stmt::Return(_) => {}
+        Stmt::Yield(_) => {}
+        Stmt::Assert { .. } => {}
     }
 }
 
 // Locals with arrays that are too long.
 fn long_locals(
-    found: Option<Refusal>,
+    found: &mut Found,
     parsed: &PackageNodes,
     constants: &IndexMap<u32, Option<Value>>,
     hidden: &IndexSet<u32>,
     body: &Block,
-) -> Option<Refusal>
+)
     requires { BlockBelow (length parsed.now.stmts) body.now }
-    ensures { result ≡ soonest found (map (long_by (value_by (bytes_of parsed.now.texts) (constant_by constants.now hidden.now))) (locals_of (block_at (stmt_trees parsed.now.exprs parsed.now.stmts) body.now))) }
+    ensures { found.new ≡ soonest found.old (map (long_by (value_by (bytes_of parsed.now.texts) (constant_by constants.now hidden.now))) (locals_of (block_at (stmt_trees parsed.now.exprs parsed.now.stmts) body.now))) }
 {
-    let mut found = found;
     for s in body.items.as_slice() {
-        found = long_local(found, parsed, constants, hidden, *s);
+        long_local(found, parsed, constants, hidden, *s);
     }
-    found
 }
 
 // Adds the name of a local, if the statement declares one.
@@ -187,117 +183,115 @@ fn local_names(
 
 // Fields with arrays that are too long, of the struct that a declaration declares, if it declares one.
 fn long_in_struct(
-    found: Option<Refusal>,
+    found: &mut Found,
     parsed: &PackageNodes,
     constants: &IndexMap<u32, Option<Value>>,
     nothing: &IndexSet<u32>,
     number: usize,
-) -> Option<Refusal>
+)
     requires number { number < length parsed.now.decls }
     requires knows { Knows constants.now (known_constants (of_package parsed.now)) }
     requires nothing { nothing.now.keys ≡ [] }
-    ensures { (node : DeclNode) → slice_get parsed.now.decls number ≡ Some node → result ≡ soonest found (flat_map (struct_longs (of_package parsed.now)) (structs_of (decl_made (expr_trees parsed.now.exprs) (stmt_trees parsed.now.exprs parsed.now.stmts) node.public node.decl node.at ∷ []))) }
+    ensures { (node : DeclNode) → slice_get parsed.now.decls number ≡ Some node → found.new ≡ soonest found.old (flat_map (struct_longs (of_package parsed.now)) (structs_of (decl_made (expr_trees parsed.now.exprs) (stmt_trees parsed.now.exprs parsed.now.stmts) node.public node.decl node.at ∷ []))) }
 {
     let node = parsed.decl(number);
     match &node.decl {
         Decl::Struct { fields, .. } => {
             long_fields(found, parsed, constants, nothing, fields.as_slice())
         }
-        Decl::Status(_) => found,
-        Decl::Const { .. } => found,
-        Decl::Method { .. } => found,
+        Decl::Status(_) => {}
+        Decl::Const { .. } => {}
+        Decl::Method { .. } => {}
     }
 }
 
 // Fields with arrays that are too long.
 fn long_in_structs(
-    found: Option<Refusal>,
+    found: &mut Found,
     parsed: &PackageNodes,
     constants: &IndexMap<u32, Option<Value>>,
     nothing: &IndexSet<u32>,
-) -> Option<Refusal>
+)
     requires knows { Knows constants.now (known_constants (of_package parsed.now)) }
     requires nothing { nothing.now.keys ≡ [] }
-    ensures { result ≡ soonest found (flat_map (struct_longs (of_package parsed.now)) (structs_of (decl_trees parsed.now.exprs parsed.now.stmts parsed.now.decls))) }
+    ensures { found.new ≡ soonest found.old (flat_map (struct_longs (of_package parsed.now)) (structs_of (decl_trees parsed.now.exprs parsed.now.stmts parsed.now.decls))) }
 {
-    let mut found = found;
     for number in 0..parsed.decls().len() {
-        found = long_in_struct(found, parsed, constants, nothing, number);
+        long_in_struct(found, parsed, constants, nothing, number);
     }
-    found
 }
 
 // Arguments and locals of a method with arrays that are too long.
 fn long_variables(
     alloc: Global,
-    found: Option<Refusal>,
+    found: &mut Found,
     parsed: &PackageNodes,
     constants: &IndexMap<u32, Option<Value>>,
     args: &[Field],
     body: &Block,
-) -> Result<Option<Refusal>, NoMemory>
+) -> Result<(), NoMemory>
     requires knows { Knows constants.now (known_constants (of_package parsed.now)) }
     requires args { FieldsBelow (length parsed.now.exprs) args.now }
     requires body { BlockBelow (length parsed.now.stmts) body.now }
-    ensures { IfOk result (λ all. all ≡ soonest found (map (long_item (of_package parsed.now) (locals_of (block_at (stmt_trees parsed.now.exprs parsed.now.stmts) body.now))) (variables (fields_at (expr_trees parsed.now.exprs) args.now)) ++ map (long_item (of_package parsed.now) (locals_of (block_at (stmt_trees parsed.now.exprs parsed.now.stmts) body.now))) (locals_of (block_at (stmt_trees parsed.now.exprs parsed.now.stmts) body.now)))) }
+    ensures { OnOk result (found.new ≡ soonest found.old (map (long_item (of_package parsed.now) (locals_of (block_at (stmt_trees parsed.now.exprs parsed.now.stmts) body.now))) (variables (fields_at (expr_trees parsed.now.exprs) args.now)) ++ map (long_item (of_package parsed.now) (locals_of (block_at (stmt_trees parsed.now.exprs parsed.now.stmts) body.now))) (locals_of (block_at (stmt_trees parsed.now.exprs parsed.now.stmts) body.now)))) }
 {
     let hidden = local_names(alloc, parsed, body)?;
-    let found = long_fields(found, parsed, constants, &hidden, args);
-    Ok(long_locals(found, parsed, constants, &hidden, body))
+    long_fields(found, parsed, constants, &hidden, args);
+    long_locals(found, parsed, constants, &hidden, body);
+    Ok(())
 }
 
 // The same of the method that a declaration declares, if it declares one.
 fn long_in_method(
     alloc: Global,
-    found: Option<Refusal>,
+    found: &mut Found,
     parsed: &PackageNodes,
     constants: &IndexMap<u32, Option<Value>>,
     number: usize,
-) -> Result<Option<Refusal>, NoMemory>
+) -> Result<(), NoMemory>
     requires number { number < length parsed.now.decls }
     requires knows { Knows constants.now (known_constants (of_package parsed.now)) }
-    ensures { (node : DeclNode) → slice_get parsed.now.decls number ≡ Some node → IfOk result (λ all. all ≡ soonest found (flat_map (method_longs (of_package parsed.now)) (methods_of (decl_made (expr_trees parsed.now.exprs) (stmt_trees parsed.now.exprs parsed.now.stmts) node.public node.decl node.at ∷ [])))) }
+    ensures { (node : DeclNode) → slice_get parsed.now.decls number ≡ Some node → OnOk result (found.new ≡ soonest found.old (flat_map (method_longs (of_package parsed.now)) (methods_of (decl_made (expr_trees parsed.now.exprs) (stmt_trees parsed.now.exprs parsed.now.stmts) node.public node.decl node.at ∷ [])))) }
 {
     let node = parsed.decl(number);
     match &node.decl {
         Decl::Method { args, body, .. } => {
             long_variables(alloc, found, parsed, constants, args.as_slice(), body)
         }
-        Decl::Status(_) => Ok(found),
-        Decl::Const { .. } => Ok(found),
-        Decl::Struct { .. } => Ok(found),
+        Decl::Status(_) => Ok(()),
+        Decl::Const { .. } => Ok(()),
+        Decl::Struct { .. } => Ok(()),
     }
 }
 
 // Arguments and locals with arrays that are too long.
 fn long_in_methods(
     alloc: Global,
-    found: Option<Refusal>,
+    found: &mut Found,
     parsed: &PackageNodes,
     constants: &IndexMap<u32, Option<Value>>,
-) -> Result<Option<Refusal>, NoMemory>
+) -> Result<(), NoMemory>
     requires { Knows constants.now (known_constants (of_package parsed.now)) }
-    ensures { IfOk result (λ all. all ≡ soonest found (flat_map (method_longs (of_package parsed.now)) (methods_of (decl_trees parsed.now.exprs parsed.now.stmts parsed.now.decls)))) }
+    ensures { OnOk result (found.new ≡ soonest found.old (flat_map (method_longs (of_package parsed.now)) (methods_of (decl_trees parsed.now.exprs parsed.now.stmts parsed.now.decls)))) }
 {
-    let mut found = found;
     for number in 0..parsed.decls().len() {
-        found = long_in_method(alloc, found, parsed, constants, number)?;
+        long_in_method(alloc, found, parsed, constants, number)?;
     }
-    Ok(found)
+    Ok(())
 }
 
-/// Variables whose types have arrays of more than 65,536 elements, each refused by L7 at its name, and what decides
-/// of these and of what was found before, by the values of the constants. `Err` where memory was refused.
+/// Variables whose types have arrays of more than 65,536 elements by the values of the constants, each refused by L7 at its
+/// name, join what was found before. `Err` where memory was refused.
 pub(crate) fn long_by_constants(
     alloc: Global,
-    found: Option<Refusal>,
+    found: &mut Found,
     parsed: &PackageNodes,
     constants: &IndexMap<u32, Option<Value>>,
-) -> Result<Option<Refusal>, NoMemory>
+) -> Result<(), NoMemory>
     requires { Knows constants.now (known_constants (of_package parsed.now)) }
-    ensures { IfOk result (λ all. all ≡ arrays_found (of_package parsed.now) found) }
+    ensures { OnOk result (found.new ≡ arrays_found (of_package parsed.now) found.old) }
 {
     let nothing = IndexSet::new(alloc);
-    let found = long_in_structs(found, parsed, constants, &nothing);
+    long_in_structs(found, parsed, constants, &nothing);
     long_in_methods(alloc, found, parsed, constants)
 }

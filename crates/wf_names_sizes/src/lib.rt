@@ -8,6 +8,7 @@ pub mod large;
 pub mod laws;
 pub mod numbers;
 pub mod parts;
+pub mod setting;
 pub mod struct_sizes;
 pub mod tables;
 pub mod values;

@@ -1,6 +1,6 @@
 // Fields of structs by their bytes, as far as these don't depend on other structs.
 
-ghost use Rattle.std.specs.Prelude.{◌≡◌, ◌*◌, ◌<◌, ◌≤◌, length, min, map, IfOk, OnOk, [], false, codes, bytes_eq};
+ghost use Rattle.std.specs.Prelude.{◌≡◌, ◌*◌, ◌<◌, ◌≤◌, length, min, map, IfOk, OnOk, false, codes, bytes_eq};
 ghost use Rattle.wf_ast.specs.ParsedTrees.{expr_trees, expr_at, type_at, core_at, fields_at};
 ghost use Rattle.wf_ast.specs.ParsedParts.{TypeBelow, FieldsBelow};
 ghost use Rattle.wf_names_rules.specs.Declarations.{variables};
@@ -9,12 +9,11 @@ ghost use Rattle.wf_names_rules.specs.ConstantValues.{known_constants, value_of}
 ghost use Rattle.wf_names_rules.specs.Tables.{number_at};
 ghost use Rattle.wf_names_rules.specs.Sizes.{number_or_zero, width_bytes as bytes_of_width, flag_bytes, plain_bytes as bytes_of_type, struct_held as held_by_type};
 ghost use Rattle.wf_names_sizes.specs.Packages.{of_package};
-ghost use Rattle.wf_names_sizes.specs.ValuesBy.{Knows};
+ghost use Rattle.wf_names_sizes.specs.Settings.{TellsSetting};
 ghost use Rattle.wf_names_sizes.specs.StructSizes.{capped, part_with, part_of, AreNumbers};
 
-use crate::numbers::Value;
+use crate::setting::Setting;
 use crate::values::value;
-use indexmap::{IndexMap, IndexSet};
 use std::alloc::Global;
 use wf_ast::parsed::{Core, Field, Prefix, TypeExpr};
 use wf_ast::sequences::Sequence;
@@ -79,41 +78,29 @@ fn product(count: u64, bytes: u64) -> u32
     (count as u128 * bytes as u128).min(MOST_BYTES as u128) as u32
 }
 
-fn count(
-    parsed: &PackageNodes,
-    constants: &IndexMap<u32, Option<Value>>,
-    nothing: &IndexSet<u32>,
-    elements: ExprId,
-) -> u64
-    requires elements { elements.0 < length parsed.now.exprs }
-    requires knows { Knows constants.now (known_constants (of_package parsed.now)) }
-    requires nothing { nothing.now.keys ≡ [] }
-    ensures { result ≡ number_or_zero (value_of (of_package parsed.now) (λ text. false) (known_constants (of_package parsed.now)) (expr_at (expr_trees parsed.now.exprs) elements)) }
+fn count(setting: &Setting<'_>, elements: ExprId) -> u64
+    requires elements { elements.0 < length setting.now.parsed.now.exprs }
+    requires setting { TellsSetting setting.now }
+    ensures { result ≡ number_or_zero (value_of (of_package setting.now.parsed.now) (λ text. false) (known_constants (of_package setting.now.parsed.now)) (expr_at (expr_trees setting.now.parsed.now.exprs) elements)) }
 {
-    match value(parsed, constants, nothing, elements) {
+    match value(setting.parsed, setting.constants, setting.nothing, elements) {
         Some(value) => value.number,
         None => 0,
     }
 }
 
 // The bytes of a field that holds no struct.
-fn plain_bytes(
-    parsed: &PackageNodes,
-    constants: &IndexMap<u32, Option<Value>>,
-    nothing: &IndexSet<u32>,
-    of: &TypeExpr,
-) -> u32
-    requires of { TypeBelow (length parsed.now.exprs) of.now }
-    requires knows { Knows constants.now (known_constants (of_package parsed.now)) }
-    requires nothing { nothing.now.keys ≡ [] }
-    ensures { result ≡ capped (bytes_of_type (of_package parsed.now) (type_at (expr_trees parsed.now.exprs) of.now)) }
+fn plain_bytes(setting: &Setting<'_>, of: &TypeExpr) -> u32
+    requires of { TypeBelow (length setting.now.parsed.now.exprs) of.now }
+    requires setting { TellsSetting setting.now }
+    ensures { result ≡ capped (bytes_of_type (of_package setting.now.parsed.now) (type_at (expr_trees setting.now.parsed.now.exprs) of.now)) }
 {
     match of.prefixes.as_slice() {
-        [] => core_bytes(parsed, of.core) as u32,
+        [] => core_bytes(setting.parsed, of.core) as u32,
         [Prefix::Slice(_)] => 0,
         [Prefix::Array { length, .. }] => product(
-            count(parsed, constants, nothing, *length),
-            width_bytes(width(parsed, of.core)),
+            count(setting, *length),
+            width_bytes(width(setting.parsed, of.core)),
         ),
         _ => 0,
     }
@@ -151,43 +138,30 @@ fn core_held(parsed: &PackageNodes, structs: &Numbers, core: Core) -> Option<usi
 }
 
 /// A field by its bytes, or by the struct that it holds.
-pub(crate) fn field_part(
-    parsed: &PackageNodes,
-    constants: &IndexMap<u32, Option<Value>>,
-    nothing: &IndexSet<u32>,
-    structs: &Numbers,
-    of: &TypeExpr,
-) -> Part
-    requires of { TypeBelow (length parsed.now.exprs) of.now }
-    requires knows { Knows constants.now (known_constants (of_package parsed.now)) }
-    requires nothing { nothing.now.keys ≡ [] }
-    requires structs { AreNumbers structs.now (of_package parsed.now).structs }
-    ensures { result ≡ part_with (bytes_of_type (of_package parsed.now) (type_at (expr_trees parsed.now.exprs) of.now)) (held_by_type (of_package parsed.now) (type_at (expr_trees parsed.now.exprs) of.now)) }
+pub(crate) fn field_part(setting: &Setting<'_>, of: &TypeExpr) -> Part
+    requires of { TypeBelow (length setting.now.parsed.now.exprs) of.now }
+    requires setting { TellsSetting setting.now }
+    ensures { result ≡ part_with (bytes_of_type (of_package setting.now.parsed.now) (type_at (expr_trees setting.now.parsed.now.exprs) of.now)) (held_by_type (of_package setting.now.parsed.now) (type_at (expr_trees setting.now.parsed.now.exprs) of.now)) }
 {
-    match struct_held(parsed, structs, of) {
+    match struct_held(setting.parsed, setting.structs, of) {
         Some(s) => Part::Struct(s),
-        None => Part::Plain(plain_bytes(parsed, constants, nothing, of)),
+        None => Part::Plain(plain_bytes(setting, of)),
     }
 }
 
 /// The fields of a struct in order.
 pub(crate) fn row(
     alloc: Global,
-    parsed: &PackageNodes,
-    constants: &IndexMap<u32, Option<Value>>,
-    nothing: &IndexSet<u32>,
-    structs: &Numbers,
+    setting: &Setting<'_>,
     fields: &[Field],
 ) -> Result<Sequence<Part>, NoMemory>
-    requires fields { FieldsBelow (length parsed.now.exprs) fields.now }
-    requires knows { Knows constants.now (known_constants (of_package parsed.now)) }
-    requires nothing { nothing.now.keys ≡ [] }
-    requires structs { AreNumbers structs.now (of_package parsed.now).structs }
-    ensures { IfOk result (λ row. row ≡ map (part_of (of_package parsed.now)) (variables (fields_at (expr_trees parsed.now.exprs) fields.now))) }
+    requires fields { FieldsBelow (length setting.now.parsed.now.exprs) fields.now }
+    requires setting { TellsSetting setting.now }
+    ensures { IfOk result (λ row. row ≡ map (part_of (of_package setting.now.parsed.now)) (variables (fields_at (expr_trees setting.now.parsed.now.exprs) fields.now))) }
 {
     let mut row = Sequence::new(alloc);
     for field in fields {
-        let part = field_part(parsed, constants, nothing, structs, &field.of);
+        let part = field_part(setting, &field.of);
         row.push(part)?;
     }
     Ok(row)

@@ -4,49 +4,33 @@ ghost use Rattle.std.specs.Prelude.{◌≡◌, ◌<◌, ◌++◌, [], ◌∷◌,
 ghost use Rattle.wf_ast.specs.declared.parsed.DeclNode.{DeclNode};
 ghost use Rattle.wf_ast.specs.ParsedTrees.{expr_trees, stmt_trees, decl_made};
 ghost use Rattle.wf_names_rules.specs.Declarations.{structs_of};
-ghost use Rattle.wf_names_rules.specs.ConstantValues.{known_constants};
 ghost use Rattle.wf_names_sizes.specs.Packages.{of_package};
-ghost use Rattle.wf_names_sizes.specs.ValuesBy.{Knows};
-ghost use Rattle.wf_names_sizes.specs.StructSizes.{row_of, AreNumbers};
+ghost use Rattle.wf_names_sizes.specs.Settings.{TellsSetting};
+ghost use Rattle.wf_names_sizes.specs.StructSizes.{row_of};
 
-use crate::numbers::Value;
 use crate::parts::{Part, row};
-use indexmap::{IndexMap, IndexSet};
+use crate::setting::Setting;
 use std::alloc::Global;
-use wf_ast::PackageNodes;
 use wf_ast::parsed::Decl;
 use wf_ast::sequences::Sequence;
-use wf_names_rules::tables::Numbers;
 use wf_text::faults::NoMemory;
 
 // Adds the fields of the struct that a declaration declares, if it declares one.
 fn add_row(
     alloc: Global,
     rows: &mut Vec<Sequence<Part>>,
-    parsed: &PackageNodes,
-    constants: &IndexMap<u32, Option<Value>>,
-    nothing: &IndexSet<u32>,
-    structs: &Numbers,
+    setting: &Setting<'_>,
     number: usize,
 ) -> Result<(), NoMemory>
-    requires number { number < length parsed.now.decls }
-    requires knows { Knows constants.now (known_constants (of_package parsed.now)) }
-    requires nothing { nothing.now.keys ≡ [] }
-    requires structs { AreNumbers structs.now (of_package parsed.now).structs }
-    ensures { OnOk result ((node : DeclNode) → slice_get parsed.now.decls number ≡ Some node
-        → rows.new.items ≡ rows.old.items ++ map (row_of (of_package parsed.now)) (structs_of (decl_made (expr_trees parsed.now.exprs) (stmt_trees parsed.now.exprs parsed.now.stmts) node.public node.decl node.at ∷ []))) }
+    requires number { number < length setting.now.parsed.now.decls }
+    requires setting { TellsSetting setting.now }
+    ensures { OnOk result ((node : DeclNode) → slice_get setting.now.parsed.now.decls number ≡ Some node
+        → rows.new.items ≡ rows.old.items ++ map (row_of (of_package setting.now.parsed.now)) (structs_of (decl_made (expr_trees setting.now.parsed.now.exprs) (stmt_trees setting.now.parsed.now.exprs setting.now.parsed.now.stmts) node.public node.decl node.at ∷ []))) }
 {
-    let node = parsed.decl(number);
+    let node = setting.parsed.decl(number);
     match &node.decl {
         Decl::Struct { fields, .. } => {
-            let row = row(
-                alloc,
-                parsed,
-                constants,
-                nothing,
-                structs,
-                fields.as_slice(),
-            )?;
+            let row = row(alloc, setting, fields.as_slice())?;
             rows.push(row)?;
             Ok(())
         }
@@ -57,23 +41,13 @@ fn add_row(
 }
 
 /// The fields of each struct, by number.
-pub(crate) fn rows(
-    alloc: Global,
-    parsed: &PackageNodes,
-    constants: &IndexMap<u32, Option<Value>>,
-    nothing: &IndexSet<u32>,
-    structs: &Numbers,
-) -> Result<Vec<Sequence<Part>>, NoMemory>
-    requires knows { Knows constants.now (known_constants (of_package parsed.now)) }
-    requires nothing { nothing.now.keys ≡ [] }
-    requires structs { AreNumbers structs.now (of_package parsed.now).structs }
-    ensures { IfOk result (λ rows. rows.items ≡ map (row_of (of_package parsed.now)) (of_package parsed.now).structs) }
+pub(crate) fn rows(alloc: Global, setting: &Setting<'_>) -> Result<Vec<Sequence<Part>>, NoMemory>
+    requires setting { TellsSetting setting.now }
+    ensures { IfOk result (λ rows. rows.items ≡ map (row_of (of_package setting.now.parsed.now)) (of_package setting.now.parsed.now).structs) }
 {
     let mut rows = Vec::new(alloc);
-    for number in 0..parsed.decls().len() {
-        add_row(
-            alloc, &mut rows, parsed, constants, nothing, structs, number,
-        )?;
+    for number in 0..setting.parsed.decls().len() {
+        add_row(alloc, &mut rows, setting, number)?;
     }
     Ok(rows)
 }

@@ -1,8 +1,5 @@
-use Rattle.wf_text.specs.Precedence.{Decides}
-use Rattle.wf_names_rules.specs.NameRules.{SizeBreaks, Breaks}
 use Rattle.wf_names_scopes.specs.Agreeing.{package_of}
-use Rattle.wf_names_scopes.proofs.UseLemmas.{if_ok}
-use Rattle.wf_names_sizes.specs.Deciding.{DecidesBehind}
+use Rattle.wf_names_scopes.proofs.PackageLemmas.{on_ok}
 use Rattle.wf_names.proofs.DecidingLemmas.{all-decide, flags-hold, order-stands}
 use Rattle.wf_names.proofs.findings.deciding.Goals as goal
 
@@ -18,6 +15,8 @@ size_breaks-requires-clause-order c = rw c.as_slice-2.ensures.value (order-stand
 pub returns : goal.returns
 returns c =
     let d = package_of c.args.parsed.now in
-    if_ok (λ all. DecidesBehind (SizeBreaks d) c.cycle_breaks-cycles_found.result all) (Decides (Breaks d)) c.size_breaks.result
-    (λ all b. all-decide d c.args.named c.cycle_breaks-cycles_found.result all c.requires.named (c.cycle_breaks-cycles_found.ensures d c.requires.structs c.requires.methods) b)
+    let last = c.cycle_breaks.new.found in
+    let all = c.size_breaks.new.found in
+    on_ok c.size_breaks.result
+    (λ b. all-decide d c.args.found.now last all c.requires.named (c.cycle_breaks.ensures d c.requires.structs c.requires.methods) b)
     c.size_breaks.ensures

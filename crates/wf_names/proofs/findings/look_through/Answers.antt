@@ -1,4 +1,8 @@
+use Rattle.std.proofs.Common.{Option, ap, ◌∙◌}
+use Rattle.wf_text.specs.declared.rules.Refusal.{Refusal}
+use Rattle.wf_names_decls.specs.DeclarationPass.{declarations_found}
 use Rattle.wf_names_scopes.specs.Agreeing.{package_of}
+use Rattle.wf_names_scopes.specs.UsesFound.{names_found}
 use Rattle.wf_names.proofs.DecidingLemmas.{order-of-calls}
 use Rattle.wf_names.proofs.findings.look_through.Goals as goal
 
@@ -6,11 +10,16 @@ pub struct_cycles-requires-clause-numbers : goal.struct_cycles-requires-clause-n
 struct_cycles-requires-clause-numbers c = c.in_ok-tables.ensures.structs
 
 pub method_cycles-requires-clause-rows : goal.method_cycles-requires-clause-rows
-method_cycles-requires-clause-rows c = rw c.as_slice.ensures.value c.in_ok-used.ensures.rows
+method_cycles-requires-clause-rows c = rw c.as_slice.ensures.value c.in_ok-rows.ensures.rows
+
+pub deciding-requires-clause-named : goal.deciding-requires-clause-named
+deciding-requires-clause-named c =
+    c.in_ok-rows.ensures.found
+    ∙ ap (λ (o : Option Refusal). names_found (package_of c.args.parsed.now) (declarations_found (package_of c.args.parsed.now) o)) c.nothing-found.ensures
 
 pub returns : goal.returns
 returns c = record {
-  decides = c.in_ok-refusal.ensures;
+  decides = rw c.first.ensures c.in_ok-deciding.ensures;
   tables = c.in_ok-tables.ensures;
   order = rw c.into_order.ensures (order-of-calls (package_of c.args.parsed.now) c.in_ok-methods.methods c.in_ok-methods.ensures);
 }

@@ -3,4 +3,4 @@ use Rattle.wf_names_cycles.proofs.cycles_found.cycle_breaks.Goals as goal
 
 pub returns : goal.returns
 returns c = λ d s m.
-    cycles-decided d c.args.found c.holds_itself-held.result c.recursion.result (c.holds_itself-held.ensures d s) (c.recursion.ensures d m)
+    cycles-decided d c.args.found.now c.holds_itself.new.found c.recursion.new.found (c.holds_itself.ensures d s) (c.recursion.ensures d m)

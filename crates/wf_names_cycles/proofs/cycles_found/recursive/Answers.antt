@@ -6,4 +6,4 @@ pub returns : goal.returns
 returns c = λ rows h.
     let named = c.args.named.now in
     let P : _ → Type 0 = λ n. AreCycles rows named.cycles.flags.items n in
-    cycles_found-decides rows named.names.items named.cycles.flags.items c.args.found c.flagged.result (rw h.long h.flags) (rw (c.as_slice.ensures.value, c.as_slice-2.ensures.value) at c.flagged.ensures)
+    cycles_found-decides rows named.names.items named.cycles.flags.items c.args.found.now c.flagged.new.found (rw h.long h.flags) (rw (c.as_slice.ensures.value, c.as_slice-2.ensures.value) at c.flagged.ensures)

@@ -9,7 +9,7 @@ pub loop-number-preserved : goal.loop-number-preserved
 loop-number-preserved c =
     let ts = stmt_trees c.args.parsed.now.exprs c.args.parsed.now.stmts in
     struct_step (expr_trees c.args.parsed.now.exprs) ts c.args.parsed.now.decls c.loop-number.number c.decl.result.now c.loop-number.found _ (struct_judged c.args.parsed.now.texts) c.decl.ensures.node
-    (c.in_ok-found.ensures c.decl.result.now.public c.decl.result.now.at)
+    (c.in_ok-judge_struct.ensures c.decl.result.now.public c.decl.result.now.at)
     ∙ c.loop-number.invariant
 
 pub returns : goal.returns
@@ -20,5 +20,5 @@ returns c =
     let f = struct_judged c.args.parsed.now.texts in
     let same : length c.decls-number-end.result.now ≡ length decls = ap length c.decls-number-end.ensures in
     let over : length decls ≤ c.loop-number.number = omega (arith, c.loop-number-test.false, same) in
-    structs-end es ts decls c.loop-number.number over c.loop-number.found (fold f c.args.found (structs_of (decls_made es ts decls))) f c.loop-number.invariant
-    ∙ ap (λ ds. fold f c.args.found (structs_of ds)) (sym (trees-made c.args.parsed.now.exprs c.args.parsed.now.stmts decls))
+    structs-end es ts decls c.loop-number.number over c.loop-number.found (fold f c.args.found.now (structs_of (decls_made es ts decls))) f c.loop-number.invariant
+    ∙ ap (λ ds. fold f c.args.found.now (structs_of ds)) (sym (trees-made c.args.parsed.now.exprs c.args.parsed.now.stmts decls))

@@ -10,7 +10,7 @@ pub loop-number-preserved : goal.loop-number-preserved
 loop-number-preserved c =
     let ts = stmt_trees c.args.parsed.now.exprs c.args.parsed.now.stmts in
     method_step (expr_trees c.args.parsed.now.exprs) ts c.args.parsed.now.decls c.loop-number.number c.decl.result.now c.loop-number.found _ (method_judged (get nat_eq c.args.constants.now) c.args.parsed.now.texts) c.decl.ensures.node
-    (c.in_ok-found.ensures c.decl.result.now.public c.decl.result.now.at)
+    (c.in_ok-judge_method.ensures c.decl.result.now.public c.decl.result.now.at)
     ∙ c.loop-number.invariant
 
 pub returns : goal.returns
@@ -21,5 +21,5 @@ returns c =
     let f = method_judged (get nat_eq c.args.constants.now) c.args.parsed.now.texts in
     let same : length c.decls-number-end.result.now ≡ length decls = ap length c.decls-number-end.ensures in
     let over : length decls ≤ c.loop-number.number = omega (arith, c.loop-number-test.false, same) in
-    methods-end es ts decls c.loop-number.number over c.loop-number.found (fold f c.args.found (methods_of (decls_made es ts decls))) f c.loop-number.invariant
-    ∙ ap (λ ds. fold f c.args.found (methods_of ds)) (sym (trees-made c.args.parsed.now.exprs c.args.parsed.now.stmts decls))
+    methods-end es ts decls c.loop-number.number over c.loop-number.found (fold f c.args.found.now (methods_of (decls_made es ts decls))) f c.loop-number.invariant
+    ∙ ap (λ ds. fold f c.args.found.now (methods_of ds)) (sym (trees-made c.args.parsed.now.exprs c.args.parsed.now.stmts decls))

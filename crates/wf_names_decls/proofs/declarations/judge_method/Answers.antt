@@ -15,8 +15,8 @@ returns-in-Method c =
     let es = expr_trees c.args.parsed.now.exprs in
     let texts = c.args.parsed.now.texts in
     let locals = variable_names (locals_of (block_at (stmt_trees c.args.parsed.now.exprs c.args.parsed.now.stmts) c.in-Method.body)) in
-    let judged : List Name → Option Refusal = λ args. locals_judged (get nat_eq c.args.constants.now) texts (args_judged texts c.args.found args) locals in
+    let judged : List Name → Option Refusal = λ args. locals_judged (get nat_eq c.args.constants.now) texts (args_judged texts c.args.found.now args) locals in
     let same : judged (field_names c.as_slice.result.now) ≡ judged (variable_names (variables (fields_at es c.in-Method.args))) =
     ap (λ fs. judged (field_names fs)) c.as_slice.ensures ∙ ap judged (sym (fields-same es c.in-Method.args)) in
     λ public at. rw c.in-Method.is
-    (ok_same c.judge_variables.result (judged (field_names c.as_slice.result.now)) (judged (variable_names (variables (fields_at es c.in-Method.args)))) same c.judge_variables.ensures)
+    (ok_same c.judge_variables.result c.judge_variables.new.found (judged (field_names c.as_slice.result.now)) (judged (variable_names (variables (fields_at es c.in-Method.args)))) same c.judge_variables.ensures)

@@ -14,5 +14,5 @@ returns c =
     let trees = decl_trees c.args.parsed.now.exprs c.args.parsed.now.stmts c.args.parsed.now.decls in
     let one = get nat_eq c.in_ok-constants.constants in
     let other = first_spelt (constant_names (declared texts trees)) in
-    ok_same c.judge_all_variables.result (fold (method_judged one texts) c.args.found (methods_of trees)) (fold (method_judged other texts) c.args.found (methods_of trees))
-    (methods-same one other c.in_ok-constants.ensures texts c.args.found (methods_of trees)) c.judge_all_variables.ensures
+    ok_same c.judge_all_variables.result c.judge_all_variables.new.found (fold (method_judged one texts) c.args.found.now (methods_of trees)) (fold (method_judged other texts) c.args.found.now (methods_of trees))
+    (methods-same one other c.in_ok-constants.ensures texts c.args.found.now (methods_of trees)) c.judge_all_variables.ensures

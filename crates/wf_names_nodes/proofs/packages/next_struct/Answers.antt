@@ -14,10 +14,10 @@ use Rattle.wf_names_nodes.proofs.packages.next_struct.Goals as goal
 pub returns-clause-added : goal.returns-clause-added
 returns-clause-added c =
     let d = package_of c.args.parsed.now in
-    let fields = variables (fields_at (expr_trees c.args.parsed.now.exprs) c.args.fields.now) in
+    let fields = variables (fields_at (expr_trees c.args.parsed.now.exprs) c.args.structure.fields.now) in
     let h = c.enter_struct.ensures d c.requires.constants in
-    let stands = standing_same d (scope_in d c.args.name [] []) c.args.tables.now c.enter_struct.new.scope c.requires.tables h in
-    ok_equal_more c.put_struct.result _ _ _ (ap (λ k. with_structs (named_package c.args.nodes.now) (resolved_struct k c.args.public c.args.name fields ∷ [])) stands) c.put_struct.ensures
+    let stands = standing_same d (scope_in d c.args.structure.name [] []) c.args.tables.now c.enter_struct.new.scope c.requires.tables h in
+    ok_equal_more c.put_struct.result _ _ _ (ap (λ k. with_structs (named_package c.args.nodes.now) (resolved_struct k c.args.structure.public c.args.structure.name fields ∷ [])) stands) c.put_struct.ensures
 
 pub returns-clause-known : goal.returns-clause-known
 returns-clause-known c = ok_still c.put_struct.result _ (c.enter_struct.ensures (package_of c.args.parsed.now) c.requires.constants).constants

@@ -2,20 +2,20 @@ use Rattle.std.proofs.Common.{◌<◌, length, ap, arith}
 use Rattle.std.proofs.lemmas.List.{drop_all}
 use Rattle.wf_ast.specs.ParsedTrees.{stmt_trees, items_at}
 use Rattle.wf_names_rules.specs.Declarations.{locals_of}
-use Rattle.wf_names_resolve.specs.Standing.{standing_by}
+use Rattle.wf_names_resolve.specs.Standing.{standing_here}
 use Rattle.wf_names_nodes.proofs.DeclaringLemmas.{variables_start, local_added, variables_all_made}
 use Rattle.wf_names_nodes.proofs.variables.resolve_locals.Goals as goal
 
 pub loop-s-init : goal.loop-s-init
 loop-s-init c =
-    let k = standing_by c.args.parsed.now.texts c.args.tables.now c.args.scope.now in
-    let ts = stmt_trees c.args.parsed.now.exprs c.args.parsed.now.stmts in
+    let k = standing_here c.args.here.now in
+    let ts = stmt_trees c.args.here.now.parsed.now.exprs c.args.here.now.parsed.now.stmts in
     variables_start k (locals_of (items_at ts c.args.body.now.items c.args.body.now.close)) c.args.nodes.now c.new-made.result c.new-made.ensures
 
 pub loop-s-preserved : goal.loop-s-preserved
 loop-s-preserved c =
-    let k = standing_by c.args.parsed.now.texts c.args.tables.now c.args.scope.now in
-    let ts = stmt_trees c.args.parsed.now.exprs c.args.parsed.now.stmts in
+    let k = standing_here c.args.here.now in
+    let ts = stmt_trees c.args.here.now.parsed.now.exprs c.args.here.now.parsed.now.stmts in
     let items = c.args.body.now.items in
     let close = c.args.body.now.close in
     let inside : c.loop-s.s-index < length items = rw (← c.as_slice-s-items.ensures) c.loop-s-test.true in
@@ -31,8 +31,8 @@ returns-clause-below c = c.loop-s.invariant.below
 
 pub returns-clause-made : goal.returns-clause-made
 returns-clause-made c =
-    let k = standing_by c.args.parsed.now.texts c.args.tables.now c.args.scope.now in
-    let ts = stmt_trees c.args.parsed.now.exprs c.args.parsed.now.stmts in
+    let k = standing_here c.args.here.now in
+    let ts = stmt_trees c.args.here.now.parsed.now.exprs c.args.here.now.parsed.now.stmts in
     let items = c.args.body.now.items in
     let close = c.args.body.now.close in
     let left = ap (λ ss. locals_of (items_at ts ss close)) (drop_all c.loop-s.s-index items (omega (arith, c.loop-s-test.false, ap length c.as_slice-s-items.ensures))) in

@@ -7,7 +7,7 @@ use Rattle.wf_named.specs.NamedTree as tree
 use Rattle.wf_named.specs.NamedTrees.{expr_at}
 use Rattle.wf_named.specs.NamedParts.{exprs_of}
 use Rattle.wf_names_rules.proofs.WalkLemmas.{given_above, links_above, type_above, LinksBelow-more, given_at_place, link_at_place, prefix_at_place}
-use Rattle.wf_names_resolve.specs.Standing.{standing_by}
+use Rattle.wf_names_resolve.specs.Standing.{standing_here}
 use Rattle.wf_names_resolve.specs.Resolved.{resolved_type}
 use Rattle.wf_names_resolve.proofs.Growth.{grows_self, grows_more, ok_grows, ok_is, expr_kept, part_kept}
 use Rattle.wf_names_resolve.proofs.ResolveLemmas.{chain_made, conversion_made, links_start, given_start, prefixes_start, link_made, given_made, prefix_made, links_made, all_given_made, prefixes_made, type_made, prefixes_below}
@@ -47,17 +47,17 @@ resolve_node-returns-in-Path-clause-grows t c =
 
 pub resolve_node-returns-in-Path-clause-made : goal.resolve_node-returns-in-Path-clause-made
 resolve_node-returns-in-Path-clause-made t c =
-    rw (c.expr-node.ensures.made, c.in-Path.is) (ap tree.path (c.path.ensures c.args.parsed.now.texts))
+    rw (c.expr-node.ensures.made, c.in-Path.is) (ap tree.path (c.path.ensures c.args.here.now.parsed.now.texts))
 
 pub resolve_node-returns-in_ok-index-in-Index-clause-made : goal.resolve_node-returns-in_ok-index-in-Index-clause-made
 resolve_node-returns-in_ok-index-in-Index-clause-made t c =
-    let base = c.path-array.ensures c.args.parsed.now.texts in
+    let base = c.path-array.ensures c.args.here.now.parsed.now.texts in
     let place = c.in_ok-index-in-Index.ensures.made in
     rw (c.expr-node.ensures.made, c.in-Index.is) (cc (base, place))
 
 pub resolve_node-returns-in_ok-from-in-Slice-clause-made : goal.resolve_node-returns-in_ok-from-in-Slice-clause-made
 resolve_node-returns-in_ok-from-in-Slice-clause-made t c =
-    let base = c.path-whole.ensures c.args.parsed.now.texts in
+    let base = c.path-whole.ensures c.args.here.now.parsed.now.texts in
     let from = c.in_ok-from-in-Slice.ensures.from in
     let to = c.in_ok-from-in-Slice.ensures.to in
     rw (c.expr-node.ensures.made, c.in-Slice.is) (cc (base, from, to))
@@ -85,18 +85,18 @@ resolve_node-returns-in_ok-of-in-Not-clause-made t c =
 pub resolve_node-resolve_call-requires : goal.resolve_node-resolve_call-requires
 resolve_node-resolve_call-requires t c =
     let parts = rw c.in-Call.is at c.expr-node.ensures.parts in
-    (omega (arith, given_above c.args.e.0 c.in-Call.call.args parts, c.decreases), GivenBelow-more c.args.e.0 (length c.args.parsed.now.exprs) (omega (arith, c.requires)) c.in-Call.call.args parts)
+    (omega (arith, given_above c.args.e.0 c.in-Call.call.args parts, c.decreases), GivenBelow-more c.args.e.0 (length c.args.here.now.parsed.now.exprs) (omega (arith, c.requires)) c.in-Call.call.args parts)
 
 pub resolve_node-resolve_chain-requires : goal.resolve_node-resolve_chain-requires
 resolve_node-resolve_chain-requires t c =
     let parts = rw c.in-Chain.is at c.expr-node.ensures.parts in
     let below : LinksBelow c.args.e.0 c.as_slice.result.now = rw c.as_slice.ensures parts.1 in
-    (omega (arith, parts.0, links_above c.args.e.0 c.as_slice.result.now below, c.decreases), (omega (arith, parts.0, c.requires), LinksBelow-more c.args.e.0 (length c.args.parsed.now.exprs) (omega (arith, c.requires)) c.as_slice.result.now below))
+    (omega (arith, parts.0, links_above c.args.e.0 c.as_slice.result.now below, c.decreases), (omega (arith, parts.0, c.requires), LinksBelow-more c.args.e.0 (length c.args.here.now.parsed.now.exprs) (omega (arith, c.requires)) c.as_slice.result.now below))
 
 pub resolve_node-resolve_convert-requires : goal.resolve_node-resolve_convert-requires
 resolve_node-resolve_convert-requires t c =
     let parts = rw c.in-Convert.is at c.expr-node.ensures.parts in
-    (omega (arith, parts.0, type_above c.args.e.0 c.in-Convert.to parts.1, c.decreases), (omega (arith, parts.0, c.requires), TypeBelow-more c.args.e.0 (length c.args.parsed.now.exprs) (omega (arith, c.requires)) c.in-Convert.to parts.1))
+    (omega (arith, parts.0, type_above c.args.e.0 c.in-Convert.to parts.1, c.decreases), (omega (arith, parts.0, c.requires), TypeBelow-more c.args.e.0 (length c.args.here.now.parsed.now.exprs) (omega (arith, c.requires)) c.in-Convert.to parts.1))
 
 pub resolve_part-returns-in-None-clause-grows : goal.resolve_part-returns-in-None-clause-grows
 resolve_part-returns-in-None-clause-grows t c =
@@ -140,19 +140,19 @@ resolve_convert-returns-clause-of t c =
 
 pub resolve_links-loop-link-init : goal.resolve_links-loop-link-init
 resolve_links-loop-link-init t c =
-    let k = standing_by c.args.parsed.now.texts c.args.tables.now c.args.scope.now in
-    let es = expr_trees c.args.parsed.now.exprs in
+    let k = standing_here c.args.here.now in
+    let es = expr_trees c.args.here.now.parsed.now.exprs in
     links_start k es c.args.nodes.now c.args.links.now c.new-made.result c.new-made.ensures
 
 pub resolve_links-resolve_expr-requires : goal.resolve_links-resolve_expr-requires
 resolve_links-resolve_expr-requires t c =
-    let place = link_at_place (length c.args.parsed.now.exprs) c.args.links.now c.loop-link.link-index _ c.loop-link-test.true c.requires in
+    let place = link_at_place (length c.args.here.now.parsed.now.exprs) c.args.links.now c.loop-link.link-index _ c.loop-link-test.true c.requires in
     (omega (arith, place.0, c.decreases), place.1)
 
 pub resolve_links-loop-link-preserved : goal.resolve_links-loop-link-preserved
 resolve_links-loop-link-preserved t c =
-    let k = standing_by c.args.parsed.now.texts c.args.tables.now c.args.scope.now in
-    let es = expr_trees c.args.parsed.now.exprs in
+    let k = standing_here c.args.here.now in
+    let es = expr_trees c.args.here.now.parsed.now.exprs in
     rw c.in_ok-push.ensures.ok (link_made k es c.args.nodes.now c.loop-link.nodes c.resolve_expr.new.nodes c.loop-link.link-index c.args.links.now c.loop-link.made _ c.in_ok-operand.operand c.loop-link-test.true c.loop-link.invariant c.in_ok-operand.ensures.grows c.in_ok-operand.ensures.below c.in_ok-operand.ensures.made)
 
 pub resolve_links-returns-clause-grows : goal.resolve_links-returns-clause-grows
@@ -165,25 +165,25 @@ resolve_links-returns-clause-below t c =
 
 pub resolve_links-returns-clause-made : goal.resolve_links-returns-clause-made
 resolve_links-returns-clause-made t c =
-    let k = standing_by c.args.parsed.now.texts c.args.tables.now c.args.scope.now in
-    let es = expr_trees c.args.parsed.now.exprs in
+    let k = standing_here c.args.here.now in
+    let es = expr_trees c.args.here.now.parsed.now.exprs in
     links_made k es c.args.nodes.now c.loop-link.nodes c.loop-link.nodes c.loop-link.link-index c.args.links.now c.loop-link.made (drop_all c.loop-link.link-index c.args.links.now (omega (arith, c.loop-link-test.false))) c.loop-link.invariant
 
 pub resolve_given-loop-one-init : goal.resolve_given-loop-one-init
 resolve_given-loop-one-init t c =
-    let k = standing_by c.args.parsed.now.texts c.args.tables.now c.args.scope.now in
-    let es = expr_trees c.args.parsed.now.exprs in
+    let k = standing_here c.args.here.now in
+    let es = expr_trees c.args.here.now.parsed.now.exprs in
     given_start k es c.args.nodes.now c.args.given.now c.new-made.result c.new-made.ensures
 
 pub resolve_given-resolve_expr-requires : goal.resolve_given-resolve_expr-requires
 resolve_given-resolve_expr-requires t c =
-    let place = given_at_place (length c.args.parsed.now.exprs) c.args.given.now c.loop-one.one-index _ c.loop-one-test.true c.requires in
+    let place = given_at_place (length c.args.here.now.parsed.now.exprs) c.args.given.now c.loop-one.one-index _ c.loop-one-test.true c.requires in
     (omega (arith, place.0, c.decreases), place.1)
 
 pub resolve_given-loop-one-preserved : goal.resolve_given-loop-one-preserved
 resolve_given-loop-one-preserved t c =
-    let k = standing_by c.args.parsed.now.texts c.args.tables.now c.args.scope.now in
-    let es = expr_trees c.args.parsed.now.exprs in
+    let k = standing_here c.args.here.now in
+    let es = expr_trees c.args.here.now.parsed.now.exprs in
     rw c.in_ok-push.ensures.ok (given_made k es c.args.nodes.now c.loop-one.nodes c.resolve_expr.new.nodes c.loop-one.one-index c.args.given.now c.loop-one.made _ c.in_ok-value.value c.loop-one-test.true c.loop-one.invariant c.in_ok-value.ensures.grows c.in_ok-value.ensures.below c.in_ok-value.ensures.made)
 
 pub resolve_given-returns-clause-grows : goal.resolve_given-returns-clause-grows
@@ -196,25 +196,25 @@ resolve_given-returns-clause-below t c =
 
 pub resolve_given-returns-clause-made : goal.resolve_given-returns-clause-made
 resolve_given-returns-clause-made t c =
-    let k = standing_by c.args.parsed.now.texts c.args.tables.now c.args.scope.now in
-    let es = expr_trees c.args.parsed.now.exprs in
+    let k = standing_here c.args.here.now in
+    let es = expr_trees c.args.here.now.parsed.now.exprs in
     all_given_made k es c.args.nodes.now c.loop-one.nodes c.loop-one.nodes c.loop-one.one-index c.args.given.now c.loop-one.made (drop_all c.loop-one.one-index c.args.given.now (omega (arith, c.loop-one-test.false))) c.loop-one.invariant
 
 pub resolve_prefixes-loop-prefix-init : goal.resolve_prefixes-loop-prefix-init
 resolve_prefixes-loop-prefix-init t c =
-    let k = standing_by c.args.parsed.now.texts c.args.tables.now c.args.scope.now in
-    let es = expr_trees c.args.parsed.now.exprs in
+    let k = standing_here c.args.here.now in
+    let es = expr_trees c.args.here.now.parsed.now.exprs in
     prefixes_start k es c.args.nodes.now c.args.prefixes.now c.new-made.result c.new-made.ensures
 
 pub resolve_prefixes-resolve_prefix-requires : goal.resolve_prefixes-resolve_prefix-requires
 resolve_prefixes-resolve_prefix-requires t c =
-    let place = prefix_at_place (length c.args.parsed.now.exprs) c.args.prefixes.now c.loop-prefix.prefix-index _ c.loop-prefix-test.true c.requires in
+    let place = prefix_at_place (length c.args.here.now.parsed.now.exprs) c.args.prefixes.now c.loop-prefix.prefix-index _ c.loop-prefix-test.true c.requires in
     (omega (arith, place.0, c.decreases), place.1)
 
 pub resolve_prefixes-loop-prefix-preserved : goal.resolve_prefixes-loop-prefix-preserved
 resolve_prefixes-loop-prefix-preserved t c =
-    let k = standing_by c.args.parsed.now.texts c.args.tables.now c.args.scope.now in
-    let es = expr_trees c.args.parsed.now.exprs in
+    let k = standing_here c.args.here.now in
+    let es = expr_trees c.args.here.now.parsed.now.exprs in
     rw c.in_ok-push.ensures.ok (prefix_made k es c.args.nodes.now c.loop-prefix.nodes c.resolve_prefix.new.nodes c.loop-prefix.prefix-index c.args.prefixes.now c.loop-prefix.made _ c.in_ok-next.next c.loop-prefix-test.true c.loop-prefix.invariant c.in_ok-next.ensures.grows c.in_ok-next.ensures.below c.in_ok-next.ensures.made)
 
 pub resolve_prefixes-returns-clause-grows : goal.resolve_prefixes-returns-clause-grows
@@ -227,8 +227,8 @@ resolve_prefixes-returns-clause-below t c =
 
 pub resolve_prefixes-returns-clause-made : goal.resolve_prefixes-returns-clause-made
 resolve_prefixes-returns-clause-made t c =
-    let k = standing_by c.args.parsed.now.texts c.args.tables.now c.args.scope.now in
-    let es = expr_trees c.args.parsed.now.exprs in
+    let k = standing_here c.args.here.now in
+    let es = expr_trees c.args.here.now.parsed.now.exprs in
     prefixes_made k es c.args.nodes.now c.loop-prefix.nodes c.loop-prefix.nodes c.loop-prefix.prefix-index c.args.prefixes.now c.loop-prefix.made (drop_all c.loop-prefix.prefix-index c.args.prefixes.now (omega (arith, c.loop-prefix-test.false))) c.loop-prefix.invariant
 
 pub resolve_call-returns-clause-below : goal.resolve_call-returns-clause-below
@@ -237,7 +237,7 @@ resolve_call-returns-clause-below t c =
 
 pub resolve_call-returns-clause-made : goal.resolve_call-returns-clause-made
 resolve_call-returns-clause-made t c =
-    c.finish_call.ensures.made (exprs_of c.resolve_given.new.nodes) (expr_trees c.args.parsed.now.exprs) (rw c.as_slice.ensures at c.in_ok-given.ensures.made)
+    c.finish_call.ensures.made (exprs_of c.resolve_given.new.nodes) (expr_trees c.args.here.now.parsed.now.exprs) (rw c.as_slice.ensures at c.in_ok-given.ensures.made)
 
 pub resolve_prefix-returns-in-Slice-clause-grows : goal.resolve_prefix-returns-in-Slice-clause-grows
 resolve_prefix-returns-in-Slice-clause-grows t c =
@@ -249,7 +249,7 @@ resolve_prefix-returns-in-Slice-clause-made t c =
 
 pub resolve_prefix-returns-in_ok-length-in-Array-clause-made : goal.resolve_prefix-returns-in_ok-length-in-Array-clause-made
 resolve_prefix-returns-in_ok-length-in-Array-clause-made t c =
-    let k = standing_by c.args.parsed.now.texts c.args.tables.now c.args.scope.now in
+    let k = standing_here c.args.here.now in
     rw c.in-Array.is (λ of. ap (λ e. tree.array_of e c.in-Array.at (resolved_type k of)) c.in_ok-length-in-Array.ensures.made)
 
 pub resolve_bounds-returns-in-None-clause-grows : goal.resolve_bounds-returns-in-None-clause-grows
@@ -280,7 +280,7 @@ resolve_type-returns-clause-below t c =
 
 pub resolve_type-returns-clause-made : goal.resolve_type-returns-clause-made
 resolve_type-returns-clause-made t c =
-    let k = standing_by c.args.parsed.now.texts c.args.tables.now c.args.scope.now in
-    let es = expr_trees c.args.parsed.now.exprs in
+    let k = standing_here c.args.here.now in
+    let es = expr_trees c.args.here.now.parsed.now.exprs in
     let front = rw c.as_slice.ensures at c.in_ok-prefixes.ensures.made in
     type_made k es c.resolve_prefixes.new.nodes c.resolve_bounds.new.nodes c.in_ok-bounds.ensures.grows c.args.of.now.prefixes c.in_ok-prefixes.prefixes c.args.of.now.core c.core.result c.args.of.now.bounds c.in_ok-bounds.bounds c.in_ok-prefixes.ensures.below front c.core.ensures c.in_ok-bounds.ensures.made

@@ -1,7 +1,7 @@
 use Rattle.std.proofs.Common.{◌+◌, ◌*◌, max}
 use Rattle.wf_ast.specs.ParsedTrees.{expr_trees}
 use Rattle.wf_names_rules.specs.Above.{above_part, above_given, above_links, above_prefix, above_prefixes, above_bounds, above_type}
-use Rattle.wf_names_resolve.specs.Standing.{standing_by}
+use Rattle.wf_names_resolve.specs.Standing.{standing_here}
 use Rattle.wf_names_resolve.proofs.ResolveLemmas.{LinksMade, GivenMade, PrefixesMade}
 use Rattle.wf_names_resolve.proofs.resolve_exprs.+resolve_exprs.Given as goal
 
@@ -45,10 +45,10 @@ abbrev pub decreases-resolve_type : goal.decreases-resolve_type
 decreases-resolve_type l = 16 * above_type l.of.now + 2
 
 abbrev pub invariant-resolve_links-loop-link : goal.invariant-resolve_links-loop-link
-invariant-resolve_links-loop-link l = LinksMade (standing_by l.parsed.texts l.tables l.scope) (expr_trees l.parsed.exprs) l.links l.link-index l.fn.nodes l.nodes l.made
+invariant-resolve_links-loop-link l = LinksMade (standing_here l.here) (expr_trees l.here.parsed.now.exprs) l.links l.link-index l.fn.nodes l.nodes l.made
 
 abbrev pub invariant-resolve_given-loop-one : goal.invariant-resolve_given-loop-one
-invariant-resolve_given-loop-one l = GivenMade (standing_by l.parsed.texts l.tables l.scope) (expr_trees l.parsed.exprs) l.given l.one-index l.fn.nodes l.nodes l.made
+invariant-resolve_given-loop-one l = GivenMade (standing_here l.here) (expr_trees l.here.parsed.now.exprs) l.given l.one-index l.fn.nodes l.nodes l.made
 
 abbrev pub invariant-resolve_prefixes-loop-prefix : goal.invariant-resolve_prefixes-loop-prefix
-invariant-resolve_prefixes-loop-prefix l = PrefixesMade (standing_by l.parsed.texts l.tables l.scope) (expr_trees l.parsed.exprs) l.prefixes l.prefix-index l.fn.nodes l.nodes l.made
+invariant-resolve_prefixes-loop-prefix l = PrefixesMade (standing_here l.here) (expr_trees l.here.parsed.now.exprs) l.prefixes l.prefix-index l.fn.nodes l.nodes l.made

@@ -1,7 +1,7 @@
 use Rattle.std.proofs.Common.{◌≡◌, ◌+◌, ◌*◌, max}
 use Rattle.wf_ast.specs.ParsedTrees.{expr_trees, stmt_trees}
 use Rattle.wf_names_rules.specs.Above.{above_block, above_else, above_arms}
-use Rattle.wf_names_resolve.specs.Standing.{standing_by}
+use Rattle.wf_names_resolve.specs.Standing.{standing_here}
 use Rattle.wf_names_resolve.specs.Statements.{above_stmt}
 use Rattle.wf_names_resolve.proofs.BlockLemmas.{StmtsMade, ArmsMade}
 use Rattle.wf_names_resolve.proofs.resolve_stmts.+resolve_stmts.Given as goal
@@ -35,10 +35,10 @@ decreases-resolve_loop l = 8 * above_block l.it.body.now + 2
 
 abbrev pub invariant-resolve_block-loop-s : goal.invariant-resolve_block-loop-s
 invariant-resolve_block-loop-s l =
-    StmtsMade (standing_by l.parsed.texts l.tables l.scope) l.fn.labels.items (stmt_trees l.parsed.exprs l.parsed.stmts) l.block.close l.block.items l.s-index l.fn.nodes l.nodes l.made
+    StmtsMade (standing_here l.here) l.fn.labels.items (stmt_trees l.here.parsed.now.exprs l.here.parsed.now.stmts) l.block.close l.block.items l.s-index l.fn.nodes l.nodes l.made
     × (l.labels.items ≡ l.fn.labels.items)
 
 abbrev pub invariant-resolve_arms-loop-arm : goal.invariant-resolve_arms-loop-arm
 invariant-resolve_arms-loop-arm l =
-    ArmsMade (standing_by l.parsed.texts l.tables l.scope) l.fn.labels.items (expr_trees l.parsed.exprs) (stmt_trees l.parsed.exprs l.parsed.stmts) l.arms l.arm-index l.fn.nodes l.nodes l.made
+    ArmsMade (standing_here l.here) l.fn.labels.items (expr_trees l.here.parsed.now.exprs) (stmt_trees l.here.parsed.now.exprs l.here.parsed.now.stmts) l.arms l.arm-index l.fn.nodes l.nodes l.made
     × (l.labels.items ≡ l.fn.labels.items)

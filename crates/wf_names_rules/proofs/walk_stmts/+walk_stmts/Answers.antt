@@ -18,7 +18,7 @@ walk_arm-returns-clause-seen t c =
     let k = known_here c.args.here.now in
     let condition = uses_of (expr_at (expr_trees c.args.here.now.parsed.now.exprs) c.args.arm.now.condition) in
     let body = block_uses (block_at (stmt_trees c.args.here.now.parsed.now.exprs c.args.here.now.parsed.now.stmts) c.args.arm.now.body) in
-    ok_append k c.args.seen c.in_ok-seen.seen condition body c.walk_block.result c.in_ok-seen.ensures.seen c.walk_block.ensures.seen
+    ok_append k c.args.seen.now c.walk_expr.new.seen condition body c.walk_block.result c.walk_block.new.seen c.in_ok-walk_expr.ensures.seen c.walk_block.ensures.seen
 
 pub walk_arms-walk_arm-requires : goal.walk_arms-walk_arm-requires
 walk_arms-walk_arm-requires t c =
@@ -31,11 +31,11 @@ walk_arms-loop-arm-preserved t c =
     let es = expr_trees c.args.here.now.parsed.now.exprs in
     let ts = stmt_trees c.args.here.now.parsed.now.exprs c.args.here.now.parsed.now.stmts in
     let last = else_at ts c.args.otherwise.now in (
-      arm_step k c.loop-arm.seen _ es ts c.args.arms.now last c.loop-arm.arm-index c.arm-item.result c.arm-item.is c.loop-arm-test.true c.in_ok-seen.ensures.seen ∙ c.loop-arm.invariant.0,
-      row_arm_step k c.loop-arm.gathered.row c.walk_arm.new.gathered.row es ts c.args.arms.now last c.loop-arm.arm-index c.arm-item.result c.arm-item.is c.loop-arm-test.true c.in_ok-seen.ensures.row ∙ c.loop-arm.invariant.1,
+      arm_step k c.loop-arm.seen _ es ts c.args.arms.now last c.loop-arm.arm-index c.arm-item.result c.arm-item.is c.loop-arm-test.true c.in_ok-walk_arm.ensures.seen ∙ c.loop-arm.invariant.0,
+      row_arm_step k c.loop-arm.gathered.row c.walk_arm.new.gathered.row es ts c.args.arms.now last c.loop-arm.arm-index c.arm-item.result c.arm-item.is c.loop-arm-test.true c.in_ok-walk_arm.ensures.row ∙ c.loop-arm.invariant.1,
       arm_jumps_step c.args.here.now.parsed.now.texts c.loop-arm.gathered.labels _ c.args.gathered.now.loops.items es ts c.args.arms.now last c.loop-arm.arm-index c.arm-item.result c.arm-item.is c.loop-arm-test.true
-          (rw c.loop-arm.invariant.3 at c.in_ok-seen.ensures.labels) ∙ c.loop-arm.invariant.2,
-      c.in_ok-seen.ensures.loops ∙ c.loop-arm.invariant.3,
+          (rw c.loop-arm.invariant.3 at c.in_ok-walk_arm.ensures.labels) ∙ c.loop-arm.invariant.2,
+      c.in_ok-walk_arm.ensures.loops ∙ c.loop-arm.invariant.3,
     )
 
 pub walk_block-walk_stmt-requires : goal.walk_block-walk_stmt-requires
@@ -51,13 +51,13 @@ walk_block-loop-s-preserved t c =
     let k = known_here c.args.here.now in
     let ts = stmt_trees c.args.here.now.parsed.now.exprs c.args.here.now.parsed.now.stmts in
     let inside : c.loop-s.s-index < length c.args.block.now.items = rw (← c.as_slice-s-items.ensures) c.loop-s-test.true in
-    let seen = rw c.as_slice-s-items.ensures at c.in_ok-seen.ensures.seen in
-    let row = rw c.as_slice-s-items.ensures at c.in_ok-seen.ensures.row in (
+    let seen = rw c.as_slice-s-items.ensures at c.in_ok-walk_stmt.ensures.seen in
+    let row = rw c.as_slice-s-items.ensures at c.in_ok-walk_stmt.ensures.row in (
       stmt_step k c.loop-s.seen _ ts c.args.block.now.items c.args.block.now.close c.loop-s.s-index (record { 0 = 0 }) inside seen ∙ c.loop-s.invariant.0,
       row_stmt_step k c.loop-s.gathered.row c.walk_stmt.new.gathered.row ts c.args.block.now.items c.args.block.now.close c.loop-s.s-index (record { 0 = 0 }) inside row ∙ c.loop-s.invariant.1,
       stmt_jumps_step c.args.here.now.parsed.now.texts c.loop-s.gathered.labels _ c.args.gathered.now.loops.items ts c.args.block.now.items c.args.block.now.close c.loop-s.s-index (record { 0 = 0 }) inside
-          (rw (c.as_slice-s-items.ensures, c.loop-s.invariant.3) at c.in_ok-seen.ensures.labels) ∙ c.loop-s.invariant.2,
-      c.in_ok-seen.ensures.loops ∙ c.loop-s.invariant.3,
+          (rw (c.as_slice-s-items.ensures, c.loop-s.invariant.3) at c.in_ok-walk_stmt.ensures.labels) ∙ c.loop-s.invariant.2,
+      c.in_ok-walk_stmt.ensures.loops ∙ c.loop-s.invariant.3,
     )
 
 pub walk_stmt-walk_arms-requires : goal.walk_stmt-walk_arms-requires
@@ -77,69 +77,69 @@ walk_stmt-walk_loop-requires t c =
     let more : c.args.s.0 ≤ length c.args.here.now.parsed.now.stmts = omega (arith, c.requires) in
     (omega (arith, stmts_above c.args.s.0 c.in-While.body.items parts.2, c.decreases), BlockBelow-more c.args.s.0 (length c.args.here.now.parsed.now.stmts) more c.in-While.body parts.2)
 
-pub walk_stmt-returns-in_ok-seen-in-Assign-clause-seen : goal.walk_stmt-returns-in_ok-seen-in-Assign-clause-seen
-walk_stmt-returns-in_ok-seen-in-Assign-clause-seen t c =
+pub walk_stmt-returns-in_ok-walk_target-in-Assign-clause-seen : goal.walk_stmt-returns-in_ok-walk_target-in-Assign-clause-seen
+walk_stmt-returns-in_ok-walk_target-in-Assign-clause-seen t c =
     let k = known_here c.args.here.now in
     let es = expr_trees c.args.here.now.parsed.now.exprs in
     rw (c.stmt-node.ensures.made, c.in-Assign.is)
-    (ok_append k c.args.seen c.in_ok-seen-in-Assign.seen (target_uses (target_at es c.in-Assign.target)) (uses_of (expr_at es c.in-Assign.value)) c.walk_expr.result c.in_ok-seen-in-Assign.ensures.seen c.walk_expr.ensures.seen)
+    (ok_append k c.args.seen.now c.walk_target.new.seen (target_uses (target_at es c.in-Assign.target)) (uses_of (expr_at es c.in-Assign.value)) c.walk_expr.result c.walk_expr.new.seen c.in_ok-walk_target-in-Assign.ensures.seen c.walk_expr.ensures.seen)
 
-pub walk_stmt-returns-in_ok-seen-in-Keep-clause-seen : goal.walk_stmt-returns-in_ok-seen-in-Keep-clause-seen
-walk_stmt-returns-in_ok-seen-in-Keep-clause-seen t c =
+pub walk_stmt-returns-in_ok-walk_target-in-Keep-clause-seen : goal.walk_stmt-returns-in_ok-walk_target-in-Keep-clause-seen
+walk_stmt-returns-in_ok-walk_target-in-Keep-clause-seen t c =
     let k = known_here c.args.here.now in
     let es = expr_trees c.args.here.now.parsed.now.exprs in
     rw (c.stmt-node.ensures.made, c.in-Keep.is)
-    (ok_append k c.args.seen c.in_ok-seen-in-Keep.seen (target_uses (target_at es c.in-Keep.target)) (call_uses (call_at es c.in-Keep.call)) c.walk_call.result c.in_ok-seen-in-Keep.ensures.seen c.walk_call.ensures.seen)
+    (ok_append k c.args.seen.now c.walk_target-in-Keep.new.seen (target_uses (target_at es c.in-Keep.target)) (call_uses (call_at es c.in-Keep.call)) c.walk_call.result c.walk_call.new.seen c.in_ok-walk_target-in-Keep.ensures.seen c.walk_call.ensures.seen)
 
-pub walk_stmt-returns-in_ok-seen-in-While-clause-seen : goal.walk_stmt-returns-in_ok-seen-in-While-clause-seen
-walk_stmt-returns-in_ok-seen-in-While-clause-seen t c =
+pub walk_stmt-returns-in_ok-walk_head-in-While-clause-seen : goal.walk_stmt-returns-in_ok-walk_head-in-While-clause-seen
+walk_stmt-returns-in_ok-walk_head-in-While-clause-seen t c =
     let k = known_here c.args.here.now in
     let es = expr_trees c.args.here.now.parsed.now.exprs in
     let ts = stmt_trees c.args.here.now.parsed.now.exprs c.args.here.now.parsed.now.stmts in
-    let head = rw c.as_slice-in-While.ensures at c.in_ok-seen-in-While.ensures.seen in
+    let head = rw c.as_slice-in-While.ensures at c.in_ok-walk_head-in-While.ensures.seen in
     rw (c.stmt-node.ensures.made, c.in-While.is)
-    (ok_append_more k c.args.seen c.in_ok-seen-in-While.seen (uses_of (expr_at es c.in-While.condition)) (clause_uses (clauses_at es c.in-While.clauses)) (block_uses (block_at ts c.in-While.body)) c.walk_loop.result head c.walk_loop.ensures.seen)
+    (ok_append_more k c.args.seen.now c.walk_head.new.seen (uses_of (expr_at es c.in-While.condition)) (clause_uses (clauses_at es c.in-While.clauses)) (block_uses (block_at ts c.in-While.body)) c.walk_loop.result c.walk_loop.new.seen head c.walk_loop.ensures.seen)
 
-pub walk_stmt-returns-in_ok-seen-in-Assert-clause-seen : goal.walk_stmt-returns-in_ok-seen-in-Assert-clause-seen
-walk_stmt-returns-in_ok-seen-in-Assert-clause-seen t c =
+pub walk_stmt-returns-in_ok-walk_expr-in-Assert-clause-seen : goal.walk_stmt-returns-in_ok-walk_expr-in-Assert-clause-seen
+walk_stmt-returns-in_ok-walk_expr-in-Assert-clause-seen t c =
     let k = known_here c.args.here.now in
     let es = expr_trees c.args.here.now.parsed.now.exprs in
     rw (c.stmt-node.ensures.made, c.in-Assert.is)
-    (ok_append k c.args.seen c.in_ok-seen-in-Assert.seen (uses_of (expr_at es c.in-Assert.goal)) (via_uses (via_at es c.in-Assert.via)) c.walk_via.result c.in_ok-seen-in-Assert.ensures.seen c.walk_via.ensures.seen)
+    (ok_append k c.args.seen.now c.walk_expr-in-Assert.new.seen (uses_of (expr_at es c.in-Assert.goal)) (via_uses (via_at es c.in-Assert.via)) c.walk_via.result c.walk_via.new.seen c.in_ok-walk_expr-in-Assert.ensures.seen c.walk_via.ensures.seen)
 
 pub walk_arm-returns-clause-row : goal.walk_arm-returns-clause-row
 walk_arm-returns-clause-row t c =
     let k = known_here c.args.here.now in
     let condition = uses_of (expr_at (expr_trees c.args.here.now.parsed.now.exprs) c.args.arm.now.condition) in
     let body = block_uses (block_at (stmt_trees c.args.here.now.parsed.now.exprs c.args.here.now.parsed.now.stmts) c.args.arm.now.body) in
-    row_append k c.args.gathered.now.row c.walk_expr.new.row condition body c.walk_block.result c.walk_block.new.gathered.row c.in_ok-seen.ensures.row c.walk_block.ensures.row
+    row_append k c.args.gathered.now.row c.walk_expr.new.row condition body c.walk_block.result c.walk_block.new.gathered.row c.in_ok-walk_expr.ensures.row c.walk_block.ensures.row
 
-pub walk_stmt-returns-in_ok-seen-in-Assign-clause-row : goal.walk_stmt-returns-in_ok-seen-in-Assign-clause-row
-walk_stmt-returns-in_ok-seen-in-Assign-clause-row t c =
+pub walk_stmt-returns-in_ok-walk_target-in-Assign-clause-row : goal.walk_stmt-returns-in_ok-walk_target-in-Assign-clause-row
+walk_stmt-returns-in_ok-walk_target-in-Assign-clause-row t c =
     let k = known_here c.args.here.now in
     let es = expr_trees c.args.here.now.parsed.now.exprs in
     rw (c.stmt-node.ensures.made, c.in-Assign.is)
-    (row_append k c.args.gathered.now.row c.walk_target.new.row (target_uses (target_at es c.in-Assign.target)) (uses_of (expr_at es c.in-Assign.value)) c.walk_expr.result c.walk_expr.new.row c.in_ok-seen-in-Assign.ensures.row c.walk_expr.ensures.row)
+    (row_append k c.args.gathered.now.row c.walk_target.new.row (target_uses (target_at es c.in-Assign.target)) (uses_of (expr_at es c.in-Assign.value)) c.walk_expr.result c.walk_expr.new.row c.in_ok-walk_target-in-Assign.ensures.row c.walk_expr.ensures.row)
 
-pub walk_stmt-returns-in_ok-seen-in-Keep-clause-row : goal.walk_stmt-returns-in_ok-seen-in-Keep-clause-row
-walk_stmt-returns-in_ok-seen-in-Keep-clause-row t c =
+pub walk_stmt-returns-in_ok-walk_target-in-Keep-clause-row : goal.walk_stmt-returns-in_ok-walk_target-in-Keep-clause-row
+walk_stmt-returns-in_ok-walk_target-in-Keep-clause-row t c =
     let k = known_here c.args.here.now in
     let es = expr_trees c.args.here.now.parsed.now.exprs in
     rw (c.stmt-node.ensures.made, c.in-Keep.is)
-    (row_append k c.args.gathered.now.row c.walk_target-in-Keep.new.row (target_uses (target_at es c.in-Keep.target)) (call_uses (call_at es c.in-Keep.call)) c.walk_call.result c.walk_call.new.row c.in_ok-seen-in-Keep.ensures.row c.walk_call.ensures.row)
+    (row_append k c.args.gathered.now.row c.walk_target-in-Keep.new.row (target_uses (target_at es c.in-Keep.target)) (call_uses (call_at es c.in-Keep.call)) c.walk_call.result c.walk_call.new.row c.in_ok-walk_target-in-Keep.ensures.row c.walk_call.ensures.row)
 
-pub walk_stmt-returns-in_ok-seen-in-While-clause-row : goal.walk_stmt-returns-in_ok-seen-in-While-clause-row
-walk_stmt-returns-in_ok-seen-in-While-clause-row t c =
+pub walk_stmt-returns-in_ok-walk_head-in-While-clause-row : goal.walk_stmt-returns-in_ok-walk_head-in-While-clause-row
+walk_stmt-returns-in_ok-walk_head-in-While-clause-row t c =
     let k = known_here c.args.here.now in
     let es = expr_trees c.args.here.now.parsed.now.exprs in
     let ts = stmt_trees c.args.here.now.parsed.now.exprs c.args.here.now.parsed.now.stmts in
-    let head = rw c.as_slice-in-While.ensures at c.in_ok-seen-in-While.ensures.row in
+    let head = rw c.as_slice-in-While.ensures at c.in_ok-walk_head-in-While.ensures.row in
     rw (c.stmt-node.ensures.made, c.in-While.is)
     (row_append_more k c.args.gathered.now.row c.walk_head.new.row (uses_of (expr_at es c.in-While.condition)) (clause_uses (clauses_at es c.in-While.clauses)) (block_uses (block_at ts c.in-While.body)) c.walk_loop.result c.walk_loop.new.gathered.row head c.walk_loop.ensures.row)
 
-pub walk_stmt-returns-in_ok-seen-in-Assert-clause-row : goal.walk_stmt-returns-in_ok-seen-in-Assert-clause-row
-walk_stmt-returns-in_ok-seen-in-Assert-clause-row t c =
+pub walk_stmt-returns-in_ok-walk_expr-in-Assert-clause-row : goal.walk_stmt-returns-in_ok-walk_expr-in-Assert-clause-row
+walk_stmt-returns-in_ok-walk_expr-in-Assert-clause-row t c =
     let k = known_here c.args.here.now in
     let es = expr_trees c.args.here.now.parsed.now.exprs in
     rw (c.stmt-node.ensures.made, c.in-Assert.is)
-    (row_append k c.args.gathered.now.row c.walk_expr-in-Assert.new.row (uses_of (expr_at es c.in-Assert.goal)) (via_uses (via_at es c.in-Assert.via)) c.walk_via.result c.walk_via.new.row c.in_ok-seen-in-Assert.ensures.row c.walk_via.ensures.row)
+    (row_append k c.args.gathered.now.row c.walk_expr-in-Assert.new.row (uses_of (expr_at es c.in-Assert.goal)) (via_uses (via_at es c.in-Assert.via)) c.walk_via.result c.walk_via.new.row c.in_ok-walk_expr-in-Assert.ensures.row c.walk_via.ensures.row)

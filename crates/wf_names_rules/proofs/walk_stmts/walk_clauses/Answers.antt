@@ -9,6 +9,6 @@ pub loop-clause-preserved : goal.loop-clause-preserved
 loop-clause-preserved c =
     let k = known_here c.args.here.now in
     let ts = expr_trees c.args.here.now.parsed.now.exprs in (
-      clause_step k c.loop-clause.seen _ ts c.args.clauses.now c.loop-clause.clause-index _ c.loop-clause-test.true c.in_ok-seen.ensures.seen ∙ c.loop-clause.invariant.0,
-      row_clause_step k c.loop-clause.row c.walk_expr.new.row ts c.args.clauses.now c.loop-clause.clause-index _ c.loop-clause-test.true c.in_ok-seen.ensures.row ∙ c.loop-clause.invariant.1,
+      clause_step k c.loop-clause.seen _ ts c.args.clauses.now c.loop-clause.clause-index _ c.loop-clause-test.true c.in_ok-walk_expr.ensures.seen ∙ c.loop-clause.invariant.0,
+      row_clause_step k c.loop-clause.row c.walk_expr.new.row ts c.args.clauses.now c.loop-clause.clause-index _ c.loop-clause-test.true c.in_ok-walk_expr.ensures.row ∙ c.loop-clause.invariant.1,
     )

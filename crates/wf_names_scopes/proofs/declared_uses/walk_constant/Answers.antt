@@ -9,10 +9,10 @@ pub returns-clause-seen : goal.returns-clause-seen
 returns-clause-seen c =
     let k = known_here c.args.here.now in
     let es = expr_trees c.args.here.now.parsed.now.exprs in
-    ok_append k c.args.seen c.in_ok-seen.seen (type_uses (type_at es c.args.of.now)) (uses_of (expr_at es c.args.value)) c.walk_expr.result c.in_ok-seen.ensures.seen c.walk_expr.ensures.seen
+    ok_append k c.args.seen.now c.walk_type.new.seen (type_uses (type_at es c.args.of.now)) (uses_of (expr_at es c.args.value)) c.walk_expr.result c.walk_expr.new.seen c.in_ok-walk_type.ensures.seen c.walk_expr.ensures.seen
 
 pub returns-clause-row : goal.returns-clause-row
 returns-clause-row c =
     let k = known_here c.args.here.now in
     let es = expr_trees c.args.here.now.parsed.now.exprs in
-    row_append k c.args.row.now c.walk_type.new.row (type_uses (type_at es c.args.of.now)) (uses_of (expr_at es c.args.value)) c.walk_expr.result c.walk_expr.new.row c.in_ok-seen.ensures.row c.walk_expr.ensures.row
+    row_append k c.args.row.now c.walk_type.new.row (type_uses (type_at es c.args.of.now)) (uses_of (expr_at es c.args.value)) c.walk_expr.result c.walk_expr.new.row c.in_ok-walk_type.ensures.row c.walk_expr.ensures.row

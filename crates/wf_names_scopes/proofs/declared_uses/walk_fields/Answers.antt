@@ -9,6 +9,6 @@ pub loop-field-preserved : goal.loop-field-preserved
 loop-field-preserved c =
     let k = known_here c.args.here.now in
     let es = expr_trees c.args.here.now.parsed.now.exprs in (
-      field_walked k es c.loop-field.seen _ c.args.fields.now c.loop-field.field-index c.field-item.result c.field-item.is c.loop-field-test.true c.in_ok-seen.ensures.seen ∙ c.loop-field.invariant.0,
-      field-called k c.loop-field.row c.walk_type.new.row es c.args.fields.now c.loop-field.field-index c.field-item.result c.field-item.is c.loop-field-test.true c.in_ok-seen.ensures.row ∙ c.loop-field.invariant.1,
+      field_walked k es c.loop-field.seen _ c.args.fields.now c.loop-field.field-index c.field-item.result c.field-item.is c.loop-field-test.true c.in_ok-walk_type.ensures.seen ∙ c.loop-field.invariant.0,
+      field-called k c.loop-field.row c.walk_type.new.row es c.args.fields.now c.loop-field.field-index c.field-item.result c.field-item.is c.loop-field-test.true c.in_ok-walk_type.ensures.row ∙ c.loop-field.invariant.1,
     )

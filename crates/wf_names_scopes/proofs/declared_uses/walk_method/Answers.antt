@@ -16,8 +16,8 @@ returns-clause-seen c =
     let ts = stmt_trees c.args.here.now.parsed.now.exprs c.args.here.now.parsed.now.stmts in
     let args = variable_uses (variables (fields_at es c.args.method.args.now)) in
     let inside = result_uses (result_at es c.args.method.gives.now) ++ block_uses (block_at ts c.args.method.body.now) in
-    ok_same c.walk_inside.result _ _ (ap (λ s. walked k s (args ++ inside)) (c.walk_struct-owned.ensures c.args.here.now.parsed.now.texts c.args.here.now.scope.now))
-    (ok_append k c.walk_struct-owned.result c.in_ok-seen.seen args inside c.walk_inside.result c.in_ok-seen.ensures.seen c.walk_inside.ensures.seen)
+    ok_same c.walk_inside.result c.walk_inside.new.seen _ _ (ap (λ s. walked k s (args ++ inside)) (c.walk_struct.ensures c.args.here.now.parsed.now.texts c.args.here.now.scope.now))
+    (ok_append k c.walk_struct.new.seen c.walk_fields.new.seen args inside c.walk_inside.result c.walk_inside.new.seen c.in_ok-walk_fields.ensures.seen c.walk_inside.ensures.seen)
 
 pub returns-clause-row : goal.returns-clause-row
 returns-clause-row c =
@@ -26,4 +26,4 @@ returns-clause-row c =
     let ts = stmt_trees c.args.here.now.parsed.now.exprs c.args.here.now.parsed.now.stmts in
     let args = variable_uses (variables (fields_at es c.args.method.args.now)) in
     let inside = result_uses (result_at es c.args.method.gives.now) ++ block_uses (block_at ts c.args.method.body.now) in
-    row_append k c.args.gathered.now.row c.walk_fields.new.row args inside c.walk_inside.result c.walk_inside.new.gathered.row c.in_ok-seen.ensures.row c.walk_inside.ensures.row
+    row_append k c.args.gathered.now.row c.walk_fields.new.row args inside c.walk_inside.result c.walk_inside.new.gathered.row c.in_ok-walk_fields.ensures.row c.walk_inside.ensures.row

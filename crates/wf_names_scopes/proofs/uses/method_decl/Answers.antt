@@ -5,11 +5,12 @@ use Rattle.wf_names_rules.specs.Declarations.{Method, variables, locals_of}
 use Rattle.wf_names_rules.specs.Meanings.{known_at}
 use Rattle.wf_names_rules.specs.Uses.{method_scope, method_uses}
 use Rattle.wf_names_scopes.specs.Agreeing.{package_of}
+use Rattle.wf_names_scopes.proofs.PackageLemmas.{on_ok}
 use Rattle.wf_names_scopes.proofs.RowLemmas.{method-added}
 use Rattle.wf_names_scopes.proofs.uses.method_decl.Goals as goal
 
-pub returns-in_ok-add_body-in-Method-clause-rows : goal.returns-in_ok-add_body-in-Method-clause-rows
-returns-in_ok-add_body-in-Method-clause-rows c =
+pub returns-in_ok-method_uses-in-Method-clause-rows : goal.returns-in_ok-method_uses-in-Method-clause-rows
+returns-in_ok-method_uses-in-Method-clause-rows c =
     let p = c.args.whole.now.parsed.now in
     let d = package_of p in
     let es = expr_trees p.exprs in
@@ -23,6 +24,6 @@ returns-in_ok-add_body-in-Method-clause-rows c =
       locals = locals_of (block_at ts c.in-Method.body);
       body = block_at ts c.in-Method.body;
     } in
-    let made = rw c.as_slice.ensures at c.in_ok-all-in-Method.ensures.row in
+    let made = rw c.as_slice.ensures at c.in_ok-method_uses-in-Method.ensures.row in
     rw c.in-Method.is
-    (method-added d m c.args.bodies.now.rows.items c.add_body.new.bodies.rows.items c.method_uses.new.gathered.row (made ∙ ap (λ row. with_calls (known_at d (method_scope d m)) row (method_uses m)) c.new.ensures) c.in_ok-add_body-in-Method.ensures.rows)
+    (on_ok c.add_body.result (method-added d m c.args.bodies.now.rows.items c.add_body.new.bodies.rows.items c.method_uses.new.gathered.row (made ∙ ap (λ row. with_calls (known_at d (method_scope d m)) row (method_uses m)) c.new.ensures)) c.add_body.ensures.rows)

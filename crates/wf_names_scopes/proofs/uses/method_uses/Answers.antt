@@ -15,8 +15,8 @@ returns-clause-found c =
     let ts = stmt_trees c.args.whole.now.parsed.now.exprs c.args.whole.now.parsed.now.stmts in
     let args = variables (fields_at es c.args.method.args.now) in
     let uses = structure c.args.method.owner ∷ (variable_uses args ++ (result_uses (result_at es c.args.method.gives.now) ++ block_uses (block_at ts c.args.method.body.now))) in
-    walk_judged c.args.whole.now.parsed.now c.args.whole.now.tables.now c.enter_method.new.scope (scope_in d c.args.method.owner args (locals_of (block_at ts c.args.method.body.now))) c.args.found c.begin.result c.in_ok-seen.seen
-    uses c.requires.tables (c.in_ok-enter_method.ensures c.requires.constants) c.begin.ensures c.in_ok-seen.ensures.seen
+    walk_judged c.args.whole.now.parsed.now c.args.whole.now.tables.now c.enter_method.new.scope (scope_in d c.args.method.owner args (locals_of (block_at ts c.args.method.body.now))) c.args.seen.now c.walk_method.new.seen
+    uses c.requires.tables (c.in_ok-enter_method.ensures c.requires.constants) c.in_ok-walk_method.ensures.seen
 
 pub returns-clause-row : goal.returns-clause-row
 returns-clause-row c =
@@ -26,4 +26,4 @@ returns-clause-row c =
     let args = variables (fields_at es c.args.method.args.now) in
     let uses = variable_uses args ++ (result_uses (result_at es c.args.method.gives.now) ++ block_uses (block_at ts c.args.method.body.now)) in
     called-there p c.args.whole.now.tables.now c.enter_method.new.scope (scope_in (package_of p) c.args.method.owner args (locals_of (block_at ts c.args.method.body.now))) c.args.gathered.now.row c.walk_method.new.gathered.row uses
-    c.requires.tables (c.in_ok-enter_method.ensures c.requires.constants) c.in_ok-seen.ensures.row
+    c.requires.tables (c.in_ok-enter_method.ensures c.requires.constants) c.in_ok-walk_method.ensures.row

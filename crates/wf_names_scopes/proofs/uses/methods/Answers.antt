@@ -6,7 +6,7 @@ use Rattle.wf_names_scopes.proofs.UseLemmas.{labels_begun, labels_next, methods_
 use Rattle.wf_names_scopes.proofs.uses.methods.Goals as goal
 
 pub loop-number-init : goal.loop-number-init
-loop-number-init c = (c.requires.constants, methods_begun c.args.whole.now.parsed.now c.args.found, rows-begun c.args.whole.now.parsed.now c.args.bodies.now.rows.items c.requires.none, labels_begun c.args.whole.now.parsed.now c.args.bodies.now.labels)
+loop-number-init c = (c.requires.constants, methods_begun c.args.whole.now.parsed.now c.args.seen.now.found, rows-begun c.args.whole.now.parsed.now c.args.bodies.now.rows.items c.requires.none, labels_begun c.args.whole.now.parsed.now c.args.bodies.now.labels)
 
 pub loop-number-preserved : goal.loop-number-preserved
 loop-number-preserved c =
@@ -15,9 +15,9 @@ loop-number-preserved c =
     let ts = stmt_trees p.exprs p.stmts in
     let number = c.loop-number.number in
     let node = c.decl.result.now in
-    let step = methods_next es ts p.decls number node c.decl.ensures.node (package_of p) c.loop-number.found _ c.in_ok-found.ensures.found in (
-      c.in_ok-found.ensures.constants,
+    let step = methods_next es ts p.decls number node c.decl.ensures.node (package_of p) c.loop-number.seen.found _ c.in_ok-method_decl.ensures.found in (
+      c.in_ok-method_decl.ensures.constants,
       step ∙ c.loop-number.invariant.1,
-      rows-next (package_of p) es ts p.decls number node c.decl.ensures.node c.loop-number.bodies.rows.items c.method_decl.new.bodies.rows.items c.in_ok-found.ensures.rows c.loop-number.invariant.2,
-      labels_next es ts p.decls number node c.decl.ensures.node p.texts c.loop-number.bodies.labels c.method_decl.new.bodies.labels c.in_ok-found.ensures.labels ∙ c.loop-number.invariant.3,
+      rows-next (package_of p) es ts p.decls number node c.decl.ensures.node c.loop-number.bodies.rows.items c.method_decl.new.bodies.rows.items c.in_ok-method_decl.ensures.rows c.loop-number.invariant.2,
+      labels_next es ts p.decls number node c.decl.ensures.node p.texts c.loop-number.bodies.labels c.method_decl.new.bodies.labels c.in_ok-method_decl.ensures.labels ∙ c.loop-number.invariant.3,
     )

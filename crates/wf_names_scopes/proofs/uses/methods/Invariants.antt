@@ -11,8 +11,8 @@ use Rattle.wf_names_scopes.proofs.uses.methods.Given as goal
 abbrev pub invariant-loop-number : goal.invariant-loop-number
 invariant-loop-number l =
     TellsConstants (package_of l.whole.parsed.now) l.scope
-    × (sites_judged (package_of l.whole.parsed.now) l.found (flat_map (method_sites (package_of l.whole.parsed.now)) (methods_of (decls_made (expr_trees l.whole.parsed.now.exprs) (stmt_trees l.whole.parsed.now.exprs l.whole.parsed.now.stmts) (drop l.number l.whole.parsed.now.decls))))
-    ≡ sites_judged (package_of l.whole.parsed.now) l.fn.found (flat_map (method_sites (package_of l.whole.parsed.now)) (package_of l.whole.parsed.now).methods))
+    × (sites_judged (package_of l.whole.parsed.now) l.seen.found (flat_map (method_sites (package_of l.whole.parsed.now)) (methods_of (decls_made (expr_trees l.whole.parsed.now.exprs) (stmt_trees l.whole.parsed.now.exprs l.whole.parsed.now.stmts) (drop l.number l.whole.parsed.now.decls))))
+    ≡ sites_judged (package_of l.whole.parsed.now) l.fn.seen.found (flat_map (method_sites (package_of l.whole.parsed.now)) (package_of l.whole.parsed.now).methods))
     × AreRowsInFront (package_of l.whole.parsed.now) l.bodies.rows.items (methods_of (decls_made (expr_trees l.whole.parsed.now.exprs) (stmt_trees l.whole.parsed.now.exprs l.whole.parsed.now.stmts) (drop l.number l.whole.parsed.now.decls)))
     × (fold (method_labels l.whole.parsed.now.texts) l.bodies.labels (methods_of (decls_made (expr_trees l.whole.parsed.now.exprs) (stmt_trees l.whole.parsed.now.exprs l.whole.parsed.now.stmts) (drop l.number l.whole.parsed.now.decls)))
     ≡ labels_found (package_of l.whole.parsed.now) l.fn.bodies.labels)

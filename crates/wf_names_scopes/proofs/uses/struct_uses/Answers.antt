@@ -10,11 +10,11 @@ use Rattle.wf_names_scopes.proofs.uses.struct_uses.Goals as goal
 pub returns-clause-found : goal.returns-clause-found
 returns-clause-found c =
     let d = package_of c.args.whole.now.parsed.now in
-    walk_judged c.args.whole.now.parsed.now c.args.whole.now.tables.now c.enter_struct.new.scope (scope_in d c.args.name [] []) c.args.found c.begin.result c.in_ok-seen.seen
-    (variable_uses (variables (fields_at (expr_trees c.args.whole.now.parsed.now.exprs) c.args.fields.now))) c.requires.tables (c.enter_struct.ensures d c.requires.constants) c.begin.ensures c.in_ok-seen.ensures.seen
+    walk_judged c.args.whole.now.parsed.now c.args.whole.now.tables.now c.enter_struct.new.scope (scope_in d c.args.name [] []) c.args.seen.now c.walk_fields.new.seen
+    (variable_uses (variables (fields_at (expr_trees c.args.whole.now.parsed.now.exprs) c.args.fields.now))) c.requires.tables (c.enter_struct.ensures d c.requires.constants) c.in_ok-walk_fields.ensures.seen
 
 pub returns-clause-constants : goal.returns-clause-constants
 returns-clause-constants c = (c.enter_struct.ensures (package_of c.args.whole.now.parsed.now) c.requires.constants).constants
 
-pub returns-in_err-seen-clause-constants : goal.returns-in_err-seen-clause-constants
-returns-in_err-seen-clause-constants c = (c.enter_struct.ensures (package_of c.args.whole.now.parsed.now) c.requires.constants).constants
+pub returns-in_err-walk_fields-clause-constants : goal.returns-in_err-walk_fields-clause-constants
+returns-in_err-walk_fields-clause-constants c = (c.enter_struct.ensures (package_of c.args.whole.now.parsed.now) c.requires.constants).constants

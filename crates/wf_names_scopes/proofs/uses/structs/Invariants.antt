@@ -9,8 +9,8 @@ use Rattle.wf_names_scopes.proofs.uses.structs.Given as goal
 abbrev pub invariant-loop-number : goal.invariant-loop-number
 invariant-loop-number l =
     TellsConstants (package_of l.whole.parsed.now) l.scope
-    × (sites_judged (package_of l.whole.parsed.now) l.found (flat_map (struct_sites (package_of l.whole.parsed.now)) (structs_of (decls_made (expr_trees l.whole.parsed.now.exprs) (stmt_trees l.whole.parsed.now.exprs l.whole.parsed.now.stmts) (drop l.number l.whole.parsed.now.decls))))
-    ≡ sites_judged (package_of l.whole.parsed.now) l.fn.found (flat_map (struct_sites (package_of l.whole.parsed.now)) (package_of l.whole.parsed.now).structs))
+    × (sites_judged (package_of l.whole.parsed.now) l.seen.found (flat_map (struct_sites (package_of l.whole.parsed.now)) (structs_of (decls_made (expr_trees l.whole.parsed.now.exprs) (stmt_trees l.whole.parsed.now.exprs l.whole.parsed.now.stmts) (drop l.number l.whole.parsed.now.decls))))
+    ≡ sites_judged (package_of l.whole.parsed.now) l.fn.seen.found (flat_map (struct_sites (package_of l.whole.parsed.now)) (package_of l.whole.parsed.now).structs))
 
 abbrev pub decreases-loop-number : goal.decreases-loop-number
 decreases-loop-number l = length l.whole.parsed.now.decls - l.number

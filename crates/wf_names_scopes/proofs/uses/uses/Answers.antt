@@ -11,5 +11,5 @@ constants-requires-clause-outside c = c.outside-scope.ensures (package_of c.args
 pub returns-clause-found : goal.returns-clause-found
 returns-clause-found c =
     let d = package_of c.args.parsed.now in
-    let third = whole_walk d None c.in_ok-first.first c.in_ok-second.second c.in_ok-third.third c.in_ok-first.ensures.found c.in_ok-second.ensures.found c.in_ok-third.ensures.found in
-    c.sooner.ensures ∙ ap (λ labels. sooner labels c.in_ok-third.third) c.in_ok-third.ensures.labels ∙ ap (sooner (labels_found d c.args.found)) third
+    let third = whole_walk d None c.constants.new.seen.found c.structs.new.seen.found c.methods.new.seen.found (rw c.nothing.ensures at c.in_ok-constants.ensures.found) c.in_ok-structs.ensures.found c.in_ok-methods.ensures.found in
+    c.refuse.ensures ∙ ap (sooner c.methods.new.bodies.labels) c.first.ensures ∙ ap (λ labels. sooner labels c.methods.new.seen.found) c.in_ok-methods.ensures.labels ∙ ap (sooner (labels_found d c.args.found.now)) third

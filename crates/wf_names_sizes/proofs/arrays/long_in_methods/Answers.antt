@@ -10,7 +10,7 @@ loop-number-preserved c =
     let p = c.args.parsed.now in
     let within : c.loop-number.number < length p.decls = rw c.decls-number-end.ensures at c.loop-number-test.true in
     let there = item-there p.decls c.loop-number.number within in
-    methods_step p.exprs p.stmts p.decls c.loop-number.number (method_longs (of_package p)) there.0 there.1 c.loop-number.found _ (c.in_ok-found.ensures there.0 there.1) ∙ c.loop-number.invariant
+    methods_step p.exprs p.stmts p.decls c.loop-number.number (method_longs (of_package p)) there.0 there.1 c.loop-number.found _ (c.in_ok-long_in_method.ensures there.0 there.1) ∙ c.loop-number.invariant
 
 pub returns : goal.returns
 returns c =

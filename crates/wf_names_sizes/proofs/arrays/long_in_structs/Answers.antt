@@ -10,7 +10,7 @@ loop-number-preserved c =
     let p = c.args.parsed.now in
     let within : c.loop-number.number < length p.decls = rw c.decls-number-end.ensures at c.loop-number-test.true in
     let there = item-there p.decls c.loop-number.number within in
-    structs_step p.exprs p.stmts p.decls c.loop-number.number (struct_longs (of_package p)) there.0 there.1 c.loop-number.found _ (c.long_in_struct-found.ensures there.0 there.1) ∙ c.loop-number.invariant
+    structs_step p.exprs p.stmts p.decls c.loop-number.number (struct_longs (of_package p)) there.0 there.1 c.loop-number.found _ (c.long_in_struct.ensures there.0 there.1) ∙ c.loop-number.invariant
 
 pub returns : goal.returns
 returns c =

@@ -14,6 +14,6 @@ returns c =
     let args = variables (fields_at (expr_trees c.args.parsed.now.exprs) c.args.args.now) in
     let hides = locals_hide c.in_ok-hidden.hidden locals c.in_ok-hidden.ensures in
     let longs = longs_by d locals c.args.constants.now c.in_ok-hidden.hidden c.requires.knows hides in
-    c.long_locals.ensures ∙ ap (soonest c.long_fields-found.result) (longs locals)
-    ∙ ap (λ x. soonest x (map (long_item d locals) locals)) (c.long_fields-found.ensures ∙ ap (soonest c.args.found) (longs args))
-    ∙ sym (soonest-append c.args.found (map (long_item d locals) args) (map (long_item d locals) locals))
+    c.long_locals.ensures ∙ ap (soonest c.long_fields.new.found) (longs locals)
+    ∙ ap (λ x. soonest x (map (long_item d locals) locals)) (c.long_fields.ensures ∙ ap (soonest c.args.found.now) (longs args))
+    ∙ sym (soonest-append c.args.found.now (map (long_item d locals) args) (map (long_item d locals) locals))

@@ -8,5 +8,5 @@ use Rattle.wf_names_sizes.proofs.large.large_field.Given as goal
 
 abbrev pub invariant-loop-field : goal.invariant-loop-field
 invariant-loop-field l =
-    soonest l.found (large_of (of_package l.parsed) l.flags l.sizes l.sum (variables (fields_at (expr_trees l.parsed.exprs) (drop l.field-index l.fields))))
-    ≡ soonest l.fn.found (large_of (of_package l.parsed) l.flags l.sizes (Some 0) (variables (fields_at (expr_trees l.parsed.exprs) l.fields)))
+    soonest l.found (large_of (of_package l.setting.parsed.now) l.flags l.sizes l.sum (variables (fields_at (expr_trees l.setting.parsed.now.exprs) (drop l.field-index l.fields))))
+    ≡ soonest l.fn.found (large_of (of_package l.setting.parsed.now) l.flags l.sizes (Some 0) (variables (fields_at (expr_trees l.setting.parsed.now.exprs) l.fields)))

@@ -7,14 +7,14 @@ use Rattle.wf_names_sizes.proofs.large.large_in_structs.Goals as goal
 
 pub loop-number-preserved : goal.loop-number-preserved
 loop-number-preserved c =
-    let p = c.args.parsed.now in
+    let p = c.args.setting.now.parsed.now in
     let within : c.loop-number.number < length p.decls = rw c.decls-number-end.ensures at c.loop-number-test.true in
     let there = item-there p.decls c.loop-number.number within in
-    structs_step p.exprs p.stmts p.decls c.loop-number.number (struct_large (of_package p) c.args.flags.now c.args.sizes.now) there.0 there.1 c.loop-number.found _ (c.large_in_struct-found.ensures there.0 there.1)
+    structs_step p.exprs p.stmts p.decls c.loop-number.number (struct_large (of_package p) c.args.flags.now c.args.sizes.now) there.0 there.1 c.loop-number.found _ (c.large_in_struct.ensures there.0 there.1)
     ∙ c.loop-number.invariant
 
 pub returns : goal.returns
 returns c =
-    let p = c.args.parsed.now in
+    let p = c.args.setting.now.parsed.now in
     let past : length p.decls ≤ c.loop-number.number = rw c.decls-number-end.ensures at c.loop-number-test.false in
     sym (structs_over p.exprs p.stmts p.decls c.loop-number.number (struct_large (of_package p) c.args.flags.now c.args.sizes.now) c.loop-number.found past) ∙ c.loop-number.invariant

@@ -9,5 +9,5 @@ use Rattle.wf_names_sizes.proofs.large.large_in_structs.Given as goal
 
 abbrev pub invariant-loop-number : goal.invariant-loop-number
 invariant-loop-number l =
-    soonest l.found (flat_map (struct_large (of_package l.parsed) l.flags l.sizes) (structs_of (drop l.number (decl_trees l.parsed.exprs l.parsed.stmts l.parsed.decls))))
-    ≡ soonest l.fn.found (flat_map (struct_large (of_package l.parsed) l.flags l.sizes) (structs_of (decl_trees l.parsed.exprs l.parsed.stmts l.parsed.decls)))
+    soonest l.found (flat_map (struct_large (of_package l.setting.parsed.now) l.flags l.sizes) (structs_of (drop l.number (decl_trees l.setting.parsed.now.exprs l.setting.parsed.now.stmts l.setting.parsed.now.decls))))
+    ≡ soonest l.fn.found (flat_map (struct_large (of_package l.setting.parsed.now) l.flags l.sizes) (structs_of (decl_trees l.setting.parsed.now.exprs l.setting.parsed.now.stmts l.setting.parsed.now.decls)))

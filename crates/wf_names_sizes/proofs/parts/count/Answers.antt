@@ -7,10 +7,10 @@ use Rattle.wf_names_sizes.proofs.parts.count.Goals as goal
 
 pub returns-in-Some : goal.returns-in-Some
 returns-in-Some c =
-    let p = c.args.parsed.now in
-    ap number_or_zero ((rw c.in-Some.is at c.value.ensures) ∙ value_by_all (of_package p) c.args.constants.now c.args.nothing.now c.requires.nothing c.requires.knows (expr_at (expr_trees p.exprs) c.args.elements))
+    let p = c.args.setting.now.parsed.now in
+    ap number_or_zero ((rw c.in-Some.is at c.value.ensures) ∙ value_by_all (of_package p) c.args.setting.now.constants.now c.args.setting.now.nothing.now c.requires.setting.nothing c.requires.setting.knows (expr_at (expr_trees p.exprs) c.args.elements))
 
 pub returns-in-None : goal.returns-in-None
 returns-in-None c =
-    let p = c.args.parsed.now in
-    ap number_or_zero ((rw c.in-None.is at c.value.ensures) ∙ value_by_all (of_package p) c.args.constants.now c.args.nothing.now c.requires.nothing c.requires.knows (expr_at (expr_trees p.exprs) c.args.elements))
+    let p = c.args.setting.now.parsed.now in
+    ap number_or_zero ((rw c.in-None.is at c.value.ensures) ∙ value_by_all (of_package p) c.args.setting.now.constants.now c.args.setting.now.nothing.now c.requires.setting.nothing c.requires.setting.knows (expr_at (expr_trees p.exprs) c.args.elements))

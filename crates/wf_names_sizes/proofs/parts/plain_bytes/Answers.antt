@@ -7,5 +7,5 @@ use Rattle.wf_names_sizes.proofs.parts.plain_bytes.Goals as goal
 
 pub returns-in_default : goal.returns-in_default
 returns-in_default c =
-    let es = expr_trees c.args.parsed.now.exprs in
-    ap capped (sym (deep_bytes (of_package c.args.parsed.now) es c.args.of.now.prefixes (core_at es c.args.of.now.core c.args.of.now.bounds) (rw c.as_slice.ensures at c.in_default.len_at_least)))
+    let es = expr_trees c.args.setting.now.parsed.now.exprs in
+    ap capped (sym (deep_bytes (of_package c.args.setting.now.parsed.now) es c.args.of.now.prefixes (core_at es c.args.of.now.core c.args.of.now.bounds) (rw c.as_slice.ensures at c.in_default.len_at_least)))

@@ -7,5 +7,5 @@ use Rattle.wf_names_sizes.proofs.parts.row.Given as goal
 
 abbrev pub invariant-loop-field : goal.invariant-loop-field
 invariant-loop-field l =
-    l.row ++ map (part_of (of_package l.parsed)) (variables (fields_at (expr_trees l.parsed.exprs) (drop l.field-index l.fields)))
-    ≡ map (part_of (of_package l.parsed)) (variables (fields_at (expr_trees l.parsed.exprs) l.fields))
+    l.row ++ map (part_of (of_package l.setting.parsed.now)) (variables (fields_at (expr_trees l.setting.parsed.now.exprs) (drop l.field-index l.fields)))
+    ≡ map (part_of (of_package l.setting.parsed.now)) (variables (fields_at (expr_trees l.setting.parsed.now.exprs) l.fields))

@@ -8,7 +8,7 @@ use Rattle.wf_names_sizes.proofs.tables.rows.Goals as goal
 
 pub loop-number-preserved : goal.loop-number-preserved
 loop-number-preserved c =
-    let p = c.args.parsed.now in
+    let p = c.args.setting.now.parsed.now in
     let within : c.loop-number.number < length p.decls = rw c.decls-number-end.ensures at c.loop-number-test.true in
     let there = item-there p.decls c.loop-number.number within in
     let these = structs_of (decl_made (expr_trees p.exprs) (stmt_trees p.exprs p.stmts) there.0.public there.0.decl there.0.at ∷ []) in
@@ -18,6 +18,6 @@ loop-number-preserved c =
 
 pub returns : goal.returns
 returns c =
-    let p = c.args.parsed.now in
+    let p = c.args.setting.now.parsed.now in
     let past : length p.decls ≤ c.loop-number.number = rw c.decls-number-end.ensures at c.loop-number-test.false in
     rows_end (of_package p) c.loop-number.rows.items (structs_of (drop c.loop-number.number (decl_trees p.exprs p.stmts p.decls))) (structs_none p.exprs p.stmts p.decls c.loop-number.number past) ∙ c.loop-number.invariant

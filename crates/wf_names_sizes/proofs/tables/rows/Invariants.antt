@@ -7,5 +7,5 @@ use Rattle.wf_names_sizes.proofs.tables.rows.Given as goal
 
 abbrev pub invariant-loop-number : goal.invariant-loop-number
 invariant-loop-number l =
-    l.rows.items ++ map (row_of (of_package l.parsed)) (structs_of (drop l.number (decl_trees l.parsed.exprs l.parsed.stmts l.parsed.decls)))
-    ≡ map (row_of (of_package l.parsed)) (structs_of (decl_trees l.parsed.exprs l.parsed.stmts l.parsed.decls))
+    l.rows.items ++ map (row_of (of_package l.setting.parsed.now)) (structs_of (drop l.number (decl_trees l.setting.parsed.now.exprs l.setting.parsed.now.stmts l.setting.parsed.now.decls)))
+    ≡ map (row_of (of_package l.setting.parsed.now)) (structs_of (decl_trees l.setting.parsed.now.exprs l.setting.parsed.now.stmts l.setting.parsed.now.decls))

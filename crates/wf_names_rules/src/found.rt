@@ -1,0 +1,48 @@
+// The first refusal so far, which passes and walks add to.
+
+ghost use Rattle.std.specs.Prelude.{◌≡◌, None};
+ghost use Rattle.wf_text.specs.Precedence.{sooner as sooner_of};
+
+use std::marker::Model;
+use wf_text::precedence::sooner;
+use wf_text::rules::Refusal;
+
+/// The first refusal of what was found so far.
+#[derive(Clone, Copy)]
+pub struct Found {
+    first: Option<Refusal>,
+}
+
+impl Model for Found {
+    ghost use Rattle.std.specs.Prelude.{Option};
+    ghost use Rattle.wf_text.specs.declared.rules.Refusal.{Refusal};
+
+    ghost Value = { Option Refusal };
+
+    ghost view = { λ found. found.first };
+
+    ghost inverse = { λ first. record { first = first } };
+}
+
+impl Found {
+    /// Nothing is found yet.
+    pub fn nothing() -> Found
+        ensures { result ≡ None }
+    {
+        Found { first: None }
+    }
+
+    /// What is found now joins what was found before.
+    pub fn refuse(&mut self, now: Option<Refusal>)
+        ensures { self.new ≡ sooner_of self.old now }
+    {
+        self.first = sooner(self.first, now);
+    }
+
+    /// The first refusal, if anything was found.
+    pub fn first(&self) -> Option<Refusal>
+        ensures { result ≡ self.now }
+    {
+        self.first
+    }
+}
