@@ -77,21 +77,21 @@ pub constants_with : (known : List (Option Constant)) (c : ConstTree) (s t : Set
 constants_with known c s t of e k h = e ∙ ap (λ (r : Setting). record r { constants = r.constants ++ of ∷ [] }) k ∙ ap (λ o. among_constants (known ++ o ∷ [])) h
 
 -- Constants that are left, where those before them are known.
-pub record ConstsJudged (all left : List ConstTree) (found : Option Refusal) (around : Setting) : Type 0 where
+pub record ConstsJudged (all left : List ConstTree) (before found : Option Refusal) (around : Setting) : Type 0 where
   pub known : List (Option Constant)
   pub is : around ≡ among_constants known
-  pub decides : decided found (const_sites known left) ≡ decided None (const_sites [] all)
+  pub decides : decided found (const_sites known left) ≡ decided before (const_sites [] all)
   pub after : constants_after known left ≡ constants_after [] all
 
-pub consts_begun : (all : List ConstTree) (around : Setting) → around ≡ among_constants [] → ConstsJudged all all None around
-consts_begun all around e = record { known = []; is = e; decides = refl; after = refl }
+pub consts_begun : (all : List ConstTree) (before : Option Refusal) (around : Setting) → around ≡ among_constants [] → ConstsJudged all all before before around
+consts_begun all before around e = record { known = []; is = e; decides = refl; after = refl }
 
 abbrev pub const_parts : ConstTree → List Part
 const_parts c = constant_declared c ∷ (declared_parts roles.Const c.of ++ expr_parts c.value)
 
-pub consts_next : (all left : List ConstTree) (c : ConstTree) (found next : Option Refusal) (around behind : Setting) → ConstsJudged all (c ∷ left) found around → next ≡ judged around found (const_parts c)
-    → ((known : List (Option Constant)) → around ≡ among_constants known → behind ≡ among_constants (known ++ constant_made known c ∷ [])) → ConstsJudged all left next behind
-consts_next all left c found next around behind h e step = record {
+pub consts_next : (all left : List ConstTree) (c : ConstTree) (before found next : Option Refusal) (around behind : Setting) → ConstsJudged all (c ∷ left) before found around → next ≡ judged around found (const_parts c)
+    → ((known : List (Option Constant)) → around ≡ among_constants known → behind ≡ among_constants (known ++ constant_made known c ∷ [])) → ConstsJudged all left before next behind
+consts_next all left c before found next around behind h e step = record {
   known = h.known ++ constant_made h.known c ∷ [];
   is = step h.known h.is;
   decides =
@@ -102,9 +102,9 @@ consts_next all left c found next around behind h e step = record {
   after = h.after;
 }
 
-pub consts_over : (all : List ConstTree) (found : Option Refusal) (around : Setting) → ConstsJudged all [] found around
-    → (found ≡ decided None (const_sites [] all)) × (around ≡ among_constants (constants_after [] all))
-consts_over all found around h = (sym (decided-none found) ∙ h.decides, h.is ∙ ap among_constants h.after)
+pub consts_over : (all : List ConstTree) (before found : Option Refusal) (around : Setting) → ConstsJudged all [] before found around
+    → (found ≡ decided before (const_sites [] all)) × (around ≡ among_constants (constants_after [] all))
+consts_over all before found around h = (sym (decided-none found) ∙ h.decides, h.is ∙ ap among_constants h.after)
 
 -- A status.
 pub status_alone : (s : Setting) (found : Option Refusal) (w : Word) (wrong : Bool) → wrong ≡ not (is_status_text w.text)
@@ -200,16 +200,16 @@ kept_next xs made i d h before next e = made_kept made xs xs refl i (slice_index
 
 -- Constants likewise.
 module _ {X : Type 0} (made : X → ConstTree) (items xs : List X) (is : items ≡ xs) (i : ℕ) where
-  pub const_next : (x d : X) (named : x ≡ slice_index_or items i d) (h : i < length items) (found next : Option Refusal) (around behind : Setting)
-      → ConstsJudged (map made xs) (map made (drop i xs)) found around → next ≡ judged around found (const_parts (made x))
+  pub const_next : (x d : X) (named : x ≡ slice_index_or items i d) (h : i < length items) (before found next : Option Refusal) (around behind : Setting)
+      → ConstsJudged (map made xs) (map made (drop i xs)) before found around → next ≡ judged around found (const_parts (made x))
       → ((known : List (Option Constant)) → around ≡ among_constants known → behind ≡ among_constants (known ++ constant_made known (made x) ∷ []))
-      → ConstsJudged (map made xs) (map made (drop (i + 1) xs)) next behind
-  const_next x d named h found next around behind k e step =
-      let P : List ConstTree → Type 0 = λ left. ConstsJudged (map made xs) left found around in
-      consts_next (map made xs) (map made (drop (i + 1) xs)) (made x) found next around behind (subst P (made_next made items xs is i x d named h) k) e step
+      → ConstsJudged (map made xs) (map made (drop (i + 1) xs)) before next behind
+  const_next x d named h before found next around behind k e step =
+      let P : List ConstTree → Type 0 = λ left. ConstsJudged (map made xs) left before found around in
+      consts_next (map made xs) (map made (drop (i + 1) xs)) (made x) before found next around behind (subst P (made_next made items xs is i x d named h) k) e step
 
-  pub consts_passed : (past : length items ≤ i) (found : Option Refusal) (around : Setting) → ConstsJudged (map made xs) (map made (drop i xs)) found around
-      → (found ≡ decided None (const_sites [] (map made xs))) × (around ≡ among_constants (constants_after [] (map made xs)))
-  consts_passed past found around k =
-      let P : List X → Type 0 = λ left. ConstsJudged (map made xs) (map made left) found around in
-      consts_over (map made xs) found around (subst P (all_passed items xs i is past) k)
+  pub consts_passed : (past : length items ≤ i) (before found : Option Refusal) (around : Setting) → ConstsJudged (map made xs) (map made (drop i xs)) before found around
+      → (found ≡ decided before (const_sites [] (map made xs))) × (around ≡ among_constants (constants_after [] (map made xs)))
+  consts_passed past before found around k =
+      let P : List X → Type 0 = λ left. ConstsJudged (map made xs) (map made left) before found around in
+      consts_over (map made xs) before found around (subst P (all_passed items xs i is past) k)

@@ -1,6 +1,6 @@
 // Constants and statuses.
 
-ghost use Rattle.std.specs.Prelude.{◌≡◌, ◌<◌, ◌++◌, ◌∷◌, [], None, not, length, map, nat_eq, slice_get, IfOk};
+ghost use Rattle.std.specs.Prelude.{◌≡◌, ◌<◌, ◌++◌, ◌∷◌, [], not, length, map, nat_eq, slice_get, IfOk, OnOk};
 ghost use Rattle.wf_ast.specs.BaseStatuses.{base_statuses as texts_of_language};
 ghost use Rattle.wf_named.specs.NamedParts.{exprs_of, NamedConstBelow};
 ghost use Rattle.wf_named.specs.NamedTrees.{const_made, word_at, text_or};
@@ -19,16 +19,16 @@ use wf_named::{NamedConst, NamedNodes};
 use wf_text::Place;
 use wf_text::categories::Category;
 use wf_text::faults::NoMemory;
-use wf_text::precedence::sooner;
-use wf_text::rules::{Refusal, Rule};
+use wf_text::rules::Rule;
 use wf_text::status_text::category;
 use wf_types_exprs::walk::judge_value;
 use wf_types_exprs::whole::judge_type;
-use wf_types_meanings::places::{at_if, told};
+use wf_types_exprs::{Found, Here};
+use wf_types_meanings::places::at_if;
 use wf_types_meanings::types::{constant_with, lies_in};
 use wf_types_meanings::values::number_in;
 use wf_types_operators::meanings::is_constant;
-use wf_types_rules::{Around, Constant, Role, Setting, Value};
+use wf_types_rules::{Constant, Role, Setting, Value};
 
 const BASE_STATUSES: [&str; 10] = [
     "",
@@ -42,20 +42,6 @@ const BASE_STATUSES: [&str; 10] = [
     "#base: disabled by previous error",
     "#base: cannot return a suspension",
 ];
-
-/// A constant: what decides so far, and its value, where it breaks no rule.
-#[derive(Clone, Copy, PartialEq, Eq)]
-pub(crate) struct JudgedConst {
-    pub found: Option<Refusal>,
-    pub of: Option<Constant>,
-}
-
-/// Constants: what decides so far, and a setting that knows them and nothing else.
-#[derive(Drop)]
-pub(crate) struct JudgedConsts {
-    pub found: Option<Refusal>,
-    pub around: Setting,
-}
 
 fn value_no_number(v: Value) -> Option<Place>
     ensures { result ≡ no_constant v }
@@ -83,32 +69,28 @@ fn value_outside(ty: Option<Ty>, v: Value) -> Option<Place>
     at_if(lies_outside(ty, number_in(v.of)), v.at)
 }
 
-/// What the value of a constant of this type breaks.
-pub(crate) fn judged_constant(found: Option<Refusal>, ty: Option<Ty>, v: Value) -> Option<Refusal>
-    ensures { result ≡ constant_found ty v found }
+/// Tells what the value of a constant of this type breaks.
+pub(crate) fn tell_constant(found: &mut Found, ty: Option<Ty>, v: Value)
+    ensures { found.new ≡ constant_found ty v found.old }
 {
-    let numeric = sooner(found, told(Rule::T1, value_no_number(v)));
-    sooner(numeric, told(Rule::T5, value_outside(ty, v)))
+    found.tell(Rule::T1, value_no_number(v));
+    found.tell(Rule::T5, value_outside(ty, v));
 }
 
-/// A constant, where `around` knows those before it.
+/// The value of a constant, where it breaks no rule and the constants before it are known.
 pub(crate) fn judge_const(
-    alloc: Global,
-    found: Option<Refusal>,
-    nodes: &NamedNodes,
-    around: &Around<'_>,
+    here: &Here<'_>,
+    found: &mut Found,
     constant: &NamedConst,
-) -> Result<JudgedConst, NoMemory>
-    requires { NamedConstBelow (length nodes.now.texts) (length nodes.now.exprs) constant.now }
-    ensures found { IfOk result (λ j. j.found ≡ judged around.now found (constant_declared (const_made nodes.now.texts (exprs_of nodes.now) constant.now) ∷ (declared_parts roles.Const (const_made nodes.now.texts (exprs_of nodes.now) constant.now).of ++ expr_parts (const_made nodes.now.texts (exprs_of nodes.now) constant.now).value))) }
-    ensures of { IfOk result (λ j. (known : _) → around.now ≡ among_constants known → j.of ≡ constant_made known (const_made nodes.now.texts (exprs_of nodes.now) constant.now)) }
+) -> Result<Option<Constant>, NoMemory>
+    requires { NamedConstBelow (length here.now.nodes.now.texts) (length here.now.nodes.now.exprs) constant.now }
+    ensures found { OnOk result (found.new ≡ judged here.now.around.now found.old (constant_declared (const_made here.now.nodes.now.texts (exprs_of here.now.nodes.now) constant.now) ∷ (declared_parts roles.Const (const_made here.now.nodes.now.texts (exprs_of here.now.nodes.now) constant.now).of ++ expr_parts (const_made here.now.nodes.now.texts (exprs_of here.now.nodes.now) constant.now).value))) }
+    ensures of { IfOk result (λ n. (known : _) → here.now.around.now ≡ among_constants known → n ≡ constant_made known (const_made here.now.nodes.now.texts (exprs_of here.now.nodes.now) constant.now)) }
 {
-    let ty = judge_type(alloc, found, nodes, around, Role::Const, &constant.of)?;
-    let j = judge_value(alloc, ty.found, nodes, around, constant.value)?;
-    Ok(JudgedConst {
-        found: judged_constant(j.found, ty.of, j.value),
-        of: constant_with(ty.of, number_in(j.value.of)),
-    })
+    let ty = judge_type(here, found, Role::Const, &constant.of)?;
+    let v = judge_value(here, found, constant.value)?;
+    tell_constant(found, ty, v);
+    Ok(constant_with(ty, number_in(v.of)))
 }
 
 /// A setting that knows nothing.
@@ -138,35 +120,39 @@ fn with_constant(around: Setting, of: Option<Constant>) -> Result<Setting, NoMem
 // A constant after those that are known.
 fn judge_next(
     alloc: Global,
-    before: JudgedConsts,
+    found: &mut Found,
     nodes: &NamedNodes,
+    known: Setting,
     constant: &NamedConst,
-) -> Result<JudgedConsts, NoMemory>
+) -> Result<Setting, NoMemory>
     requires { NamedConstBelow (length nodes.now.texts) (length nodes.now.exprs) constant.now }
-    ensures found { IfOk result (λ j. j.found ≡ judged before.around before.found (constant_declared (const_made nodes.now.texts (exprs_of nodes.now) constant.now) ∷ (declared_parts roles.Const (const_made nodes.now.texts (exprs_of nodes.now) constant.now).of ++ expr_parts (const_made nodes.now.texts (exprs_of nodes.now) constant.now).value))) }
-    ensures around { IfOk result (λ j. (known : _) → before.around ≡ among_constants known → j.around ≡ among_constants (known ++ constant_made known (const_made nodes.now.texts (exprs_of nodes.now) constant.now) ∷ [])) }
+    ensures found { OnOk result (found.new ≡ judged known found.old (constant_declared (const_made nodes.now.texts (exprs_of nodes.now) constant.now) ∷ (declared_parts roles.Const (const_made nodes.now.texts (exprs_of nodes.now) constant.now).of ++ expr_parts (const_made nodes.now.texts (exprs_of nodes.now) constant.now).value))) }
+    ensures around { IfOk result (λ s. (before : _) → known ≡ among_constants before → s ≡ among_constants (before ++ constant_made before (const_made nodes.now.texts (exprs_of nodes.now) constant.now) ∷ [])) }
 {
-    let j = judge_const(alloc, before.found, nodes, &before.around.lent(), constant)?;
-    let around = with_constant(before.around, j.of)?;
-    Ok(JudgedConsts {
-        found: j.found,
-        around,
-    })
+    let around = known.lent();
+    let here = Here {
+        alloc,
+        nodes,
+        around: &around,
+    };
+    let of = judge_const(&here, found, constant)?;
+    with_constant(known, of)
 }
 
-/// All constants, each of which knows those before it.
-pub(crate) fn judge_consts(alloc: Global, nodes: &NamedNodes) -> Result<JudgedConsts, NoMemory>
-    ensures found { IfOk result (λ j. j.found ≡ decided None (const_sites [] (map (const_made nodes.now.texts (exprs_of nodes.now)) nodes.now.consts))) }
-    ensures around { IfOk result (λ j. j.around ≡ among_constants (constants_after [] (map (const_made nodes.now.texts (exprs_of nodes.now)) nodes.now.consts))) }
+/// A setting that knows all constants and nothing else. Each knows those before it.
+pub(crate) fn judge_consts(
+    alloc: Global,
+    found: &mut Found,
+    nodes: &NamedNodes,
+) -> Result<Setting, NoMemory>
+    ensures found { OnOk result (found.new ≡ decided found.old (const_sites [] (map (const_made nodes.now.texts (exprs_of nodes.now)) nodes.now.consts))) }
+    ensures around { IfOk result (λ s. s ≡ among_constants (constants_after [] (map (const_made nodes.now.texts (exprs_of nodes.now)) nodes.now.consts))) }
 {
-    let mut all = JudgedConsts {
-        found: None,
-        around: nothing_known(alloc),
-    };
+    let mut known = nothing_known(alloc);
     for constant in nodes.consts() {
-        all = judge_next(alloc, all, nodes, constant)?;
+        known = judge_next(alloc, found, nodes, known, constant)?;
     }
-    Ok(all)
+    Ok(known)
 }
 
 fn is_question(byte: u8) -> bool
@@ -208,22 +194,20 @@ fn wrong_status(nodes: &NamedNodes, text: Name) -> Option<Place>
     at_if(!right, text.at)
 }
 
-fn judge_status(found: Option<Refusal>, nodes: &NamedNodes, text: Name) -> Option<Refusal>
+fn judge_status(found: &mut Found, nodes: &NamedNodes, text: Name)
     requires { text.text.0 < length nodes.now.texts }
-    ensures { (s : _) → result ≡ judged s found (status_declared (word_at nodes.now.texts text) ∷ []) }
+    ensures { (s : _) → found.new ≡ judged s found.old (status_declared (word_at nodes.now.texts text) ∷ []) }
 {
-    sooner(found, told(Rule::T5, wrong_status(nodes, text)))
+    found.tell(Rule::T5, wrong_status(nodes, text));
 }
 
 /// The package's own statuses.
-pub(crate) fn judge_statuses(found: Option<Refusal>, nodes: &NamedNodes) -> Option<Refusal>
-    ensures { (s : _) → result ≡ judged s found (map status_declared (map (word_at nodes.now.texts) nodes.now.statuses)) }
+pub(crate) fn judge_statuses(found: &mut Found, nodes: &NamedNodes)
+    ensures { (s : _) → found.new ≡ judged s found.old (map status_declared (map (word_at nodes.now.texts) nodes.now.statuses)) }
 {
-    let mut found = found;
     for text in nodes.statuses() {
-        found = judge_status(found, nodes, *text);
+        judge_status(found, nodes, *text);
     }
-    found
 }
 
 /// A copy of these bytes.

@@ -1,167 +1,76 @@
 // The types of variables, of results and of the fields of structs.
 
-ghost use Rattle.std.specs.Prelude.{◌≡◌, ◌++◌, ◌∷◌, [], length, map, option_map, slice_get, IfOk};
+ghost use Rattle.std.specs.Prelude.{◌≡◌, length, map, option_map, slice_get, IfOk, OnOk};
 ghost use Rattle.std.specs.List.{AllByRecursion, flat_map};
-ghost use Rattle.wf_named.specs.NamedParts.{exprs_of, NamedTypeBelow, NamedVarBelow, NamedResultBelow, NamedStructBelow};
+ghost use Rattle.wf_named.specs.NamedParts.{exprs_of, NamedVarBelow, NamedResultBelow};
 ghost use Rattle.wf_named.specs.NamedTrees.{type_at, var_made, struct_made};
 ghost use Rattle.wf_types_rules.specs.declared.settings.Role.TheVariants as roles;
 ghost use Rattle.wf_types_rules.specs.DeclaredTypes.{declared};
-ghost use Rattle.wf_types_rules.specs.Parts.{declared_parts, variables_parts, result_parts};
+ghost use Rattle.wf_types_rules.specs.Parts.{variables_parts, result_parts};
 ghost use Rattle.wf_types_exprs.specs.Judged.{judged};
 ghost use Rattle.wf_types_decls.specs.Packages.{types_or_none};
 
 use std::alloc::Global;
 use wf_ast::{Sequence, Ty};
 use wf_base::Mark;
-use wf_named::{NamedNodes, NamedStruct, NamedType, NamedVar};
+use wf_named::{NamedType, NamedVar};
 use wf_text::StructId;
 use wf_text::faults::NoMemory;
-use wf_text::rules::Refusal;
-use wf_types_exprs::found::JudgedType;
 use wf_types_exprs::whole::judge_type;
-use wf_types_rules::{Around, Role};
+use wf_types_exprs::{Found, Here};
+use wf_types_rules::Role;
 
-/// Variables: what decides so far, and their types in order, each where it breaks no rule.
-#[derive(Drop)]
-pub(crate) struct JudgedTypes {
-    pub found: Option<Refusal>,
-    pub of: Sequence<Option<Ty>>,
-}
-
-/// A written result, if there is one: what decides so far, and its type.
-#[derive(Clone, Copy, PartialEq, Eq)]
-pub(crate) struct JudgedResult {
-    pub found: Option<Refusal>,
-    pub of: Option<Option<Ty>>,
-}
-
-/// All fields: what decides so far, and their types by struct.
-#[derive(Drop)]
-pub(crate) struct JudgedFields {
-    pub found: Option<Refusal>,
-    pub of: Sequence<Sequence<Option<Ty>>>,
-}
-
-fn with_type(before: JudgedTypes, next: JudgedType) -> Result<JudgedTypes, NoMemory>
-    ensures { IfOk result (λ j. j ≡ record { found = next.found; of = before.of ++ next.of ∷ [] }) }
-{
-    let mut of = before.of;
-    of.push(next.of)?;
-    Ok(JudgedTypes {
-        found: next.found,
-        of,
-    })
-}
-
-// A variable after others.
-fn judge_variable(
-    alloc: Global,
-    before: JudgedTypes,
-    nodes: &NamedNodes,
-    types: &Around<'_>,
-    role: Role,
-    of: &NamedType,
-) -> Result<JudgedTypes, NoMemory>
-    requires { NamedTypeBelow (length nodes.now.exprs) of.now }
-    ensures found { IfOk result (λ j. j.found ≡ judged types.now before.found (declared_parts role (type_at (exprs_of nodes.now) of.now))) }
-    ensures of { IfOk result (λ j. j.of ≡ before.of ++ declared types.now role (type_at (exprs_of nodes.now) of.now) ∷ []) }
-{
-    let next = judge_type(alloc, before.found, nodes, types, role, of)?;
-    with_type(before, next)
-}
-
-/// Fields, arguments or locals, in order.
+/// The types of fields, arguments or locals, in order, each where it breaks no rule.
 pub(crate) fn judge_variables(
-    alloc: Global,
-    found: Option<Refusal>,
-    nodes: &NamedNodes,
-    types: &Around<'_>,
+    here: &Here<'_>,
+    found: &mut Found,
     role: Role,
     variables: &[NamedVar],
-) -> Result<JudgedTypes, NoMemory>
-    requires { AllByRecursion (NamedVarBelow (length nodes.now.texts) (length nodes.now.exprs)) variables.now }
-    ensures found { IfOk result (λ j. j.found ≡ judged types.now found (variables_parts role (map (var_made nodes.now.texts (exprs_of nodes.now)) variables.now))) }
-    ensures of { IfOk result (λ j. j.of ≡ map (λ x. declared types.now role x.of) (map (var_made nodes.now.texts (exprs_of nodes.now)) variables.now)) }
+) -> Result<Sequence<Option<Ty>>, NoMemory>
+    requires { AllByRecursion (NamedVarBelow (length here.now.nodes.now.texts) (length here.now.nodes.now.exprs)) variables.now }
+    ensures found { OnOk result (found.new ≡ judged here.now.around.now found.old (variables_parts role (map (var_made here.now.nodes.now.texts (exprs_of here.now.nodes.now)) variables.now))) }
+    ensures of { IfOk result (λ types. types ≡ map (λ x. declared here.now.around.now role x.of) (map (var_made here.now.nodes.now.texts (exprs_of here.now.nodes.now)) variables.now)) }
 {
-    let mut all = JudgedTypes {
-        found,
-        of: Sequence::new(alloc),
-    };
+    let mut all = Sequence::new(here.alloc);
     for variable in variables {
-        all = judge_variable(alloc, all, nodes, types, role, &variable.of)?;
+        let ty = judge_type(here, found, role, &variable.of)?;
+        all.push(ty)?;
     }
     Ok(all)
 }
 
-/// The written result of a method with this mark.
+/// The type of the written result of a method with this mark, if there is one.
 pub(crate) fn judge_result(
-    alloc: Global,
-    found: Option<Refusal>,
-    nodes: &NamedNodes,
-    types: &Around<'_>,
+    here: &Here<'_>,
+    found: &mut Found,
     mark: Mark,
     gives: &Option<NamedType>,
-) -> Result<JudgedResult, NoMemory>
-    requires { NamedResultBelow (length nodes.now.exprs) gives.now }
-    ensures found { IfOk result (λ j. j.found ≡ judged types.now found (result_parts mark (option_map (type_at (exprs_of nodes.now)) gives.now))) }
-    ensures of { IfOk result (λ j. j.of ≡ option_map (declared types.now (roles.Result mark)) (option_map (type_at (exprs_of nodes.now)) gives.now)) }
+) -> Result<Option<Option<Ty>>, NoMemory>
+    requires { NamedResultBelow (length here.now.nodes.now.exprs) gives.now }
+    ensures found { OnOk result (found.new ≡ judged here.now.around.now found.old (result_parts mark (option_map (type_at (exprs_of here.now.nodes.now)) gives.now))) }
+    ensures of { IfOk result (λ ty. ty ≡ option_map (declared here.now.around.now (roles.Result mark)) (option_map (type_at (exprs_of here.now.nodes.now)) gives.now)) }
 {
     match gives {
         Some(of) => {
-            let j = judge_type(alloc, found, nodes, types, Role::Result(mark), of)?;
-            Ok(JudgedResult {
-                found: j.found,
-                of: Some(j.of),
-            })
+            let ty = judge_type(here, found, Role::Result(mark), of)?;
+            Ok(Some(ty))
         }
-        None => Ok(JudgedResult { found, of: None }),
+        None => Ok(None),
     }
 }
 
-// The fields of a struct after those of others.
-fn judge_struct(
-    alloc: Global,
-    before: JudgedFields,
-    nodes: &NamedNodes,
-    types: &Around<'_>,
-    structure: &NamedStruct,
-) -> Result<JudgedFields, NoMemory>
-    requires { NamedStructBelow (length nodes.now.texts) (length nodes.now.exprs) structure.now }
-    ensures found { IfOk result (λ j. j.found ≡ judged types.now before.found (variables_parts roles.Field (struct_made nodes.now.texts (exprs_of nodes.now) structure.now).fields)) }
-    ensures of { IfOk result (λ j. j.of ≡ before.of ++ map (λ x. declared types.now roles.Field x.of) (struct_made nodes.now.texts (exprs_of nodes.now) structure.now).fields ∷ []) }
-{
-    let mut of = before.of;
-    let next = judge_variables(
-        alloc,
-        before.found,
-        nodes,
-        types,
-        Role::Field,
-        structure.fields.as_slice(),
-    )?;
-    of.push(next.of)?;
-    Ok(JudgedFields {
-        found: next.found,
-        of,
-    })
-}
-
-/// The fields of all structs.
+/// The types of the fields of all structs, by struct.
 pub(crate) fn judge_fields(
-    alloc: Global,
-    found: Option<Refusal>,
-    nodes: &NamedNodes,
-    types: &Around<'_>,
-) -> Result<JudgedFields, NoMemory>
-    ensures found { IfOk result (λ j. j.found ≡ judged types.now found (flat_map (λ x. variables_parts roles.Field x.fields) (map (struct_made nodes.now.texts (exprs_of nodes.now)) nodes.now.structs))) }
-    ensures of { IfOk result (λ j. j.of ≡ map (λ x. map (λ y. declared types.now roles.Field y.of) x.fields) (map (struct_made nodes.now.texts (exprs_of nodes.now)) nodes.now.structs)) }
+    here: &Here<'_>,
+    found: &mut Found,
+) -> Result<Sequence<Sequence<Option<Ty>>>, NoMemory>
+    ensures found { OnOk result (found.new ≡ judged here.now.around.now found.old (flat_map (λ x. variables_parts roles.Field x.fields) (map (struct_made here.now.nodes.now.texts (exprs_of here.now.nodes.now)) here.now.nodes.now.structs))) }
+    ensures of { IfOk result (λ fields. fields ≡ map (λ x. map (λ y. declared here.now.around.now roles.Field y.of) x.fields) (map (struct_made here.now.nodes.now.texts (exprs_of here.now.nodes.now)) here.now.nodes.now.structs)) }
 {
-    let mut all = JudgedFields {
-        found,
-        of: Sequence::new(alloc),
-    };
-    for structure in nodes.structs() {
-        all = judge_struct(alloc, all, nodes, types, structure)?;
+    let mut all = Sequence::new(here.alloc);
+    for structure in here.nodes.structs() {
+        let fields = judge_variables(here, found, Role::Field, structure.fields.as_slice())?;
+        all.push(fields)?;
     }
     Ok(all)
 }

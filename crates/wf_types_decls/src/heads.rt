@@ -1,6 +1,6 @@
 // What methods declare: the types of their arguments, their locals and their results.
 
-ghost use Rattle.std.specs.Prelude.{◌≡◌, length, map, IfOk};
+ghost use Rattle.std.specs.Prelude.{◌≡◌, length, map, IfOk, OnOk};
 ghost use Rattle.std.specs.List.{flat_map};
 ghost use Rattle.wf_named.specs.NamedParts.{exprs_of, stmts_of, named_package, NamedMethodBelow};
 ghost use Rattle.wf_named.specs.NamedTrees.{method_made};
@@ -13,8 +13,8 @@ use std::alloc::Global;
 use wf_ast::{Sequence, Ty};
 use wf_named::{NamedMethod, NamedNodes};
 use wf_text::faults::NoMemory;
-use wf_text::rules::Refusal;
-use wf_types_rules::{Around, MethodType, Role};
+use wf_types_exprs::{Found, Here};
+use wf_types_rules::{MethodType, Role};
 
 /// The types of a method's arguments and locals, in order, and of its written result. A type that breaks a rule is absent.
 #[derive(Drop)]
@@ -24,86 +24,35 @@ pub struct Head {
     pub gives: Option<Option<Ty>>,
 }
 
-/// What a method declares: what decides so far, and the types.
-#[derive(Drop)]
-struct JudgedHead {
-    found: Option<Refusal>,
-    of: Head,
-}
-
-/// What all methods declare: what decides so far, and the types by method.
-#[derive(Drop)]
-pub(crate) struct JudgedHeads {
-    pub found: Option<Refusal>,
-    pub of: Sequence<Head>,
-}
-
 // What a method declares.
-fn judge_head(
-    alloc: Global,
-    found: Option<Refusal>,
-    nodes: &NamedNodes,
-    types: &Around<'_>,
-    method: &NamedMethod,
-) -> Result<JudgedHead, NoMemory>
-    requires types { types.now ≡ for_types (named_package nodes.now) }
-    requires below { NamedMethodBelow (length nodes.now.texts) (length nodes.now.exprs) (length nodes.now.stmts) method.now }
-    ensures found { IfOk result (λ h. h.found ≡ judged types.now found (head_parts (method_made nodes.now.texts (exprs_of nodes.now) (stmts_of nodes.now) method.now))) }
-    ensures of { IfOk result (λ h. h.of ≡ head_of (named_package nodes.now) (method_made nodes.now.texts (exprs_of nodes.now) (stmts_of nodes.now) method.now)) }
+fn judge_head(here: &Here<'_>, found: &mut Found, method: &NamedMethod) -> Result<Head, NoMemory>
+    requires types { here.now.around.now ≡ for_types (named_package here.now.nodes.now) }
+    requires below { NamedMethodBelow (length here.now.nodes.now.texts) (length here.now.nodes.now.exprs) (length here.now.nodes.now.stmts) method.now }
+    ensures found { OnOk result (found.new ≡ judged here.now.around.now found.old (head_parts (method_made here.now.nodes.now.texts (exprs_of here.now.nodes.now) (stmts_of here.now.nodes.now) method.now))) }
+    ensures of { IfOk result (λ head. head ≡ head_of (named_package here.now.nodes.now) (method_made here.now.nodes.now.texts (exprs_of here.now.nodes.now) (stmts_of here.now.nodes.now) method.now)) }
 {
-    let args = judge_variables(
-        alloc,
-        found,
-        nodes,
-        types,
-        Role::Arg,
-        method.args.as_slice(),
-    )?;
-    let locals = judge_variables(
-        alloc,
-        args.found,
-        nodes,
-        types,
-        Role::Local,
-        method.locals.as_slice(),
-    )?;
-    let gives = judge_result(
-        alloc,
-        locals.found,
-        nodes,
-        types,
-        method.mark,
-        &method.gives,
-    )?;
-    Ok(JudgedHead {
-        found: gives.found,
-        of: Head {
-            args: args.of,
-            locals: locals.of,
-            gives: gives.of,
-        },
+    let args = judge_variables(here, found, Role::Arg, method.args.as_slice())?;
+    let locals = judge_variables(here, found, Role::Local, method.locals.as_slice())?;
+    let gives = judge_result(here, found, method.mark, &method.gives)?;
+    Ok(Head {
+        args,
+        locals,
+        gives,
     })
 }
 
-/// What all methods declare, where `types` knows the constants.
-pub(crate) fn judge_heads(
-    alloc: Global,
-    found: Option<Refusal>,
-    nodes: &NamedNodes,
-    types: &Around<'_>,
-) -> Result<JudgedHeads, NoMemory>
-    requires { types.now ≡ for_types (named_package nodes.now) }
-    ensures found { IfOk result (λ j. j.found ≡ judged types.now found (flat_map head_parts (map (method_made nodes.now.texts (exprs_of nodes.now) (stmts_of nodes.now)) nodes.now.methods))) }
-    ensures of { IfOk result (λ j. j.of ≡ map (head_of (named_package nodes.now)) (map (method_made nodes.now.texts (exprs_of nodes.now) (stmts_of nodes.now)) nodes.now.methods)) }
+/// What all methods declare, by method, where the constants are known.
+pub(crate) fn judge_heads(here: &Here<'_>, found: &mut Found) -> Result<Sequence<Head>, NoMemory>
+    requires { here.now.around.now ≡ for_types (named_package here.now.nodes.now) }
+    ensures found { OnOk result (found.new ≡ judged here.now.around.now found.old (flat_map head_parts (map (method_made here.now.nodes.now.texts (exprs_of here.now.nodes.now) (stmts_of here.now.nodes.now)) here.now.nodes.now.methods))) }
+    ensures of { IfOk result (λ heads. heads ≡ map (head_of (named_package here.now.nodes.now)) (map (method_made here.now.nodes.now.texts (exprs_of here.now.nodes.now) (stmts_of here.now.nodes.now)) here.now.nodes.now.methods)) }
 {
-    let mut found = found;
-    let mut of = Sequence::new(alloc);
-    for method in nodes.methods() {
-        let head = judge_head(alloc, found, nodes, types, method)?;
-        found = head.found;
-        of.push(head.of)?;
+    let mut all = Sequence::new(here.alloc);
+    for method in here.nodes.methods() {
+        let head = judge_head(here, found, method)?;
+        all.push(head)?;
     }
-    Ok(JudgedHeads { found, of })
+    Ok(all)
 }
 
 // What calls know of a method that declares this.

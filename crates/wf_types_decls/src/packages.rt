@@ -1,7 +1,7 @@
 // The rules of types and effects over a whole package: the refusal that decides, if there is one, and what the typed tree is
 // made of.
 
-ghost use Rattle.std.specs.Prelude.{◌≡◌, ◌∷◌, length, map, IfOk};
+ghost use Rattle.std.specs.Prelude.{◌≡◌, ◌∷◌, length, map, IfOk, OnOk};
 ghost use Rattle.std.specs.List.{flat_map};
 ghost use Rattle.wf_ast.specs.ParsedParts.{BlockBelow};
 ghost use Rattle.wf_named.specs.NamedParts.{exprs_of, stmts_of, named_package};
@@ -12,14 +12,15 @@ ghost use Rattle.wf_types_exprs.specs.Judged.{judged};
 ghost use Rattle.wf_types_decls.specs.Packages.{decided, body_sites, head_of, heads_of, field_types, IsAround, IsJudged};
 
 use crate::declarations::{judge_consts, judge_statuses, status_texts};
-use crate::declared_types::{JudgedFields, fields_of, judge_fields};
-use crate::heads::{Head, JudgedHeads, judge_heads, method_types};
+use crate::declared_types::{fields_of, judge_fields};
+use crate::heads::{Head, judge_heads, method_types};
 use std::alloc::Global;
 use wf_ast::parsed::Block;
 use wf_ast::{Sequence, Ty};
 use wf_named::{NamedMethod, NamedNodes};
 use wf_text::faults::NoMemory;
 use wf_text::rules::Refusal;
+use wf_types_exprs::{Found, Here};
 use wf_types_rules::{Around, Setting};
 use wf_types_stmts::ends::judge_whole_body;
 use wf_types_stmts::statements::judge_block;
@@ -60,42 +61,40 @@ pub fn round_body<'a>(
 }
 
 // The body of a method, with this round it.
-fn judge_body(
-    alloc: Global,
-    found: Option<Refusal>,
-    nodes: &NamedNodes,
-    around: &Around<'_>,
-    body: &Block,
-) -> Result<Option<Refusal>, NoMemory>
-    requires { BlockBelow (length nodes.now.stmts) body.now }
-    ensures { IfOk result (λ r. r ≡ judged around.now found (whole_body (block_at (stmts_of nodes.now) body.now) ∷ block_parts (block_at (stmts_of nodes.now) body.now))) }
+fn judge_body(here: &Here<'_>, found: &mut Found, body: &Block) -> Result<(), NoMemory>
+    requires { BlockBelow (length here.now.nodes.now.stmts) body.now }
+    ensures { OnOk result (found.new ≡ judged here.now.around.now found.old (whole_body (block_at (stmts_of here.now.nodes.now) body.now) ∷ block_parts (block_at (stmts_of here.now.nodes.now) body.now))) }
 {
-    let whole = judge_whole_body(found, nodes, around, body);
-    judge_block(alloc, whole, nodes, around, body)
+    judge_whole_body(here, found, body);
+    judge_block(here, found, body)
 }
 
 // The bodies of all methods, in order.
 fn judge_bodies(
     alloc: Global,
-    found: Option<Refusal>,
+    found: &mut Found,
     nodes: &NamedNodes,
     around: &Setting,
     fields: &[Sequence<Option<Ty>>],
     heads: &[Head],
-) -> Result<Option<Refusal>, NoMemory>
+) -> Result<(), NoMemory>
     requires around { IsAround (named_package nodes.now) around.now }
     requires fields { fields.now ≡ field_types (named_package nodes.now) }
     requires heads { heads.now ≡ heads_of (named_package nodes.now) }
-    ensures { IfOk result (λ r. r ≡ decided found (flat_map (body_sites (named_package nodes.now)) (map (method_made nodes.now.texts (exprs_of nodes.now) (stmts_of nodes.now)) nodes.now.methods))) }
+    ensures { OnOk result (found.new ≡ decided found.old (flat_map (body_sites (named_package nodes.now)) (map (method_made nodes.now.texts (exprs_of nodes.now) (stmts_of nodes.now)) nodes.now.methods))) }
 {
-    let mut found = found;
     let methods = nodes.methods();
     for number in 0..methods.len() {
         let method = &methods[number];
         let inside = round_body(nodes, around, &heads[number], fields, method);
-        found = judge_body(alloc, found, nodes, &inside, &method.body)?;
+        let here = Here {
+            alloc,
+            nodes,
+            around: &inside,
+        };
+        judge_body(&here, found, &method.body)?;
     }
-    Ok(found)
+    Ok(())
 }
 
 /// What stands round every method, where `types` knows the constants.
@@ -118,32 +117,33 @@ fn round_methods(
 // The bodies, after all that is declared. `types` knows the constants.
 fn judge_rest(
     alloc: Global,
+    found: &mut Found,
     nodes: &NamedNodes,
     types: Setting,
-    fields: JudgedFields,
-    heads: JudgedHeads,
+    fields: Sequence<Sequence<Option<Ty>>>,
+    heads: Sequence<Head>,
 ) -> Result<Judged, NoMemory>
     requires types { types ≡ for_types (named_package nodes.now) }
-    requires fields { fields.of ≡ field_types (named_package nodes.now) }
-    requires heads { heads.of ≡ heads_of (named_package nodes.now) }
-    ensures found { IfOk result (λ j. j.refusal ≡ decided heads.found (flat_map (body_sites (named_package nodes.now)) (map (method_made nodes.now.texts (exprs_of nodes.now) (stmts_of nodes.now)) nodes.now.methods))) }
+    requires fields { fields ≡ field_types (named_package nodes.now) }
+    requires heads { heads ≡ heads_of (named_package nodes.now) }
+    ensures found { IfOk result (λ j. j.refusal ≡ decided found.old (flat_map (body_sites (named_package nodes.now)) (map (method_made nodes.now.texts (exprs_of nodes.now) (stmts_of nodes.now)) nodes.now.methods))) }
     ensures fields { IfOk result (λ j. j.fields ≡ field_types (named_package nodes.now)) }
     ensures heads { IfOk result (λ j. j.heads ≡ heads_of (named_package nodes.now)) }
     ensures around { IfOk result (λ j. IsAround (named_package nodes.now) j.around) }
 {
-    let around = round_methods(alloc, nodes, types, heads.of.as_slice())?;
-    let refusal = judge_bodies(
+    let around = round_methods(alloc, nodes, types, heads.as_slice())?;
+    judge_bodies(
         alloc,
-        heads.found,
+        found,
         nodes,
         &around,
-        fields.of.as_slice(),
-        heads.of.as_slice(),
+        fields.as_slice(),
+        heads.as_slice(),
     )?;
     Ok(Judged {
-        refusal,
-        fields: fields.of,
-        heads: heads.of,
+        refusal: found.first(),
+        fields,
+        heads,
         around,
     })
 }
@@ -153,10 +153,16 @@ fn judge_rest(
 pub fn judge_package(alloc: Global, nodes: &NamedNodes) -> Result<Judged, NoMemory>
     ensures { IfOk result (IsJudged (named_package nodes.now)) }
 {
-    let consts = judge_consts(alloc, nodes)?;
-    let statuses = judge_statuses(consts.found, nodes);
-    let types = consts.around.lent();
-    let fields = judge_fields(alloc, statuses, nodes, &types)?;
-    let heads = judge_heads(alloc, fields.found, nodes, &types)?;
-    judge_rest(alloc, nodes, consts.around, fields, heads)
+    let mut found = Found::nothing();
+    let types = judge_consts(alloc, &mut found, nodes)?;
+    judge_statuses(&mut found, nodes);
+    let around = types.lent();
+    let here = Here {
+        alloc,
+        nodes,
+        around: &around,
+    };
+    let fields = judge_fields(&here, &mut found)?;
+    let heads = judge_heads(&here, &mut found)?;
+    judge_rest(alloc, &mut found, nodes, types, fields, heads)
 }

@@ -33,22 +33,22 @@ placed_same s found roles.Local t = refl
 placed_same s found (roles.Result mark) t = refl
 placed_same s found roles.Conversion t = refl
 
-pub placed_judged : (s : Setting) (found : Option Refusal) (role : Role) (t : NamedTypeTree) (w : WrittenType) → TellsType s found t w
-    → placed_found role w.of w.kind w.plain w.at w.found ≡ judged s w.found (placed_type role t ∷ [])
-placed_judged s found role t w h = rw (h.of, h.kind, h.plain, h.at) (placed_same s w.found role t)
+pub placed_judged : (s : Setting) (before found : Option Refusal) (role : Role) (t : NamedTypeTree) (w : WrittenType) → TellsType s before found t w
+    → placed_found role w.of w.kind w.plain w.at found ≡ judged s found (placed_type role t ∷ [])
+placed_judged s before found role t w h = rw (h.of, h.kind, h.plain, h.at) (placed_same s found role t)
 
-pub declared_found : (s : Setting) (found : Option Refusal) (role : Role) (t : NamedTypeTree) (w : WrittenType) → TellsType s found t w
-    → placed_found role w.of w.kind w.plain w.at w.found ≡ judged s found (placed_type role t ∷ type_parts t)
-declared_found s found role t w h =
-    placed_judged s found role t w h ∙ ap (λ f. judged s f (placed_type role t ∷ [])) h.found ∙ judged-last s found (placed_type role t) (type_parts t)
+pub declared_found : (s : Setting) (before found : Option Refusal) (role : Role) (t : NamedTypeTree) (w : WrittenType) → TellsType s before found t w
+    → placed_found role w.of w.kind w.plain w.at found ≡ judged s before (placed_type role t ∷ type_parts t)
+declared_found s before found role t w h =
+    placed_judged s before found role t w h ∙ ap (λ f. judged s f (placed_type role t ∷ [])) h.found ∙ judged-last s before (placed_type role t) (type_parts t)
 
 -- The same after an operand.
-pub converted_found : (s : Setting) (found before : Option Refusal) (e : NamedExprTree) (t : NamedTypeTree) (w : WrittenType) → before ≡ judged s found (expr_parts e) → TellsType s before t w
-    → placed_found roles.Conversion w.of w.kind w.plain w.at w.found ≡ judged s found (placed_type roles.Conversion t ∷ (expr_parts e ++ type_parts t))
-converted_found s found before e t w h k =
-    placed_judged s before roles.Conversion t w k
-    ∙ ap (λ f. judged s f (placed_type roles.Conversion t ∷ [])) (k.found ∙ ap (λ f. judged s f (type_parts t)) h ∙ sym (judged-append s found (expr_parts e) (type_parts t)))
-    ∙ judged-last s found (placed_type roles.Conversion t) (expr_parts e ++ type_parts t)
+pub converted_found : (s : Setting) (before mid found : Option Refusal) (e : NamedExprTree) (t : NamedTypeTree) (w : WrittenType) → mid ≡ judged s before (expr_parts e) → TellsType s mid found t w
+    → placed_found roles.Conversion w.of w.kind w.plain w.at found ≡ judged s before (placed_type roles.Conversion t ∷ (expr_parts e ++ type_parts t))
+converted_found s before mid found e t w h k =
+    placed_judged s mid found roles.Conversion t w k
+    ∙ ap (λ f. judged s f (placed_type roles.Conversion t ∷ [])) (k.found ∙ ap (λ f. judged s f (type_parts t)) h ∙ sym (judged-append s before (expr_parts e) (type_parts t)))
+    ∙ judged-last s before (placed_type roles.Conversion t) (expr_parts e ++ type_parts t)
 
 -- Bounds.
 refined_same : (s : Setting) (found : Option Refusal) (of : Option BaseType) (at : Place) (low : NamedPartTree) (high : NamedExprTree)
@@ -95,12 +95,12 @@ refined_plain (Some bases.Status) at low high = refl
 refined_plain (Some bases.Reader) at low high = refl
 refined_plain (Some bases.Writer) at low high = refl
 
-pub refined_tells : (s : Setting) (found before : Option Refusal) (of : Option BaseType) (at : Place) (low : NamedPartTree) (high : NamedExprTree) (m : Option Bound) (n : Bound) (w : WrittenType)
-    → w ≡ record { found = refined_found of m n at before; of = refined_base of m n; kind = refined_base_form of m n; plain = None; at = at } → m ≡ low_bound s low → n ≡ bound_of s high
-    → before ≡ judged s found (end_parts low ++ expr_parts high) → TellsType s found (base_type of at (refined low high)) w
-refined_tells s found before of at low high m n w made first last e = rw (made, first, last) (record {
-  found = refined_same s before of at low high ∙ ap (λ f. judged s f (type_part (base_type of at (refined low high)) ∷ [])) e
-      ∙ judged-last s found (type_part (base_type of at (refined low high))) (end_parts low ++ expr_parts high);
+pub refined_tells : (s : Setting) (before mid found : Option Refusal) (of : Option BaseType) (at : Place) (low : NamedPartTree) (high : NamedExprTree) (m : Option Bound) (n : Bound) (w : WrittenType)
+    → found ≡ refined_found of m n at mid → w ≡ record { of = refined_base of m n; kind = refined_base_form of m n; plain = None; at = at } → m ≡ low_bound s low → n ≡ bound_of s high
+    → mid ≡ judged s before (end_parts low ++ expr_parts high) → TellsType s before found (base_type of at (refined low high)) w
+refined_tells s before mid found of at low high m n w told made first last e = rw (told, made, first, last) (record {
+  found = refined_same s mid of at low high ∙ ap (λ f. judged s f (type_part (base_type of at (refined low high)) ∷ [])) e
+      ∙ judged-last s before (type_part (base_type of at (refined low high))) (end_parts low ++ expr_parts high);
   of = refined_written s of at low high;
   kind = refined_kind s of at low high;
   plain = refined_plain of at low high;
@@ -113,10 +113,10 @@ slice_same : (s : Setting) (found : Option Refusal) (t : NamedTypeTree) (at : Pl
 unfolding judged
 slice_same s found t at = refl
 
-pub slice_tells : (s : Setting) (found : Option Refusal) (t : NamedTypeTree) (at : Place) (w v : WrittenType) → TellsType s found t w
-    → v ≡ record { found = slice_type_found w.kind w.plain at w.found; of = option_map types.Slice w.plain; kind = with_elements forms.Slice w.kind; plain = None; at = at } → TellsType s found (slice_of at t) v
-slice_tells s found t at w v h made = rw made (record {
-  found = rw (h.kind, h.plain) (slice_same s w.found t at) ∙ ap (λ f. judged s f (type_part (slice_of at t) ∷ [])) h.found ∙ judged-last s found (type_part (slice_of at t)) (type_parts t);
+pub slice_tells : (s : Setting) (before mid found : Option Refusal) (t : NamedTypeTree) (at : Place) (w v : WrittenType) → TellsType s before mid t w → found ≡ slice_type_found w.kind w.plain at mid
+    → v ≡ record { of = option_map types.Slice w.plain; kind = with_elements forms.Slice w.kind; plain = None; at = at } → TellsType s before found (slice_of at t) v
+slice_tells s before mid found t at w v h told made = rw (told, made) (record {
+  found = rw (h.kind, h.plain) (slice_same s mid t at) ∙ ap (λ f. judged s f (type_part (slice_of at t) ∷ [])) h.found ∙ judged-last s before (type_part (slice_of at t)) (type_parts t);
   of = ap (option_map types.Slice) h.plain;
   kind = ap (with_elements forms.Slice) h.kind;
   plain = refl;
@@ -128,13 +128,13 @@ array_same : (s : Setting) (found : Option Refusal) (n : NamedExprTree) (t : Nam
 unfolding judged
 array_same s found n t at = refl
 
-pub array_tells : (s : Setting) (found before : Option Refusal) (n : NamedExprTree) (t : NamedTypeTree) (at : Place) (count : Bound) (w v : WrittenType) → TellsType s found t w
-    → v ≡ record { found = array_type_found count w.of w.kind w.at at before; of = array_type count.number w.of; kind = with_elements forms.Array w.kind; plain = None; at = at } → count ≡ bound_of s n
-    → before ≡ judged s w.found (expr_parts n) → TellsType s found (array_of n at t) v
-array_tells s found before n t at count w v h made same e = rw (made, same) (record {
-  found = rw (h.of, h.kind, h.at) (array_same s before n t at)
-      ∙ ap (λ f. judged s f (type_part (array_of n at t) ∷ [])) (e ∙ ap (λ f. judged s f (expr_parts n)) h.found ∙ judged-turned s found (expr_parts n) (type_parts t))
-      ∙ judged-last s found (type_part (array_of n at t)) (expr_parts n ++ type_parts t);
+pub array_tells : (s : Setting) (before mid counted found : Option Refusal) (n : NamedExprTree) (t : NamedTypeTree) (at : Place) (count : Bound) (w v : WrittenType) → TellsType s before mid t w
+    → found ≡ array_type_found count w.of w.kind w.at at counted → v ≡ record { of = array_type count.number w.of; kind = with_elements forms.Array w.kind; plain = None; at = at } → count ≡ bound_of s n
+    → counted ≡ judged s mid (expr_parts n) → TellsType s before found (array_of n at t) v
+array_tells s before mid counted found n t at count w v h told made same e = rw (told, made, same) (record {
+  found = rw (h.of, h.kind, h.at) (array_same s counted n t at)
+      ∙ ap (λ f. judged s f (type_part (array_of n at t) ∷ [])) (e ∙ ap (λ f. judged s f (expr_parts n)) h.found ∙ judged-turned s before (expr_parts n) (type_parts t))
+      ∙ judged-last s before (type_part (array_of n at t)) (expr_parts n ++ type_parts t);
   of = ap (array_type (bound_of s n).number) h.of;
   kind = ap (with_elements forms.Array) h.kind;
   plain = refl;
@@ -142,10 +142,10 @@ array_tells s found before n t at count w v h made same e = rw (made, same) (rec
 })
 
 -- One more prefix, from the last to the first.
-pub prefix_next : (s : Setting) (ts : List NamedExprTree) (ps : List Prefix) (left : ℕ) (d : Prefix) (before : Option Refusal) (t : NamedTypeTree) (w : WrittenType) → 0 < left → left ≤ length ps
-    → TellsType s before (prefixed ts (slice_index_or ps (left - 1) d) (all_prefixed ts (drop left ps) t)) w → TellsType s before (all_prefixed ts (drop (left - 1) ps) t) w
-prefix_next s ts ps zero d before t w some h k = absurd (omega (arith, some))
-prefix_next s ts ps (suc i) d before t w some h k =
+pub prefix_next : (s : Setting) (ts : List NamedExprTree) (ps : List Prefix) (left : ℕ) (d : Prefix) (before found : Option Refusal) (t : NamedTypeTree) (w : WrittenType) → 0 < left → left ≤ length ps
+    → TellsType s before found (prefixed ts (slice_index_or ps (left - 1) d) (all_prefixed ts (drop left ps) t)) w → TellsType s before found (all_prefixed ts (drop (left - 1) ps) t) w
+prefix_next s ts ps zero d before found t w some h k = absurd (omega (arith, some))
+prefix_next s ts ps (suc i) d before found t w some h k =
     let e : suc i - 1 ≡ i = omega arith in
-    let front : TellsType s before (prefixed ts (slice_index_or ps i d) (all_prefixed ts (drop (suc i) ps) t)) w = rw e at k in
+    let front : TellsType s before found (prefixed ts (slice_index_or ps i d) (all_prefixed ts (drop (suc i) ps) t)) w = rw e at k in
     rw (e, drop-cons ps i d (omega (arith, h))) front

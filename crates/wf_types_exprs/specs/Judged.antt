@@ -39,9 +39,9 @@ abbrev pub operands_joined : Option (List Operand) → Option (List Operand) →
 operands_joined (Some os) (Some others) = Some (os ++ others)
 operands_joined os others = None
 
--- What was found at a type and its parts, what type it is, its form, its width where it is a plain number, and its first token.
-pub record TellsType (s : Setting) (before : Option Refusal) (t : NamedTypeTree) (w : WrittenType) : Type 0 where
-  pub found : w.found ≡ judged s before (type_parts t)
+-- What is found after what was found before a type, at it and its parts; what type it is, its form, its width where it is a plain number, and its first token.
+pub record TellsType (s : Setting) (before after : Option Refusal) (t : NamedTypeTree) (w : WrittenType) : Type 0 where
+  pub found : after ≡ judged s before (type_parts t)
   pub of : w.of ≡ written s t
   pub kind : w.kind ≡ form s t
   pub plain : w.plain ≡ plain_width t

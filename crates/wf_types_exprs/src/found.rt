@@ -1,88 +1,74 @@
-// What a walk answers: the first refusal of what was found before and in what it passed, and what that means.
+// The first refusal that a walk finds, and what it answers of parts.
 
-use wf_ast::{Sequence, Ty};
+ghost use Rattle.std.specs.Prelude.{◌≡◌, None};
+ghost use Rattle.wf_text.specs.Precedence.{sooner as sooner_of};
+ghost use Rattle.wf_types_rules.specs.FirstBreak.{told as told_by};
+
+use std::marker::Model;
+use wf_ast::Ty;
 use wf_base::Width;
 use wf_text::Place;
-use wf_text::rules::Refusal;
-use wf_types_rules::{Bound, Form, Meaning, Operand, Value};
+use wf_text::precedence::sooner;
+use wf_text::rules::{Refusal, Rule};
+use wf_types_meanings::places::told;
+use wf_types_rules::{Form, Value};
 
-/// An expression: what decides so far, and what it means, if anything.
-#[derive(Clone, Copy, PartialEq, Eq)]
-pub struct Judged {
-    pub found: Option<Refusal>,
-    pub of: Option<Meaning>,
-}
-
-/// A declared type: what decides so far, and the type, where it breaks no rule.
-#[derive(Clone, Copy, PartialEq, Eq)]
-pub struct JudgedType {
-    pub found: Option<Refusal>,
-    pub of: Option<Ty>,
-}
-
-/// Arguments: what decides so far, and whether each means something that its type takes.
-#[derive(Clone, Copy, PartialEq, Eq)]
-pub(crate) struct JudgedArgs {
-    pub found: Option<Refusal>,
-    pub fit: bool,
-}
-
-/// The operands of a chain: what decides so far, and the operands in order, where each means something.
+/// The first refusal of all that was found so far.
 #[derive(Drop)]
-pub(crate) struct JudgedOperands {
-    pub found: Option<Refusal>,
-    pub of: Option<Sequence<Operand>>,
+pub struct Found {
+    first: Option<Refusal>,
 }
 
-/// An expression: what decides so far, and what it means, with its place.
-#[derive(Clone, Copy, PartialEq, Eq)]
-pub struct JudgedValue {
-    pub found: Option<Refusal>,
-    pub value: Value,
+impl Model for Found {
+    ghost use Rattle.std.specs.Prelude.{Option};
+    ghost use Rattle.wf_text.specs.declared.rules.Refusal.{Refusal};
+
+    ghost Value = { Option Refusal };
+
+    ghost view = { λ f. f.first };
 }
 
-/// An end of a slice, which may be absent.
-#[derive(Clone, Copy, PartialEq, Eq)]
-pub struct JudgedEnd {
-    pub found: Option<Refusal>,
-    pub end: Option<Value>,
+impl Found {
+    /// Nothing yet.
+    pub fn nothing() -> Found
+        ensures { result ≡ None }
+    {
+        Found { first: None }
+    }
+
+    /// Adds the refusal by a rule at a place, where there is one.
+    pub fn tell(&mut self, rule: Rule, at: Option<Place>)
+        ensures { self.new ≡ sooner_of self.old (told_by rule at) }
+    {
+        self.first = sooner(self.first, told(rule, at));
+    }
+
+    /// The refusal that decides, if anything was found.
+    pub fn first(&self) -> Option<Refusal>
+        ensures { result ≡ self.now }
+    {
+        self.first
+    }
 }
 
-/// The operand of an `as`, and the width of its type.
+/// The two ends of a slice: what each means that is there.
 #[derive(Clone, Copy, PartialEq, Eq)]
-pub(crate) struct JudgedConversion {
-    pub found: Option<Refusal>,
-    pub value: Value,
-    pub plain: Option<Width>,
-}
-
-/// The two ends of a slice: what decides so far, and what each means that is there.
-#[derive(Clone, Copy, PartialEq, Eq)]
-pub(crate) struct JudgedEnds {
-    pub found: Option<Refusal>,
+pub(crate) struct Ends {
     pub from: Option<Value>,
     pub to: Option<Value>,
 }
 
-/// A bound with what decides so far.
+/// The operand of an `as`, and the width of its type.
 #[derive(Clone, Copy, PartialEq, Eq)]
-pub(crate) struct JudgedBound {
-    pub found: Option<Refusal>,
-    pub bound: Bound,
+pub(crate) struct Conversion {
+    pub value: Value,
+    pub plain: Option<Width>,
 }
 
-/// A bound that may be absent, with what decides so far.
-#[derive(Clone, Copy, PartialEq, Eq)]
-pub(crate) struct JudgedLow {
-    pub found: Option<Refusal>,
-    pub low: Option<Bound>,
-}
-
-/// A type that is written: what decides so far, what type it is, its form (which it may have though it is no type), its
-/// width where it is numeric and has no bounds, and its first token.
+/// A type that is written: what type it is, its form (which it may have though it is no type), its width where it is
+/// numeric and has no bounds, and its first token.
 #[derive(Clone, Copy)]
 pub(crate) struct WrittenType {
-    pub found: Option<Refusal>,
     pub of: Option<Ty>,
     pub kind: Option<Form>,
     pub plain: Option<Width>,

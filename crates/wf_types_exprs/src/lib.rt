@@ -3,6 +3,7 @@
 #![tactic(auto)]
 
 pub mod found;
+pub mod here;
 pub mod operands;
 pub mod parts;
 pub mod reading;
@@ -10,4 +11,5 @@ pub mod types;
 pub mod walk;
 pub mod whole;
 
-pub use found::{Judged, JudgedType};
+pub use found::Found;
+pub use here::Here;

@@ -1,28 +1,15 @@
 // Lists of operands, arguments and bounds as they grow.
 
-ghost use Rattle.std.specs.Prelude.{◌≡◌, ◌&&◌, ◌||◌, ◌++◌, ◌∷◌, [], Some, IfOk, option_and_then};
+ghost use Rattle.std.specs.Prelude.{◌≡◌, ◌&&◌, ◌||◌, ◌++◌, ◌∷◌, [], IfOk, option_and_then};
 ghost use Rattle.wf_types_rules.specs.Meanings.{is_constant as means_constant, constant_number as number_meant};
 ghost use Rattle.wf_types_rules.specs.Judgements.{fails};
 ghost use Rattle.wf_types_exprs.specs.Judged.{operand_behind as behind};
 
-use crate::found::{JudgedArgs, JudgedOperands};
-use std::alloc::Global;
 use wf_ast::Sequence;
 use wf_text::faults::NoMemory;
-use wf_text::rules::Refusal;
 use wf_types_meanings::values::number_in;
 use wf_types_operators::meanings::is_constant;
 use wf_types_rules::{Bound, Meaning, Operand, Value};
-
-/// No operand yet.
-pub(crate) fn no_operand(alloc: Global, found: Option<Refusal>) -> JudgedOperands
-    ensures { result ≡ record { found = found; of = Some [] } }
-{
-    JudgedOperands {
-        found,
-        of: Some(Sequence::new(alloc)),
-    }
-}
 
 fn pushed(mut os: Sequence<Operand>, o: Operand) -> Result<Sequence<Operand>, NoMemory>
     ensures { IfOk result (λ all. all ≡ os ++ o ∷ []) }
@@ -47,14 +34,11 @@ pub fn operand_behind(
     }
 }
 
-/// An argument after others.
-pub(crate) fn with_argument(before: JudgedArgs, next: JudgedArgs) -> JudgedArgs
-    ensures { result ≡ record { found = next.found; fit = before.fit && next.fit } }
+/// Whether arguments fit, and the one after them.
+pub(crate) fn all_fit(before: bool, next: bool) -> bool
+    ensures { result ≡ (before && next) }
 {
-    JudgedArgs {
-        found: next.found,
-        fit: before.fit && next.fit,
-    }
+    before && next
 }
 
 fn is_not_constant(of: Option<Meaning>) -> bool

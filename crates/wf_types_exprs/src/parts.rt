@@ -16,16 +16,15 @@ ghost use Rattle.wf_text.specs.Precedence.{sooner as sooner_of};
 ghost use Rattle.wf_text.specs.declared.rules.Rule.TheVariants as rules;
 ghost use Rattle.wf_types_exprs.specs.Found.{end_kept, chain_found, conversion_found, argument_found, calling_found};
 
-use crate::found::{Judged, JudgedArgs, JudgedEnds, JudgedOperands};
-use wf_ast::{Op, Ty};
+use crate::found::{Conversion, Ends, Found};
+use wf_ast::{Op, Sequence, Ty};
 use wf_base::Width;
 use wf_named::{NamedCall, NamedCallee, NamedPath};
 use wf_text::Place;
-use wf_text::precedence::sooner;
-use wf_text::rules::{Refusal, Rule};
+use wf_text::rules::Rule;
 use wf_types_meanings::calls::{answer_type, declared_mark, is_base, pure_answer};
 use wf_types_meanings::marks::{is_coroutine, is_impure, is_pure, same_mark};
-use wf_types_meanings::places::{at_if, first_place, told};
+use wf_types_meanings::places::{at_if, first_place};
 use wf_types_meanings::values::{
     as_flag, as_value, conversion, element_of as element, elements, if_number, is_argument,
     may_be_handed, slice_in as slice, slices, takes,
@@ -65,16 +64,18 @@ fn wrong_operand_in_path(v: Value) -> Option<Place>
 }
 
 /// A path: whether it may stand as a value.
-pub(crate) fn judged_path(found: Option<Refusal>, around: &Around<'_>, path: NamedPath) -> Judged
-    ensures found { result.found ≡ sooner_of found (told_by rules.T1 (judgements.no_value (judgements.base_value around.now path))) }
-    ensures of { result.of ≡ meaning around.now (tree.path path) }
+pub(crate) fn judged_path(
+    found: &mut Found,
+    around: &Around<'_>,
+    path: NamedPath,
+) -> Option<Meaning>
+    ensures found { found.new ≡ sooner_of found.old (told_by rules.T1 (judgements.no_value (judgements.base_value around.now path))) }
+    ensures of { result ≡ meaning around.now (tree.path path) }
 {
     let of = variable(around, path.of);
     let v = Value { of, at: path.at };
-    Judged {
-        found: sooner(found, told(Rule::T1, wrong_operand_in_path(v))),
-        of: as_value(of),
-    }
+    found.tell(Rule::T1, wrong_operand_in_path(v));
+    as_value(of)
 }
 
 /// What a path means, with its place.
@@ -103,14 +104,12 @@ fn wrong_operand_in_index(base: Value, index: Value) -> Option<Place>
 }
 
 /// An element of what a path stands for.
-pub fn judged_index(found: Option<Refusal>, base: Value, index: Value) -> Judged
-    ensures found { result.found ≡ sooner_of found (told_by rules.T1 (judgements.no_index base index)) }
-    ensures of { result.of ≡ option_map meanings.Typed (only_for_number index.of (option_and_then element_of base.of)) }
+pub fn judged_index(found: &mut Found, base: Value, index: Value) -> Option<Meaning>
+    ensures found { found.new ≡ sooner_of found.old (told_by rules.T1 (judgements.no_index base index)) }
+    ensures of { result ≡ option_map meanings.Typed (only_for_number index.of (option_and_then element_of base.of)) }
 {
-    Judged {
-        found: sooner(found, told(Rule::T1, wrong_operand_in_index(base, index))),
-        of: typed(if_number(index.of, elements(base.of))),
-    }
+    found.tell(Rule::T1, wrong_operand_in_index(base, index));
+    typed(if_number(index.of, elements(base.of)))
 }
 
 fn wrong_end(end: Option<Value>) -> Option<Place>
@@ -165,17 +164,12 @@ fn wrong_operand_in_slice(base: Value, from: Option<Value>, to: Option<Value>) -
 }
 
 /// A slice of what a path stands for, by its ends.
-pub(crate) fn judged_slice(ends: JudgedEnds, base: Value) -> Judged
-    ensures found { result.found ≡ sooner_of ends.found (told_by rules.T1 (judgements.no_slice base ends.from ends.to)) }
-    ensures of { result.of ≡ option_map meanings.Typed (end_kept ends.from (end_kept ends.to (option_and_then slice_in base.of))) }
+pub(crate) fn judged_slice(found: &mut Found, base: Value, ends: Ends) -> Option<Meaning>
+    ensures found { found.new ≡ sooner_of found.old (told_by rules.T1 (judgements.no_slice base ends.from ends.to)) }
+    ensures of { result ≡ option_map meanings.Typed (end_kept ends.from (end_kept ends.to (option_and_then slice_in base.of))) }
 {
-    Judged {
-        found: sooner(
-            ends.found,
-            told(Rule::T1, wrong_operand_in_slice(base, ends.from, ends.to)),
-        ),
-        of: typed(if_end(ends.from, if_end(ends.to, slices(base.of)))),
-    }
+    found.tell(Rule::T1, wrong_operand_in_slice(base, ends.from, ends.to));
+    typed(if_end(ends.from, if_end(ends.to, slices(base.of))))
 }
 
 fn wrong_operand_in_chain(op: Op, os: &[Operand]) -> Option<Place>
@@ -196,31 +190,30 @@ fn unfit_operand(op: Op, os: &[Operand]) -> Option<Place>
     not_fitting(op, os)
 }
 
-fn found_in_chain(found: Option<Refusal>, op: Op, os: &[Operand], at: Place) -> Option<Refusal>
-    ensures { result ≡ chain_found (sort_of op) (Some os.now) at found }
+fn tell_chain(found: &mut Found, op: Op, os: &[Operand], at: Place)
+    ensures { found.new ≡ chain_found (sort_of op) (Some os.now) at found.old }
 {
-    let taken = sooner(found, told(Rule::T1, wrong_operand_in_chain(op, os)));
-    let valued = sooner(
-        taken,
-        told(Rule::T5, node_without_value_in_chain(op, os, at)),
-    );
-    sooner(valued, told(Rule::T5, unfit_operand(op, os)))
+    found.tell(Rule::T1, wrong_operand_in_chain(op, os));
+    found.tell(Rule::T5, node_without_value_in_chain(op, os, at));
+    found.tell(Rule::T5, unfit_operand(op, os));
 }
 
 /// A chain of operands, where each means something.
-pub(crate) fn judged_chain(operands: &JudgedOperands, op: Op, at: Place) -> Judged
-    ensures found { result.found ≡ chain_found (sort_of op) operands.now.of at operands.now.found }
-    ensures of { result.of ≡ option_and_then (operator_means (sort_of op)) operands.now.of }
+pub(crate) fn judged_chain(
+    found: &mut Found,
+    operands: &Option<Sequence<Operand>>,
+    op: Op,
+    at: Place,
+) -> Option<Meaning>
+    ensures found { found.new ≡ chain_found (sort_of op) operands.now at found.old }
+    ensures of { result ≡ option_and_then (operator_means (sort_of op)) operands.now }
 {
-    match &operands.of {
-        Some(os) => Judged {
-            found: found_in_chain(operands.found, op, os.as_slice(), at),
-            of: meaning_of_operator(op, os.as_slice()),
-        },
-        None => Judged {
-            found: operands.found,
-            of: None,
-        },
+    match operands {
+        Some(os) => {
+            tell_chain(found, op, os.as_slice(), at);
+            meaning_of_operator(op, os.as_slice())
+        }
+        None => None,
     }
 }
 
@@ -246,34 +239,25 @@ fn node_without_value_in_conversion(v: Value, width: Option<Width>, at: Place) -
 }
 
 /// A conversion to numbers of a width.
-pub(crate) fn judged_conversion(
-    found: Option<Refusal>,
-    v: Value,
-    width: Option<Width>,
-    at: Place,
-) -> Judged
-    ensures found { result.found ≡ conversion_found v width at found }
-    ensures of { result.of ≡ option_and_then (converts width) v.of }
+pub(crate) fn judged_conversion(found: &mut Found, of: Conversion, at: Place) -> Option<Meaning>
+    ensures found { found.new ≡ conversion_found of.value of.plain at found.old }
+    ensures of { result ≡ option_and_then (converts of.plain) of.value.of }
 {
-    let taken = sooner(found, told(Rule::T1, wrong_operand_in_conversion(v)));
-    Judged {
-        found: sooner(
-            taken,
-            told(Rule::T5, node_without_value_in_conversion(v, width, at)),
-        ),
-        of: conversion(width, v.of),
-    }
+    found.tell(Rule::T1, wrong_operand_in_conversion(of.value));
+    found.tell(
+        Rule::T5,
+        node_without_value_in_conversion(of.value, of.plain, at),
+    );
+    conversion(of.plain, of.value.of)
 }
 
 /// A `not`.
-pub(crate) fn judged_negation(found: Option<Refusal>, v: Value) -> Judged
-    ensures found { result.found ≡ sooner_of found (told_by rules.T1 (judgements.no_flag v)) }
-    ensures of { result.of ≡ option_and_then (only_where means_flag) v.of }
+pub(crate) fn judged_negation(found: &mut Found, v: Value) -> Option<Meaning>
+    ensures found { found.new ≡ sooner_of found.old (told_by rules.T1 (judgements.no_flag v)) }
+    ensures of { result ≡ option_and_then (only_where means_flag) v.of }
 {
-    Judged {
-        found: sooner(found, told(Rule::T1, wrong_operand_in_negation(v))),
-        of: as_flag(v.of),
-    }
+    found.tell(Rule::T1, wrong_operand_in_negation(v));
+    as_flag(v.of)
 }
 
 // Whether an argument may not be handed on, or isn't taken by its type.
@@ -294,15 +278,13 @@ fn wrong_argument(ty: Option<Ty>, v: Value) -> Option<Place>
     at_if(is_wrong_argument(ty, v.of), v.at)
 }
 
-/// An argument, by the type that is wanted of it.
-pub(crate) fn judged_argument(found: Option<Refusal>, ty: Option<Ty>, v: Value) -> JudgedArgs
-    ensures found { result.found ≡ argument_found ty v found }
-    ensures fit { result.fit ≡ fits_argument ty v.of }
+/// Whether an argument fits the type that is wanted of it.
+pub(crate) fn judged_argument(found: &mut Found, ty: Option<Ty>, v: Value) -> bool
+    ensures found { found.new ≡ argument_found ty v found.old }
+    ensures fit { result ≡ fits_argument ty v.of }
 {
-    JudgedArgs {
-        found: sooner(found, told(Rule::T1, wrong_argument(ty, v))),
-        fit: is_argument(ty, v.of),
-    }
+    found.tell(Rule::T1, wrong_argument(ty, v));
+    is_argument(ty, v.of)
 }
 
 fn call_inside(around: &Around<'_>, call: &NamedCall, inside: bool) -> Option<Place>
@@ -339,19 +321,14 @@ fn coroutine_call(around: &Around<'_>, call: &NamedCall) -> Option<Place>
     )
 }
 
-/// What a call breaks by its mark; `inside` tells whether it stands inside an expression.
-pub(crate) fn judged_calling(
-    found: Option<Refusal>,
-    around: &Around<'_>,
-    call: &NamedCall,
-    inside: bool,
-) -> Option<Refusal>
-    ensures { (es : _) → result ≡ calling_found around.now inside (call_at es call.now) found }
+/// Tells what a call breaks by its mark; `inside` tells whether it stands inside an expression.
+pub(crate) fn tell_calling(found: &mut Found, around: &Around<'_>, call: &NamedCall, inside: bool)
+    ensures { (es : _) → found.new ≡ calling_found around.now inside (call_at es call.now) found.old }
 {
-    let pure = sooner(found, told(Rule::E1, impure_call(around, call)));
-    let outside = sooner(pure, told(Rule::E2, coroutine_call(around, call)));
-    let nested = sooner(outside, told(Rule::E3, call_inside(around, call, inside)));
-    sooner(nested, told(Rule::E3, wrong_mark(around, call)))
+    found.tell(Rule::E1, impure_call(around, call));
+    found.tell(Rule::E2, coroutine_call(around, call));
+    found.tell(Rule::E3, call_inside(around, call, inside));
+    found.tell(Rule::E3, wrong_mark(around, call));
 }
 
 /// What a call inside an expression means.

@@ -11,14 +11,13 @@ ghost use Rattle.wf_types_rules.specs.Judgements.{at_if as at_place_if, fails, b
 ghost use Rattle.wf_types_exprs.specs.Judged.{TellsType};
 ghost use Rattle.wf_types_exprs.specs.Found.{slice_type_found, array_type_found, low_number_of, refined_crossing, refined_wrong, refined_high, refined_found, refined_base as refined_to, refined_base_form, placed_found};
 
-use crate::found::WrittenType;
+use crate::found::{Found, WrittenType};
 use wf_ast::Ty;
 use wf_base::Width;
 use wf_named::BaseType;
-use wf_text::precedence::sooner;
-use wf_text::rules::{Refusal, Rule};
+use wf_text::rules::Rule;
 use wf_text::{Place, StructId};
-use wf_types_meanings::places::{at_if, told};
+use wf_types_meanings::places::at_if;
 use wf_types_meanings::types::{
     array_type, base_form, base_of, holds_zero, is_number_form, is_zero_kept, may_have,
     refined_type,
@@ -42,14 +41,12 @@ fn wrong_type_of_slice(element: WrittenType, at: Place) -> Option<Place>
 }
 
 /// A slice of elements of this type.
-pub(crate) fn written_slice(element: WrittenType, at: Place) -> WrittenType
-    ensures { result ≡ record { found = slice_type_found element.kind element.plain at element.found; of = option_map types.Slice element.plain; kind = judgements.with_elements forms.Slice element.kind; plain = None; at = at } }
+pub(crate) fn written_slice(found: &mut Found, element: WrittenType, at: Place) -> WrittenType
+    ensures found { found.new ≡ slice_type_found element.kind element.plain at found.old }
+    ensures written { result ≡ record { of = option_map types.Slice element.plain; kind = judgements.with_elements forms.Slice element.kind; plain = None; at = at } }
 {
+    found.tell(Rule::T1, wrong_type_of_slice(element, at));
     WrittenType {
-        found: sooner(
-            element.found,
-            told(Rule::T1, wrong_type_of_slice(element, at)),
-        ),
         of: slices_of(element.plain),
         kind: with_elements(Form::Slice, element.kind),
         plain: None,
@@ -105,33 +102,26 @@ fn element_above_zero(element: WrittenType) -> Option<Place>
     }
 }
 
-fn found_in_array(
-    found: Option<Refusal>,
-    count: Bound,
-    element: WrittenType,
-    at: Place,
-) -> Option<Refusal>
-    ensures { result ≡ array_type_found count element.of element.kind element.at at found }
+fn tell_array(found: &mut Found, count: Bound, element: WrittenType, at: Place)
+    ensures { found.new ≡ array_type_found count element.of element.kind element.at at found.old }
 {
-    let fit = sooner(
-        found,
-        told(Rule::T1, wrong_type_of_array(count, element, at)),
-    );
-    let filled = sooner(fit, told(Rule::T5, no_elements(count)));
-    sooner(filled, told(Rule::T5, element_above_zero(element)))
+    found.tell(Rule::T1, wrong_type_of_array(count, element, at));
+    found.tell(Rule::T5, no_elements(count));
+    found.tell(Rule::T5, element_above_zero(element));
 }
 
-/// An array of so many elements of this type. `found` is what decides so far, its length included.
+/// An array of so many elements of this type.
 pub(crate) fn written_array(
-    found: Option<Refusal>,
+    found: &mut Found,
     count: Bound,
     element: WrittenType,
     at: Place,
 ) -> WrittenType
-    ensures { result ≡ record { found = array_type_found count element.of element.kind element.at at found; of = type_of_array count.number element.of; kind = judgements.with_elements forms.Array element.kind; plain = None; at = at } }
+    ensures found { found.new ≡ array_type_found count element.of element.kind element.at at found.old }
+    ensures written { result ≡ record { of = type_of_array count.number element.of; kind = judgements.with_elements forms.Array element.kind; plain = None; at = at } }
 {
+    tell_array(found, count, element, at);
     WrittenType {
-        found: found_in_array(found, count, element, at),
         of: array_type(count.number, element.of),
         kind: with_elements(Form::Array, element.kind),
         plain: None,
@@ -159,20 +149,18 @@ fn wrong_type_of_base(of: Option<BaseType>, at: Place) -> Option<Place>
 
 /// A type that begins with `base`, without bounds.
 #[tactic(auto, unfolding(crate::specs::Judged::judged))]
-pub(crate) fn written_plain(found: Option<Refusal>, of: Option<BaseType>, at: Place) -> WrittenType
-    ensures { (s : _) → TellsType s found (tree.base_type of at tree.unrefined) result }
+pub(crate) fn written_plain(found: &mut Found, of: Option<BaseType>, at: Place) -> WrittenType
+    ensures { (s : _) → TellsType s found.old found.new (tree.base_type of at tree.unrefined) result }
 {
-    let found = sooner(found, told(Rule::T1, wrong_type_of_base(of, at)));
+    found.tell(Rule::T1, wrong_type_of_base(of, at));
     match of {
         Some(of) => WrittenType {
-            found,
             of: Some(base_of(of)),
             kind: Some(base_form(of)),
             plain: plain_of(of),
             at,
         },
         None => WrittenType {
-            found,
             of: None,
             kind: None,
             plain: None,
@@ -183,11 +171,10 @@ pub(crate) fn written_plain(found: Option<Refusal>, of: Option<BaseType>, at: Pl
 
 /// A struct.
 #[tactic(auto, unfolding(crate::specs::Judged::judged))]
-pub(crate) fn written_struct(found: Option<Refusal>, of: StructId, at: Place) -> WrittenType
-    ensures { (s : _) → TellsType s found (tree.struct_type of.0 at) result }
+pub(crate) fn written_struct(of: StructId, at: Place) -> WrittenType
+    ensures { (s : _) (found : _) → TellsType s found found (tree.struct_type of.0 at) result }
 {
     WrittenType {
-        found,
         of: Some(Ty::Part(of)),
         kind: Some(Form::Struct),
         plain: None,
@@ -290,21 +277,12 @@ fn wrong_type_with_bounds(
     }
 }
 
-fn found_in_refined(
-    found: Option<Refusal>,
-    of: Option<BaseType>,
-    low: Option<Bound>,
-    high: Bound,
-    at: Place,
-) -> Option<Refusal>
-    ensures { result ≡ refined_found of low high at found }
+fn tell_refined(found: &mut Found, of: Option<BaseType>, low: Option<Bound>, high: Bound, at: Place)
+    ensures { found.new ≡ refined_found of low high at found.old }
 {
-    let fit = sooner(
-        found,
-        told(Rule::T1, wrong_type_with_bounds(of, low, high, at)),
-    );
-    let ordered = sooner(fit, told(Rule::T5, crossed_bounds(of, low, high)));
-    sooner(ordered, told(Rule::T5, high_bound(of, low, high)))
+    found.tell(Rule::T1, wrong_type_with_bounds(of, low, high, at));
+    found.tell(Rule::T5, crossed_bounds(of, low, high));
+    found.tell(Rule::T5, high_bound(of, low, high));
 }
 
 fn refined_base(of: Option<BaseType>, low: Option<Bound>, high: Bound) -> Option<Ty>
@@ -339,18 +317,19 @@ fn refined_form(of: Option<BaseType>, low: Option<Bound>, high: Bound) -> Option
     }
 }
 
-/// A type that begins with `base`, with bounds. `found` is what decides so far, the bounds included.
+/// A type that begins with `base`, with bounds.
 pub(crate) fn written_refined(
-    found: Option<Refusal>,
+    found: &mut Found,
     of: Option<BaseType>,
     low: Option<Bound>,
     high: Bound,
     at: Place,
 ) -> WrittenType
-    ensures { result ≡ record { found = refined_found of low high at found; of = refined_to of low high; kind = refined_base_form of low high; plain = None; at = at } }
+    ensures found { found.new ≡ refined_found of low high at found.old }
+    ensures written { result ≡ record { of = refined_to of low high; kind = refined_base_form of low high; plain = None; at = at } }
 {
+    tell_refined(found, of, low, high, at);
     WrittenType {
-        found: found_in_refined(found, of, low, high, at),
         of: refined_base(of, low, high),
         kind: refined_form(of, low, high),
         plain: None,
@@ -395,10 +374,10 @@ fn begins_above_zero(role: Role, of: WrittenType) -> Option<Place>
     }
 }
 
-/// A type at its place.
-pub(crate) fn found_at_place(found: Option<Refusal>, role: Role, of: WrittenType) -> Option<Refusal>
-    ensures { result ≡ placed_found role of.of of.kind of.plain of.at found }
+/// Tells what a type breaks at its place.
+pub(crate) fn tell_place(found: &mut Found, role: Role, of: WrittenType)
+    ensures { found.new ≡ placed_found role of.of of.kind of.plain of.at found.old }
 {
-    let placed = sooner(found, told(Rule::T1, misplaced_type(role, of)));
-    sooner(placed, told(Rule::T5, begins_above_zero(role, of)))
+    found.tell(Rule::T1, misplaced_type(role, of));
+    found.tell(Rule::T5, begins_above_zero(role, of));
 }

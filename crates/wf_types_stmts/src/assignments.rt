@@ -1,6 +1,6 @@
 // Assignments: `=`, operators with `=`, and `=?`.
 
-ghost use Rattle.std.specs.Prelude.{◌≡◌, ◌<◌, ◌∷◌, ◌++◌, [], None, Some, not, length, IfOk, IfSome, IfNone, option_and_then};
+ghost use Rattle.std.specs.Prelude.{◌≡◌, ◌<◌, ◌∷◌, ◌++◌, [], None, Some, not, length, IfOk, OnOk, IfSome, IfNone, option_and_then};
 ghost use Rattle.wf_ast.specs.TypedTrees.{sort_of};
 ghost use Rattle.wf_named.specs.NamedParts.{exprs_of, ArgsBelow, NamedTargetBelow};
 ghost use Rattle.wf_named.specs.NamedTrees.{expr_at, call_at, target_at};
@@ -13,30 +13,27 @@ ghost use Rattle.wf_types_stmts.specs.Statements.{assigned_found, operands_found
 ghost use Rattle.wf_types_stmts.specs.Targets.{call_in, lacks_value};
 
 use crate::targets::judge_target;
-use std::alloc::Global;
 use wf_ast::{ExprId, Op, Ty};
 use wf_named::{NamedCall, NamedCallee, NamedExpr, NamedNodes, NamedTarget};
 use wf_text::Place;
 use wf_text::faults::NoMemory;
-use wf_text::precedence::sooner;
-use wf_text::rules::{Refusal, Rule};
+use wf_text::rules::Rule;
 use wf_types_exprs::reading::place_of;
 use wf_types_exprs::walk::judge_value;
 use wf_types_exprs::whole::judge_whole_call;
+use wf_types_exprs::{Found, Here};
 use wf_types_meanings::calls::{gives_no_value, is_coroutine_called};
 use wf_types_meanings::marks::is_coroutine;
-use wf_types_meanings::places::{at_if, told};
+use wf_types_meanings::places::at_if;
 use wf_types_meanings::values::{takes, type_in};
 use wf_types_operators::fitting::not_fitting;
 use wf_types_operators::meanings::is_status;
 use wf_types_operators::taken::not_taken;
 use wf_types_rules::{Around, Meaning, Operand, Value};
 
-/// The right side of `=`: what decides so far, what it means, with its place, and whether it is a call that gives no
-/// value.
+/// The right side of `=`: what it means, with its place, and whether it is a call that gives no value.
 #[derive(Clone, Copy, PartialEq, Eq)]
 pub(crate) struct RightSide {
-    pub found: Option<Refusal>,
     pub value: Value,
     pub lacks: bool,
 }
@@ -84,17 +81,12 @@ fn no_value_assigned(target: Value, lacks: bool) -> Option<Place>
     at_if(lacks, target.at)
 }
 
-/// What `=` breaks. `lacks` tells whether the value is a call that gives none.
-pub(crate) fn judged_assigned(
-    found: Option<Refusal>,
-    target: Value,
-    value: Value,
-    lacks: bool,
-) -> Option<Refusal>
-    ensures { result ≡ assigned_found target value lacks found }
+/// Tells what `=` breaks.
+pub(crate) fn tell_assigned(found: &mut Found, target: Value, right: RightSide)
+    ensures { found.new ≡ assigned_found target right.value right.lacks found.old }
 {
-    let taken = sooner(found, told(Rule::T2, wrong_assigned(target, value)));
-    sooner(taken, told(Rule::T2, no_value_assigned(target, lacks)))
+    found.tell(Rule::T2, wrong_assigned(target, right.value));
+    found.tell(Rule::T2, no_value_assigned(target, right.lacks));
 }
 
 fn wrong_update(op: Op, os: &[Operand]) -> Option<Place>
@@ -109,21 +101,16 @@ fn unfit_update(op: Op, os: &[Operand]) -> Option<Place>
     not_fitting(op, os)
 }
 
-fn operands_judged(found: Option<Refusal>, op: Op, os: &[Operand]) -> Option<Refusal>
-    ensures { result ≡ operands_found op (Some os.now) found }
+fn tell_operands(found: &mut Found, op: Op, os: &[Operand])
+    ensures { found.new ≡ operands_found op (Some os.now) found.old }
 {
-    let taken = sooner(found, told(Rule::T1, wrong_update(op, os)));
-    sooner(taken, told(Rule::T5, unfit_update(op, os)))
+    found.tell(Rule::T1, wrong_update(op, os));
+    found.tell(Rule::T5, unfit_update(op, os));
 }
 
-/// What an operator with `=` breaks.
-pub(crate) fn judged_update(
-    found: Option<Refusal>,
-    op: Op,
-    target: Value,
-    value: Value,
-) -> Option<Refusal>
-    ensures { result ≡ operands_found op (two_operands target value) found }
+/// Tells what an operator with `=` breaks.
+pub(crate) fn tell_update(found: &mut Found, op: Op, target: Value, value: Value)
+    ensures { found.new ≡ operands_found op (two_operands target value) found.old }
 {
     match (target.of, value.of) {
         (Some(first), Some(second)) => {
@@ -137,11 +124,11 @@ pub(crate) fn judged_update(
                     of: second,
                 },
             ];
-            operands_judged(found, op, os.as_slice())
+            tell_operands(found, op, os.as_slice());
         }
-        (None, Some(_)) => found,
-        (Some(_), None) => found,
-        (None, None) => found,
+        (None, Some(_)) => {}
+        (Some(_), None) => {}
+        (None, None) => {}
     }
 }
 
@@ -163,19 +150,19 @@ fn keeps_no_coroutine(around: &Around<'_>, callee: NamedCallee, at: Place) -> Op
     at_if(!is_coroutine_called(around, callee), at)
 }
 
-/// What `=?` breaks, by the meaning of its target.
-pub(crate) fn judged_kept(
-    found: Option<Refusal>,
+/// Tells what `=?` breaks, by the meaning of its target.
+pub(crate) fn tell_kept(
+    found: &mut Found,
     around: &Around<'_>,
     target: Option<Meaning>,
     callee: NamedCallee,
     at: Place,
-) -> Option<Refusal>
-    ensures { result ≡ kept_found around.now target callee at found }
+)
+    ensures { found.new ≡ kept_found around.now target callee at found.old }
 {
-    let inside = sooner(found, told(Rule::E2, kept_outside(around, at)));
-    let kept = sooner(inside, told(Rule::E4, not_kept_in_status(target, at)));
-    sooner(kept, told(Rule::E4, keeps_no_coroutine(around, callee, at)))
+    found.tell(Rule::E2, kept_outside(around, at));
+    found.tell(Rule::E4, not_kept_in_status(target, at));
+    found.tell(Rule::E4, keeps_no_coroutine(around, callee, at));
 }
 
 /// The call that an expression is, if it is one.
@@ -201,127 +188,112 @@ pub fn as_call(nodes: &NamedNodes, e: ExprId) -> Option<&NamedCall>
 }
 
 // The right side of `=` where it is no call.
-fn judge_plain(
-    alloc: Global,
-    found: Option<Refusal>,
-    nodes: &NamedNodes,
-    around: &Around<'_>,
-    e: ExprId,
-) -> Result<RightSide, NoMemory>
-    requires e { e.0 < length nodes.now.exprs }
-    requires plain { call_in (expr_at (exprs_of nodes.now) e) ≡ None }
-    ensures found { IfOk result (λ j. j.found ≡ judged around.now found (value_parts None (expr_at (exprs_of nodes.now) e))) }
-    ensures value { IfOk result (λ j. j.value ≡ right_value around.now (expr_at (exprs_of nodes.now) e)) }
-    ensures lacks { IfOk result (λ j. j.lacks ≡ lacks_value around.now (expr_at (exprs_of nodes.now) e)) }
+fn judge_plain(here: &Here<'_>, found: &mut Found, e: ExprId) -> Result<RightSide, NoMemory>
+    requires e { e.0 < length here.now.nodes.now.exprs }
+    requires plain { call_in (expr_at (exprs_of here.now.nodes.now) e) ≡ None }
+    ensures found { OnOk result (found.new ≡ judged here.now.around.now found.old (value_parts None (expr_at (exprs_of here.now.nodes.now) e))) }
+    ensures value { IfOk result (λ j. j.value ≡ right_value here.now.around.now (expr_at (exprs_of here.now.nodes.now) e)) }
+    ensures lacks { IfOk result (λ j. j.lacks ≡ lacks_value here.now.around.now (expr_at (exprs_of here.now.nodes.now) e)) }
 {
-    let j = judge_value(alloc, found, nodes, around, e)?;
+    let value = judge_value(here, found, e)?;
     Ok(RightSide {
-        found: j.found,
-        value: j.value,
+        value,
         lacks: false,
     })
 }
 
 /// The right side of `=`.
 pub(crate) fn judge_right(
-    alloc: Global,
-    found: Option<Refusal>,
-    nodes: &NamedNodes,
-    around: &Around<'_>,
+    here: &Here<'_>,
+    found: &mut Found,
     e: ExprId,
 ) -> Result<RightSide, NoMemory>
-    requires { e.0 < length nodes.now.exprs }
-    ensures found { IfOk result (λ j. j.found ≡ judged around.now found (value_parts None (expr_at (exprs_of nodes.now) e))) }
-    ensures value { IfOk result (λ j. j.value ≡ right_value around.now (expr_at (exprs_of nodes.now) e)) }
-    ensures lacks { IfOk result (λ j. j.lacks ≡ lacks_value around.now (expr_at (exprs_of nodes.now) e)) }
+    requires { e.0 < length here.now.nodes.now.exprs }
+    ensures found { OnOk result (found.new ≡ judged here.now.around.now found.old (value_parts None (expr_at (exprs_of here.now.nodes.now) e))) }
+    ensures value { IfOk result (λ j. j.value ≡ right_value here.now.around.now (expr_at (exprs_of here.now.nodes.now) e)) }
+    ensures lacks { IfOk result (λ j. j.lacks ≡ lacks_value here.now.around.now (expr_at (exprs_of here.now.nodes.now) e)) }
 {
-    match as_call(nodes, e) {
+    match as_call(here.nodes, e) {
         Some(call) => {
-            let j = judge_whole_call(alloc, found, nodes, around, call)?;
+            let of = judge_whole_call(here, found, call)?;
             Ok(RightSide {
-                found: j.found,
                 value: Value {
-                    of: j.of,
-                    at: place_of(nodes, e),
+                    of,
+                    at: place_of(here.nodes, e),
                 },
-                lacks: gives_no_value(around, call.callee),
+                lacks: gives_no_value(here.around, call.callee),
             })
         }
-        None => judge_plain(alloc, found, nodes, around, e),
+        None => judge_plain(here, found, e),
     }
 }
 
 /// `=`.
 pub(crate) fn judge_equal(
-    alloc: Global,
-    found: Option<Refusal>,
-    nodes: &NamedNodes,
-    around: &Around<'_>,
+    here: &Here<'_>,
+    found: &mut Found,
     target: NamedTarget,
     e: ExprId,
-) -> Result<Option<Refusal>, NoMemory>
-    requires target { NamedTargetBelow (length nodes.now.exprs) target }
-    requires e { e.0 < length nodes.now.exprs }
-    ensures { IfOk result (λ r. r ≡ judged around.now found (assigned (target_at (exprs_of nodes.now) target) None (expr_at (exprs_of nodes.now) e) ∷ (target_parts (target_at (exprs_of nodes.now) target) ++ value_parts None (expr_at (exprs_of nodes.now) e)))) }
+) -> Result<(), NoMemory>
+    requires target { NamedTargetBelow (length here.now.nodes.now.exprs) target }
+    requires e { e.0 < length here.now.nodes.now.exprs }
+    ensures { OnOk result (found.new ≡ judged here.now.around.now found.old (assigned (target_at (exprs_of here.now.nodes.now) target) None (expr_at (exprs_of here.now.nodes.now) e) ∷ (target_parts (target_at (exprs_of here.now.nodes.now) target) ++ value_parts None (expr_at (exprs_of here.now.nodes.now) e)))) }
 {
-    let to = judge_target(alloc, found, nodes, around, target)?;
-    let right = judge_right(alloc, to.found, nodes, around, e)?;
-    Ok(judged_assigned(right.found, to.value, right.value, right.lacks))
+    let to = judge_target(here, found, target)?;
+    let right = judge_right(here, found, e)?;
+    tell_assigned(found, to, right);
+    Ok(())
 }
 
 /// An operator with `=`.
 pub(crate) fn judge_update(
-    alloc: Global,
-    found: Option<Refusal>,
-    nodes: &NamedNodes,
-    around: &Around<'_>,
+    here: &Here<'_>,
+    found: &mut Found,
     target: NamedTarget,
     op: Op,
     e: ExprId,
-) -> Result<Option<Refusal>, NoMemory>
-    requires target { NamedTargetBelow (length nodes.now.exprs) target }
-    requires e { e.0 < length nodes.now.exprs }
-    ensures { IfOk result (λ r. r ≡ judged around.now found (assigned (target_at (exprs_of nodes.now) target) (Some op) (expr_at (exprs_of nodes.now) e) ∷ (target_parts (target_at (exprs_of nodes.now) target) ++ value_parts (Some op) (expr_at (exprs_of nodes.now) e)))) }
+) -> Result<(), NoMemory>
+    requires target { NamedTargetBelow (length here.now.nodes.now.exprs) target }
+    requires e { e.0 < length here.now.nodes.now.exprs }
+    ensures { OnOk result (found.new ≡ judged here.now.around.now found.old (assigned (target_at (exprs_of here.now.nodes.now) target) (Some op) (expr_at (exprs_of here.now.nodes.now) e) ∷ (target_parts (target_at (exprs_of here.now.nodes.now) target) ++ value_parts (Some op) (expr_at (exprs_of here.now.nodes.now) e)))) }
 {
-    let to = judge_target(alloc, found, nodes, around, target)?;
-    let j = judge_value(alloc, to.found, nodes, around, e)?;
-    Ok(judged_update(j.found, op, to.value, j.value))
+    let to = judge_target(here, found, target)?;
+    let v = judge_value(here, found, e)?;
+    tell_update(found, op, to, v);
+    Ok(())
 }
 
 /// An assignment, with or without an operator.
 pub(crate) fn judge_assign(
-    alloc: Global,
-    found: Option<Refusal>,
-    nodes: &NamedNodes,
-    around: &Around<'_>,
+    here: &Here<'_>,
+    found: &mut Found,
     target: NamedTarget,
     op: Option<Op>,
     e: ExprId,
-) -> Result<Option<Refusal>, NoMemory>
-    requires target { NamedTargetBelow (length nodes.now.exprs) target }
-    requires e { e.0 < length nodes.now.exprs }
-    ensures { IfOk result (λ r. r ≡ judged around.now found (assigned (target_at (exprs_of nodes.now) target) op (expr_at (exprs_of nodes.now) e) ∷ (target_parts (target_at (exprs_of nodes.now) target) ++ value_parts op (expr_at (exprs_of nodes.now) e)))) }
+) -> Result<(), NoMemory>
+    requires target { NamedTargetBelow (length here.now.nodes.now.exprs) target }
+    requires e { e.0 < length here.now.nodes.now.exprs }
+    ensures { OnOk result (found.new ≡ judged here.now.around.now found.old (assigned (target_at (exprs_of here.now.nodes.now) target) op (expr_at (exprs_of here.now.nodes.now) e) ∷ (target_parts (target_at (exprs_of here.now.nodes.now) target) ++ value_parts op (expr_at (exprs_of here.now.nodes.now) e)))) }
 {
     match op {
-        Some(op) => judge_update(alloc, found, nodes, around, target, op, e),
-        None => judge_equal(alloc, found, nodes, around, target, e),
+        Some(op) => judge_update(here, found, target, op, e),
+        None => judge_equal(here, found, target, e),
     }
 }
 
 /// `=?`.
 pub(crate) fn judge_keep(
-    alloc: Global,
-    found: Option<Refusal>,
-    nodes: &NamedNodes,
-    around: &Around<'_>,
+    here: &Here<'_>,
+    found: &mut Found,
     target: NamedTarget,
     call: &NamedCall,
-) -> Result<Option<Refusal>, NoMemory>
-    requires target { NamedTargetBelow (length nodes.now.exprs) target }
-    requires args { ArgsBelow (length nodes.now.exprs) call.now.args }
-    ensures { IfOk result (λ r. r ≡ judged around.now found (kept (target_at (exprs_of nodes.now) target) (call_at (exprs_of nodes.now) call.now) ∷ (target_parts (target_at (exprs_of nodes.now) target) ++ whole_call_parts (call_at (exprs_of nodes.now) call.now)))) }
+) -> Result<(), NoMemory>
+    requires target { NamedTargetBelow (length here.now.nodes.now.exprs) target }
+    requires args { ArgsBelow (length here.now.nodes.now.exprs) call.now.args }
+    ensures { OnOk result (found.new ≡ judged here.now.around.now found.old (kept (target_at (exprs_of here.now.nodes.now) target) (call_at (exprs_of here.now.nodes.now) call.now) ∷ (target_parts (target_at (exprs_of here.now.nodes.now) target) ++ whole_call_parts (call_at (exprs_of here.now.nodes.now) call.now)))) }
 {
-    let to = judge_target(alloc, found, nodes, around, target)?;
-    let j = judge_whole_call(alloc, to.found, nodes, around, call)?;
-    Ok(judged_kept(j.found, around, to.value.of, call.callee, call.at))
+    let to = judge_target(here, found, target)?;
+    judge_whole_call(here, found, call)?;
+    tell_kept(found, here.around, to.of, call.callee, call.at);
+    Ok(())
 }

@@ -15,10 +15,10 @@ use wf_ast::parsed::{Arm, Block};
 use wf_ast::{ExprId, StmtId};
 use wf_named::{NamedExpr, NamedNodes, NamedStmt};
 use wf_text::Place;
-use wf_text::precedence::sooner;
-use wf_text::rules::{Refusal, Rule};
+use wf_text::rules::Rule;
+use wf_types_exprs::{Found, Here};
 use wf_types_meanings::marks::is_coroutine;
-use wf_types_meanings::places::{at_if, told};
+use wf_types_meanings::places::at_if;
 use wf_types_rules::Around;
 
 /// Whether an expression is the word `true`.
@@ -202,27 +202,22 @@ fn reaches_end(around: &Around<'_>, stops: bool, at: Place) -> Option<Place>
     )
 }
 
-/// What the end of a body at this closing brace breaks, by whether the body never goes on.
-pub(crate) fn judged_end(
-    found: Option<Refusal>,
-    around: &Around<'_>,
-    stops: bool,
-    at: Place,
-) -> Option<Refusal>
-    ensures { result ≡ end_found around.now stops at found }
+/// Tells what the end of a body at this closing brace breaks, by whether the body never goes on.
+pub(crate) fn tell_end(found: &mut Found, around: &Around<'_>, stops: bool, at: Place)
+    ensures { found.new ≡ end_found around.now stops at found.old }
 {
-    sooner(found, told(Rule::T4, reaches_end(around, stops, at)))
+    found.tell(Rule::T4, reaches_end(around, stops, at));
 }
 
 /// The body of a method as a whole.
-pub fn judge_whole_body(
-    found: Option<Refusal>,
-    nodes: &NamedNodes,
-    around: &Around<'_>,
-    body: &Block,
-) -> Option<Refusal>
-    requires { BlockBelow (length nodes.now.stmts) body.now }
-    ensures { result ≡ judged around.now found (whole_body (block_at (stmts_of nodes.now) body.now) ∷ []) }
+pub fn judge_whole_body(here: &Here<'_>, found: &mut Found, body: &Block)
+    requires { BlockBelow (length here.now.nodes.now.stmts) body.now }
+    ensures { found.new ≡ judged here.now.around.now found.old (whole_body (block_at (stmts_of here.now.nodes.now) body.now) ∷ []) }
 {
-    judged_end(found, around, block_stops(nodes, body), body.close)
+    tell_end(
+        found,
+        here.around,
+        block_stops(here.nodes, body),
+        body.close,
+    );
 }

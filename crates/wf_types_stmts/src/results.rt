@@ -1,6 +1,6 @@
 // Conditions, what is given to an axiom, `return` and `yield?`.
 
-ghost use Rattle.std.specs.Prelude.{◌≡◌, ◌<◌, ◌∷◌, ◌++◌, not, length, slice_get, IfOk};
+ghost use Rattle.std.specs.Prelude.{◌≡◌, ◌<◌, ◌∷◌, ◌++◌, not, length, slice_get, OnOk};
 ghost use Rattle.std.specs.List.{AllByRecursion};
 ghost use Rattle.wf_ast.specs.ParsedParts.{IsBelow};
 ghost use Rattle.wf_ast.specs.WellTyped.{is_suspension};
@@ -12,20 +12,19 @@ ghost use Rattle.wf_types_exprs.specs.Judged.{judged};
 ghost use Rattle.wf_types_stmts.specs.Statements.{condition_found, letter_found, return_found, yield_found};
 
 use crate::assignments::{is_no_status, is_not_taken};
-use std::alloc::Global;
 use wf_ast::parsed::{Given, LoopClause, Via};
 use wf_ast::{ExprId, Sequence, Ty};
 use wf_named::{NamedExpr, NamedNodes};
 use wf_text::categories::Category;
 use wf_text::faults::NoMemory;
-use wf_text::precedence::sooner;
-use wf_text::rules::{Refusal, Rule};
+use wf_text::rules::Rule;
 use wf_text::status_text::category;
 use wf_text::{Place, StatusId};
 use wf_types_exprs::reading::place_of;
 use wf_types_exprs::walk::{judge_end, judge_value};
+use wf_types_exprs::{Found, Here};
 use wf_types_meanings::marks::is_coroutine;
-use wf_types_meanings::places::{at_if, told};
+use wf_types_meanings::places::at_if;
 use wf_types_operators::meanings::{is_flag, is_number};
 use wf_types_rules::{Around, Meaning, Value};
 
@@ -47,18 +46,18 @@ fn wrong_letter(v: Value) -> Option<Place>
     }
 }
 
-/// What a condition breaks.
-pub(crate) fn judged_condition(found: Option<Refusal>, v: Value) -> Option<Refusal>
-    ensures { result ≡ condition_found v found }
+/// Tells what a condition breaks.
+pub(crate) fn tell_condition(found: &mut Found, v: Value)
+    ensures { found.new ≡ condition_found v found.old }
 {
-    sooner(found, told(Rule::T3, wrong_condition(v)))
+    found.tell(Rule::T3, wrong_condition(v));
 }
 
-/// What a value breaks that is given for a letter of an axiom.
-pub(crate) fn judged_letter(found: Option<Refusal>, v: Value) -> Option<Refusal>
-    ensures { result ≡ letter_found v found }
+/// Tells what a value breaks that is given for a letter of an axiom.
+pub(crate) fn tell_letter(found: &mut Found, v: Value)
+    ensures { found.new ≡ letter_found v found.old }
 {
-    sooner(found, told(Rule::T1, wrong_letter(v)))
+    found.tell(Rule::T1, wrong_letter(v));
 }
 
 fn is_no_result(gives: Option<Option<Ty>>, of: Option<Meaning>) -> bool
@@ -91,16 +90,11 @@ fn wrong_return(around: &Around<'_>, value: Option<Value>, at: Place) -> Option<
     at_if(is_wrong_return(around, value), at)
 }
 
-/// What a `return` breaks, whose value may be absent.
-pub(crate) fn judged_return(
-    found: Option<Refusal>,
-    around: &Around<'_>,
-    value: Option<Value>,
-    at: Place,
-) -> Option<Refusal>
-    ensures { result ≡ return_found around.now value at found }
+/// Tells what a `return` breaks, whose value may be absent.
+pub(crate) fn tell_return(found: &mut Found, around: &Around<'_>, value: Option<Value>, at: Place)
+    ensures { found.new ≡ return_found around.now value at found.old }
 {
-    sooner(found, told(Rule::T4, wrong_return(around, value, at)))
+    found.tell(Rule::T4, wrong_return(around, value, at));
 }
 
 fn yielded_outside(around: &Around<'_>, at: Place) -> Option<Place>
@@ -115,18 +109,18 @@ fn wrong_yield(suspends: bool, place: Place) -> Option<Place>
     at_if(!suspends, place)
 }
 
-/// What a `yield?` breaks. `suspends` tells whether a suspension's text stands there, at `place`.
-pub(crate) fn judged_yield(
-    found: Option<Refusal>,
+/// Tells what a `yield?` breaks. `suspends` tells whether a suspension's text stands there, at `place`.
+pub(crate) fn tell_yield(
+    found: &mut Found,
     around: &Around<'_>,
     suspends: bool,
     place: Place,
     at: Place,
-) -> Option<Refusal>
-    ensures { result ≡ yield_found around.now suspends place at found }
+)
+    ensures { found.new ≡ yield_found around.now suspends place at found.old }
 {
-    let inside = sooner(found, told(Rule::E2, yielded_outside(around, at)));
-    sooner(inside, told(Rule::E5, wrong_yield(suspends, place)))
+    found.tell(Rule::E2, yielded_outside(around, at));
+    found.tell(Rule::E5, wrong_yield(suspends, place));
 }
 
 fn is_suspension_at(statuses: &[Sequence<u8>], status: StatusId) -> bool
@@ -159,133 +153,111 @@ pub(crate) fn suspends(nodes: &NamedNodes, around: &Around<'_>, e: ExprId) -> bo
 }
 
 /// A condition of `if`, `while`, a clause or `assert`.
-pub(crate) fn judge_condition(
-    alloc: Global,
-    found: Option<Refusal>,
-    nodes: &NamedNodes,
-    around: &Around<'_>,
-    e: ExprId,
-) -> Result<Option<Refusal>, NoMemory>
-    requires { e.0 < length nodes.now.exprs }
-    ensures { IfOk result (λ r. r ≡ judged around.now found (condition_parts (expr_at (exprs_of nodes.now) e))) }
+pub(crate) fn judge_condition(here: &Here<'_>, found: &mut Found, e: ExprId) -> Result<(), NoMemory>
+    requires { e.0 < length here.now.nodes.now.exprs }
+    ensures { OnOk result (found.new ≡ judged here.now.around.now found.old (condition_parts (expr_at (exprs_of here.now.nodes.now) e))) }
 {
-    let j = judge_value(alloc, found, nodes, around, e)?;
-    Ok(judged_condition(j.found, j.value))
+    let v = judge_value(here, found, e)?;
+    tell_condition(found, v);
+    Ok(())
 }
 
 /// The promises of a loop.
 pub(crate) fn judge_clauses(
-    alloc: Global,
-    found: Option<Refusal>,
-    nodes: &NamedNodes,
-    around: &Around<'_>,
+    here: &Here<'_>,
+    found: &mut Found,
     clauses: &[LoopClause],
-) -> Result<Option<Refusal>, NoMemory>
-    requires { AllByRecursion (λ c. c.condition.0 < length nodes.now.exprs) clauses.now }
-    ensures { IfOk result (λ r. r ≡ judged around.now found (clauses_parts (clauses_at (exprs_of nodes.now) clauses.now))) }
+) -> Result<(), NoMemory>
+    requires { AllByRecursion (λ c. c.condition.0 < length here.now.nodes.now.exprs) clauses.now }
+    ensures { OnOk result (found.new ≡ judged here.now.around.now found.old (clauses_parts (clauses_at (exprs_of here.now.nodes.now) clauses.now))) }
 {
-    let mut found = found;
     for clause in clauses {
-        found = judge_condition(alloc, found, nodes, around, clause.condition)?;
+        judge_condition(here, found, clause.condition)?;
     }
-    Ok(found)
+    Ok(())
 }
 
-fn judge_letter(
-    alloc: Global,
-    found: Option<Refusal>,
-    nodes: &NamedNodes,
-    around: &Around<'_>,
-    e: ExprId,
-) -> Result<Option<Refusal>, NoMemory>
-    requires { e.0 < length nodes.now.exprs }
-    ensures { IfOk result (λ r. r ≡ judged around.now found (letter_value (expr_at (exprs_of nodes.now) e) ∷ expr_parts (expr_at (exprs_of nodes.now) e))) }
+fn judge_letter(here: &Here<'_>, found: &mut Found, e: ExprId) -> Result<(), NoMemory>
+    requires { e.0 < length here.now.nodes.now.exprs }
+    ensures { OnOk result (found.new ≡ judged here.now.around.now found.old (letter_value (expr_at (exprs_of here.now.nodes.now) e) ∷ expr_parts (expr_at (exprs_of here.now.nodes.now) e))) }
 {
-    let j = judge_value(alloc, found, nodes, around, e)?;
-    Ok(judged_letter(j.found, j.value))
+    let v = judge_value(here, found, e)?;
+    tell_letter(found, v);
+    Ok(())
 }
 
 /// What is given for the letters of an axiom.
 pub(crate) fn judge_letters(
-    alloc: Global,
-    found: Option<Refusal>,
-    nodes: &NamedNodes,
-    around: &Around<'_>,
+    here: &Here<'_>,
+    found: &mut Found,
     given: &[Given],
-) -> Result<Option<Refusal>, NoMemory>
-    requires { LettersBelow (length nodes.now.texts) (length nodes.now.exprs) given.now }
-    ensures { IfOk result (λ r. r ≡ judged around.now found (letters_parts (letters_at nodes.now.texts (exprs_of nodes.now) given.now))) }
+) -> Result<(), NoMemory>
+    requires { LettersBelow (length here.now.nodes.now.texts) (length here.now.nodes.now.exprs) given.now }
+    ensures { OnOk result (found.new ≡ judged here.now.around.now found.old (letters_parts (letters_at here.now.nodes.now.texts (exprs_of here.now.nodes.now) given.now))) }
 {
-    let mut found = found;
     for one in given {
-        found = judge_letter(alloc, found, nodes, around, one.value)?;
+        judge_letter(here, found, one.value)?;
     }
-    Ok(found)
+    Ok(())
 }
 
 /// The axiom of an assertion, if it names one.
 pub(crate) fn judge_via(
-    alloc: Global,
-    found: Option<Refusal>,
-    nodes: &NamedNodes,
-    around: &Around<'_>,
+    here: &Here<'_>,
+    found: &mut Found,
     via: &Option<Via>,
-) -> Result<Option<Refusal>, NoMemory>
-    requires { AxiomBelow (length nodes.now.texts) (length nodes.now.exprs) via.now }
-    ensures { IfOk result (λ r. r ≡ judged around.now found (via_parts (via_at nodes.now.texts (exprs_of nodes.now) via.now))) }
+) -> Result<(), NoMemory>
+    requires { AxiomBelow (length here.now.nodes.now.texts) (length here.now.nodes.now.exprs) via.now }
+    ensures { OnOk result (found.new ≡ judged here.now.around.now found.old (via_parts (via_at here.now.nodes.now.texts (exprs_of here.now.nodes.now) via.now))) }
 {
     match via {
-        Some(via) => judge_letters(alloc, found, nodes, around, via.given.as_slice()),
-        None => Ok(found),
+        Some(via) => judge_letters(here, found, via.given.as_slice()),
+        None => Ok(()),
     }
 }
 
 /// An assertion: its condition, and what is given to its axiom.
 pub(crate) fn judge_claim(
-    alloc: Global,
-    found: Option<Refusal>,
-    nodes: &NamedNodes,
-    around: &Around<'_>,
+    here: &Here<'_>,
+    found: &mut Found,
     goal: ExprId,
     via: &Option<Via>,
-) -> Result<Option<Refusal>, NoMemory>
-    requires goal { goal.0 < length nodes.now.exprs }
-    requires via { AxiomBelow (length nodes.now.texts) (length nodes.now.exprs) via.now }
-    ensures { IfOk result (λ r. r ≡ judged around.now found (condition_parts (expr_at (exprs_of nodes.now) goal) ++ via_parts (via_at nodes.now.texts (exprs_of nodes.now) via.now))) }
+) -> Result<(), NoMemory>
+    requires goal { goal.0 < length here.now.nodes.now.exprs }
+    requires via { AxiomBelow (length here.now.nodes.now.texts) (length here.now.nodes.now.exprs) via.now }
+    ensures { OnOk result (found.new ≡ judged here.now.around.now found.old (condition_parts (expr_at (exprs_of here.now.nodes.now) goal) ++ via_parts (via_at here.now.nodes.now.texts (exprs_of here.now.nodes.now) via.now))) }
 {
-    let next = judge_condition(alloc, found, nodes, around, goal)?;
-    judge_via(alloc, next, nodes, around, via)
+    judge_condition(here, found, goal)?;
+    judge_via(here, found, via)
 }
 
 /// A `return` at this place.
 pub(crate) fn judge_return(
-    alloc: Global,
-    found: Option<Refusal>,
-    nodes: &NamedNodes,
-    around: &Around<'_>,
+    here: &Here<'_>,
+    found: &mut Found,
     value: Option<ExprId>,
     at: Place,
-) -> Result<Option<Refusal>, NoMemory>
-    requires { IsBelow (length nodes.now.exprs) value }
-    ensures { IfOk result (λ r. r ≡ judged around.now found (returned at (part_at (exprs_of nodes.now) value) ∷ end_parts (part_at (exprs_of nodes.now) value))) }
+) -> Result<(), NoMemory>
+    requires { IsBelow (length here.now.nodes.now.exprs) value }
+    ensures { OnOk result (found.new ≡ judged here.now.around.now found.old (returned at (part_at (exprs_of here.now.nodes.now) value) ∷ end_parts (part_at (exprs_of here.now.nodes.now) value))) }
 {
-    let j = judge_end(alloc, found, nodes, around, value)?;
-    Ok(judged_return(j.found, around, j.end, at))
+    let v = judge_end(here, found, value)?;
+    tell_return(found, here.around, v, at);
+    Ok(())
 }
 
 /// A `yield?` at this place.
 pub(crate) fn judge_yield(
-    alloc: Global,
-    found: Option<Refusal>,
-    nodes: &NamedNodes,
-    around: &Around<'_>,
+    here: &Here<'_>,
+    found: &mut Found,
     e: ExprId,
     at: Place,
-) -> Result<Option<Refusal>, NoMemory>
-    requires { e.0 < length nodes.now.exprs }
-    ensures { IfOk result (λ r. r ≡ judged around.now found (yielded at (expr_at (exprs_of nodes.now) e) ∷ expr_parts (expr_at (exprs_of nodes.now) e))) }
+) -> Result<(), NoMemory>
+    requires { e.0 < length here.now.nodes.now.exprs }
+    ensures { OnOk result (found.new ≡ judged here.now.around.now found.old (yielded at (expr_at (exprs_of here.now.nodes.now) e) ∷ expr_parts (expr_at (exprs_of here.now.nodes.now) e))) }
 {
-    let j = judge_value(alloc, found, nodes, around, e)?;
-    let suspension = suspends(nodes, around, e);
-    Ok(judged_yield(j.found, around, suspension, place_of(nodes, e), at))
+    judge_value(here, found, e)?;
+    let suspension = suspends(here.nodes, here.around, e);
+    tell_yield(found, here.around, suspension, place_of(here.nodes, e), at);
+    Ok(())
 }

@@ -1,6 +1,6 @@
 // What is written to.
 
-ghost use Rattle.std.specs.Prelude.{◌≡◌, ◌<◌, length, IfOk};
+ghost use Rattle.std.specs.Prelude.{◌≡◌, ◌<◌, length, IfOk, OnOk};
 ghost use Rattle.wf_named.specs.NamedParts.{exprs_of, NamedTargetBelow};
 ghost use Rattle.wf_named.specs.NamedTree as tree;
 ghost use Rattle.wf_named.specs.NamedTrees.{expr_at, target_at};
@@ -13,18 +13,16 @@ ghost use Rattle.wf_types_rules.specs.Parts.{target_parts, expr_parts};
 ghost use Rattle.wf_types_exprs.specs.Judged.{judged};
 ghost use Rattle.wf_types_stmts.specs.Statements.{target_found as found_at_target};
 
-use std::alloc::Global;
 use wf_ast::ExprId;
-use wf_named::{NamedNodes, NamedPath, NamedTarget, Variable};
+use wf_named::{NamedPath, NamedTarget, Variable};
 use wf_text::Place;
 use wf_text::faults::NoMemory;
-use wf_text::precedence::sooner;
-use wf_text::rules::{Refusal, Rule};
-use wf_types_exprs::found::{Judged, JudgedValue};
+use wf_text::rules::Rule;
 use wf_types_exprs::parts::{base_value, judged_index};
 use wf_types_exprs::walk::judge_value;
+use wf_types_exprs::{Found, Here};
 use wf_types_meanings::marks::is_pure;
-use wf_types_meanings::places::{at_if, told};
+use wf_types_meanings::places::at_if;
 use wf_types_meanings::variables::variable;
 use wf_types_operators::meanings::is_value;
 use wf_types_rules::{Around, Meaning, Value};
@@ -79,12 +77,12 @@ fn impure_write(around: &Around<'_>, target: NamedTarget) -> Option<Place>
     }
 }
 
-/// What a target breaks, whatever the index of an element breaks.
-fn target_found(found: Option<Refusal>, around: &Around<'_>, target: NamedTarget) -> Option<Refusal>
-    ensures { (es : _) → result ≡ found_at_target around.now (target_at es target) found }
+// Tells what a target breaks, whatever the index of an element breaks.
+fn tell_target(found: &mut Found, around: &Around<'_>, target: NamedTarget)
+    ensures { (es : _) → found.new ≡ found_at_target around.now (target_at es target) found.old }
 {
-    let open = sooner(found, told(Rule::T2, wrong_target(around, target)));
-    sooner(open, told(Rule::E1, impure_write(around, target)))
+    found.tell(Rule::T2, wrong_target(around, target));
+    found.tell(Rule::E1, impure_write(around, target));
 }
 
 // What a path means as a target.
@@ -99,62 +97,49 @@ fn path_written(around: &Around<'_>, path: NamedPath) -> Option<Meaning>
 }
 
 /// A path as a target.
-pub(crate) fn judged_path(
-    found: Option<Refusal>,
-    around: &Around<'_>,
-    path: NamedPath,
-) -> JudgedValue
-    ensures found { result.found ≡ judged around.now found (target_parts (tree.to_path path)) }
-    ensures value { result.value ≡ target_value around.now (tree.to_path path) }
+pub(crate) fn judged_path(found: &mut Found, around: &Around<'_>, path: NamedPath) -> Value
+    ensures found { found.new ≡ judged around.now found.old (target_parts (tree.to_path path)) }
+    ensures value { result ≡ target_value around.now (tree.to_path path) }
 {
-    JudgedValue {
-        found: target_found(found, around, NamedTarget::Path(path)),
-        value: Value {
-            of: path_written(around, path),
-            at: path.at,
-        },
+    tell_target(found, around, NamedTarget::Path(path));
+    Value {
+        of: path_written(around, path),
+        at: path.at,
     }
 }
 
 // An element, as an expression.
 fn judge_element(
-    alloc: Global,
-    found: Option<Refusal>,
-    nodes: &NamedNodes,
-    around: &Around<'_>,
+    here: &Here<'_>,
+    found: &mut Found,
     base: NamedPath,
     index: ExprId,
-) -> Result<Judged, NoMemory>
-    requires { index.0 < length nodes.now.exprs }
-    ensures found { (at : _) → IfOk result (λ j. j.found ≡ judged around.now found (expr_parts (tree.index base (expr_at (exprs_of nodes.now) index) at))) }
-    ensures of { (at : _) → IfOk result (λ j. j.of ≡ meaning around.now (tree.index base (expr_at (exprs_of nodes.now) index) at)) }
+) -> Result<Option<Meaning>, NoMemory>
+    requires { index.0 < length here.now.nodes.now.exprs }
+    ensures found { (at : _) → OnOk result (found.new ≡ judged here.now.around.now found.old (expr_parts (tree.index base (expr_at (exprs_of here.now.nodes.now) index) at))) }
+    ensures of { (at : _) → IfOk result (λ m. m ≡ meaning here.now.around.now (tree.index base (expr_at (exprs_of here.now.nodes.now) index) at)) }
 {
-    let array = base_value(around, base);
-    let j = judge_value(alloc, found, nodes, around, index)?;
-    Ok(judged_index(j.found, array, j.value))
+    let array = base_value(here.around, base);
+    let v = judge_value(here, found, index)?;
+    Ok(judged_index(found, array, v))
 }
 
 /// A target.
 pub(crate) fn judge_target(
-    alloc: Global,
-    found: Option<Refusal>,
-    nodes: &NamedNodes,
-    around: &Around<'_>,
+    here: &Here<'_>,
+    found: &mut Found,
     target: NamedTarget,
-) -> Result<JudgedValue, NoMemory>
-    requires { NamedTargetBelow (length nodes.now.exprs) target }
-    ensures found { IfOk result (λ j. j.found ≡ judged around.now found (target_parts (target_at (exprs_of nodes.now) target))) }
-    ensures value { IfOk result (λ j. j.value ≡ target_value around.now (target_at (exprs_of nodes.now) target)) }
+) -> Result<Value, NoMemory>
+    requires { NamedTargetBelow (length here.now.nodes.now.exprs) target }
+    ensures found { OnOk result (found.new ≡ judged here.now.around.now found.old (target_parts (target_at (exprs_of here.now.nodes.now) target))) }
+    ensures value { IfOk result (λ v. v ≡ target_value here.now.around.now (target_at (exprs_of here.now.nodes.now) target)) }
 {
     match target {
-        NamedTarget::Path(path) => Ok(judged_path(found, around, path)),
+        NamedTarget::Path(path) => Ok(judged_path(found, here.around, path)),
         NamedTarget::Element { base, index, at } => {
-            let begun = target_found(found, around, NamedTarget::Element { base, index, at });
-            let j = judge_element(alloc, begun, nodes, around, base, index)?;
-            Ok(JudgedValue {
-                found: j.found,
-                value: Value { of: j.of, at },
-            })
+            tell_target(found, here.around, NamedTarget::Element { base, index, at });
+            let of = judge_element(here, found, base, index)?;
+            Ok(Value { of, at })
         }
     }
 }

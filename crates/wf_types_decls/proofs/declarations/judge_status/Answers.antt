@@ -7,4 +7,4 @@ use Rattle.wf_types_decls.proofs.declarations.judge_status.Goals as goal
 pub returns : goal.returns
 returns c =
     let w = word_at c.args.nodes.now.texts c.args.text in
-    λ s. c.sooner.ensures ∙ rw (c.told.ensures, c.wrong_status.ensures) (status_alone s c.args.found w (not (is_status_text w.text)) refl)
+    λ s. c.tell.ensures ∙ rw c.wrong_status.ensures (status_alone s c.args.found.now w (not (is_status_text w.text)) refl)

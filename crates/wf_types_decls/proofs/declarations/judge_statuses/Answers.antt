@@ -10,8 +10,8 @@ pub loop-text-preserved : goal.loop-text-preserved
 loop-text-preserved c =
     let l = c.loop-text in
     λ s.
-    part_next (word_at c.args.nodes.now.texts) c.statuses-text-items.result.now c.args.nodes.now.statuses c.statuses-text-items.ensures.all l.text-index _ _ refl c.loop-text-test.true s status_declared l.found c.judge_status-found.result
-    (c.judge_status-found.ensures s) ∙ l.invariant s
+    part_next (word_at c.args.nodes.now.texts) c.statuses-text-items.result.now c.args.nodes.now.statuses c.statuses-text-items.ensures.all l.text-index _ _ refl c.loop-text-test.true s status_declared l.found c.judge_status.new.found
+    (c.judge_status.ensures s) ∙ l.invariant s
 
 pub returns : goal.returns
 returns c =

@@ -10,8 +10,8 @@ use Rattle.wf_types_decls.proofs.declared_types.judge_fields.Given as goal
 
 abbrev pub invariant-loop-structure : goal.invariant-loop-structure
 invariant-loop-structure l =
-    let made = struct_made l.nodes.texts (expr_trees l.nodes.exprs) in
-    (judged l.types l.all.found (flat_map (λ (x : NamedStructTree). variables_parts roles.Field x.fields) (map made (drop l.structure-index l.nodes.structs)))
-    ≡ judged l.types l.fn.found (flat_map (λ (x : NamedStructTree). variables_parts roles.Field x.fields) (map made l.nodes.structs)))
-    × ((l.all.of ++ map (λ (x : NamedStructTree). map (λ (y : VarTree). declared l.types roles.Field y.of) x.fields) (map made (drop l.structure-index l.nodes.structs)))
-    ≡ map (λ (x : NamedStructTree). map (λ (y : VarTree). declared l.types roles.Field y.of) x.fields) (map made l.nodes.structs))
+    let made = struct_made l.here.nodes.now.texts (expr_trees l.here.nodes.now.exprs) in
+    (judged l.here.around.now l.found (flat_map (λ (x : NamedStructTree). variables_parts roles.Field x.fields) (map made (drop l.structure-index l.here.nodes.now.structs)))
+    ≡ judged l.here.around.now l.fn.found (flat_map (λ (x : NamedStructTree). variables_parts roles.Field x.fields) (map made l.here.nodes.now.structs)))
+    × ((l.all ++ map (λ (x : NamedStructTree). map (λ (y : VarTree). declared l.here.around.now roles.Field y.of) x.fields) (map made (drop l.structure-index l.here.nodes.now.structs)))
+    ≡ map (λ (x : NamedStructTree). map (λ (y : VarTree). declared l.here.around.now roles.Field y.of) x.fields) (map made l.here.nodes.now.structs))

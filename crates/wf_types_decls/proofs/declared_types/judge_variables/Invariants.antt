@@ -8,7 +8,7 @@ use Rattle.wf_types_decls.proofs.declared_types.judge_variables.Given as goal
 
 abbrev pub invariant-loop-variable : goal.invariant-loop-variable
 invariant-loop-variable l =
-    (judged l.types l.all.found (variables_parts l.role (map (var_made l.nodes.texts (expr_trees l.nodes.exprs)) (drop l.variable-index l.variables)))
-    ≡ judged l.types l.fn.found (variables_parts l.role (map (var_made l.nodes.texts (expr_trees l.nodes.exprs)) l.variables)))
-    × ((l.all.of ++ map (λ (x : VarTree). declared l.types l.role x.of) (map (var_made l.nodes.texts (expr_trees l.nodes.exprs)) (drop l.variable-index l.variables)))
-    ≡ map (λ (x : VarTree). declared l.types l.role x.of) (map (var_made l.nodes.texts (expr_trees l.nodes.exprs)) l.variables))
+    (judged l.here.around.now l.found (variables_parts l.role (map (var_made l.here.nodes.now.texts (expr_trees l.here.nodes.now.exprs)) (drop l.variable-index l.variables)))
+    ≡ judged l.here.around.now l.fn.found (variables_parts l.role (map (var_made l.here.nodes.now.texts (expr_trees l.here.nodes.now.exprs)) l.variables)))
+    × ((l.all ++ map (λ (x : VarTree). declared l.here.around.now l.role x.of) (map (var_made l.here.nodes.now.texts (expr_trees l.here.nodes.now.exprs)) (drop l.variable-index l.variables)))
+    ≡ map (λ (x : VarTree). declared l.here.around.now l.role x.of) (map (var_made l.here.nodes.now.texts (expr_trees l.here.nodes.now.exprs)) l.variables))

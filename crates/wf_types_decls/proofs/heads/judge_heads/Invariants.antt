@@ -8,6 +8,6 @@ use Rattle.wf_types_decls.proofs.heads.judge_heads.Given as goal
 
 abbrev pub invariant-loop-method : goal.invariant-loop-method
 invariant-loop-method l =
-    let made = method_made l.nodes.texts (expr_trees l.nodes.exprs) (stmt_trees l.nodes.texts l.nodes.exprs l.nodes.stmts) in
-    (judged l.types l.found (flat_map head_parts (map made (drop l.method-index l.nodes.methods))) ≡ judged l.types l.fn.found (flat_map head_parts (map made l.nodes.methods)))
-    × ((l.of ++ map (head_of (named_package l.nodes)) (map made (drop l.method-index l.nodes.methods))) ≡ map (head_of (named_package l.nodes)) (map made l.nodes.methods))
+    let made = method_made l.here.nodes.now.texts (expr_trees l.here.nodes.now.exprs) (stmt_trees l.here.nodes.now.texts l.here.nodes.now.exprs l.here.nodes.now.stmts) in
+    (judged l.here.around.now l.found (flat_map head_parts (map made (drop l.method-index l.here.nodes.now.methods))) ≡ judged l.here.around.now l.fn.found (flat_map head_parts (map made l.here.nodes.now.methods)))
+    × ((l.all ++ map (head_of (named_package l.here.nodes.now)) (map made (drop l.method-index l.here.nodes.now.methods))) ≡ map (head_of (named_package l.here.nodes.now)) (map made l.here.nodes.now.methods))

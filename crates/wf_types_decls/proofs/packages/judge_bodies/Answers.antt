@@ -29,8 +29,8 @@ loop-number-preserved c =
     let made = method_made n.texts (expr_trees n.exprs) (stmt_trees n.texts n.exprs n.stmts) in
     let l = c.loop-number in
     let m = c.index-methods-number.result in
-    sites_next made c.methods-methods.result.now n.methods c.methods-methods.ensures.all l.number m m c.index-methods-number.is c.loop-number-test.true (body_sites p) l.found c.in_ok-found.found
-    (body_decided p (made m) c.round_body-inside.result l.found c.in_ok-found.found c.round_body-inside.ensures c.in_ok-found.ensures) ∙ l.invariant
+    sites_next made c.methods-methods.result.now n.methods c.methods-methods.ensures.all l.number m m c.index-methods-number.is c.loop-number-test.true (body_sites p) l.found c.judge_body.new.found
+    (body_decided p (made m) c.round_body-inside.result l.found c.judge_body.new.found c.round_body-inside.ensures c.in_ok-judge_body.ensures) ∙ l.invariant
 
 pub returns : goal.returns
 returns c =

@@ -66,17 +66,17 @@ decreases-judge_written l = 16 * above_type l.of.now + 3
 -- What is left, from here, comes to the whole.
 abbrev pub invariant-judge_links-loop-link : goal.invariant-judge_links-loop-link
 invariant-judge_links-loop-link l =
-    (judged l.around l.all.found (links_parts (links_at (expr_trees l.nodes.exprs) (drop l.link-index l.links)))
-    ≡ judged l.around l.fn.before.found (links_parts (links_at (expr_trees l.nodes.exprs) l.links)))
-    × (operands_joined l.all.of (operands_behind l.around (links_at (expr_trees l.nodes.exprs) (drop l.link-index l.links)))
-    ≡ operands_joined l.fn.before.of (operands_behind l.around (links_at (expr_trees l.nodes.exprs) l.links)))
+    (judged l.here.around.now l.found (links_parts (links_at (expr_trees l.here.nodes.now.exprs) (drop l.link-index l.links)))
+    ≡ judged l.here.around.now l.fn.found (links_parts (links_at (expr_trees l.here.nodes.now.exprs) l.links)))
+    × (operands_joined l.all (operands_behind l.here.around.now (links_at (expr_trees l.here.nodes.now.exprs) (drop l.link-index l.links)))
+    ≡ operands_joined l.fn.before (operands_behind l.here.around.now (links_at (expr_trees l.here.nodes.now.exprs) l.links)))
 
 abbrev pub invariant-judge_args-loop-n : goal.invariant-judge_args-loop-n
 invariant-judge_args-loop-n l =
-    (judged l.around l.all.found (args_parts l.callee l.n (args_at (expr_trees l.nodes.exprs) (drop l.n l.args)))
-    ≡ judged l.around l.fn.found (args_parts l.callee 0 (args_at (expr_trees l.nodes.exprs) l.args)))
-    × ((l.all.fit && are_arguments l.around l.callee l.n (args_at (expr_trees l.nodes.exprs) (drop l.n l.args)))
-    ≡ are_arguments l.around l.callee 0 (args_at (expr_trees l.nodes.exprs) l.args))
+    (judged l.here.around.now l.found (args_parts l.callee l.n (args_at (expr_trees l.here.nodes.now.exprs) (drop l.n l.args)))
+    ≡ judged l.here.around.now l.fn.found (args_parts l.callee 0 (args_at (expr_trees l.here.nodes.now.exprs) l.args)))
+    × ((l.all && are_arguments l.here.around.now l.callee l.n (args_at (expr_trees l.here.nodes.now.exprs) (drop l.n l.args)))
+    ≡ are_arguments l.here.around.now l.callee 0 (args_at (expr_trees l.here.nodes.now.exprs) l.args))
 
 abbrev pub decreases-judge_args-loop-n : goal.decreases-judge_args-loop-n
 decreases-judge_args-loop-n l = length l.args - l.n
@@ -84,7 +84,8 @@ decreases-judge_args-loop-n l = length l.args - l.n
 abbrev pub invariant-judge_prefixes-loop-left : goal.invariant-judge_prefixes-loop-left
 invariant-judge_prefixes-loop-left l =
     (l.left ≤ length l.prefixes)
-    × ((before : Option Refusal) (t : NamedTypeTree) → TellsType l.around before t l.fn.core → TellsType l.around before (all_prefixed (expr_trees l.nodes.exprs) (drop l.left l.prefixes) t) l.written)
+    × ((before : Option Refusal) (t : NamedTypeTree) → TellsType l.here.around.now before l.fn.found t l.fn.core
+    → TellsType l.here.around.now before l.found (all_prefixed (expr_trees l.here.nodes.now.exprs) (drop l.left l.prefixes) t) l.written)
 
 abbrev pub decreases-judge_prefixes-loop-left : goal.decreases-judge_prefixes-loop-left
 decreases-judge_prefixes-loop-left l = l.left

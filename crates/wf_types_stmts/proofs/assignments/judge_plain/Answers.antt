@@ -6,15 +6,15 @@ use Rattle.wf_types_stmts.proofs.assignments.judge_plain.Goals as goal
 
 pub returns-clause-found : goal.returns-clause-found
 returns-clause-found c =
-    let e = expr_at (expr_trees c.args.nodes.now.exprs) c.args.e in
-    c.in_ok-j.ensures.found ∙ sym (ap (judged c.args.around.now c.args.found) (plain_parts e c.requires.plain))
+    let e = expr_at (expr_trees c.args.here.now.nodes.now.exprs) c.args.e in
+    c.in_ok-value.ensures.found ∙ sym (ap (judged c.args.here.now.around.now c.args.found.now) (plain_parts e c.requires.plain))
 
 pub returns-clause-value : goal.returns-clause-value
 returns-clause-value c =
-    let e = expr_at (expr_trees c.args.nodes.now.exprs) c.args.e in
-    c.in_ok-j.ensures.value ∙ sym (plain_right c.args.around.now e c.requires.plain)
+    let e = expr_at (expr_trees c.args.here.now.nodes.now.exprs) c.args.e in
+    c.in_ok-value.ensures.value ∙ sym (plain_right c.args.here.now.around.now e c.requires.plain)
 
 pub returns-clause-lacks : goal.returns-clause-lacks
 returns-clause-lacks c =
-    let e = expr_at (expr_trees c.args.nodes.now.exprs) c.args.e in
-    sym (plain_lacks c.args.around.now e c.requires.plain)
+    let e = expr_at (expr_trees c.args.here.now.nodes.now.exprs) c.args.e in
+    sym (plain_lacks c.args.here.now.around.now e c.requires.plain)

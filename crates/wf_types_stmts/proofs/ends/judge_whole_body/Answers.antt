@@ -6,6 +6,6 @@ use Rattle.wf_types_stmts.proofs.ends.judge_whole_body.Goals as goal
 
 pub returns : goal.returns
 returns c =
-    let ts = stmt_trees c.args.nodes.now.texts c.args.nodes.now.exprs c.args.nodes.now.stmts in
+    let ts = stmt_trees c.args.here.now.nodes.now.texts c.args.here.now.nodes.now.exprs c.args.here.now.nodes.now.stmts in
     let body = c.args.body.now in
-    c.judged_end.ensures ∙ end_judged c.args.around.now c.args.found (block_at ts body) c.block_stops.result body.close c.block_stops.ensures (closes ts body.items body.close)
+    c.tell_end.ensures ∙ end_judged c.args.here.now.around.now c.args.found.now (block_at ts body) c.block_stops.result body.close c.block_stops.ensures (closes ts body.items body.close)

@@ -6,5 +6,5 @@ use Rattle.wf_types_stmts.proofs.results.judge_clauses.Given as goal
 
 abbrev pub invariant-loop-clause : goal.invariant-loop-clause
 invariant-loop-clause l =
-    judged l.around l.found (clauses_parts (clauses_at (expr_trees l.nodes.exprs) (drop l.clause-index l.clauses)))
-    ≡ judged l.around l.fn.found (clauses_parts (clauses_at (expr_trees l.nodes.exprs) l.clauses))
+    judged l.here.around.now l.found (clauses_parts (clauses_at (expr_trees l.here.nodes.now.exprs) (drop l.clause-index l.clauses)))
+    ≡ judged l.here.around.now l.fn.found (clauses_parts (clauses_at (expr_trees l.here.nodes.now.exprs) l.clauses))

@@ -5,5 +5,5 @@ use Rattle.wf_types_stmts.proofs.results.judge_letter.Goals as goal
 
 pub returns : goal.returns
 returns c =
-    c.judged_letter.ensures
-    ∙ letter_judged c.args.around.now c.args.found c.in_ok-j.j.found (expr_at (expr_trees c.args.nodes.now.exprs) c.args.e) c.in_ok-j.j.value c.in_ok-j.ensures.value c.in_ok-j.ensures.found
+    c.tell_letter.ensures
+    ∙ letter_judged c.args.here.now.around.now c.args.found.now c.judge_value.new.found (expr_at (expr_trees c.args.here.now.nodes.now.exprs) c.args.e) c.in_ok-v.v c.in_ok-v.ensures.value c.in_ok-v.ensures.found

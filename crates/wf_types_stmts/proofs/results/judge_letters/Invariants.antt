@@ -6,5 +6,5 @@ use Rattle.wf_types_stmts.proofs.results.judge_letters.Given as goal
 
 abbrev pub invariant-loop-one : goal.invariant-loop-one
 invariant-loop-one l =
-    judged l.around l.found (letters_parts (letters_at l.nodes.texts (expr_trees l.nodes.exprs) (drop l.one-index l.given)))
-    ≡ judged l.around l.fn.found (letters_parts (letters_at l.nodes.texts (expr_trees l.nodes.exprs) l.given))
+    judged l.here.around.now l.found (letters_parts (letters_at l.here.nodes.now.texts (expr_trees l.here.nodes.now.exprs) (drop l.one-index l.given)))
+    ≡ judged l.here.around.now l.fn.found (letters_parts (letters_at l.here.nodes.now.texts (expr_trees l.here.nodes.now.exprs) l.given))

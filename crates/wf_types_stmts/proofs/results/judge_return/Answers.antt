@@ -5,5 +5,5 @@ use Rattle.wf_types_stmts.proofs.results.judge_return.Goals as goal
 
 pub returns : goal.returns
 returns c =
-    c.judged_return.ensures
-    ∙ return_judged c.args.around.now c.args.found c.in_ok-j.j.found c.args.at (part_at (expr_trees c.args.nodes.now.exprs) c.args.value) c.in_ok-j.j.end c.in_ok-j.ensures.end c.in_ok-j.ensures.found
+    c.tell_return.ensures
+    ∙ return_judged c.args.here.now.around.now c.args.found.now c.judge_end.new.found c.args.at (part_at (expr_trees c.args.here.now.nodes.now.exprs) c.args.value) c.in_ok-v.v c.in_ok-v.ensures.end c.in_ok-v.ensures.found

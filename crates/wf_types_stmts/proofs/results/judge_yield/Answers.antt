@@ -5,6 +5,6 @@ use Rattle.wf_types_stmts.proofs.results.judge_yield.Goals as goal
 
 pub returns : goal.returns
 returns c =
-    c.judged_yield.ensures
-    ∙ yield_judged c.args.around.now c.args.found c.in_ok-j.j.found c.args.at c.place_of.result (expr_at (expr_trees c.args.nodes.now.exprs) c.args.e) c.suspends-suspension.result
-    c.suspends-suspension.ensures c.place_of.ensures c.in_ok-j.ensures.found
+    c.tell_yield.ensures
+    ∙ yield_judged c.args.here.now.around.now c.args.found.now c.judge_value.new.found c.args.at c.place_of.result (expr_at (expr_trees c.args.here.now.nodes.now.exprs) c.args.e) c.suspends-suspension.result
+    c.suspends-suspension.ensures c.place_of.ensures c.in_ok-judge_value.ensures.found

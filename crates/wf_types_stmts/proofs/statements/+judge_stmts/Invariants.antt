@@ -23,11 +23,11 @@ decreases-judge_arms l = 4 * max (above_arms l.arms.now) (above_else l.otherwise
 -- What is left, from here, comes to the whole.
 abbrev pub invariant-judge_block-loop-s : goal.invariant-judge_block-loop-s
 invariant-judge_block-loop-s l =
-    judged l.around l.found (block_parts (items_at (stmt_trees l.nodes.texts l.nodes.exprs l.nodes.stmts) (drop l.s-index l.block.items) l.block.close))
-    ≡ judged l.around l.fn.found (block_parts (block_at (stmt_trees l.nodes.texts l.nodes.exprs l.nodes.stmts) l.block))
+    judged l.here.around.now l.found (block_parts (items_at (stmt_trees l.here.nodes.now.texts l.here.nodes.now.exprs l.here.nodes.now.stmts) (drop l.s-index l.block.items) l.block.close))
+    ≡ judged l.here.around.now l.fn.found (block_parts (block_at (stmt_trees l.here.nodes.now.texts l.here.nodes.now.exprs l.here.nodes.now.stmts) l.block))
 
 abbrev pub invariant-judge_arms-loop-arm : goal.invariant-judge_arms-loop-arm
 invariant-judge_arms-loop-arm l =
-    let ts = stmt_trees l.nodes.texts l.nodes.exprs l.nodes.stmts in
-    judged l.around l.found (arms_parts (arms_at (expr_trees l.nodes.exprs) ts (drop l.arm-index l.arms) (else_at ts l.otherwise)))
-    ≡ judged l.around l.fn.found (arms_parts (arms_at (expr_trees l.nodes.exprs) ts l.arms (else_at ts l.otherwise)))
+    let ts = stmt_trees l.here.nodes.now.texts l.here.nodes.now.exprs l.here.nodes.now.stmts in
+    judged l.here.around.now l.found (arms_parts (arms_at (expr_trees l.here.nodes.now.exprs) ts (drop l.arm-index l.arms) (else_at ts l.otherwise)))
+    ≡ judged l.here.around.now l.fn.found (arms_parts (arms_at (expr_trees l.here.nodes.now.exprs) ts l.arms (else_at ts l.otherwise)))

@@ -6,5 +6,5 @@ use Rattle.wf_types_stmts.proofs.targets.judge_element.Goals as goal
 pub returns-clause-found : goal.returns-clause-found
 returns-clause-found c = λ at.
     c.judged_index.ensures.found
-    ∙ index_found c.args.around.now c.args.found c.in_ok-j.j.found c.args.base (expr_at (expr_trees c.args.nodes.now.exprs) c.args.index) at c.base_value-array.result c.in_ok-j.j.value
-    c.base_value-array.ensures c.in_ok-j.ensures.value c.in_ok-j.ensures.found
+    ∙ index_found c.args.here.now.around.now c.args.found.now c.judge_value.new.found c.args.base (expr_at (expr_trees c.args.here.now.nodes.now.exprs) c.args.index) at c.base_value-array.result c.in_ok-v.v
+    c.base_value-array.ensures c.in_ok-v.ensures.value c.in_ok-v.ensures.found

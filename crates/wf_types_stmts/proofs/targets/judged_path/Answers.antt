@@ -5,4 +5,4 @@ use Rattle.wf_types_stmts.proofs.targets.judged_path.Goals as goal
 
 pub returns-clause-found : goal.returns-clause-found
 returns-clause-found c =
-    c.target_found.ensures [] ∙ path_found c.args.around.now c.args.found c.args.path
+    c.tell_target.ensures [] ∙ path_found c.args.around.now c.args.found.now c.args.path
