@@ -3,7 +3,7 @@
 ghost use Rattle.std.specs.Prelude.{◌≡◌, bytes_eq, drop, IfOk};
 ghost use Rattle.std.specs.List.{position_from};
 ghost use Rattle.wf_names_rules.specs.Meanings.{base_status_texts, callee_on as callee_of_name};
-ghost use Rattle.wf_names_rules.specs.Tables.{same_pair, known_by, number_at, place_by, place_at};
+ghost use Rattle.wf_names_rules.specs.Tables.{pair_place, known_by, number_at, place_at};
 ghost use Rattle.wf_names_rules.specs.Declarations.{bytes_of};
 ghost use Rattle.wf_names_resolve.specs.Prefixes.{resolved_core};
 ghost use Rattle.wf_names_resolve.specs.Standing.{standing_by, field_numbered};
@@ -79,7 +79,7 @@ pub fn base_status(text: &[u8]) -> StatusId
 }
 
 fn field_of(tables: &Tables, owner: u32, text: TextId) -> Option<u32>
-    ensures { result ≡ place_by same_pair tables.now.fields (owner, text.0) }
+    ensures { result ≡ pair_place tables.now.fields (owner, text.0) }
 {
     match tables.fields.get(&(owner, text.0)) {
         Some(entry) => Some(entry.place),

@@ -3,6 +3,7 @@ pub mod CalledLemmas
 pub mod InsertLemmas
 pub mod JumpLemmas
 pub mod ListLaws
+pub mod PairLemmas
 pub mod StmtLemmas
 pub mod TypeLemmas
 pub mod WalkLemmas

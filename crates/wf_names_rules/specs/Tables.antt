@@ -1,5 +1,6 @@
 -- What tables know.
-use Rattle.std.specs.Prelude.{ℕ, Bool, true, false, ◌&&◌, List, [], ◌∷◌, Option, Some, None, is_some, slice_get, nat_eq, option_map}
+use Rattle.std.specs.Prelude.{ℕ, Bool, false, List, [], Option, Some, None, is_some, slice_get, nat_eq, option_map}
+use Rattle.std.specs.BTreeMap.{BTreeMap}
 use Rattle.indexmap.specs.IndexMap.{IndexMap, get}
 use Rattle.indexmap.specs.IndexSet.{IndexSet, contains}
 use Rattle.wf_names_rules.specs.declared.sorts.Sort.{Sort}
@@ -10,13 +11,7 @@ use Rattle.wf_names_rules.specs.declared.tables.Tables.{Tables}
 use Rattle.wf_names_rules.specs.declared.tables.Scope.{Scope}
 use Rattle.wf_names_rules.specs.Declarations.{bytes_in}
 use Rattle.wf_names_rules.specs.Meanings.{Known}
-
--- Names in pairs, as that of a struct with that of a field.
-abbrev pub Pair : Type 0
-Pair = ℕ × ℕ
-
-abbrev pub same_pair : Pair → Pair → Bool
-same_pair a b = nat_eq a.0 b.0 && nat_eq a.1 b.1
+use Rattle.wf_names_rules.specs.Pairs.{Pair, pair_at}
 
 -- The number of a name, and whether it has one.
 abbrev pub number_at : Numbers → ℕ → Option ℕ
@@ -31,6 +26,13 @@ sort_by same table key = option_map (λ e. e.sort) (get same table key)
 
 abbrev pub place_by : {K S : Type 0} → (same : K → K → Bool) → IndexMap K Entry S → K → Option ℕ
 place_by same table key = option_map (λ e. e.place) (get same table key)
+
+-- The same of a table of fields, by the names of their structs and their own.
+abbrev pub pair_sort : BTreeMap Pair Entry → Pair → Option Sort
+pair_sort fields pair = option_map (λ e. e.sort) (pair_at fields pair)
+
+abbrev pub pair_place : BTreeMap Pair Entry → Pair → Option ℕ
+pair_place fields pair = option_map (λ e. e.place) (pair_at fields pair)
 
 abbrev pub sort_at : Variables → ℕ → Option Sort
 sort_at variables = sort_by nat_eq variables.entries
@@ -47,11 +49,11 @@ public_at t m = flag_in (slice_get t.publics.items m)
 
 abbrev pub field_at : Tables → (this : Option ℕ) → ℕ → Option Sort
 field_at t None text = None
-field_at t (Some owner) text = sort_by same_pair t.fields (owner, text)
+field_at t (Some owner) text = pair_sort t.fields (owner, text)
 
 abbrev pub own_method_at : Tables → (this : Option ℕ) → ℕ → Option ℕ
 own_method_at t None text = None
-own_method_at t (Some owner) text = get same_pair t.methods (owner, text)
+own_method_at t (Some owner) text = pair_at t.methods (owner, text)
 
 abbrev pub names_in : {S : Type 0} → Option (IndexSet ℕ S) → List ℕ
 names_in None = []
@@ -70,7 +72,7 @@ known_by texts t s = record {
   field = field_at t s.this;
   arg = sort_at s.args;
   own_method = own_method_at t s.this;
-  struct_method = λ owner text. get same_pair t.methods (owner, text);
+  struct_method = λ owner text. pair_at t.methods (owner, text);
   is_method = contains nat_eq t.method_names;
   is_public = public_at t;
   args = args_at t;

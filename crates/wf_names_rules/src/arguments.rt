@@ -1,6 +1,6 @@
 // What the arguments of a call break, where everything in it has a meaning.
 
-ghost use Rattle.std.specs.Prelude.{◌≡◌, ◌<◌, not, ℕ, List, [], length, map, slice_get, nat_eq, bytes_eq, IfOk, OnOk};
+ghost use Rattle.std.specs.Prelude.{◌≡◌, ◌<◌, not, [], length, map, slice_get, nat_eq, bytes_eq, IfOk, OnOk};
 ghost use Rattle.std.specs.List.{list_any};
 ghost use Rattle.indexmap.specs.IndexSet.{insert_all};
 ghost use Rattle.wf_text.specs.Precedence.{soonest};
@@ -10,8 +10,7 @@ ghost use Rattle.wf_ast.specs.ParsedParts.{GivenBelow};
 ghost use Rattle.wf_names_rules.specs.Declarations.{bytes_in, bytes_of};
 ghost use Rattle.wf_names_rules.specs.Tables.{args_at, sort_at};
 ghost use Rattle.wf_names_rules.specs.Here.{known_here};
-ghost use Rattle.wf_names_rules.specs.Meanings.{given_values, of_base, of_method, parameters_of, is_parameter as has_parameter, lacks_one as lacks, is_io as reads_or_writes};
-ghost use Rattle.wf_names_rules.specs.Passes.{refused_if as refuses_if};
+ghost use Rattle.wf_names_rules.specs.Meanings.{given_values, of_base, parameters_of, is_parameter as has_parameter, lacks_one as lacks, is_io as reads_or_writes};
 ghost use Rattle.wf_names_rules.specs.Judged.{arg_path, arg_path_at, passed_item, passed_seen, passed_of, unknown_item, unknown_of, args_judged};
 
 use crate::callees::Callee;

@@ -4,12 +4,13 @@ ghost use Rattle.std.specs.Prelude.{◌≡◌, slice_get, nat_eq};
 ghost use Rattle.indexmap.specs.IndexSet.{contains};
 ghost use Rattle.wf_base.specs.BaseTable.{method_named};
 ghost use Rattle.wf_names_rules.specs.Declarations.{bytes_in};
-ghost use Rattle.wf_names_rules.specs.Meanings.{or_sort, path_sort as sort_of_path, this_callee as callee_here, public_callee as callee_if_public, struct_callee as callee_in_struct, found_base, part_callee as callee_in_part, sorted_callee as callee_by_sort, callee_on as callee_of_name};
-ghost use Rattle.wf_names_rules.specs.Tables.{known_by, public_at, same_pair, sort_by, sort_at, field_at, own_method_at};
+ghost use Rattle.wf_names_rules.specs.Meanings.{or_sort, path_sort as sort_of_path, this_callee as callee_here, struct_callee as callee_in_struct, found_base, part_callee as callee_in_part, sorted_callee as callee_by_sort, callee_on as callee_of_name};
+ghost use Rattle.wf_names_rules.specs.Tables.{known_by, public_at, pair_sort, sort_at, field_at, own_method_at};
 
 use crate::callees::Callee;
 use crate::sorts::Sort;
 use indexmap::{IndexMap, IndexSet};
+use std::collections::BTreeMap;
 use wf_ast::parsed::{Path, Receiver, Root};
 use wf_ast::{PackageNodes, TextId};
 use wf_base::base_methods::{Kind, base_method};
@@ -58,10 +59,10 @@ pub struct Tables {
     pub statuses: Numbers,
     /// The structs, from 0.
     pub structs: Numbers,
-    /// A field, by its struct's name and its own.
-    pub fields: IndexMap<(u32, u32), Entry>,
+    /// A field, by its struct's name and its own; ordered, so that a look-up takes few comparisons whatever the names are.
+    pub fields: BTreeMap<(u32, u32), Entry>,
     /// The number of a method, by its struct's name and its own.
-    pub methods: IndexMap<(u32, u32), usize>,
+    pub methods: BTreeMap<(u32, u32), usize>,
     pub method_names: IndexSet<u32>,
     /// Of each method whether it is public.
     pub publics: Vec<bool>,
@@ -123,7 +124,7 @@ fn is_public(tables: &Tables, m: usize) -> bool
 }
 
 fn field_of(tables: &Tables, owner: u32, text: TextId) -> Option<Sort>
-    ensures { result ≡ sort_by same_pair tables.now.fields (owner, text.0) }
+    ensures { result ≡ pair_sort tables.now.fields (owner, text.0) }
 {
     match tables.fields.get(&(owner, text.0)) {
         Some(entry) => Some(entry.sort),

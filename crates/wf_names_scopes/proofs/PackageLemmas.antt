@@ -18,7 +18,8 @@ use Rattle.wf_names_rules.specs.declared.tables.Numbers.{Numbers}
 use Rattle.wf_names_rules.specs.declared.tables.Tables.{Tables}
 use Rattle.wf_names_rules.specs.Declarations.{Variable, Constant, Structure, Method, Declared, declared, variables, statuses_of, constants_of, structs_of, methods_of, is_spelt, struct_named, method_named, structure_in, fields_in, fields_of, locals_of}
 use Rattle.wf_names_rules.specs.Meanings.{args_in}
-use Rattle.wf_names_rules.specs.Tables.{Pair, same_pair, has_number}
+use Rattle.wf_names_rules.specs.Pairs.{Pair, same_pair}
+use Rattle.wf_names_rules.specs.Tables.{has_number}
 use Rattle.graphs.proofs.NumberLemmas.{same_number}
 use Rattle.wf_names_scopes.specs.Agreeing.{TellsNumbers, TellsPackage, package_of}
 use Rattle.wf_names_scopes.specs.Growing.{with_first, with_fields, with_status, with_struct, with_method}

@@ -1,7 +1,6 @@
 -- What it is that tables tell what the declarations of a package mean.
 use Rattle.std.specs.Prelude.{◌≡◌, ◌+◌, ℕ, List, Option, Some, length, map, nat_eq, option_map}
 use Rattle.std.specs.List.{list_any, position_from}
-use Rattle.indexmap.specs.IndexMap.{get}
 use Rattle.indexmap.specs.IndexSet.{contains}
 use Rattle.wf_names_rules.specs.declared.sorts.Sort.{Sort}
 use Rattle.wf_names_rules.specs.declared.tables.Numbers.{Numbers}
@@ -13,7 +12,8 @@ use Rattle.wf_ast.specs.ParsedParts.{Parsed}
 use Rattle.wf_ast.specs.ParsedTrees.{decl_trees}
 use Rattle.wf_names_rules.specs.Declarations.{Variable, Declared, declared, as_variable, bytes_of, is_spelt, method_named, variable_named, place_in, fields_of}
 use Rattle.wf_names_rules.specs.Meanings.{Known, sort_of, sort_in, args_in}
-use Rattle.wf_names_rules.specs.Tables.{same_pair, number_at, sort_by, place_by, sort_at, place_at}
+use Rattle.wf_names_rules.specs.Pairs.{pair_at}
+use Rattle.wf_names_rules.specs.Tables.{number_at, pair_sort, pair_place, sort_at, place_at}
 use Rattle.wf_names_rules.specs.Uses.{Scope}
 
 -- The same is known: each look-up answers the same.
@@ -47,9 +47,9 @@ pub record TellsNumbers {X : Type 0} (first : ℕ) (name : X → Name) (named : 
 pub record TellsPackage (d : Declared) (t : Tables) : Type 0 where
   pub statuses : TellsNumbers 10 (λ name. name) d.statuses t.statuses
   pub structs : TellsNumbers 0 (λ s. s.name) d.structs t.structs
-  pub fields : (owner text : ℕ) → sort_by same_pair t.fields (owner, text) ≡ sort_in d (fields_of d owner) text
-  pub places : (owner text : ℕ) → place_by same_pair t.fields (owner, text) ≡ place_in (fields_of d owner) text
-  pub methods : (owner text : ℕ) → get same_pair t.methods (owner, text) ≡ method_named d owner text
+  pub fields : (owner text : ℕ) → pair_sort t.fields (owner, text) ≡ sort_in d (fields_of d owner) text
+  pub places : (owner text : ℕ) → pair_place t.fields (owner, text) ≡ place_in (fields_of d owner) text
+  pub methods : (owner text : ℕ) → pair_at t.methods (owner, text) ≡ method_named d owner text
   pub method_names : (text : ℕ) → contains nat_eq t.method_names text ≡ list_any (λ m. is_spelt text m.name) d.methods
   pub publics : t.publics.items ≡ map (λ m. m.public) d.methods
   pub args : map (λ names. names.keys) t.args.items ≡ map (λ m. args_in (Some m)) d.methods

@@ -8,7 +8,7 @@ use Rattle.wf_names_rules.specs.declared.tables.Scope.{Scope as ScopeTables}
 use Rattle.wf_ast.specs.declared.parsed.Name.{Name}
 use Rattle.wf_names_rules.specs.Declarations.{Variable, Constant, Structure, Method, Declared, as_variable, is_spelt}
 use Rattle.wf_names_rules.specs.Uses.{Scope, constant_scope, constant_sites}
-use Rattle.wf_names_rules.specs.Tables.{Pair}
+use Rattle.wf_names_rules.specs.Pairs.{Pair}
 use Rattle.wf_names_scopes.specs.Agreeing.{TellsVariables, TellsScope}
 use Rattle.wf_names_scopes.specs.UsesFound.{sites_judged}
 

@@ -2,19 +2,19 @@
 // meant.
 
 ghost use Rattle.std.specs.Prelude.{◌≡◌, ◌++◌, ◌||◌, [], ◌∷◌, ℕ, List, map, nat_eq, IfOk, OnOk};
-ghost use Rattle.indexmap.specs.IndexMap.{get};
 ghost use Rattle.indexmap.specs.IndexSet.{contains, insert_all};
 ghost use Rattle.wf_ast.specs.declared.parsed.Name.{Name};
 ghost use Rattle.wf_ast.specs.ParsedTree.{ExprTree, DeclTree};
 ghost use Rattle.wf_ast.specs.ParsedTrees.{expr_trees, stmt_trees, fields_at, decl_made};
 ghost use Rattle.wf_names_rules.specs.Declarations.{Declared, Structure, Method, declared, variables};
-ghost use Rattle.wf_names_rules.specs.Tables.{same_pair, sort_by, place_by, Pair};
+ghost use Rattle.wf_names_rules.specs.Tables.{pair_sort, pair_place};
 ghost use Rattle.wf_names_scopes.specs.Agreeing.{TellsNumbers, TellsPackage, package_of, sort_among};
-ghost use Rattle.wf_names_scopes.specs.Growing.{with_first, with_fields, place_from, with_status, with_struct, with_method};
+ghost use Rattle.wf_names_scopes.specs.Growing.{with_fields, place_from, with_status, with_struct, with_method};
 
-use crate::numbers::{add_field, add_number, next_number};
+use crate::numbers::{add_field, add_number, next_number, put_pair};
 use indexmap::{IndexMap, IndexSet};
 use std::alloc::Global;
+use std::collections::BTreeMap;
 use wf_ast::parsed::{Decl, DeclNode, Field, Name};
 use wf_ast::{PackageNodes, TextId};
 use wf_names_rules::tables::{Entry, Numbers, Tables};
@@ -42,8 +42,8 @@ fn empty(alloc: Global) -> Tables
     Tables {
         statuses: no_names(alloc, BASE_STATUSES),
         structs: no_names(alloc, 0),
-        fields: IndexMap::new(alloc),
-        methods: IndexMap::new(alloc),
+        fields: BTreeMap::new(alloc),
+        methods: BTreeMap::new(alloc),
         method_names: IndexSet::new(alloc),
         publics: Vec::new(alloc),
         args: Vec::new(alloc),
@@ -60,15 +60,15 @@ fn add_name(names: &mut IndexSet<u32>, name: Name) -> Result<(), NoMemory>
 
 // The fields of a struct whose name is new.
 fn add_fields(
-    table: &mut IndexMap<(u32, u32), Entry>,
+    table: &mut BTreeMap<(u32, u32), Entry>,
     parsed: &PackageNodes,
     owner: TextId,
     fields: &[Field],
 ) -> Result<(), NoMemory>
-    ensures sorts { OnOk result ((other text : ℕ) → sort_by same_pair table.new (other, text)
-        ≡ with_fields (sort_by same_pair table.old) owner.0 (sort_among parsed.now.texts) (variables (fields_at (expr_trees parsed.now.exprs) fields.now)) other text) }
-    ensures places { OnOk result ((es : List ExprTree) (other text : ℕ) → place_by same_pair table.new (other, text)
-        ≡ with_fields (place_by same_pair table.old) owner.0 (place_from 0) (variables (fields_at es fields.now)) other text) }
+    ensures sorts { OnOk result ((other text : ℕ) → pair_sort table.new (other, text)
+        ≡ with_fields (pair_sort table.old) owner.0 (sort_among parsed.now.texts) (variables (fields_at (expr_trees parsed.now.exprs) fields.now)) other text) }
+    ensures places { OnOk result ((es : List ExprTree) (other text : ℕ) → pair_place table.new (other, text)
+        ≡ with_fields (pair_place table.old) owner.0 (place_from 0) (variables (fields_at es fields.now)) other text) }
 {
     let mut place = 0;
     for field in fields {
@@ -79,21 +79,6 @@ fn add_fields(
         add_field(table, owner, field.name.text, entry)?;
         place = next_number(place)?;
     }
-    Ok(())
-}
-
-fn number_method(
-    methods: &mut IndexMap<(u32, u32), usize>,
-    owner: TextId,
-    name: TextId,
-    m: usize,
-) -> Result<(), NoMemory>
-    ensures { OnOk result ((key : Pair) → get same_pair methods.new key ≡ with_first same_pair (get same_pair methods.old) (owner.0, name.0) m key) }
-{
-    if methods.contains_key(&(owner.0, name.0)) {
-        return Ok(());
-    }
-    methods.insert((owner.0, name.0), m)?;
     Ok(())
 }
 
@@ -145,7 +130,7 @@ fn add_method(
 {
     let names = arg_names(alloc, args)?;
     let m = tables.publics.len();
-    number_method(&mut tables.methods, owner.text, name.text, m)?;
+    put_pair(&mut tables.methods, (owner.text.0, name.text.0), m)?;
     add_name(&mut tables.method_names, name)?;
     tables.publics.push(public)?;
     tables.args.push(names)?;
