@@ -32,7 +32,7 @@ use Rattle.wf_named.specs.NamedParts.{NamedParts, named_package}
 use Rattle.wf_named.specs.NamedTree.{NamedExprTree, number, status, truth, path, index, slice, answer, chain, convert, negation, NamedPartTree, NamedArgTrees, NamedCallTree, call, NamedTargetTree, NamedViaTree, NamedStmtTree, leave, again}
 use Rattle.wf_types_rules.specs.declared.settings.Setting.{Setting}
 use Rattle.wf_types_rules.specs.Meanings.{variable}
-use Rattle.wf_typed_tree.specs.ElaboratedExprs.{type_meant, path_tree, expr_tree, arg_trees}
+use Rattle.wf_typed_tree.specs.ElaboratedExprs.{type_meant, expr_tree, arg_trees}
 use Rattle.wf_typed_tree.specs.ElaboratedStmts.{target_tree, update_tree, call_tree, assign_tree, returned_tree, axiom_tree, loop_meant, count_stmt, site, stmt_tree}
 use Rattle.wf_typed_tree.proofs.NumberLemmas.{and-true}
 use Rattle.wf_typed_stmts.specs.Parts.{HasTree, StandForArgs, call_meant, StandsForCallee, value_assigned, StandsForPart, StandsForVia, MakesSimple}
