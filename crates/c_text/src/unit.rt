@@ -16,7 +16,7 @@ use crate::name_table::Names;
 use crate::nodes::{CExpr, CItem, CStmt};
 use std::alloc::Global;
 use std::marker::Model;
-use wf_text::NoMemory;
+use wf_text::{NoMemory, add_last};
 
 /// A C text as a tree. Its items stand in the text in the order in which they were added.
 pub struct Unit {
@@ -193,7 +193,7 @@ impl Unit {
         ensures err { OnErr result (self.new ≡ self.old) }
     {
         let id = self.exprs.len();
-        self.exprs.push(e)?;
+        add_last(&mut self.exprs, e)?;
         Ok(CExprId(id))
     }
 
@@ -204,7 +204,7 @@ impl Unit {
         ensures err { OnErr result (self.new ≡ self.old) }
     {
         let id = self.stmts.len();
-        self.stmts.push(s)?;
+        add_last(&mut self.stmts, s)?;
         Ok(CStmtId(id))
     }
 
@@ -216,7 +216,7 @@ impl Unit {
         ensures err { OnErr result (self.new ≡ self.old) }
     {
         let id = self.items.len();
-        self.items.push(i)?;
+        add_last(&mut self.items, i)?;
         Ok(CItemId(id))
     }
 }

@@ -4,6 +4,7 @@ ghost use Rattle.std.specs.Prelude.{◌≡◌, ◌++◌, List, [], ◌∷◌, le
 
 use std::alloc::{AllocError, Global};
 use std::marker::Model;
+use wf_text::add_last;
 
 /// A list that only grows, in order.
 #[derive(Drop)]
@@ -32,7 +33,7 @@ impl<T: Drop> Sequence<T> {
         ensures ok { OnOk result (self.new ≡ self.old ++ item ∷ []) }
         ensures err { OnErr result (self.new ≡ self.old) }
     {
-        self.items.push(item)?;
+        add_last(&mut self.items, item)?;
         Ok(())
     }
 

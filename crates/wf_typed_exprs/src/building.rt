@@ -10,6 +10,7 @@ use crate::typed_exprs::TypedExpr;
 use std::alloc::{AllocError, Global};
 use std::marker::Model;
 use wf_ast::{ExprId, TypedNodes};
+use wf_text::add_last;
 use wf_text::faults::NoMemory;
 
 // How many expressions a typed package may have.
@@ -63,7 +64,7 @@ impl Building {
         if number >= NUMBERS {
             return Err(AllocError);
         }
-        self.exprs.push(one)?;
+        add_last(&mut self.exprs, one)?;
         Ok(ExprId(number as u32))
     }
 
