@@ -124,7 +124,25 @@ impl<'a, O: Sink> SinkPen<'a, O> {
         }
     }
 
+    /// Writes a piece byte by byte.
+    #[inline(never)]
+    fn write_bytes(&mut self, piece: &[u8])
+        requires filled { self.old.filled ≤ 4096 }
+        requires sent { self.old.sent < 2 ^ 64 }
+        requires countable { self.old.failed ≡ false → O.faults self.old.out.now < 2 ^ 64 - 1 }
+        ensures same { self.new.out.ghost_name ≡ self.old.out.ghost_name }
+        ensures filled { self.new.filled ≤ 4096 }
+        ensures sent { self.new.sent < 2 ^ 64 }
+        ensures countable { self.new.failed ≡ false → O.faults self.new.out.now < 2 ^ 64 - 1 }
+        ensures writes { Wrote (pen_state (O.written self.old.out.now) (O.room self.old.out.now) (O.longest self.old.out.now) (O.faults self.old.out.now) self.old.buffer self.old.filled self.old.sent self.old.failed) (pen_state (O.written self.new.out.now) (O.room self.new.out.now) (O.longest self.new.out.now) (O.faults self.new.out.now) self.new.buffer self.new.filled self.new.sent self.new.failed) piece.now }
+    {
+        for byte in piece {
+            self.write_byte(*byte);
+        }
+    }
+
     /// Writes a piece for which there is room after the waiting bytes.
+    #[inline]
     fn append(&mut self, piece: &[u8])
         requires room { self.old.filled + length piece.now ≤ 4096 }
         requires sent { self.old.sent < 2 ^ 64 }
@@ -181,13 +199,12 @@ impl<'a, O: Sink> Pen for SinkPen<'a, O> {
         self.failed
     }
 
+    #[inline]
     fn write(&mut self, piece: &[u8]) {
         if piece.len() <= 4096 - self.filled && !self.failed {
             self.append(piece);
-            return;
-        }
-        for byte in piece {
-            self.write_byte(*byte);
+        } else {
+            self.write_bytes(piece);
         }
     }
 }

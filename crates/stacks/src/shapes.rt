@@ -33,6 +33,7 @@ fn shape_at<S: Copy>(shapes: &[S], place: usize) -> Option<S>
 }
 
 /// Whether the topmost values have these shapes, the topmost first.
+#[inline(always)]
 pub fn fits<V: Drop, S: ShapeOf<V>>(shapes: &[S], values: &Stack<V>) -> bool
     ensures { result ≡ all_fit S.is_shape shapes.now values.now }
 {

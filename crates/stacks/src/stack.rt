@@ -32,6 +32,7 @@ impl<T: Drop> Stack<T> {
     }
 
     /// Puts `item` on the top. After `NoMemory` the stack is as before.
+    #[inline]
     pub fn push(&mut self, item: T) -> Result<(), NoMemory>
         ensures ok { OnOk result (self.new ≡ item ∷ self.old) }
         ensures err { OnErr result (self.new ≡ self.old) }

@@ -2,6 +2,7 @@ pub mod Accessors
 pub mod Arena
 pub mod BaseMethodExamples
 pub mod BoolLemmas
+pub mod ChainKinds
 pub mod Depends
 pub mod LocalNodes
 pub mod MentionLaws
@@ -11,6 +12,6 @@ pub mod SameChains
 pub mod SameLaws
 pub mod SameParts
 pub mod SameValue
-pub mod TextLemmas
 pub mod TreeKinds
 pub mod TreeLemmas
+pub mod TypeKinds

@@ -12,8 +12,8 @@ use Rattle.wf_base.specs.BaseTable.{row_of, bits_of}
 use Rattle.wf_ast.specs.declared.numbers.ExprId.{ExprId}
 use Rattle.wf_ast.specs.declared.types.Ty.{Ty}
 use Rattle.wf_ast.specs.declared.types.Ty.TheVariants as types
-use Rattle.wf_ast.specs.declared.resolved.Expr.{Expr}
-use Rattle.wf_ast.specs.declared.resolved.Expr.TheVariants as exprs
+use Rattle.wf_ast.specs.declared.typed_code.Expr.{Expr}
+use Rattle.wf_ast.specs.declared.typed_code.Expr.TheVariants as exprs
 use Rattle.wf_ast.specs.declared.typed_nodes.TypedNodes.{TypedNodes}
 use Rattle.wf_ast.specs.TypedTree.{Path, local, field, arg, Arith, Order, equal, differs, NumTree, link, CondTree, compare, junction, ValueTree, numeric, logical, state}
 use Rattle.wf_ast.specs.TypedTrees.{Sort, arithmetic, ordering, joining, sort_of, type_of_node, made, named, num_type, num_chain, cond_chain, chain_of, comparison, first_sign, answer_of, num_in, cond_in, slice_in, end_in}

@@ -27,7 +27,7 @@ use Rattle.wf_ast.specs.declared.parsed.Target.TheVariants as targets
 use Rattle.wf_ast.specs.declared.parsed.TypeExpr.{TypeExpr}
 use Rattle.wf_ast.specs.declared.parsed.Via.{Via}
 use Rattle.wf_ast.specs.ParsedTree as tree
-use Rattle.wf_ast.specs.ParsedTree.{ExprTree, PartTree, LinkTrees, GivenTrees, CallTree, TypeTree, BoundsTree, TargetTree, ClauseTrees, ViaTree, StmtTree, BlockTree, ArmTrees, FieldTrees, ResultTree, DeclTree}
+use Rattle.wf_ast.specs.ParsedTree.{ExprTree, TypeTree, StmtTree, ArmTrees}
 use Rattle.wf_ast.specs.ParsedTrees.{expr_or, stmt_or, expr_at, part_at, links_at, given_at, bounds_at, core_at, prefixed, all_prefixed, type_at, expr_made, exprs_after, expr_trees, stmt_at, items_at, block_at, else_at, arms_at, stmt_made, stmts_after, stmt_trees}
 use Rattle.wf_ast.specs.ParsedParts.{Parsed, IsShaped, IsBelow, LinksBelow, GivenBelow, PrefixBelow, BoundsBelow, TypeBelow, ExprParts, BlockBelow, ElseBelow, TargetBelow, ViaBelow, StmtParts, FieldsBelow, ResultBelow, DeclParts, ExprsOrdered, StmtsOrdered}
 
@@ -53,6 +53,74 @@ slice_get-seam (x ∷ xs) y ys = slice_get-seam xs y ys
 abbrev pub Agree : {X : Type 0} → ℕ → List X → List X → Type 0
 Agree k ts us = (i : ℕ) → i < k → slice_get ts i ≡ slice_get us i
 
+-- A list of trees to which one tree a node is added, made of the trees before it.
+pub record IsGrowing {N T : Type 0} (make : List T → N → T) (after : List T → List N → List T) : Type 0 where
+  pub none : (ts : List T) → after ts [] ≡ ts
+  pub more : (ts : List T) (n : N) (ns : List N) → after ts (n ∷ ns) ≡ after (ts ++ make ts n ∷ []) ns
+
+-- Each node of a list has parts that fit its number.
+pub record IsInOrder {N : Type 0} (Parts : ℕ → N → Type 0) (Ordered : ℕ → List N → Type 0) : Type 0 where
+  pub none : (k : ℕ) → Ordered k []
+  pub more : (k : ℕ) (n : N) (ns : List N) → Parts k n → Ordered (k + 1) ns → Ordered k (n ∷ ns)
+  pub first : (k : ℕ) (n : N) (ns : List N) → Ordered k (n ∷ ns) → Parts k n
+  pub others : (k : ℕ) (n : N) (ns : List N) → Ordered k (n ∷ ns) → Ordered (k + 1) ns
+
+module _ {N T : Type 0} (make : List T → N → T) (after : List T → List N → List T) (g : IsGrowing make after) where
+  -- It keeps the trees that it began with.
+  pub growing-front : (ns : List N) (ts : List T) → Agree (length ts) ts (after ts ns)
+  growing-front [] ts i h = ap (λ us. slice_get us i) (sym (g.none ts))
+  growing-front (n ∷ ns) ts i h =
+      let longer = ts ++ make ts n ∷ [] in
+      let within : i < length longer = omega (arith, length-append ts (make ts n ∷ [])) in
+      sym (slice_get-front ts (make ts n ∷ []) i h) ∙ growing-front ns longer i within ∙ ap (λ us. slice_get us i) (sym (g.more ts n ns))
+
+  -- The tree of a node is the one made over all trees, since it has its parts among those before it.
+  pub growing-made : (Parts : ℕ → N → Type 0) (Ordered : ℕ → List N → Type 0) → IsInOrder Parts Ordered → ((k : ℕ) (ts us : List T) → Agree k ts us → (n : N) → Parts k n → make ts n ≡ make us n)
+      → (ns : List N) (ts : List T) (k : ℕ) → k ≡ length ts → Ordered k ns → (i : ℕ) (n : N) → slice_get ns i ≡ Some n → slice_get (after ts ns) (k + i) ≡ Some (make (after ts ns) n)
+  growing-made Parts Ordered order same [] ts k e o i n found = absurd (cc found)
+  growing-made Parts Ordered order same (m ∷ ns) ts k e o zero n found =
+      let is : m ≡ n = cc found in
+      let whole = after ts (m ∷ ns) in
+      let made = make ts m in
+      let longer = ts ++ made ∷ [] in
+      let here : k + 0 < length longer = omega (arith, length-append ts (made ∷ [])) in
+      let front : slice_get longer (k + 0) ≡ slice_get whole (k + 0) = growing-front ns longer (k + 0) here ∙ ap (λ us. slice_get us (k + 0)) (sym (g.more ts m ns)) in
+      let spot : k + 0 ≡ length ts = omega arith in
+      let seam : slice_get longer (k + 0) ≡ Some made = ap (slice_get longer) spot ∙ slice_get-seam ts made [] in
+      let over_all : made ≡ make whole m = same k ts whole (λ j h. growing-front (m ∷ ns) ts j (omega arith)) m (order.first k m ns o) in
+      sym front ∙ seam ∙ ap Some over_all ∙ ap (λ x. Some (make whole x)) is
+  growing-made Parts Ordered order same (m ∷ ns) ts k e o (suc i) n found =
+      let longer = ts ++ make ts m ∷ [] in
+      let one_more : k + 1 ≡ length longer = omega (arith, length-append ts (make ts m ∷ [])) in
+      let spot : k + suc i ≡ (k + 1) + i = omega arith in
+      let P : List T → Type 0 = λ us. slice_get us (k + suc i) ≡ Some (make us n) in
+      subst P (sym (g.more ts m ns)) (ap (slice_get (after longer ns)) spot ∙ growing-made Parts Ordered order same ns longer (k + 1) one_more (order.others k m ns o) i n found)
+
+module _ {N : Type 0} (Parts : ℕ → N → Type 0) (Ordered : ℕ → List N → Type 0) (order : IsInOrder Parts Ordered) where
+  pub ordered-parts : (ns : List N) (k : ℕ) → Ordered k ns → (i : ℕ) (n : N) → slice_get ns i ≡ Some n → Parts (k + i) n
+  ordered-parts [] k o i n g = absurd (cc g)
+  ordered-parts (m ∷ ns) k o zero n g =
+      let is : m ≡ n = cc g in
+      let spot : k ≡ k + 0 = omega arith in
+      let P : N → Type 0 = λ x. Parts (k + 0) x in
+      let Q : ℕ → Type 0 = λ j. Parts j m in
+      subst P is (subst Q spot (order.first k m ns o))
+  ordered-parts (m ∷ ns) k o (suc i) n g =
+      let spot : (k + 1) + i ≡ k + suc i = omega arith in
+      let Q : ℕ → Type 0 = λ j. Parts j n in
+      subst Q spot (ordered-parts ns (k + 1) (order.others k m ns o) i n g)
+
+  pub ordered-push : (ns : List N) (k : ℕ) (n : N) → Ordered k ns → Parts (k + length ns) n → Ordered k (ns ++ n ∷ [])
+  ordered-push [] k n o p =
+      let spot : k + 0 ≡ k = omega arith in
+      let Q : ℕ → Type 0 = λ j. Parts j n in
+      order.more k n [] (subst Q spot p) (order.none (k + 1))
+  ordered-push (m ∷ ns) k n o p =
+      let spot : k + suc (length ns) ≡ (k + 1) + length ns = omega arith in
+      let Q : ℕ → Type 0 = λ j. Parts j n in
+      order.more k m (ns ++ n ∷ []) (order.first k m ns o) (ordered-push ns (k + 1) n (order.others k m ns o) (subst Q spot p))
+
+-- Trees that agree make the same of an expression.
 pub expr_at-same : (k : ℕ) (ts us : List ExprTree) → Agree k ts us → (e : ExprId) → e.0 < k → expr_at ts e ≡ expr_at us e
 expr_at-same k ts us a e h = ap expr_or (a e.0 h)
 
@@ -102,34 +170,17 @@ expr_made-same k ts us a (exprs.Chain op first links) at h = let p = expr_at-sam
 expr_made-same k ts us a (exprs.Convert of to) at h = let p = expr_at-same k ts us a of h.0 in let q = type_at-same k ts us a to h.1 in cc
 expr_made-same k ts us a (exprs.Not of) at h = ap (λ e. tree.negation e at) (expr_at-same k ts us a of h)
 
--- The fold keeps the trees that it began with.
-pub exprs_after-front : (ns : List ExprNode) (ts : List ExprTree) → Agree (length ts) ts (exprs_after ts ns)
-exprs_after-front [] ts i h = refl
-exprs_after-front (n ∷ ns) ts i h =
-    let longer = ts ++ expr_made ts n.expr n.at ∷ [] in
-    let more : i < length longer = omega (arith, length-append ts (expr_made ts n.expr n.at ∷ [])) in
-    sym (slice_get-front ts (expr_made ts n.expr n.at ∷ []) i h) ∙ exprs_after-front ns longer i more
+-- The trees of the expressions are such a list, and their nodes are in order.
+exprs_grow : IsGrowing (λ ts n. expr_made ts n.expr n.at) exprs_after
+exprs_grow = record { none = λ ts. refl; more = λ ts n ns. refl }
+
+exprs_in_order : IsInOrder (λ k n. ExprParts k n.expr) ExprsOrdered
+exprs_in_order = record { none = λ k. tt; more = λ k n ns p o. (p, o); first = λ k n ns o. o.0; others = λ k n ns o. o.1 }
 
 pub exprs_after-made : (ns : List ExprNode) (ts : List ExprTree) (k : ℕ) → k ≡ length ts → ExprsOrdered k ns
     → (i : ℕ) (n : ExprNode) → slice_get ns i ≡ Some n
     → slice_get (exprs_after ts ns) (k + i) ≡ Some (expr_made (exprs_after ts ns) n.expr n.at)
-exprs_after-made [] ts k e o i n g = absurd (cc g)
-exprs_after-made (m ∷ ns) ts k e o zero n g =
-    let is : m ≡ n = cc g in
-    let whole = exprs_after ts (m ∷ ns) in
-    let made = expr_made ts m.expr m.at in
-    let longer = ts ++ made ∷ [] in
-    let here : k + 0 < length longer = omega (arith, length-append ts (made ∷ [])) in
-    let front : slice_get longer (k + 0) ≡ slice_get whole (k + 0) = exprs_after-front ns longer (k + 0) here in
-    let spot : k + 0 ≡ length ts = omega arith in
-    let seam : slice_get longer (k + 0) ≡ Some made = ap (slice_get longer) spot ∙ slice_get-seam ts made [] in
-    let same : made ≡ expr_made whole m.expr m.at = expr_made-same k ts whole (λ j h. exprs_after-front (m ∷ ns) ts j (omega arith)) m.expr m.at o.0 in
-    sym front ∙ seam ∙ ap Some same ∙ ap (λ x. Some (expr_made whole x.expr x.at)) is
-exprs_after-made (m ∷ ns) ts k e o (suc i) n g =
-    let longer = ts ++ expr_made ts m.expr m.at ∷ [] in
-    let one_more : k + 1 ≡ length longer = omega (arith, length-append ts (expr_made ts m.expr m.at ∷ [])) in
-    let spot : k + suc i ≡ (k + 1) + i = omega arith in
-    ap (slice_get (exprs_after longer ns)) spot ∙ exprs_after-made ns longer (k + 1) one_more o.1 i n g
+exprs_after-made = growing-made _ exprs_after exprs_grow (λ k n. ExprParts k n.expr) ExprsOrdered exprs_in_order (λ k ts us a n p. expr_made-same k ts us a n.expr n.at p)
 
 pub expr_trees-node : (ns : List ExprNode) → ExprsOrdered 0 ns → (i : ℕ) (n : ExprNode) → slice_get ns i ≡ Some n
     → expr_or (slice_get (expr_trees ns) i) ≡ expr_made (expr_trees ns) n.expr n.at
@@ -139,27 +190,10 @@ expr_trees-node ns o i n g =
     ap (λ j. expr_or (slice_get (exprs_after [] ns) j)) (sym spot) ∙ ap expr_or (exprs_after-made ns [] 0 refl o i n g)
 
 pub exprs_parts : (ns : List ExprNode) (k : ℕ) → ExprsOrdered k ns → (i : ℕ) (n : ExprNode) → slice_get ns i ≡ Some n → ExprParts (k + i) n.expr
-exprs_parts [] k o i n g = absurd (cc g)
-exprs_parts (m ∷ ns) k o zero n g =
-    let is : m ≡ n = cc g in
-    let spot : k ≡ k + 0 = omega arith in
-    let P : ExprNode → Type 0 = λ x. ExprParts (k + 0) x.expr in
-    let Q : ℕ → Type 0 = λ j. ExprParts j m.expr in
-    subst P is (subst Q spot o.0)
-exprs_parts (m ∷ ns) k o (suc i) n g =
-    let spot : (k + 1) + i ≡ k + suc i = omega arith in
-    let Q : ℕ → Type 0 = λ j. ExprParts j n.expr in
-    subst Q spot (exprs_parts ns (k + 1) o.1 i n g)
+exprs_parts = ordered-parts (λ k n. ExprParts k n.expr) ExprsOrdered exprs_in_order
 
 pub exprs_push : (ns : List ExprNode) (k : ℕ) (n : ExprNode) → ExprsOrdered k ns → ExprParts (k + length ns) n.expr → ExprsOrdered k (ns ++ n ∷ [])
-exprs_push [] k n o p =
-    let spot : k + 0 ≡ k = omega arith in
-    let Q : ℕ → Type 0 = λ j. ExprParts j n.expr in
-    (subst Q spot p, tt)
-exprs_push (m ∷ ns) k n o p =
-    let spot : k + suc (length ns) ≡ (k + 1) + length ns = omega arith in
-    let Q : ℕ → Type 0 = λ j. ExprParts j n.expr in
-    (o.0, exprs_push ns (k + 1) n o.1 (subst Q spot p))
+exprs_push = ordered-push (λ k n. ExprParts k n.expr) ExprsOrdered exprs_in_order
 
 -- Statements likewise, over the same expressions.
 pub items_at-same : (k : ℕ) (ts us : List StmtTree) → Agree k ts us → (ss : List StmtId) (at : Place) → AllByRecursion (λ s. s.0 < k) ss → items_at ts ss at ≡ items_at us ss at
@@ -192,34 +226,16 @@ stmt_made-same e k es ts us a (stmts.Return value) at h = refl
 stmt_made-same e k es ts us a (stmts.Yield value) at h = refl
 stmt_made-same e k es ts us a (stmts.Assert goal v) at h = refl
 
-pub stmts_after-front : (es : List ExprTree) (ns : List StmtNode) (ts : List StmtTree) → Agree (length ts) ts (stmts_after es ts ns)
-stmts_after-front es [] ts i h = refl
-stmts_after-front es (n ∷ ns) ts i h =
-    let made = stmt_made es ts n.stmt n.at in
-    let longer = ts ++ made ∷ [] in
-    let more : i < length longer = omega (arith, length-append ts (made ∷ [])) in
-    sym (slice_get-front ts (made ∷ []) i h) ∙ stmts_after-front es ns longer i more
+stmts_grow : (es : List ExprTree) → IsGrowing (λ ts n. stmt_made es ts n.stmt n.at) (stmts_after es)
+stmts_grow es = record { none = λ ts. refl; more = λ ts n ns. refl }
+
+stmts_in_order : (e : ℕ) → IsInOrder (λ k n. StmtParts e k n.stmt) (StmtsOrdered e)
+stmts_in_order e = record { none = λ k. tt; more = λ k n ns p o. (p, o); first = λ k n ns o. o.0; others = λ k n ns o. o.1 }
 
 pub stmts_after-made : (e : ℕ) (es : List ExprTree) (ns : List StmtNode) (ts : List StmtTree) (k : ℕ) → k ≡ length ts → StmtsOrdered e k ns
     → (i : ℕ) (n : StmtNode) → slice_get ns i ≡ Some n
     → slice_get (stmts_after es ts ns) (k + i) ≡ Some (stmt_made es (stmts_after es ts ns) n.stmt n.at)
-stmts_after-made e es [] ts k p o i n g = absurd (cc g)
-stmts_after-made e es (m ∷ ns) ts k p o zero n g =
-    let is : m ≡ n = cc g in
-    let whole = stmts_after es ts (m ∷ ns) in
-    let made = stmt_made es ts m.stmt m.at in
-    let longer = ts ++ made ∷ [] in
-    let here : k + 0 < length longer = omega (arith, length-append ts (made ∷ [])) in
-    let front : slice_get longer (k + 0) ≡ slice_get whole (k + 0) = stmts_after-front es ns longer (k + 0) here in
-    let spot : k + 0 ≡ length ts = omega arith in
-    let seam : slice_get longer (k + 0) ≡ Some made = ap (slice_get longer) spot ∙ slice_get-seam ts made [] in
-    let same : made ≡ stmt_made es whole m.stmt m.at = stmt_made-same e k es ts whole (λ j h. stmts_after-front es (m ∷ ns) ts j (omega arith)) m.stmt m.at o.0 in
-    sym front ∙ seam ∙ ap Some same ∙ ap (λ x. Some (stmt_made es whole x.stmt x.at)) is
-stmts_after-made e es (m ∷ ns) ts k p o (suc i) n g =
-    let longer = ts ++ stmt_made es ts m.stmt m.at ∷ [] in
-    let one_more : k + 1 ≡ length longer = omega (arith, length-append ts (stmt_made es ts m.stmt m.at ∷ [])) in
-    let spot : k + suc i ≡ (k + 1) + i = omega arith in
-    ap (slice_get (stmts_after es longer ns)) spot ∙ stmts_after-made e es ns longer (k + 1) one_more o.1 i n g
+stmts_after-made e es = growing-made _ (stmts_after es) (stmts_grow es) (λ k n. StmtParts e k n.stmt) (StmtsOrdered e) (stmts_in_order e) (λ k ts us a n p. stmt_made-same e k es ts us a n.stmt n.at p)
 
 pub stmt_trees-node : (e : ℕ) (exprs : List ExprNode) (ns : List StmtNode) → StmtsOrdered e 0 ns → (i : ℕ) (n : StmtNode) → slice_get ns i ≡ Some n
     → stmt_or (slice_get (stmt_trees exprs ns) i) ≡ stmt_made (expr_trees exprs) (stmt_trees exprs ns) n.stmt n.at
@@ -229,27 +245,10 @@ stmt_trees-node e exprs ns o i n g =
     ap (λ j. stmt_or (slice_get (stmts_after (expr_trees exprs) [] ns) j)) (sym spot) ∙ ap stmt_or (stmts_after-made e (expr_trees exprs) ns [] 0 refl o i n g)
 
 pub stmts_parts : (e : ℕ) (ns : List StmtNode) (k : ℕ) → StmtsOrdered e k ns → (i : ℕ) (n : StmtNode) → slice_get ns i ≡ Some n → StmtParts e (k + i) n.stmt
-stmts_parts e [] k o i n g = absurd (cc g)
-stmts_parts e (m ∷ ns) k o zero n g =
-    let is : m ≡ n = cc g in
-    let spot : k ≡ k + 0 = omega arith in
-    let P : StmtNode → Type 0 = λ x. StmtParts e (k + 0) x.stmt in
-    let Q : ℕ → Type 0 = λ j. StmtParts e j m.stmt in
-    subst P is (subst Q spot o.0)
-stmts_parts e (m ∷ ns) k o (suc i) n g =
-    let spot : (k + 1) + i ≡ k + suc i = omega arith in
-    let Q : ℕ → Type 0 = λ j. StmtParts e j n.stmt in
-    subst Q spot (stmts_parts e ns (k + 1) o.1 i n g)
+stmts_parts e = ordered-parts (λ k n. StmtParts e k n.stmt) (StmtsOrdered e) (stmts_in_order e)
 
 pub stmts_push : (e : ℕ) (ns : List StmtNode) (k : ℕ) (n : StmtNode) → StmtsOrdered e k ns → StmtParts e (k + length ns) n.stmt → StmtsOrdered e k (ns ++ n ∷ [])
-stmts_push e [] k n o p =
-    let spot : k + 0 ≡ k = omega arith in
-    let Q : ℕ → Type 0 = λ j. StmtParts e j n.stmt in
-    (subst Q spot p, tt)
-stmts_push e (m ∷ ns) k n o p =
-    let spot : k + suc (length ns) ≡ (k + 1) + length ns = omega arith in
-    let Q : ℕ → Type 0 = λ j. StmtParts e j n.stmt in
-    (o.0, stmts_push e ns (k + 1) n o.1 (subst Q spot p))
+stmts_push e = ordered-push (λ k n. StmtParts e k n.stmt) (StmtsOrdered e) (stmts_in_order e)
 
 -- What is below a number is below a larger one.
 pub IsBelow-more : (k l : ℕ) → k ≤ l → (e : Option ExprId) → IsBelow k e → IsBelow l e

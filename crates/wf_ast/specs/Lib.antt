@@ -11,7 +11,6 @@ pub mod Same
 pub mod SameNodes
 pub mod StatementOrder
 pub mod StatementPlaces
-pub mod TextNumbers
 pub mod TypedInvariant
 pub mod TypedPackage
 pub mod TypedTree

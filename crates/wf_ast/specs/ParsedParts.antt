@@ -1,6 +1,7 @@
 -- That the nodes of a package name only nodes before them, and texts that the package has.
-use Rattle.std.specs.Prelude.{◌⊎◌, ◌++◌, ◌≡◌, ◌+◌, ◌<◌, ℕ, ⊤, Option, None, Some, List, [], ◌∷◌, length}
-use Rattle.std.specs.List.{AllByRecursion, slice_get}
+use Rattle.std.specs.Prelude.{◌+◌, ◌<◌, ℕ, ⊤, Option, None, Some, List, [], ◌∷◌, length}
+use Rattle.std.specs.List.{AllByRecursion}
+pub use Rattle.interner.specs.Interning.{JoinsText, AreDistinct}
 use Rattle.wf_ast.specs.declared.numbers.ExprId.{ExprId}
 use Rattle.wf_ast.specs.declared.parsed.Block.{Block}
 use Rattle.wf_ast.specs.declared.parsed.Bounds.{Bounds}
@@ -30,14 +31,6 @@ pub record Parsed : Type 0 where
   pub exprs : List ExprNode
   pub stmts : List StmtNode
   pub decls : List DeclNode
-
--- The texts after a search for one of them: the same, or one more at their end.
-abbrev pub JoinsText : (old new : List (List ℕ)) → (text : List ℕ) → Type 0
-JoinsText old new text = (new ≡ old) ⊎ (new ≡ old ++ text ∷ [])
-
--- Equal texts have equal numbers.
-abbrev pub AreDistinct : List (List ℕ) → Type 0
-AreDistinct texts = (i j : ℕ) (text : List ℕ) → slice_get texts i ≡ Some text → slice_get texts j ≡ Some text → i ≡ j
 
 -- Each expression number is below `k`.
 abbrev pub IsBelow : ℕ → Option ExprId → Type 0

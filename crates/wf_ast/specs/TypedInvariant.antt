@@ -12,14 +12,14 @@ use Rattle.wf_text.specs.declared.categories.Category.TheVariants.{Fine}
 use Rattle.wf_ast.specs.declared.numbers.ExprId.{ExprId}
 use Rattle.wf_ast.specs.declared.types.Ty.{Ty}
 use Rattle.wf_ast.specs.declared.types.Ty.TheVariants as types
-use Rattle.wf_ast.specs.declared.resolved.Expr.{Expr}
-use Rattle.wf_ast.specs.declared.resolved.Expr.TheVariants as exprs
-use Rattle.wf_ast.specs.declared.resolved.Callee.{Callee}
-use Rattle.wf_ast.specs.declared.resolved.Callee.TheVariants as callees
-use Rattle.wf_ast.specs.declared.resolved.Stmt.{Stmt}
-use Rattle.wf_ast.specs.declared.resolved.Stmt.TheVariants as stmts
-use Rattle.wf_ast.specs.declared.resolved.AxiomRef.{AxiomRef}
-use Rattle.wf_ast.specs.declared.resolved.Block as resolved
+use Rattle.wf_ast.specs.declared.typed_code.Expr.{Expr}
+use Rattle.wf_ast.specs.declared.typed_code.Expr.TheVariants as exprs
+use Rattle.wf_ast.specs.declared.typed_code.Callee.{Callee}
+use Rattle.wf_ast.specs.declared.typed_code.Callee.TheVariants as callees
+use Rattle.wf_ast.specs.declared.typed_code.Stmt.{Stmt}
+use Rattle.wf_ast.specs.declared.typed_code.Stmt.TheVariants as stmts
+use Rattle.wf_ast.specs.declared.typed_code.AxiomRef.{AxiomRef}
+use Rattle.wf_ast.specs.declared.typed_code.Block as typed_code
 use Rattle.wf_ast.specs.declared.declarations.Var.{Var}
 use Rattle.wf_ast.specs.declared.declarations.Method.{Method}
 use Rattle.wf_ast.specs.declared.typed_nodes.TypedNodes.{TypedNodes}
@@ -57,10 +57,10 @@ abbrev pub each_numbered : {X : Type 0} → (ℕ → X → Bool) → (n : ℕ) �
 each_numbered test n [] = true
 each_numbered test n (x ∷ xs) = test n x && each_numbered test (n + 1) xs
 
-abbrev pub block_below : ℕ → resolved.Block → Bool
+abbrev pub block_below : ℕ → typed_code.Block → Bool
 block_below s block = list_all (λ inner. nat_lt inner.0 s) block.items
 
-abbrev pub optional_block_below : ℕ → Option resolved.Block → Bool
+abbrev pub optional_block_below : ℕ → Option typed_code.Block → Bool
 optional_block_below s None = true
 optional_block_below s (Some block) = block_below s block
 

@@ -10,7 +10,7 @@ use Rattle.wf_ast.specs.declared.types.Ty.TheVariants as types
 use Rattle.wf_ast.specs.declared.declarations.Var.{Var}
 use Rattle.wf_ast.specs.declared.declarations.Method.{Method}
 use Rattle.wf_ast.specs.declared.declarations.Struct.{Struct}
-use Rattle.wf_ast.specs.declared.resolved.Block as resolved
+use Rattle.wf_ast.specs.declared.typed_code.Block as typed_code
 use Rattle.wf_ast.specs.declared.typed_nodes.TypedNodes.{TypedNodes}
 use Rattle.wf_ast.specs.TypedTree.{Block}
 use Rattle.wf_ast.specs.TypedTrees.{text_of, block_of}
@@ -51,12 +51,12 @@ variable_of nodes x = record { name = text_of nodes x.name; ty = x.ty }
 abbrev pub struct_of : TypedNodes → Struct → StructTree
 struct_of nodes s = record { name = text_of nodes s.name; public = s.public; fields = map (variable_of nodes) s.fields }
 
-abbrev pub method_of : TypedNodes → Method → resolved.Block → MethodTree
+abbrev pub method_of : TypedNodes → Method → typed_code.Block → MethodTree
 method_of nodes m body =
     record { name = text_of nodes m.name; of = m.of.0; public = m.public; mark = m.mark; args = map (variable_of nodes) m.args; locals = map (variable_of nodes) m.locals; gives = m.gives; body = block_of nodes body }
 
 -- Methods with their bodies.
-abbrev pub methods_of : TypedNodes → List Method → List resolved.Block → List MethodTree
+abbrev pub methods_of : TypedNodes → List Method → List typed_code.Block → List MethodTree
 methods_of nodes [] bodies = []
 methods_of nodes (m ∷ ms) [] = []
 methods_of nodes (m ∷ ms) (body ∷ bodies) = method_of nodes m body ∷ methods_of nodes ms bodies

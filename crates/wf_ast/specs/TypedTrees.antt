@@ -16,18 +16,18 @@ use Rattle.wf_ast.specs.declared.operators.Op.{Op}
 use Rattle.wf_ast.specs.declared.operators.Op.TheVariants as ops
 use Rattle.wf_ast.specs.declared.types.Ty.{Ty}
 use Rattle.wf_ast.specs.declared.types.Ty.TheVariants as types
-use Rattle.wf_ast.specs.declared.resolved.Expr.{Expr}
-use Rattle.wf_ast.specs.declared.resolved.Expr.TheVariants as exprs
-use Rattle.wf_ast.specs.declared.resolved.ExprNode.{ExprNode}
-use Rattle.wf_ast.specs.declared.resolved.Callee.{Callee}
-use Rattle.wf_ast.specs.declared.resolved.Callee.TheVariants as callees
-use Rattle.wf_ast.specs.declared.resolved.Arm.{Arm}
-use Rattle.wf_ast.specs.declared.resolved.LoopHead.{LoopHead}
-use Rattle.wf_ast.specs.declared.resolved.AxiomRef.{AxiomRef}
-use Rattle.wf_ast.specs.declared.resolved.Stmt.{Stmt}
-use Rattle.wf_ast.specs.declared.resolved.Stmt.TheVariants as stmts
-use Rattle.wf_ast.specs.declared.resolved.StmtNode.{StmtNode}
-use Rattle.wf_ast.specs.declared.resolved.Block as resolved
+use Rattle.wf_ast.specs.declared.typed_code.Expr.{Expr}
+use Rattle.wf_ast.specs.declared.typed_code.Expr.TheVariants as exprs
+use Rattle.wf_ast.specs.declared.typed_code.ExprNode.{ExprNode}
+use Rattle.wf_ast.specs.declared.typed_code.Callee.{Callee}
+use Rattle.wf_ast.specs.declared.typed_code.Callee.TheVariants as callees
+use Rattle.wf_ast.specs.declared.typed_code.Arm.{Arm}
+use Rattle.wf_ast.specs.declared.typed_code.LoopHead.{LoopHead}
+use Rattle.wf_ast.specs.declared.typed_code.AxiomRef.{AxiomRef}
+use Rattle.wf_ast.specs.declared.typed_code.Stmt.{Stmt}
+use Rattle.wf_ast.specs.declared.typed_code.Stmt.TheVariants as stmts
+use Rattle.wf_ast.specs.declared.typed_code.StmtNode.{StmtNode}
+use Rattle.wf_ast.specs.declared.typed_code.Block as typed_code
 use Rattle.wf_ast.specs.declared.typed_nodes.TypedNodes.{TypedNodes}
 use Rattle.wf_ast.specs.TypedTree.{Path, local, field, arg, NumType, Arith, plus, minus, times, divided, remainder, shift_left, shift_right, bits_and, bits_or, bits_xor, mod_plus, mod_minus, mod_times, mod_shift_left, sat_plus, sat_minus, Order, less, at_most, equal, differs, at_least, greater, reader_length, reader_position, peek, writer_length, writer_position, NumTree, number, read, element, link, convert, length_of, asked, SliceTree, slice, array, cut, EndTree, absent, present, StatusTree, status, held, no_status, CondTree, truth, flag, compare, same_status, junction, negation, closed, has_category, ValueTree, numeric, logical, state, elements, io, lost, Target, to_number, to_element, to_flag, to_status, to_slice, to_nothing, take_number, skip, write, skip_fast, write_fast, copy_to_writer, copy_to_slice, own, sub, Axiom, Simple, assign, await, perform, invoke, break_from, continue_in, give_back, yield, claim, Site, Head, Block, end, plain, choose, loop}
 
@@ -271,13 +271,13 @@ block_made look [] = end
 block_made look (s ∷ ss) = look s (block_made look ss)
 
 -- The arms of an `if` after the first, and what stands after the last `else`.
-abbrev pub otherwise_made : (ExprId → ValueTree) → (StmtId → Block → Block) → Site → List Arm → Option resolved.Block → Block
+abbrev pub otherwise_made : (ExprId → ValueTree) → (StmtId → Block → Block) → Site → List Arm → Option typed_code.Block → Block
 otherwise_made look inner site [] None = end
 otherwise_made look inner site [] (Some block) = block_made inner block.items
 otherwise_made look inner site (arm ∷ arms) other =
     choose site true (cond_in (look arm.cond)) (block_made inner arm.body.items) (otherwise_made look inner site arms other) end
 
-abbrev pub if_made : (ExprId → ValueTree) → (StmtId → Block → Block) → Site → List Arm → Option resolved.Block → Block → Block
+abbrev pub if_made : (ExprId → ValueTree) → (StmtId → Block → Block) → Site → List Arm → Option typed_code.Block → Block → Block
 if_made look inner site [] other rest = plain site no_statement rest
 if_made look inner site (arm ∷ arms) other rest =
     choose site false (cond_in (look arm.cond)) (block_made inner arm.body.items) (otherwise_made look inner site arms other) rest
@@ -319,5 +319,5 @@ unfoldable pub stmt_makers : TypedNodes → List (Block → Block)
 stmt_makers nodes = stmts_after nodes (tree_of nodes) [] nodes.stmts
 
 -- The tree of a block.
-abbrev pub block_of : TypedNodes → resolved.Block → Block
+abbrev pub block_of : TypedNodes → typed_code.Block → Block
 block_of nodes block = block_made (onto (stmt_makers nodes)) block.items

@@ -6,8 +6,8 @@ ghost use Rattle.wf_ast.specs.TypedTrees.{named, io_in, place_of_node, tree_of, 
 ghost use Rattle.wf_ast.specs.TypedInvariant.{is_expr, is_io};
 
 use crate::numbers::ExprId;
-use crate::resolved::Expr;
 use crate::typed::Typed;
+use crate::typed_code::Expr;
 use crate::types::Ty;
 use crate::variables::ArgId;
 

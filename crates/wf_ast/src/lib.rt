@@ -1,7 +1,7 @@
 // The trees of a package. The parsed tree is what a package's files say by the grammar: names are texts, and
-// every place that a rule of names or types may refuse stands in it. In the resolved tree every name stands for
-// what it names, and in the typed tree each expression has a type. Other crates see them as mathematical
-// trees, which are functions of lists of nodes.
+// every place that a rule of names or types may refuse stands in it. In the typed tree every name stands for what it
+// names, and each expression has a type. The resolved tree between them is wf_named's. Other crates see trees as
+// mathematical ones, which are functions of lists of nodes.
 #![tactic(auto)]
 
 pub mod declarations;
@@ -14,12 +14,12 @@ pub mod package_nodes;
 pub mod parsed;
 pub mod parsed_package;
 mod parts;
-pub mod resolved;
 mod sameness;
 pub mod sequences;
 pub mod texts;
 pub mod things;
 pub mod typed;
+pub mod typed_code;
 pub mod typed_nodes;
 pub mod types;
 pub mod variables;
@@ -32,11 +32,11 @@ pub use operators::Op;
 pub use package_nodes::PackageNodes;
 pub use parsed::Clause;
 pub use parsed_package::Package;
-pub use resolved::{Arm, AxiomRef, Block, Callee, Expr, ExprNode, LoopHead, Stmt, StmtNode};
 pub use sameness::same;
 pub use sequences::Sequence;
 pub use things::Thing;
 pub use typed::Typed;
+pub use typed_code::{Arm, AxiomRef, Block, Callee, Expr, ExprNode, LoopHead, Stmt, StmtNode};
 pub use typed_nodes::TypedNodes;
 pub use types::Ty;
 pub use variables::{ArgId, ConstId, FieldId, LocalId};

@@ -6,9 +6,9 @@ ghost use Rattle.wf_ast.specs.Mentions.{mentions as tree_mentions};
 ghost use Rattle.wf_ast.specs.SameNodes.{head_mentions};
 
 use crate::numbers::ExprId;
-use crate::resolved::Expr;
 use crate::things::Thing;
 use crate::typed::Typed;
+use crate::typed_code::Expr;
 use crate::types::Ty;
 
 /// Whether an expression mentions a thing. A constant expression, which counts as its number, mentions nothing, and a

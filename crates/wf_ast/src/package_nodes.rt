@@ -10,6 +10,7 @@ use crate::parsed::{DeclNode, ExprNode, StmtNode};
 use crate::texts::Texts;
 use std::alloc::{AllocError, Global};
 use std::marker::Model;
+use wf_text::add_last;
 
 /// What a package is made of while its files are read.
 pub struct PackageNodes {
@@ -78,7 +79,7 @@ impl PackageNodes {
         ensures err { OnErr result (self.new ≡ self.old) }
     {
         let number = self.exprs.len() as u32;
-        self.exprs.push(node)?;
+        add_last(&mut self.exprs, node)?;
         Ok(ExprId(number))
     }
 
@@ -91,7 +92,7 @@ impl PackageNodes {
         ensures err { OnErr result (self.new ≡ self.old) }
     {
         let number = self.stmts.len() as u32;
-        self.stmts.push(node)?;
+        add_last(&mut self.stmts, node)?;
         Ok(StmtId(number))
     }
 
@@ -101,7 +102,7 @@ impl PackageNodes {
         ensures ok { OnOk result (self.new ≡ record self.old { decls = self.old.decls ++ node ∷ [] }) }
         ensures err { OnErr result (self.new ≡ self.old) }
     {
-        self.decls.push(node)?;
+        add_last(&mut self.decls, node)?;
         Ok(())
     }
 

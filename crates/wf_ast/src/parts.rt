@@ -5,7 +5,7 @@ ghost use Rattle.wf_ast.specs.declared.numbers.ExprId.{ExprId};
 ghost use Rattle.wf_ast.specs.TypedInvariant.{parts_of, cut_parts};
 
 use crate::numbers::ExprId;
-use crate::resolved::Expr;
+use crate::typed_code::Expr;
 
 impl Expr {
     /// How many expressions stand directly inside this one.

@@ -8,8 +8,8 @@ ghost use Rattle.wf_ast.specs.SameNodes.{same_kind as same_kinds, answer_number 
 
 use crate::numbers::ExprId;
 use crate::operators::Op;
-use crate::resolved::Expr;
 use crate::typed::Typed;
+use crate::typed_code::Expr;
 use crate::types::Ty;
 use wf_base::{BaseSig, PeekForm};
 

@@ -7,7 +7,7 @@ ghost use Rattle.wf_ast.specs.TypedTrees.{tree_of, made_or_number, type_of_node,
 
 use crate::declarations::{Method, Struct};
 use crate::numbers::{ExprId, StmtId, TextId};
-use crate::resolved::{Block, Expr, Stmt};
+use crate::typed_code::{Block, Expr, Stmt};
 use crate::typed_nodes::TypedNodes;
 use crate::types::Ty;
 use crate::variables::LocalId;

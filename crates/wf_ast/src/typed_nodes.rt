@@ -2,8 +2,8 @@
 
 use crate::declarations::{Method, Struct};
 use crate::numbers::ExprId;
-use crate::resolved::{Block, ExprNode, StmtNode};
 use crate::sequences::Sequence;
+use crate::typed_code::{Block, ExprNode, StmtNode};
 use crate::types::Ty;
 
 /// A package whose names are resolved and whose expressions have types.

@@ -1,5 +1,5 @@
 -- The tree of an expression's node is made of the trees of its parts, and keeps while nodes are added.
-use Rattle.std.proofs.Common.{◌≡◌, ◌+◌, ◌<◌, ℕ, Option, None, Some, List, [], ◌∷◌, ◌++◌, length, refl, sym, ◌∙◌, ap, subst, arith, suc, zero, length-append}
+use Rattle.std.proofs.Common.{◌≡◌, ◌+◌, ◌<◌, ℕ, Option, None, Some, List, [], ◌∷◌, ◌++◌, length, refl, sym, ◌∙◌, ap, arith, length-append}
 use Rattle.std.specs.List.{slice_get, AllByRecursion}
 use Rattle.wf_text.specs.declared.place.Place.{Place}
 use Rattle.wf_ast.specs.declared.numbers.ExprId.{ExprId}
@@ -8,7 +8,7 @@ use Rattle.wf_ast.specs.declared.parsed.Link.{Link}
 use Rattle.wf_ast.specs.declared.parsed.Prefix.{Prefix}
 use Rattle.wf_ast.specs.declared.parsed.Prefix.TheVariants as prefixes
 use Rattle.wf_ast.specs.ParsedParts.{IsBelow, LinksBelow, PrefixBelow, BoundsBelow}
-use Rattle.wf_ast.proofs.TreeLemmas.{Agree, slice_get-front, slice_get-seam}
+use Rattle.wf_ast.proofs.TreeLemmas.{Agree, slice_get-front, IsGrowing, IsInOrder, growing-made, ordered-parts, ordered-push}
 use Rattle.wf_named.specs.declared.nodes.NamedCore.{NamedCore}
 use Rattle.wf_named.specs.declared.nodes.NamedCore.TheVariants as cores
 use Rattle.wf_named.specs.declared.nodes.NamedExpr.{NamedExpr}
@@ -19,10 +19,6 @@ use Rattle.wf_named.specs.NamedTree as tree
 use Rattle.wf_named.specs.NamedTree.{NamedExprTree, NamedTypeTree}
 use Rattle.wf_named.specs.NamedTrees.{expr_or, expr_at, part_at, links_at, args_at, bounds_at, core_at, prefixed, all_prefixed, type_at, expr_made, exprs_after, expr_trees}
 use Rattle.wf_named.specs.NamedParts.{ArgsBelow, NamedTypeBelow, NamedExprParts, NamedExprsOrdered}
-
--- What agrees below a number agrees below a smaller one.
-pub agree_less : {X : Type 0} (k : ℕ) (ts us : List X) → Agree (k + 1) ts us → Agree k ts us
-agree_less k ts us a i h = a i (omega (arith, h))
 
 -- A list agrees with what it is a front of.
 pub agree_front : {X : Type 0} (ts us : List X) → Agree (length ts) ts (ts ++ us)
@@ -75,13 +71,12 @@ module _ (k : ℕ) (ts us : List NamedExprTree) (a : Agree k ts us) where
   expr_made-same (exprs.Convert of to) at h = let p = expr_at-same of h.0 in let q = type_at-same to h.1 in cc
   expr_made-same (exprs.Not of) at h = ap (λ e. tree.negation e at) (expr_at-same of h)
 
--- The fold keeps the trees that it began with, and makes one tree a node.
-pub exprs_after-front : (ns : List NamedExprNode) (ts : List NamedExprTree) → Agree (length ts) ts (exprs_after ts ns)
-exprs_after-front [] ts i h = refl
-exprs_after-front (n ∷ ns) ts i h =
-    let longer = ts ++ expr_made ts n.expr n.at ∷ [] in
-    let more : i < length longer = omega (arith, length-append ts (expr_made ts n.expr n.at ∷ [])) in
-    sym (slice_get-front ts (expr_made ts n.expr n.at ∷ []) i h) ∙ exprs_after-front ns longer i more
+-- The trees of the expressions grow by one a node, and their nodes are in order.
+exprs_grow : IsGrowing (λ ts n. expr_made ts n.expr n.at) exprs_after
+exprs_grow = record { none = λ ts. refl; more = λ ts n ns. refl }
+
+exprs_in_order : IsInOrder (λ k n. NamedExprParts k n.expr) NamedExprsOrdered
+exprs_in_order = record { none = λ k. tt; more = λ k n ns p o. (p, o); first = λ k n ns o. o.0; others = λ k n ns o. o.1 }
 
 pub exprs_after-length : (ns : List NamedExprNode) (ts : List NamedExprTree) → length (exprs_after ts ns) ≡ length ts + length ns
 exprs_after-length [] ts = omega arith
@@ -98,23 +93,7 @@ exprs_after-push (m ∷ ns) ts n = exprs_after-push ns (ts ++ expr_made ts m.exp
 pub exprs_after-made : (ns : List NamedExprNode) (ts : List NamedExprTree) (k : ℕ) → k ≡ length ts → NamedExprsOrdered k ns
     → (i : ℕ) (n : NamedExprNode) → slice_get ns i ≡ Some n
     → slice_get (exprs_after ts ns) (k + i) ≡ Some (expr_made (exprs_after ts ns) n.expr n.at)
-exprs_after-made [] ts k e o i n g = absurd (cc g)
-exprs_after-made (m ∷ ns) ts k e o zero n g =
-    let is : m ≡ n = cc g in
-    let whole = exprs_after ts (m ∷ ns) in
-    let made = expr_made ts m.expr m.at in
-    let longer = ts ++ made ∷ [] in
-    let here : k + 0 < length longer = omega (arith, length-append ts (made ∷ [])) in
-    let front : slice_get longer (k + 0) ≡ slice_get whole (k + 0) = exprs_after-front ns longer (k + 0) here in
-    let spot : k + 0 ≡ length ts = omega arith in
-    let seam : slice_get longer (k + 0) ≡ Some made = ap (slice_get longer) spot ∙ slice_get-seam ts made [] in
-    let same : made ≡ expr_made whole m.expr m.at = expr_made-same k ts whole (λ j h. exprs_after-front (m ∷ ns) ts j (omega arith)) m.expr m.at o.0 in
-    sym front ∙ seam ∙ ap Some same ∙ ap (λ x. Some (expr_made whole x.expr x.at)) is
-exprs_after-made (m ∷ ns) ts k e o (suc i) n g =
-    let longer = ts ++ expr_made ts m.expr m.at ∷ [] in
-    let one_more : k + 1 ≡ length longer = omega (arith, length-append ts (expr_made ts m.expr m.at ∷ [])) in
-    let spot : k + suc i ≡ (k + 1) + i = omega arith in
-    ap (slice_get (exprs_after longer ns)) spot ∙ exprs_after-made ns longer (k + 1) one_more o.1 i n g
+exprs_after-made = growing-made _ exprs_after exprs_grow (λ k n. NamedExprParts k n.expr) NamedExprsOrdered exprs_in_order (λ k ts us a n p. expr_made-same k ts us a n.expr n.at p)
 
 pub expr_trees-node : (ns : List NamedExprNode) → NamedExprsOrdered 0 ns → (i : ℕ) (n : NamedExprNode) → slice_get ns i ≡ Some n
     → expr_or (slice_get (expr_trees ns) i) ≡ expr_made (expr_trees ns) n.expr n.at
@@ -139,24 +118,7 @@ expr_trees-agree ns n i h =
     agree_front (expr_trees ns) (made ∷ []) i inside ∙ ap (λ ts. slice_get ts i) (sym (expr_trees-push ns n))
 
 pub exprs_parts : (ns : List NamedExprNode) (k : ℕ) → NamedExprsOrdered k ns → (i : ℕ) (n : NamedExprNode) → slice_get ns i ≡ Some n → NamedExprParts (k + i) n.expr
-exprs_parts [] k o i n g = absurd (cc g)
-exprs_parts (m ∷ ns) k o zero n g =
-    let is : m ≡ n = cc g in
-    let spot : k ≡ k + 0 = omega arith in
-    let P : NamedExprNode → Type 0 = λ x. NamedExprParts (k + 0) x.expr in
-    let Q : ℕ → Type 0 = λ j. NamedExprParts j m.expr in
-    subst P is (subst Q spot o.0)
-exprs_parts (m ∷ ns) k o (suc i) n g =
-    let spot : (k + 1) + i ≡ k + suc i = omega arith in
-    let Q : ℕ → Type 0 = λ j. NamedExprParts j n.expr in
-    subst Q spot (exprs_parts ns (k + 1) o.1 i n g)
+exprs_parts = ordered-parts (λ k n. NamedExprParts k n.expr) NamedExprsOrdered exprs_in_order
 
 pub exprs_push : (ns : List NamedExprNode) (k : ℕ) (n : NamedExprNode) → NamedExprsOrdered k ns → NamedExprParts (k + length ns) n.expr → NamedExprsOrdered k (ns ++ n ∷ [])
-exprs_push [] k n o p =
-    let spot : k + 0 ≡ k = omega arith in
-    let Q : ℕ → Type 0 = λ j. NamedExprParts j n.expr in
-    (subst Q spot p, tt)
-exprs_push (m ∷ ns) k n o p =
-    let spot : k + suc (length ns) ≡ (k + 1) + length ns = omega arith in
-    let Q : ℕ → Type 0 = λ j. NamedExprParts j n.expr in
-    (o.0, exprs_push ns (k + 1) n o.1 (subst Q spot p))
+exprs_push = ordered-push (λ k n. NamedExprParts k n.expr) NamedExprsOrdered exprs_in_order

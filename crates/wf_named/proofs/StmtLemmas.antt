@@ -1,5 +1,5 @@
 -- The tree of a statement's node is made of the trees of its parts, and keeps while texts and nodes are added.
-use Rattle.std.proofs.Common.{◌≡◌, ◌+◌, ◌<◌, ℕ, Option, None, Some, List, [], ◌∷◌, ◌++◌, length, refl, sym, ◌∙◌, ap, subst, arith, suc, zero, length-append}
+use Rattle.std.proofs.Common.{◌≡◌, ◌+◌, ◌<◌, ℕ, Option, None, Some, List, [], ◌∷◌, ◌++◌, length, refl, sym, ◌∙◌, ap, arith, length-append}
 use Rattle.std.specs.List.{slice_get, AllByRecursion}
 use Rattle.wf_text.specs.declared.place.Place.{Place}
 use Rattle.wf_ast.specs.declared.numbers.StmtId.{StmtId}
@@ -10,7 +10,7 @@ use Rattle.wf_ast.specs.declared.parsed.LoopClause.{LoopClause}
 use Rattle.wf_ast.specs.declared.parsed.Name.{Name}
 use Rattle.wf_ast.specs.declared.parsed.Via.{Via}
 use Rattle.wf_ast.specs.ParsedParts.{BlockBelow, ElseBelow}
-use Rattle.wf_ast.proofs.TreeLemmas.{Agree, slice_get-front, slice_get-seam}
+use Rattle.wf_ast.proofs.TreeLemmas.{Agree, IsGrowing, IsInOrder, growing-made, ordered-parts, ordered-push}
 use Rattle.wf_named.specs.declared.nodes.NamedExprNode.{NamedExprNode}
 use Rattle.wf_named.specs.declared.nodes.NamedStmt.{NamedStmt}
 use Rattle.wf_named.specs.declared.nodes.NamedStmt.TheVariants as stmts
@@ -93,13 +93,11 @@ stmt_made-same t e k texts other es fs ts us a b c (stmts.Assert goal v) at h =
 pub agree_self : {X : Type 0} (k : ℕ) (ts : List X) → Agree k ts ts
 agree_self k ts i h = refl
 
-pub stmts_after-front : (texts : List (List ℕ)) (es : List NamedExprTree) (ns : List NamedStmtNode) (ts : List NamedStmtTree) → Agree (length ts) ts (stmts_after texts es ts ns)
-stmts_after-front texts es [] ts i h = refl
-stmts_after-front texts es (n ∷ ns) ts i h =
-    let made = stmt_made texts es ts n.stmt n.at in
-    let longer = ts ++ made ∷ [] in
-    let more : i < length longer = omega (arith, length-append ts (made ∷ [])) in
-    sym (slice_get-front ts (made ∷ []) i h) ∙ stmts_after-front texts es ns longer i more
+stmts_grow : (texts : List (List ℕ)) (es : List NamedExprTree) → IsGrowing (λ ts n. stmt_made texts es ts n.stmt n.at) (stmts_after texts es)
+stmts_grow texts es = record { none = λ ts. refl; more = λ ts n ns. refl }
+
+stmts_in_order : (t e : ℕ) → IsInOrder (λ k n. NamedStmtParts t e k n.stmt) (NamedStmtsOrdered t e)
+stmts_in_order t e = record { none = λ k. tt; more = λ k n ns p o. (p, o); first = λ k n ns o. o.0; others = λ k n ns o. o.1 }
 
 pub stmts_after-length : (texts : List (List ℕ)) (es : List NamedExprTree) (ns : List NamedStmtNode) (ts : List NamedStmtTree) → length (stmts_after texts es ts ns) ≡ length ts + length ns
 stmts_after-length texts es [] ts = omega arith
@@ -125,23 +123,9 @@ stmts_after-same t e texts other es fs a b (n ∷ ns) k ts o =
 pub stmts_after-made : (t e : ℕ) (texts : List (List ℕ)) (es : List NamedExprTree) (ns : List NamedStmtNode) (ts : List NamedStmtTree) (k : ℕ) → k ≡ length ts → NamedStmtsOrdered t e k ns
     → (i : ℕ) (n : NamedStmtNode) → slice_get ns i ≡ Some n
     → slice_get (stmts_after texts es ts ns) (k + i) ≡ Some (stmt_made texts es (stmts_after texts es ts ns) n.stmt n.at)
-stmts_after-made t e texts es [] ts k p o i n g = absurd (cc g)
-stmts_after-made t e texts es (m ∷ ns) ts k p o zero n g =
-    let is : m ≡ n = cc g in
-    let whole = stmts_after texts es ts (m ∷ ns) in
-    let made = stmt_made texts es ts m.stmt m.at in
-    let longer = ts ++ made ∷ [] in
-    let here : k + 0 < length longer = omega (arith, length-append ts (made ∷ [])) in
-    let front : slice_get longer (k + 0) ≡ slice_get whole (k + 0) = stmts_after-front texts es ns longer (k + 0) here in
-    let spot : k + 0 ≡ length ts = omega arith in
-    let seam : slice_get longer (k + 0) ≡ Some made = ap (slice_get longer) spot ∙ slice_get-seam ts made [] in
-    let same : made ≡ stmt_made texts es whole m.stmt m.at = stmt_made-same t e k texts texts es es ts whole (agree_self t texts) (agree_self e es) (λ j h. stmts_after-front texts es (m ∷ ns) ts j (omega arith)) m.stmt m.at o.0 in
-    sym front ∙ seam ∙ ap Some same ∙ ap (λ x. Some (stmt_made texts es whole x.stmt x.at)) is
-stmts_after-made t e texts es (m ∷ ns) ts k p o (suc i) n g =
-    let longer = ts ++ stmt_made texts es ts m.stmt m.at ∷ [] in
-    let one_more : k + 1 ≡ length longer = omega (arith, length-append ts (stmt_made texts es ts m.stmt m.at ∷ [])) in
-    let spot : k + suc i ≡ (k + 1) + i = omega arith in
-    ap (slice_get (stmts_after texts es longer ns)) spot ∙ stmts_after-made t e texts es ns longer (k + 1) one_more o.1 i n g
+stmts_after-made t e texts es =
+    growing-made _ (stmts_after texts es) (stmts_grow texts es) (λ k n. NamedStmtParts t e k n.stmt) (NamedStmtsOrdered t e) (stmts_in_order t e)
+    (λ k ts us a n p. stmt_made-same t e k texts texts es es ts us (agree_self t texts) (agree_self e es) a n.stmt n.at p)
 
 pub stmt_trees-node : (t e : ℕ) (texts : List (List ℕ)) (exprs : List NamedExprNode) (ns : List NamedStmtNode) → NamedStmtsOrdered t e 0 ns → (i : ℕ) (n : NamedStmtNode) → slice_get ns i ≡ Some n
     → stmt_or (slice_get (stmt_trees texts exprs ns) i) ≡ stmt_made texts (expr_trees exprs) (stmt_trees texts exprs ns) n.stmt n.at
@@ -181,24 +165,7 @@ stmt_trees-text texts text exprs ns o =
     stmts_after-same (length texts) (length exprs) texts (texts ++ text ∷ []) (expr_trees exprs) (expr_trees exprs) (agree_front texts (text ∷ [])) (agree_self (length exprs) (expr_trees exprs)) ns 0 [] o
 
 pub stmts_parts : (t e : ℕ) (ns : List NamedStmtNode) (k : ℕ) → NamedStmtsOrdered t e k ns → (i : ℕ) (n : NamedStmtNode) → slice_get ns i ≡ Some n → NamedStmtParts t e (k + i) n.stmt
-stmts_parts t e [] k o i n g = absurd (cc g)
-stmts_parts t e (m ∷ ns) k o zero n g =
-    let is : m ≡ n = cc g in
-    let spot : k ≡ k + 0 = omega arith in
-    let P : NamedStmtNode → Type 0 = λ x. NamedStmtParts t e (k + 0) x.stmt in
-    let Q : ℕ → Type 0 = λ j. NamedStmtParts t e j m.stmt in
-    subst P is (subst Q spot o.0)
-stmts_parts t e (m ∷ ns) k o (suc i) n g =
-    let spot : (k + 1) + i ≡ k + suc i = omega arith in
-    let Q : ℕ → Type 0 = λ j. NamedStmtParts t e j n.stmt in
-    subst Q spot (stmts_parts t e ns (k + 1) o.1 i n g)
+stmts_parts t e = ordered-parts (λ k n. NamedStmtParts t e k n.stmt) (NamedStmtsOrdered t e) (stmts_in_order t e)
 
 pub stmts_push : (t e : ℕ) (ns : List NamedStmtNode) (k : ℕ) (n : NamedStmtNode) → NamedStmtsOrdered t e k ns → NamedStmtParts t e (k + length ns) n.stmt → NamedStmtsOrdered t e k (ns ++ n ∷ [])
-stmts_push t e [] k n o p =
-    let spot : k + 0 ≡ k = omega arith in
-    let Q : ℕ → Type 0 = λ j. NamedStmtParts t e j n.stmt in
-    (subst Q spot p, tt)
-stmts_push t e (m ∷ ns) k n o p =
-    let spot : k + suc (length ns) ≡ (k + 1) + length ns = omega arith in
-    let Q : ℕ → Type 0 = λ j. NamedStmtParts t e j n.stmt in
-    (o.0, stmts_push t e ns (k + 1) n o.1 (subst Q spot p))
+stmts_push t e = ordered-push (λ k n. NamedStmtParts t e k n.stmt) (NamedStmtsOrdered t e) (stmts_in_order t e)

@@ -13,6 +13,7 @@ use std::marker::Model;
 use wf_ast::parsed::Name;
 use wf_ast::texts::Texts;
 use wf_ast::{ExprId, StmtId, TextId};
+use wf_text::add_last;
 
 // How many numbers there are for expressions, for statements and for texts.
 const NUMBERS: usize = 4294967296;
@@ -109,7 +110,7 @@ impl NamedNodes {
         if number >= NUMBERS {
             return Err(AllocError);
         }
-        self.exprs.push(node)?;
+        add_last(&mut self.exprs, node)?;
         Ok(ExprId(number as u32))
     }
 
@@ -128,7 +129,7 @@ impl NamedNodes {
         if number >= NUMBERS {
             return Err(AllocError);
         }
-        self.stmts.push(node)?;
+        add_last(&mut self.stmts, node)?;
         Ok(StmtId(number as u32))
     }
 
@@ -172,7 +173,7 @@ impl NamedNodes {
         ensures package { OnOk result (named_package self.new ≡ record (named_package self.old) { methods = (named_package self.old).methods ++ method_made self.old.texts (exprs_of self.old) (stmts_of self.old) method ∷ [] }) }
         ensures err { OnErr result (self.new ≡ self.old) }
     {
-        self.methods.push(method)?;
+        add_last(&mut self.methods, method)?;
         Ok(())
     }
 

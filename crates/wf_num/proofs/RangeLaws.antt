@@ -55,12 +55,6 @@ HoldsInt-sub a b x y h k = rw (some a x h, some b y k) (record {
   below = omega (arith, ints, h.below, low-le b y k);
 })
 
-pub Holds-sub : (a b : Range) (x y : ℕ) → y ≤ x → Holds a x → Holds b y → Holds (sub_ranges a b) (x - y)
-Holds-sub a b x y le h k = unless-holds a b _ x y _ h k (record {
-  above = omega (arith, ints, h.above, k.below);
-  below = omega (arith, h.below, low-le b y k);
-})
-
 pub Holds-mul : (a b : Range) (x y : ℕ) → Holds a x → Holds b y → Holds (mul_ranges a b) (x * y)
 Holds-mul a b x y h k =
     unless-holds a b _ x y _ h k (between _ _ _ (omega (arith, mul-le (low a.lo) (low b.lo) x y (low-le a x h) (low-le b y k))) (mul-le x y a.hi b.hi h.below k.below))
@@ -246,14 +240,8 @@ no_wider-by op a b r s e h = let P : Range → Type 0 = λ q. IsNoWider op a b q
 pub Holds-exact : (n : ℕ) → Holds (exact_range n) n
 Holds-exact n = between n n n (omega arith) (omega arith)
 
-pub exact-Holds : (n x : ℕ) → Holds (exact_range n) x → x ≡ n
-exact-Holds n x h = omega (arith, ints, h.above, h.below)
-
 pub Holds-width : (bits n : ℕ) → n < 2 ^ bits → Holds (width_range bits) n
 Holds-width bits n h = between 0 _ n (omega arith) (omega arith)
-
-pub width-Holds : (bits n : ℕ) → Holds (width_range bits) n → n < 2 ^ bits
-width-Holds bits n h = omega (arith, h.below, pow_pos bits)
 
 pub fits-Holds : (r : Range) (bits n : ℕ) → fits_width r bits ≡ true → Holds r n → n < 2 ^ bits
 fits-Holds r bits n fits h = let e : is_empty r ≡ false = some r n h in grind (arith, ints, nat_tests, h.below)
@@ -267,12 +255,6 @@ Holds-meet a b n h k =
     let e : is_empty (range (int_max a.lo b.lo) (min a.hi b.hi)) ≡ false = some _ n both in rw e both
 
 -- ---- which ranges are small
-
-pub small-exact : (n : ℕ) → n < 2 ^ 64 → IsSmall (exact_range n)
-small-exact n h = inr (omega (arith, ints), h)
-
-pub small-width : (bits : ℕ) → bits ≤ 64 → IsSmall (width_range bits)
-small-width bits le = inr (omega (arith, ints), omega (arith, powers bits 64 le, pow_pos bits))
 
 pub small-fits : (r : Range) (bits : ℕ) → bits ≤ 64 → fits_width r bits ≡ true → IsSmall r
 small-fits r bits le fits = grind (arith, ints, nat_tests, powers bits 64 le)

@@ -1,7 +1,6 @@
 -- Spans: the numbers from one end to another, both included. The search for the ends of `&` and `|` goes over spans of
 -- numbers of k bits, from the highest bit down.
 use Rattle.std.specs.Prelude.{ℕ, ◌-◌, ◌^◌, ◌<◌, ◌≤◌, ◌≡◌, min}
-use Rattle.std.specs.Int.{bit_not, w64}
 use Rattle.wf_num.specs.declared.spans.Span.{Span}
 
 -- The numbers of a span with m taken off: those that have the bit m, without it.
@@ -12,9 +11,9 @@ above m xs = record { lo = xs.lo - m; hi = xs.hi - m }
 abbrev pub below : ℕ → Span → Span
 below m xs = record { lo = xs.lo; hi = min xs.hi (m - 1) }
 
--- The complements, in 64 bits, of a span's numbers.
-abbrev pub complement : Span → Span
-complement xs = record { lo = bit_not w64 xs.hi; hi = bit_not w64 xs.lo }
+-- The complements of a span's numbers in so many bits that their ones make the number `ones`.
+abbrev pub complement : ℕ → Span → Span
+complement ones xs = record { lo = ones - xs.hi; hi = ones - xs.lo }
 
 -- A span that holds some number, and only numbers of k bits.
 pub record OfBits (k : ℕ) (xs : Span) : Type 0 where

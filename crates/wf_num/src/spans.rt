@@ -34,13 +34,15 @@ impl Span {
         }
     }
 
-    /// The complements of the span's numbers.
-    fn complement(self) -> Span
-        ensures { result ≡ complement self }
+    /// The complements of the span's numbers, where `ones` are the ones of all bits.
+    fn complement(self, ones: u64) -> Span
+        requires some { self.lo ≤ self.hi }
+        requires within { self.hi ≤ ones }
+        ensures { result ≡ complement ones self }
     {
         Span {
-            lo: !self.hi,
-            hi: !self.lo,
+            lo: ones - self.hi,
+            hi: ones - self.lo,
         }
     }
 }
@@ -54,6 +56,34 @@ fn top_bit(k: u32) -> u64
     ensures twice { 2 ^ k ≡ result + result }
 {
     1 << (k - 1)
+}
+
+/// How many bits two numbers have at most: 8, 16, 32 or 64.
+fn bits_of(a: u64, b: u64) -> u32
+    ensures some { 0 < result }
+    ensures few { result ≤ 64 }
+    ensures first { a < 2 ^ result }
+    ensures second { b < 2 ^ result }
+{
+    if a < 0x100 && b < 0x100 {
+        8
+    } else if a < 0x10000 && b < 0x10000 {
+        16
+    } else if a < 0x100000000 && b < 0x100000000 {
+        32
+    } else {
+        64
+    }
+}
+
+/// The number of `k` bits that has them all.
+fn all_ones(k: u32) -> u64
+    requires some { 0 < k }
+    requires few { k ≤ 64 }
+    ensures { result ≡ 2 ^ k - 1 }
+{
+    let m = top_bit(k);
+    m + (m - 1)
 }
 
 /// The greatest `x | y` for x and y of two spans of numbers of `k` bits.
@@ -118,7 +148,7 @@ pub(crate) fn greatest_or(xs: Span, ys: Span) -> u64
     requires ys { ys.lo ≤ ys.hi }
     ensures { result ≡ greatest bit_or xs.lo xs.hi ys.lo ys.hi }
 {
-    max_or(64, xs, ys)
+    max_or(bits_of(xs.hi, ys.hi), xs, ys)
 }
 
 /// The least `x | y` for x and y of two spans, neither of them empty.
@@ -127,18 +157,20 @@ pub(crate) fn least_or(xs: Span, ys: Span) -> u64
     requires ys { ys.lo ≤ ys.hi }
     ensures { result ≡ least bit_or xs.lo xs.hi ys.lo ys.hi }
 {
-    min_or(64, xs, ys)
+    min_or(bits_of(xs.hi, ys.hi), xs, ys)
 }
 
 /// The greatest `x & y` for x and y of two spans, neither of them empty: by De Morgan's law, the complement of the
-/// least `|` of complements.
+/// least `|` of complements, in the bits that they have.
 #[tactic(auto, using(crate::proofs::Ends::ends))]
 pub(crate) fn greatest_and(xs: Span, ys: Span) -> u64
     requires xs { xs.lo ≤ xs.hi }
     requires ys { ys.lo ≤ ys.hi }
     ensures { result ≡ greatest bit_and xs.lo xs.hi ys.lo ys.hi }
 {
-    !min_or(64, xs.complement(), ys.complement())
+    let k = bits_of(xs.hi, ys.hi);
+    let ones = all_ones(k);
+    ones - min_or(k, xs.complement(ones), ys.complement(ones))
 }
 
 /// The least `x & y` for x and y of two spans, neither of them empty.
@@ -148,5 +180,7 @@ pub(crate) fn least_and(xs: Span, ys: Span) -> u64
     requires ys { ys.lo ≤ ys.hi }
     ensures { result ≡ least bit_and xs.lo xs.hi ys.lo ys.hi }
 {
-    !max_or(64, xs.complement(), ys.complement())
+    let k = bits_of(xs.hi, ys.hi);
+    let ones = all_ones(k);
+    ones - max_or(k, xs.complement(ones), ys.complement(ones))
 }

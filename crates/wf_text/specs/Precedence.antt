@@ -1,5 +1,6 @@
 -- Which of two refusals decides: the one at the least place, and of one place the rule that is named first.
-use Rattle.std.specs.Prelude.{ℕ, Bool, List, [], ◌∷◌, Option, Some, None, ◌≡◌, false, nat_eq, nat_lt, if◌then◌else◌}
+use Rattle.std.specs.Prelude.{ℕ, Bool, List, [], ◌∷◌, Option, Some, None, option_map, ◌≡◌, false, nat_eq, nat_lt, if◌then◌else◌}
+use Rattle.wf_text.specs.declared.place.Place.{Place}
 use Rattle.wf_text.specs.declared.rules.Refusal.{Refusal}
 use Rattle.wf_text.specs.declared.rules.Rule.{Rule}
 use Rattle.wf_text.specs.declared.rules.Rule.TheVariants.{S1, S2, S3, S4, S5, S6, N1, N2, N3, N4, N5, N6, N7, N8, T1, T2, T3, T4, T5, E1, E2, E3, E4, E5, B1, B2, B3, B4, B5, B6, B7, B8, B9, B10, B11, B12, L1, L2, L3, L4, L5, L6, L7, L8, L9}
@@ -73,12 +74,20 @@ abbrev pub soonest : Option Refusal → List (Option Refusal) → Option Refusal
 soonest found [] = found
 soonest found (r ∷ rs) = soonest (sooner found r) rs
 
+-- The refusal by a rule at a place.
+abbrev pub refused : Rule → Place → Refusal
+refused rule at = record { rule = rule; at = at }
+
+-- The refusal by a rule at a place that may be absent.
+abbrev pub told : Rule → Option Place → Option Refusal
+told rule at = option_map (refused rule) at
+
 -- Of the refusals that a package gives cause for, none decides over this one.
 pub record IsFirst (Breaks : Refusal → Type 0) (r : Refusal) : Type 0 where
   pub breaks : Breaks r
   pub first : (s : Refusal) → Breaks s → is_before s r ≡ false
 
--- The refusal that decides, and none exactly where there is no cause for any.
+-- The first refusal, and none exactly where there is no cause for any.
 abbrev pub Decides : (Refusal → Type 0) → Option Refusal → Type 0
 Decides Breaks None = (s : Refusal) → Breaks s → ⊥
 Decides Breaks (Some r) = IsFirst Breaks r

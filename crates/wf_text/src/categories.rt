@@ -1,4 +1,4 @@
-// The kinds of statuses.
+// Which kinds of statuses there are.
 
 /// What kind of answer a status is.
 #[derive(Clone, Copy, PartialEq, Eq)]

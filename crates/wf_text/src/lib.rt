@@ -1,11 +1,13 @@
 // What every other crate speaks of: places in a package's files, the rules by which a package is refused,
-// status texts, numbers and bytes as text, and the numbers of structs, methods and statuses. The package's
-// public surface, the host's actions and what a host sees of them are plain data of specs/.
+// status texts, numbers and bytes as text, the numbers of structs, methods and statuses, and long lists that grow. The
+// package's public surface, the host's actions and what a host sees of them are plain data of specs/.
 #![tactic(auto)]
 
 pub mod categories;
 pub mod digits;
 pub mod faults;
+pub mod found;
+pub mod growing;
 pub mod numbers;
 pub mod place;
 pub mod precedence;
@@ -15,6 +17,8 @@ pub mod status_text;
 pub use categories::Category;
 pub use digits::{hex_text, number_text};
 pub use faults::{NoMemory, PhaseFault};
+pub use found::Found;
+pub use growing::{add_last, make_room};
 pub use numbers::{MethodId, StatusId, StructId};
 pub use place::Place;
 pub use precedence::{is_before, sooner};

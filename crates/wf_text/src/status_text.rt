@@ -1,4 +1,4 @@
-// The kinds of statuses, which a status text's first byte tells.
+// Which kind a status is of, as the first byte of its text tells.
 
 ghost use Rattle.std.specs.Prelude.{◌≡◌};
 ghost use Rattle.wf_text.specs.StatusText.{category_of};

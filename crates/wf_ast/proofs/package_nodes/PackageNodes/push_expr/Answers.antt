@@ -2,4 +2,4 @@ use Rattle.wf_ast.proofs.TreeLemmas.{IsShaped-expr}
 use Rattle.wf_ast.proofs.package_nodes.PackageNodes.push_expr.Goals as goal
 
 pub invariant_of-self-2 : goal.invariant_of-self-2
-invariant_of-self-2 c = IsShaped-expr _ c.args.node _ c.push.new.self.items c.self.invariant (rw (← c.self.view_is) at c.requires.parts) c.push.ensures.items
+invariant_of-self-2 c = IsShaped-expr _ c.args.node _ c.add_last.new.list.items c.self.invariant (rw (← c.self.view_is) at c.requires.parts) c.add_last.ensures.items

@@ -1,5 +1,5 @@
 use Rattle.std.proofs.Common.{◌∙◌, ap}
-use Rattle.wf_ast.specs.declared.resolved.ExprNode.{ExprNode}
+use Rattle.wf_ast.specs.declared.typed_code.ExprNode.{ExprNode}
 use Rattle.wf_ast.specs.declared.typed_nodes.TypedNodes.{TypedNodes}
 use Rattle.wf_ast.proofs.PlaceLemmas.{none_in, none_left}
 use Rattle.wf_ast.proofs.typed.Typed.expr_at.Goals as goal

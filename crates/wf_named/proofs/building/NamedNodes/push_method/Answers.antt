@@ -3,4 +3,4 @@ use Rattle.wf_named.proofs.DeclLemmas.{package_method}
 use Rattle.wf_named.proofs.building.NamedNodes.push_method.Goals as goal
 
 pub returns-clause-package : goal.returns-clause-package
-returns-clause-package c = rw (← c.self.view_is) (package_method (the_view c.self.inside) c.args.method c.push.new.self.items c.in_ok-push.ensures.items)
+returns-clause-package c = rw (← c.self.view_is) (package_method (the_view c.self.inside) c.args.method c.add_last.new.list.items c.in_ok-add_last.ensures.items)

@@ -1,5 +1,5 @@
-// The nodes of the resolved tree: every name stands for what it names. Parts are told by the numbers of their
-// nodes, which are smaller than that of the whole.
+// The expressions and statements of the typed tree: every name stands for what it names. Parts are told by the numbers of
+// their nodes, which are smaller than that of the whole.
 
 use crate::numbers::{ExprId, StmtId, TextId};
 use crate::operators::Op;

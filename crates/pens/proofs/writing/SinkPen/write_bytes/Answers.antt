@@ -1,7 +1,7 @@
 use Rattle.std.proofs.Common.{◌<◌, length, ◌∙◌, take}
 use Rattle.std.proofs.lemmas.List.{take_more}
 use Rattle.pens.specs.PenLaws.{writes_joined}
-use Rattle.pens.proofs.writing.SinkPenPen.write.Goals as goal
+use Rattle.pens.proofs.writing.SinkPen.write_bytes.Goals as goal
 
 pub loop-byte-preserved : goal.loop-byte-preserved
 loop-byte-preserved g c =

@@ -1,6 +1,6 @@
 use Rattle.std.proofs.Common.{◌≡◌, ◌-◌, ◌^◌, ◌<◌, ◌≤◌, false, take}
 use Rattle.pens.specs.Pens.{Wrote, pen_state}
-use Rattle.pens.proofs.writing.SinkPenPen.write.Given as goal
+use Rattle.pens.proofs.writing.SinkPen.write_bytes.Given as goal
 
 abbrev pub invariant-loop-byte : goal.invariant-loop-byte
 invariant-loop-byte g l = record {
