@@ -22,6 +22,7 @@ pub(crate) struct FileTokens {
 }
 
 /// Adds a token at the end.
+#[inline(always)]
 fn push(tokens: &mut Vec<Token>, kind: Kind, at: Place) -> Result<(), AllocError>
     ensures { OnOk result (tokens.new.items ≡ tokens.old.items ++ record { kind = kind; at = at } ∷ []) }
 {

@@ -89,6 +89,10 @@ impl Machine {
         requires { size self.now < 2 ^ 32 }
         ensures { result ≡ nat_le 48 (open_wants (Read symbol ∷ self.now.wants)) }
     {
+        // At most one bracket is open for each wanted thing, so they are only counted on a high stack.
+        if self.wants.len() + 1 < MOST_BRACKETS {
+            return false;
+        }
         let below = open_brackets(&self.wants);
         let open = if owes(symbol) { below + 1 } else { below };
         MOST_BRACKETS <= open

@@ -22,7 +22,7 @@ const MOST_TOKENS: usize = 262144;
 
 /// Why a file isn't read.
 #[derive(Clone, Copy)]
-pub enum FileFault {
+pub(crate) enum FileFault {
     /// A token breaks a rule. `left` counts the tokens from it on, and is 0 at the file's end.
     Refused { rule: Rule, left: usize },
     /// Memory was refused.

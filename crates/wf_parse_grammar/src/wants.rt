@@ -49,6 +49,7 @@ impl Model for Wants {
 }
 
 /// Puts a list of the table on the stack, its first thing topmost. Many are empty, and cost nothing.
+#[inline]
 fn push_list(list: &[Want], stack: &mut Stack<Want>) -> Result<(), NoMemory>
     ensures { OnOk result (stack.new ≡ list.now ++ stack.old) }
 {

@@ -19,7 +19,7 @@ use wf_text::NoMemory;
 
 /// What an action makes.
 #[derive(Clone, Copy)]
-pub enum ActionKind {
+pub(crate) enum ActionKind {
     /// A value.
     Value,
     /// A value that has grown by one part, or is one of two, for which memory may be wanted.
@@ -137,7 +137,7 @@ pub fn grown(action: Action, values: &mut Stack<Value>) -> Result<Value, NoMemor
 
 /// The value that an action makes of those that it takes, where nothing grows.
 #[inline(always)]
-pub fn made_value(alloc: Global, action: Action, values: &mut Stack<Value>) -> Value
+pub(crate) fn made_value(alloc: Global, action: Action, values: &mut Stack<Value>) -> Value
     requires fit { fits (takes action) values.old ≡ true }
     requires takes { pushes action ≡ false }
     requires kind { kind_of action ≡ kinds.Value }
@@ -169,7 +169,7 @@ pub fn made_value(alloc: Global, action: Action, values: &mut Stack<Value>) -> V
 
 /// The expression that an action makes.
 #[inline(always)]
-pub fn made_expr(action: Action, values: &mut Stack<Value>) -> ExprNode
+pub(crate) fn made_expr(action: Action, values: &mut Stack<Value>) -> ExprNode
     requires fit { fits (takes action) values.old ≡ true }
     requires kind { kind_of action ≡ kinds.Expr }
     ensures { making action values.old ≡ record { product = makes.Expr result; vals = values.new } }
@@ -193,7 +193,7 @@ pub fn made_expr(action: Action, values: &mut Stack<Value>) -> ExprNode
 
 /// The statement that an action makes.
 #[inline(always)]
-pub fn made_stmt(action: Action, values: &mut Stack<Value>) -> StmtNode
+pub(crate) fn made_stmt(action: Action, values: &mut Stack<Value>) -> StmtNode
     requires fit { fits (takes action) values.old ≡ true }
     requires kind { kind_of action ≡ kinds.Stmt }
     ensures { making action values.old ≡ record { product = makes.Stmt result; vals = values.new } }
@@ -217,7 +217,7 @@ pub fn made_stmt(action: Action, values: &mut Stack<Value>) -> StmtNode
 
 /// The declaration that an action makes.
 #[inline(always)]
-pub fn made_decl(action: Action, values: &mut Stack<Value>) -> DeclNode
+pub(crate) fn made_decl(action: Action, values: &mut Stack<Value>) -> DeclNode
     requires fit { fits (takes action) values.old ≡ true }
     requires kind { kind_of action ≡ kinds.Decl }
     ensures { making action values.old ≡ record { product = makes.Decl result; vals = values.new } }

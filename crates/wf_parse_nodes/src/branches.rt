@@ -17,7 +17,7 @@ use wf_text::NoMemory;
 
 /// One arm more of an `if`.
 #[inline(never)]
-pub fn add_arm(values: &mut Stack<Value>) -> Result<Value, NoMemory>
+pub(crate) fn add_arm(values: &mut Stack<Value>) -> Result<Value, NoMemory>
     requires { fits (shapes.Block ∷ shapes.Expr ∷ shapes.Arms ∷ []) values.old ≡ true }
     ensures { IfOk result (λ value. making does.AddArm values.old ≡ record { product = makes.Value value; vals = values.new }) }
 {

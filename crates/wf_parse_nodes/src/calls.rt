@@ -28,7 +28,7 @@ pub(crate) fn add_given(values: &mut Stack<Value>) -> Result<Value, NoMemory>
 
 /// A whole call.
 #[inline(never)]
-pub fn finish_call(values: &mut Stack<Value>) -> Value
+pub(crate) fn finish_call(values: &mut Stack<Value>) -> Value
     requires { fits (shapes.Givens ∷ shapes.Mark ∷ shapes.Name ∷ shapes.Receiver ∷ []) values.old ≡ true }
     ensures { making does.FinishCall values.old ≡ record { product = makes.Value result; vals = values.new } }
 {

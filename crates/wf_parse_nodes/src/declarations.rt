@@ -18,7 +18,7 @@ use wf_text::NoMemory;
 
 /// One field more.
 #[inline(never)]
-pub fn add_field(values: &mut Stack<Value>) -> Result<Value, NoMemory>
+pub(crate) fn add_field(values: &mut Stack<Value>) -> Result<Value, NoMemory>
     requires { fits (shapes.Type ∷ shapes.Name ∷ shapes.Fields ∷ []) values.old ≡ true }
     ensures { IfOk result (λ value. making does.AddField values.old ≡ record { product = makes.Value value; vals = values.new }) }
 {
@@ -67,7 +67,7 @@ pub(crate) fn status_decl(values: &mut Stack<Value>) -> DeclNode
 
 /// A constant.
 #[inline(never)]
-pub fn const_decl(values: &mut Stack<Value>) -> DeclNode
+pub(crate) fn const_decl(values: &mut Stack<Value>) -> DeclNode
     requires { fits (shapes.Expr ∷ shapes.Type ∷ shapes.Name ∷ shapes.Place ∷ shapes.Public ∷ []) values.old ≡ true }
     ensures { making does.ConstDecl values.old ≡ record { product = makes.Decl result; vals = values.new } }
 {
@@ -85,7 +85,7 @@ pub fn const_decl(values: &mut Stack<Value>) -> DeclNode
 
 /// A struct.
 #[inline(never)]
-pub fn struct_decl(values: &mut Stack<Value>) -> DeclNode
+pub(crate) fn struct_decl(values: &mut Stack<Value>) -> DeclNode
     requires { fits (shapes.Fields ∷ shapes.Mark ∷ shapes.Name ∷ shapes.Place ∷ shapes.Public ∷ []) values.old ≡ true }
     ensures { making does.StructDecl values.old ≡ record { product = makes.Decl result; vals = values.new } }
 {
@@ -103,7 +103,7 @@ pub fn struct_decl(values: &mut Stack<Value>) -> DeclNode
 
 /// A method.
 #[inline(never)]
-pub fn method_decl(values: &mut Stack<Value>) -> DeclNode
+pub(crate) fn method_decl(values: &mut Stack<Value>) -> DeclNode
     requires { fits (shapes.Block ∷ shapes.Result ∷ shapes.Fields ∷ shapes.Mark ∷ shapes.Name ∷ shapes.Name ∷ shapes.Place ∷ shapes.Public ∷ []) values.old ≡ true }
     ensures { making does.MethodDecl values.old ≡ record { product = makes.Decl result; vals = values.new } }
 {

@@ -75,6 +75,7 @@ impl Maker {
     }
 
     /// Puts a value on the stack.
+    #[inline(always)]
     fn put_value(&mut self, value: Value) -> Result<(), NoMemory>
         requires sound { IsSound self.old }
         requires parts { ProductParts (length self.old.package.exprs) (length self.old.package.stmts) (makes.Value value) }

@@ -9,7 +9,7 @@ use wf_parse_grammar::Action;
 
 /// The shape of a value, which is its variant.
 #[derive(Clone, Copy)]
-pub enum Shape {
+pub(crate) enum Shape {
     Name,
     Place,
     Mark,

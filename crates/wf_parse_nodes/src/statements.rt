@@ -18,7 +18,7 @@ use wf_text::{NoMemory, Place};
 
 /// One statement more of a block.
 #[inline(never)]
-pub fn add_stmt(values: &mut Stack<Value>) -> Result<Value, NoMemory>
+pub(crate) fn add_stmt(values: &mut Stack<Value>) -> Result<Value, NoMemory>
     requires { fits (shapes.Stmt ∷ shapes.Items ∷ []) values.old ≡ true }
     ensures { IfOk result (λ value. making does.AddStmt values.old ≡ record { product = makes.Value value; vals = values.new }) }
 {
@@ -30,7 +30,7 @@ pub fn add_stmt(values: &mut Stack<Value>) -> Result<Value, NoMemory>
 
 /// A whole block.
 #[inline(never)]
-pub fn close_block(close: Place, values: &mut Stack<Value>) -> Value
+pub(crate) fn close_block(close: Place, values: &mut Stack<Value>) -> Value
     requires { fits (shapes.Items ∷ []) values.old ≡ true }
     ensures { making (does.CloseBlock close) values.old ≡ record { product = makes.Value result; vals = values.new } }
 {
@@ -55,7 +55,7 @@ pub(crate) fn var_stmt(values: &mut Stack<Value>) -> StmtNode
 
 /// A path that is written to.
 #[inline(never)]
-pub fn path_target(values: &mut Stack<Value>) -> Value
+pub(crate) fn path_target(values: &mut Stack<Value>) -> Value
     requires { fits (shapes.Path ∷ []) values.old ≡ true }
     ensures { making does.PathTarget values.old ≡ record { product = makes.Value result; vals = values.new } }
 {

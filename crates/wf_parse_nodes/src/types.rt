@@ -25,7 +25,7 @@ fn closed_core(core: OpenCore) -> Core
 
 /// `slice` before a type.
 #[inline(never)]
-pub fn add_slice(at: Place, values: &mut Stack<Value>) -> Result<Value, NoMemory>
+pub(crate) fn add_slice(at: Place, values: &mut Stack<Value>) -> Result<Value, NoMemory>
     requires { fits (shapes.Prefixes ∷ []) values.old ≡ true }
     ensures { IfOk result (λ value. making (does.AddSlice at) values.old ≡ record { product = makes.Value value; vals = values.new }) }
 {
@@ -36,7 +36,7 @@ pub fn add_slice(at: Place, values: &mut Stack<Value>) -> Result<Value, NoMemory
 
 /// `array` with a length before a type.
 #[inline(never)]
-pub fn add_array(values: &mut Stack<Value>) -> Result<Value, NoMemory>
+pub(crate) fn add_array(values: &mut Stack<Value>) -> Result<Value, NoMemory>
     requires { fits (shapes.Expr ∷ shapes.Place ∷ shapes.Prefixes ∷ []) values.old ≡ true }
     ensures { IfOk result (λ value. making does.AddArray values.old ≡ record { product = makes.Value value; vals = values.new }) }
 {
@@ -49,7 +49,7 @@ pub fn add_array(values: &mut Stack<Value>) -> Result<Value, NoMemory>
 
 /// A type that ends with the name of a struct.
 #[inline(never)]
-pub fn struct_type(name: Name, values: &mut Stack<Value>) -> Value
+pub(crate) fn struct_type(name: Name, values: &mut Stack<Value>) -> Value
     requires { fits (shapes.Prefixes ∷ []) values.old ≡ true }
     ensures { making (does.StructType name) values.old ≡ record { product = makes.Value result; vals = values.new } }
 {

@@ -1,6 +1,7 @@
 pub mod ByteClasses
 pub mod GapSizes
 pub mod NumberValues
+pub mod OneLine
 pub mod PieceLaws
 pub mod PieceLemmas
 pub mod Reading

@@ -11,5 +11,9 @@ abbrev pub behind_bytes : Place → List ℕ → Place
 behind_bytes at [] = at
 behind_bytes at (byte ∷ rest) = behind_bytes (behind_byte at byte) rest
 
+-- The place so many bytes on, in the same line.
+abbrev pub along : Place → ℕ → Place
+along at len = record { file = at.file; line = at.line; col = at.col + len }
+
 abbrev pub first_place : ℕ → Place
 first_place file = record { file = file; line = 1; col = 1 }

@@ -3,7 +3,7 @@
 use crate::gaps::{ends_line, gap_len};
 use crate::kinds::TokenKind;
 use crate::pieces::{Piece, first_piece};
-use crate::places::behind_bytes;
+use crate::places::{along, behind_bytes};
 use crate::semicolons::ends_statement;
 use crate::symbols::Symbol;
 use crate::token::Token;
@@ -113,7 +113,7 @@ impl<'a> Lexer<'a> {
         let (bytes, rest) = behind.split_at(piece.len);
         *self = Lexer {
             rest,
-            at: behind_bytes(at, bytes),
+            at: along(at, piece.len),
             due: ends_statement(piece.kind),
             over: false,
         };

@@ -1,7 +1,7 @@
 // Places after bytes: a line ends with its line feed, and columns count bytes.
 
 ghost use Rattle.std.specs.Prelude.{◌≡◌, ◌≤◌, ◌<◌, ◌+◌, ◌^◌, length};
-ghost use Rattle.wf_tokens.specs.Places.{behind_byte, behind_bytes};
+ghost use Rattle.wf_tokens.specs.Places.{along, behind_byte, behind_bytes};
 
 use wf_text::Place;
 
@@ -39,4 +39,16 @@ pub fn behind_bytes(at: Place, bytes: &[u8]) -> Place
         place = behind_byte(place, *byte);
     }
     place
+}
+
+/// The place so many bytes on, in the same line.
+pub(crate) fn along(at: Place, len: usize) -> Place
+    requires { at.col + len < 2 ^ 32 }
+    ensures { result ≡ along at len }
+{
+    Place {
+        file: at.file,
+        line: at.line,
+        col: at.col + len as u32,
+    }
 }

@@ -1,8 +1,11 @@
 // The symbols of the language: brackets, punctuation, comparisons and operators, each also as an assignment.
 
-ghost use Rattle.std.specs.Prelude.{ℕ, ◌≡◌, ◌≤◌, ◌++◌, List, length, nat_eq, IfSome, IfNone, find};
+ghost use Rattle.std.specs.Prelude.{ℕ, ◌≡◌, ◌≤◌, ◌++◌, List, length, drop, nat_eq, if◌then◌else◌, IfSome, IfNone, find};
 ghost use Rattle.std.specs.List.{starts_with};
 ghost use Rattle.wf_tokens.specs.Runs.{first_byte};
+ghost use Rattle.wf_tokens.specs.declared.symbols.Operator.TheVariants as operator;
+ghost use Rattle.wf_tokens.specs.declared.symbols.Comparison.TheVariants as comparison;
+ghost use Rattle.wf_tokens.specs.declared.symbols.Symbol.TheVariants as symbol;
 ghost use Rattle.wf_tokens.specs.Symbols.{operator_text, assign_text, comparison_text, symbol_text, symbols_from, IsLongestSymbol, BeginsNoSymbol};
 
 use crate::runs::first_byte;
@@ -194,98 +197,145 @@ pub(crate) fn text_of_symbol(symbol: Symbol) -> &'static str
     }
 }
 
-/// The symbols that begin with this byte, the longer ones first.
-fn symbols_from(byte: u8) -> &'static [Symbol]
-    ensures { result.now ≡ symbols_from byte }
+/// The symbols that begin with `~`, the longer ones first.
+fn tilde_symbols() -> &'static [Symbol]
+    ensures { result.now ≡ symbols_from 126 }
 {
-    match byte {
-        b'!' => &[Symbol::Exclamation],
-        b'%' => &[
-            Symbol::Assign(Operator::Rem),
-            Symbol::Operator(Operator::Rem),
-        ],
-        b'&' => &[
-            Symbol::Assign(Operator::BitAnd),
-            Symbol::Operator(Operator::BitAnd),
-        ],
-        b'(' => &[Symbol::OpenParen],
-        b')' => &[Symbol::CloseParen],
-        b'*' => &[
-            Symbol::Assign(Operator::Mul),
-            Symbol::Operator(Operator::Mul),
-        ],
-        b'+' => &[
-            Symbol::Assign(Operator::Add),
-            Symbol::Operator(Operator::Add),
-        ],
-        b',' => &[Symbol::Comma],
-        b'-' => &[
-            Symbol::Assign(Operator::Sub),
-            Symbol::Operator(Operator::Sub),
-        ],
-        b'.' => &[Symbol::DotDotEquals, Symbol::DotDot, Symbol::Dot],
-        b'/' => &[
-            Symbol::Assign(Operator::Div),
-            Symbol::Operator(Operator::Div),
-        ],
-        b':' => &[Symbol::Colon],
-        b';' => &[Symbol::Semicolon],
-        b'<' => &[
-            Symbol::Assign(Operator::ShiftLeft),
-            Symbol::Compare(Comparison::NotEqual),
-            Symbol::Compare(Comparison::LessOrEqual),
-            Symbol::Operator(Operator::ShiftLeft),
-            Symbol::Compare(Comparison::Less),
-        ],
-        b'=' => &[
-            Symbol::EqualsQuestion,
-            Symbol::Compare(Comparison::Equal),
-            Symbol::Equals,
-        ],
-        b'>' => &[
-            Symbol::Assign(Operator::ShiftRight),
-            Symbol::Compare(Comparison::GreaterOrEqual),
-            Symbol::Operator(Operator::ShiftRight),
-            Symbol::Compare(Comparison::Greater),
-        ],
-        b'?' => &[Symbol::Question],
-        b'[' => &[Symbol::OpenBracket],
-        b']' => &[Symbol::CloseBracket],
-        b'^' => &[
-            Symbol::Assign(Operator::BitXor),
-            Symbol::Operator(Operator::BitXor),
-        ],
-        b'{' => &[Symbol::OpenBrace],
-        b'|' => &[
-            Symbol::Assign(Operator::BitOr),
-            Symbol::Operator(Operator::BitOr),
-        ],
-        b'}' => &[Symbol::CloseBrace],
-        b'~' => &[
-            Symbol::Assign(Operator::ModShiftLeft),
-            Symbol::Operator(Operator::ModShiftLeft),
-            Symbol::Assign(Operator::ModAdd),
-            Symbol::Assign(Operator::ModSub),
-            Symbol::Assign(Operator::ModMul),
-            Symbol::Assign(Operator::SatAdd),
-            Symbol::Assign(Operator::SatSub),
-            Symbol::Operator(Operator::ModAdd),
-            Symbol::Operator(Operator::ModSub),
-            Symbol::Operator(Operator::ModMul),
-            Symbol::Operator(Operator::SatAdd),
-            Symbol::Operator(Operator::SatSub),
-        ],
-        _ => &[],
+    &[
+        Symbol::Assign(Operator::ModShiftLeft),
+        Symbol::Operator(Operator::ModShiftLeft),
+        Symbol::Assign(Operator::ModAdd),
+        Symbol::Assign(Operator::ModSub),
+        Symbol::Assign(Operator::ModMul),
+        Symbol::Assign(Operator::SatAdd),
+        Symbol::Assign(Operator::SatSub),
+        Symbol::Operator(Operator::ModAdd),
+        Symbol::Operator(Operator::ModSub),
+        Symbol::Operator(Operator::ModMul),
+        Symbol::Operator(Operator::SatAdd),
+        Symbol::Operator(Operator::SatSub),
+    ]
+}
+
+/// The first of the symbols that begin with `~` with which the bytes begin.
+fn tilde_symbol(bytes: &[u8]) -> Option<Symbol>
+    ensures { result ≡ find (λ symbol. starts_with nat_eq bytes.now (symbol_text symbol)) (symbols_from 126) }
+{
+    tilde_symbols().iter().copied().find(|symbol| bytes.starts_with(text_of_symbol(
+        *symbol,
+    ).as_bytes()))
+}
+
+/// The symbol of an operator of one byte, after which `next` stands.
+fn operator_symbol(operator: Operator, next: u8) -> Symbol
+    ensures { result ≡ if nat_eq next 61 then symbol.Assign operator else symbol.Operator operator }
+{
+    if next == b'=' {
+        Symbol::Assign(operator)
+    } else {
+        Symbol::Operator(operator)
     }
 }
 
-/// The first symbol with which the bytes begin of those that begin with their first byte.
+/// The symbol that begins with `.`, after which `next` and `after` stand.
+fn dot_symbol(next: u8, after: u8) -> Symbol
+    ensures { result ≡ if nat_eq next 46 then (if nat_eq after 61 then symbol.DotDotEquals else symbol.DotDot) else symbol.Dot }
+{
+    if next == b'.' {
+        if after == b'=' {
+            Symbol::DotDotEquals
+        } else {
+            Symbol::DotDot
+        }
+    } else {
+        Symbol::Dot
+    }
+}
+
+/// The symbol that begins with `=`, after which `next` stands.
+fn equals_symbol(next: u8) -> Symbol
+    ensures { result ≡ if nat_eq next 63 then symbol.EqualsQuestion else if nat_eq next 61 then symbol.Compare comparison.Equal else symbol.Equals }
+{
+    if next == b'?' {
+        Symbol::EqualsQuestion
+    } else if next == b'=' {
+        Symbol::Compare(Comparison::Equal)
+    } else {
+        Symbol::Equals
+    }
+}
+
+/// The symbol that begins with `<`, after which `next` and `after` stand.
+fn less_symbol(next: u8, after: u8) -> Symbol
+    ensures { result ≡ if nat_eq next 60 then (if nat_eq after 61 then symbol.Assign operator.ShiftLeft else symbol.Operator operator.ShiftLeft) else if nat_eq next 62 then symbol.Compare comparison.NotEqual else if nat_eq next 61 then symbol.Compare comparison.LessOrEqual else symbol.Compare comparison.Less }
+{
+    if next == b'<' {
+        operator_symbol(Operator::ShiftLeft, after)
+    } else if next == b'>' {
+        Symbol::Compare(Comparison::NotEqual)
+    } else if next == b'=' {
+        Symbol::Compare(Comparison::LessOrEqual)
+    } else {
+        Symbol::Compare(Comparison::Less)
+    }
+}
+
+/// The symbol that begins with `>`, after which `next` and `after` stand.
+fn greater_symbol(next: u8, after: u8) -> Symbol
+    ensures { result ≡ if nat_eq next 62 then (if nat_eq after 61 then symbol.Assign operator.ShiftRight else symbol.Operator operator.ShiftRight) else if nat_eq next 61 then symbol.Compare comparison.GreaterOrEqual else symbol.Compare comparison.Greater }
+{
+    if next == b'>' {
+        operator_symbol(Operator::ShiftRight, after)
+    } else if next == b'=' {
+        Symbol::Compare(Comparison::GreaterOrEqual)
+    } else {
+        Symbol::Compare(Comparison::Greater)
+    }
+}
+
+/// The byte at this place, and 0 where there is none.
+fn byte_at(bytes: &[u8], place: usize) -> u8
+    ensures { result ≡ first_byte (drop place bytes.now) }
+{
+    match bytes.get(place) {
+        Some(byte) => *byte,
+        None => 0,
+    }
+}
+
+/// The first symbol with which the bytes begin of those that begin with their first byte, the longer ones first. But
+/// for those that begin with `~`, the first three bytes tell which it is.
 fn find_symbol(bytes: &[u8]) -> Option<Symbol>
     ensures { result ≡ find (λ symbol. starts_with nat_eq bytes.now (symbol_text symbol)) (symbols_from (first_byte bytes.now)) }
 {
-    symbols_from(first_byte(bytes)).iter().copied().find(|symbol| bytes.starts_with(text_of_symbol(
-        *symbol,
-    ).as_bytes()))
+    let next = byte_at(bytes, 1);
+    match first_byte(bytes) {
+        b'!' => Some(Symbol::Exclamation),
+        b'(' => Some(Symbol::OpenParen),
+        b')' => Some(Symbol::CloseParen),
+        b',' => Some(Symbol::Comma),
+        b':' => Some(Symbol::Colon),
+        b';' => Some(Symbol::Semicolon),
+        b'?' => Some(Symbol::Question),
+        b'[' => Some(Symbol::OpenBracket),
+        b']' => Some(Symbol::CloseBracket),
+        b'{' => Some(Symbol::OpenBrace),
+        b'}' => Some(Symbol::CloseBrace),
+        b'%' => Some(operator_symbol(Operator::Rem, next)),
+        b'&' => Some(operator_symbol(Operator::BitAnd, next)),
+        b'*' => Some(operator_symbol(Operator::Mul, next)),
+        b'+' => Some(operator_symbol(Operator::Add, next)),
+        b'-' => Some(operator_symbol(Operator::Sub, next)),
+        b'/' => Some(operator_symbol(Operator::Div, next)),
+        b'^' => Some(operator_symbol(Operator::BitXor, next)),
+        b'|' => Some(operator_symbol(Operator::BitOr, next)),
+        b'.' => Some(dot_symbol(next, byte_at(bytes, 2))),
+        b'=' => Some(equals_symbol(next)),
+        b'<' => Some(less_symbol(next, byte_at(bytes, 2))),
+        b'>' => Some(greater_symbol(next, byte_at(bytes, 2))),
+        b'~' => tilde_symbol(bytes),
+        _ => None,
+    }
 }
 
 /// The longest symbol with which the bytes begin, if they begin with one.
