@@ -15,13 +15,13 @@ use Rattle.wf_names_resolve.specs.Package.{resolved_package}
 use Rattle.wf_names_laws.specs.Ordered.{HasOrder}
 use Rattle.wf_names.specs.declared.findings.Findings.{Findings}
 
--- What is found of a package: the refusal that decides, tables that tell what it declares, and an order of its methods.
+-- What is found of a package: the first refusal, tables that tell what it declares, and an order of its methods.
 pub record AreFindings (d : Declared) (found : Findings) : Type 0 where
   pub decides : Decides (Breaks d) found.refusal
   pub tables : TellsPackage d found.tables
   pub order : IsCallOrder d found.order.items
 
--- A package is refused by what decides of all that it breaks of the rules of names. Want of memory says nothing of it.
+-- A package is refused by the first refusal of all that it breaks of the rules of names. Want of memory says nothing of it.
 abbrev pub IsMisnamed : Parsed → PhaseFault → Type 0
 IsMisnamed parsed (phase.Refused refusal) = IsFirst (Breaks (package_of parsed)) refusal
 IsMisnamed parsed phase.Memory = ⊤

@@ -18,12 +18,12 @@ use wf_names_cycles::cycles_found::{NamedCycles, cycle_breaks};
 use wf_names_cycles::methods::method_cycles;
 use wf_names_cycles::structs::struct_cycles;
 use wf_names_decls::declarations::declarations;
-use wf_names_rules::found::Found;
 use wf_names_rules::tables::Tables;
 use wf_names_scopes::tables::tables;
 use wf_names_scopes::uses::uses;
 use wf_names_sizes::large::size_breaks;
 use wf_text::faults::NoMemory;
+use wf_text::found::Found;
 use wf_text::rules::Refusal;
 
 /// What is known of a package once it was looked through for what it breaks.

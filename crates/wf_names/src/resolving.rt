@@ -1,4 +1,4 @@
-// The resolved tree of a parsed package, where the package breaks no rule of names; else the refusal that decides.
+// The resolved tree of a parsed package, where the package breaks no rule of names; else the first refusal.
 
 ghost use Rattle.std.specs.Prelude.{◌≡◌, None, IfErr, IfOk};
 ghost use Rattle.wf_ast.specs.ReadPackage.{IsRead};

@@ -1,17 +1,18 @@
--- What decides with the names on cycles.
+-- The first refusal with the names on cycles.
 use Rattle.std.proofs.Common.{◌≡◌, ◌⊎◌, ℕ, zero, suc, if◌then◌else◌, Bool, true, false, List, [], ◌∷◌, length, Option, Some, None, slice_get, refl, sym, ap, ◌∙◌, subst, inl, inr}
 use Rattle.std.proofs.lemmas.Option.{none-some}
+use Rattle.wf_text.specs.declared.rules.Rule.{Rule}
 use Rattle.wf_text.specs.declared.rules.Refusal.{Refusal}
 use Rattle.wf_text.specs.Precedence.{is_before, sooner, soonest, IsFirst, Decides}
 use Rattle.wf_text.proofs.PrecedenceLaws.{Among, here, there, is_before-self, is_before-over, is_before-same, Decides-map, Decides-soonest}
 use Rattle.wf_ast.specs.declared.parsed.Name.{Name}
 use Rattle.graphs.specs.Graphs.{Path, last, more, AreCycles}
 use Rattle.wf_names_rules.specs.Passes.{flagged_from}
-use Rattle.wf_names_rules.specs.Found.{Finds, RecursName}
+use Rattle.wf_names_rules.specs.Found.{Finds, IsOnCycle}
 use Rattle.wf_names_rules.proofs.ListLaws.{flagged-sound, flagged-complete}
 use Rattle.wf_names_cycles.specs.CyclesFound.{DecidesWith}
 
--- Of what was found that decides.
+-- The first refusal of what was found.
 decides-found : (found : Option Refusal) → Decides (λ s. found ≡ Some s) found
 decides-found None = λ s e. none-some s e
 decides-found (Some r) = record {
@@ -28,15 +29,15 @@ item-among : (t : Refusal) (ns : List (Option Refusal)) → Among t ns → Finds
 item-among t _ (here n ns e) = (0, ap (λ x. Some x) e)
 item-among t _ (there n ns a) = let r = item-among t ns a in (suc r.0, r.1)
 
-pub cycles_found-decides : (rows : List (List ℕ)) (names : List Name) (flags : List Bool) (found all : Option Refusal)
-    → AreCycles rows flags (length names) → all ≡ soonest found (flagged_from 0 flags names) → DecidesWith (RecursName rows names) found all
-cycles_found-decides rows names flags found all h e =
-    let P : Option Refusal → Type 0 = λ o. DecidesWith (RecursName rows names) found o in
+pub cycles_found-decides : (rule : Rule) (rows : List (List ℕ)) (names : List Name) (flags : List Bool) (found all : Option Refusal)
+    → AreCycles rows flags (length names) → all ≡ soonest found (flagged_from rule 0 flags names) → DecidesWith (IsOnCycle rule rows names) found all
+cycles_found-decides rule rows names flags found all h e =
+    let P : Option Refusal → Type 0 = λ o. DecidesWith (IsOnCycle rule rows names) found o in
     subst P (sym e) (
-    Decides-map (λ t. (found ≡ Some t) ⊎ Among t (flagged_from 0 flags names)) (λ t. (found ≡ Some t) ⊎ RecursName rows names t) (soonest found (flagged_from 0 flags names))
-    (λ t c. elim c [ inl p ↦ inl p | inr a ↦ inr (flagged-sound rows flags names t h (item-among t (flagged_from 0 flags names) a)) ])
-    (λ t c. elim c [ inl p ↦ inl p | inr r ↦ inr (let f = flagged-complete rows flags names t h r in among-item t (flagged_from 0 flags names) f.0 f.1) ])
-    (Decides-soonest (λ s. found ≡ Some s) found (flagged_from 0 flags names) (decides-found found))
+    Decides-map (λ t. (found ≡ Some t) ⊎ Among t (flagged_from rule 0 flags names)) (λ t. (found ≡ Some t) ⊎ IsOnCycle rule rows names t) (soonest found (flagged_from rule 0 flags names))
+    (λ t c. elim c [ inl p ↦ inl p | inr a ↦ inr (flagged-sound rule rows flags names t h (item-among t (flagged_from rule 0 flags names) a)) ])
+    (λ t c. elim c [ inl p ↦ inl p | inr r ↦ inr (let f = flagged-complete rule rows flags names t h r in among-item t (flagged_from rule 0 flags names) f.0 f.1) ])
+    (Decides-soonest (λ s. found ≡ Some s) found (flagged_from rule 0 flags names) (decides-found found))
     )
 
 -- What doesn't decide over the second doesn't over the first, which the second doesn't decide over.
@@ -54,7 +55,7 @@ first-of-both : (P Q : Refusal → Type 0) (r s : Refusal) (b : Bool) → is_bef
 first-of-both P Q r s true e h k = record { breaks = inr k.breaks; first = λ t c. elim c [ inl p ↦ is_before-over r s t e (h.first t p) | inr q ↦ k.first t q ] }
 first-of-both P Q r s false e h k = record { breaks = inl h.breaks; first = λ t c. elim c [ inl p ↦ h.first t p | inr q ↦ over-both Q r s t e k q ] }
 
--- Of two kinds of rules together decides the sooner of what decides of each.
+-- Of two kinds of rules together the first refusal is the sooner of the first refusals of each.
 pub Decides-both : (P Q : Refusal → Type 0) (a b : Option Refusal) → Decides P a → Decides Q b → Decides (λ s. P s ⊎ Q s) (sooner a b)
 Decides-both P Q None None h k = λ s c. elim c [ inl p ↦ h s p | inr q ↦ k s q ]
 Decides-both P Q (Some r) None h k = record {
@@ -74,7 +75,7 @@ DecidesWith-map P Q found all to from h =
     Decides-map (λ t. (found ≡ Some t) ⊎ P t) (λ t. (found ≡ Some t) ⊎ Q t) all
     (λ t c. elim c [ inl p ↦ inl p | inr q ↦ inr (to t q) ]) (λ t c. elim c [ inl p ↦ inl p | inr q ↦ inr (from t q) ]) h
 
--- What decides of what decided before and of these rules decides of all rules together.
+-- The first refusal of the one before and of these rules is that of all rules together.
 pub decides-with : (P Q : Refusal → Type 0) (found all : Option Refusal) → Decides P found → DecidesWith Q found all → Decides (λ s. P s ⊎ Q s) all
 decides-with P Q None all h k =
     Decides-map (λ t. (None ≡ Some t) ⊎ Q t) (λ t. P t ⊎ Q t) all

@@ -16,7 +16,7 @@ use Rattle.wf_ast.specs.ParsedTree.{ExprTree, StmtTree, TypeTree, DeclTree}
 use Rattle.wf_ast.specs.ParsedTrees.{all_prefixed, type_at, fields_at, expr_trees, stmt_trees, decl_made, decls_made, decl_trees}
 use Rattle.wf_names_rules.specs.Declarations.{Variable, Structure, Declared, declared, is_spelt, struct_named, variables, structs_of}
 use Rattle.graphs.specs.Graphs.{holds, row_in, goes, AreWithin}
-use Rattle.wf_names_rules.specs.Found.{RecursName}
+use Rattle.wf_names_rules.specs.Found.{IsOnCycle}
 use Rattle.wf_names_rules.specs.Sizes.{struct_held, is_the, fields_at as fields_in_struct, holds_struct}
 use Rattle.graphs.proofs.NumberLemmas.{same_number}
 use Rattle.wf_names_rules.proofs.WalkLemmas.{drop-one}
@@ -190,7 +190,7 @@ module _ (d : Declared) (names : List Name) (rows : List (List ℕ)) (named : na
   pub structs-long : length names ≡ length rows
   structs-long = ap length named ∙ names-long d.structs ∙ sym made.len
 
-  holds-from : (s : Refusal) → RecursName rows names s → HoldsItself d s
+  holds-from : (s : Refusal) → IsOnCycle N4 rows names s → HoldsItself d s
   holds-from s r =
       let at = structure-at d.structs r.number r.name (ap (λ ns. slice_get ns r.number) (sym named) ∙ r.is) in record {
         number = r.number;
@@ -200,7 +200,7 @@ module _ (d : Declared) (names : List Name) (rows : List (List ℕ)) (named : na
         refused = r.refused ∙ ap (λ (n : Name). record { rule = N4; at = n.at }) (sym at.1.1);
       }
 
-  holds-to : (s : Refusal) → HoldsItself d s → RecursName rows names s
+  holds-to : (s : Refusal) → HoldsItself d s → IsOnCycle N4 rows names s
   holds-to s h = record {
     number = h.number;
     name = h.structure.name;
@@ -209,8 +209,8 @@ module _ (d : Declared) (names : List Name) (rows : List (List ℕ)) (named : na
     refused = h.refused;
   }
 
-  pub structs-decided : (found all : Option Refusal) → DecidesWith (RecursName rows names) found all → DecidesWith (HoldsItself d) found all
-  structs-decided found all h = DecidesWith-map (RecursName rows names) (HoldsItself d) found all holds-from holds-to h
+  pub structs-decided : (found all : Option Refusal) → DecidesWith (IsOnCycle N4 rows names) found all → DecidesWith (HoldsItself d) found all
+  structs-decided found all h = DecidesWith-map (IsOnCycle N4 rows names) (HoldsItself d) found all holds-from holds-to h
 
 rows-few : (f : ℕ → Option ℕ) (es : List ExprTree) (ts : List StmtTree) (nodes : List DeclNode) (rows : List (List ℕ)) (n : ℕ)
     → rows ≡ held_rows f (structs_of (decls_made es ts nodes)) → length nodes < n → length rows < n

@@ -1,4 +1,4 @@
--- The section of cycles: the rows of the methods are a graph over them, and what decides of both graphs.
+-- The section of cycles: the rows of the methods are a graph over them, and the first refusal of both graphs.
 use Rattle.std.proofs.Common.{◌≡◌, ◌⊎◌, ℕ, zero, suc, ◌<◌, ◌≤◌, Bool, true, false, List, [], ◌∷◌, length, Option, Some, None, slice_get, nat_eq, nat_lt, ◌&&◌, if◌then◌else◌, refl, sym, ap, ◌∙◌, subst, inl, inr, arith}
 use Rattle.std.specs.List.{list_any}
 use Rattle.std.proofs.lemmas.Bool.Decides.{nat_tests}
@@ -22,11 +22,11 @@ use Rattle.wf_names_rules.specs.Declarations.{Method, Declared, is_spelt, method
 use Rattle.wf_names_rules.specs.Uses.{Use, Scope, own_status, base_status, variable, structure, method, method_uses, method_scope}
 use Rattle.wf_names_rules.specs.Meanings.{known_at, method_known, path_sort, this_callee, public_callee, struct_callee, found_base, part_callee, sorted_callee, callee_on}
 use Rattle.graphs.specs.Graphs.{holds, row_in, goes, AreWithin}
-use Rattle.wf_names_rules.specs.Found.{RecursName}
+use Rattle.wf_names_rules.specs.Found.{IsOnCycle}
 use Rattle.wf_names_rules.specs.NameRules.{is_callee, calls_it, method_calls, calls, CycleBreaks, recursion, holds_itself}
 use Rattle.graphs.proofs.NumberLemmas.{same_number}
 use Rattle.wf_names_scopes.specs.CallRows.{AreRows}
-use Rattle.wf_names_cycles.specs.CyclesFound.{DecidesWith, HoldsItself, CallsItself, method_names}
+use Rattle.wf_names_cycles.specs.CyclesFound.{DecidesWith, HoldsItself, Recursion, method_names}
 use Rattle.wf_names_cycles.proofs.CycleLemmas.{DecidesWith-map, decides-with, path-map}
 use Rattle.wf_names_cycles.proofs.HeldLemmas.{position-below, either}
 
@@ -136,7 +136,7 @@ module _ (d : Declared) (rows : List (List ℕ)) (made : AreRows d rows (length 
   pub methods-long : length names ≡ length rows
   methods-long = ap length named ∙ names-long d.methods ∙ sym made.len
 
-  calls-from : (s : Refusal) → RecursName rows names s → CallsItself d s
+  calls-from : (s : Refusal) → IsOnCycle N4 rows names s → Recursion d s
   calls-from s r =
       let at = method-at d.methods r.number r.name (ap (λ ns. slice_get ns r.number) (sym named) ∙ r.is) in record {
         number = r.number;
@@ -146,7 +146,7 @@ module _ (d : Declared) (rows : List (List ℕ)) (made : AreRows d rows (length 
         refused = r.refused ∙ ap (λ (n : Name). record { rule = N4; at = n.at }) (sym at.1.1);
       }
 
-  calls-to : (s : Refusal) → CallsItself d s → RecursName rows names s
+  calls-to : (s : Refusal) → Recursion d s → IsOnCycle N4 rows names s
   calls-to s h = record {
     number = h.number;
     name = h.method.name;
@@ -155,26 +155,26 @@ module _ (d : Declared) (rows : List (List ℕ)) (made : AreRows d rows (length 
     refused = h.refused;
   }
 
-  pub methods-decided : (found all : Option Refusal) → DecidesWith (RecursName rows names) found all → DecidesWith (CallsItself d) found all
-  methods-decided found all h = DecidesWith-map (RecursName rows names) (CallsItself d) found all calls-from calls-to h
+  pub methods-decided : (found all : Option Refusal) → DecidesWith (IsOnCycle N4 rows names) found all → DecidesWith (Recursion d) found all
+  methods-decided found all h = DecidesWith-map (IsOnCycle N4 rows names) (Recursion d) found all calls-from calls-to h
 
 -- Both graphs.
 struct-breaks : (d : Declared) (s : Refusal) → HoldsItself d s → CycleBreaks d s
 struct-breaks d s h = let P : Refusal → Type 0 = CycleBreaks d in subst P (sym h.refused) (holds_itself h.number h.structure h.is h.path)
 
-method-breaks : (d : Declared) (s : Refusal) → CallsItself d s → CycleBreaks d s
+method-breaks : (d : Declared) (s : Refusal) → Recursion d s → CycleBreaks d s
 method-breaks d s h = let P : Refusal → Type 0 = CycleBreaks d in subst P (sym h.refused) (recursion h.number h.method h.is h.path)
 
-cycle-cases : (d : Declared) (s : Refusal) → CycleBreaks d s → HoldsItself d s ⊎ CallsItself d s
+cycle-cases : (d : Declared) (s : Refusal) → CycleBreaks d s → HoldsItself d s ⊎ Recursion d s
 cycle-cases d _ (recursion a m is way) = inr (record { number = a; method = m; is = is; path = way; refused = refl })
 cycle-cases d _ (holds_itself a s is way) = inl (record { number = a; structure = s; is = is; path = way; refused = refl })
 
-pub cycles-decided : (d : Declared) (found last all : Option Refusal) → DecidesWith (HoldsItself d) found last → DecidesWith (CallsItself d) last all → DecidesWith (CycleBreaks d) found all
+pub cycles-decided : (d : Declared) (found last all : Option Refusal) → DecidesWith (HoldsItself d) found last → DecidesWith (Recursion d) last all → DecidesWith (CycleBreaks d) found all
 cycles-decided d found last all h k =
-    Decides-map (λ s. ((found ≡ Some s) ⊎ HoldsItself d s) ⊎ CallsItself d s) (λ s. (found ≡ Some s) ⊎ CycleBreaks d s) all
+    Decides-map (λ s. ((found ≡ Some s) ⊎ HoldsItself d s) ⊎ Recursion d s) (λ s. (found ≡ Some s) ⊎ CycleBreaks d s) all
     (λ s c. elim c [ inl p ↦ elim p [ inl e ↦ inl e | inr q ↦ inr (struct-breaks d s q) ] | inr q ↦ inr (method-breaks d s q) ])
     (λ s c. elim c [ inl e ↦ inl (inl e) | inr b ↦ elim (cycle-cases d s b) [ inl q ↦ inl (inr q) | inr q ↦ inr q ] ])
-    (decides-with (λ s. (found ≡ Some s) ⊎ HoldsItself d s) (CallsItself d) last all h k)
+    (decides-with (λ s. (found ≡ Some s) ⊎ HoldsItself d s) (Recursion d) last all h k)
 
 -- Where nothing was found before.
 pub cycles-alone : (d : Declared) (all : Option Refusal) → DecidesWith (CycleBreaks d) None all → Decides (CycleBreaks d) all

@@ -27,7 +27,7 @@ pub record HoldsItself (d : Declared) (s : Refusal) : Type 0 where
   pub refused : s ≡ record { rule = N4; at = structure.name.at }
 
 -- N4 at a method that can reach itself by calls.
-pub record CallsItself (d : Declared) (s : Refusal) : Type 0 where
+pub record Recursion (d : Declared) (s : Refusal) : Type 0 where
   pub number : ℕ
   pub method : Method
   pub is : slice_get d.methods number ≡ Some method

@@ -2,14 +2,15 @@
 
 ghost use Rattle.std.specs.Prelude.{◌≡◌, ℕ, List};
 ghost use Rattle.wf_names_rules.specs.Declarations.{Declared};
-ghost use Rattle.wf_names_rules.specs.Found.{RecursName};
+ghost use Rattle.wf_names_rules.specs.Found.{IsOnCycle};
 ghost use Rattle.wf_names_rules.specs.NameRules.{CycleBreaks};
-ghost use Rattle.wf_names_cycles.specs.CyclesFound.{DecidesWith, HoldsItself, CallsItself, AreCyclesOf, AreStructCycles, AreMethodCycles};
+ghost use Rattle.wf_names_cycles.specs.CyclesFound.{DecidesWith, HoldsItself, Recursion, AreCyclesOf, AreStructCycles, AreMethodCycles};
 
 use graphs::cycles::Cycles;
 use wf_ast::parsed::Name;
-use wf_names_rules::found::Found;
 use wf_names_rules::lists::flagged;
+use wf_text::found::Found;
+use wf_text::rules::Rule;
 
 /// The structs of a package, or its methods: their names, in order, and the cycles of their graph.
 pub struct NamedCycles {
@@ -37,24 +38,29 @@ impl NamedCycles {
 }
 
 // N4 at the names on cycles joins what was found before.
-fn recursive(found: &mut Found, named: &NamedCycles)
-    ensures { (rows : List (List ℕ)) → AreCyclesOf rows named.now → DecidesWith (RecursName rows named.now.names.items) found.old found.new }
+fn on_cycles(found: &mut Found, named: &NamedCycles)
+    ensures { (rows : List (List ℕ)) → AreCyclesOf rows named.now → DecidesWith (IsOnCycle Rule.N4 rows named.now.names.items) found.old found.new }
 {
-    flagged(found, named.cycles.flags.as_slice(), named.names.as_slice());
+    flagged(
+        found,
+        Rule::N4,
+        named.cycles.flags.as_slice(),
+        named.names.as_slice(),
+    );
 }
 
 // N4 at structs that hold themselves through fields joins what was found before.
 fn holds_itself(found: &mut Found, structs: &NamedCycles)
     ensures { (d : Declared) → AreStructCycles d structs.now → DecidesWith (HoldsItself d) found.old found.new }
 {
-    recursive(found, structs);
+    on_cycles(found, structs);
 }
 
 // N4 at methods that can reach themselves by calls joins what was found before.
 fn recursion(found: &mut Found, methods: &NamedCycles)
-    ensures { (d : Declared) → AreMethodCycles d methods.now → DecidesWith (CallsItself d) found.old found.new }
+    ensures { (d : Declared) → AreMethodCycles d methods.now → DecidesWith (Recursion d) found.old found.new }
 {
-    recursive(found, methods);
+    on_cycles(found, methods);
 }
 
 /// N4 at structs that hold themselves and methods that can reach themselves by calls joins what was found before.

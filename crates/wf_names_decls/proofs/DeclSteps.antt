@@ -122,11 +122,20 @@ module _ {R : Type 0} (es : List ExprTree) (ts : List StmtTree) (decls : List De
   pub structs-end : (f : R → Structure → R) → fold f found (structs_of (decls_made es ts (drop i decls))) ≡ r → found ≡ r
   structs-end f h = let P : List DeclNode → Type 0 = λ xs. fold f found (structs_of (decls_made es ts xs)) ≡ r in subst P (drop-over decls i over) h
 
-pub gather-end : {X : Type 0} (g : List DeclTree → List X) → g [] ≡ [] → (es : List ExprTree) (ts : List StmtTree) (decls : List DeclNode) (i : ℕ) → length decls ≤ i
+gather-end : {X : Type 0} (g : List DeclTree → List X) → g [] ≡ [] → (es : List ExprTree) (ts : List StmtTree) (decls : List DeclNode) (i : ℕ) → length decls ≤ i
     → (names r : List X) → names ++ g (decls_made es ts (drop i decls)) ≡ r → names ≡ r
 gather-end {X} g none es ts decls i over names r h =
     let P : List DeclNode → Type 0 = λ xs. names ++ g (decls_made es ts xs) ≡ r in
     sym (append-nil names) ∙ ap (λ y. names ++ y) (sym none) ∙ subst P (drop-over decls i over) h
+
+-- What was gathered when the number is past all declarations.
+pub gathered : {X : Type 0} (g : List DeclTree → List X) → g [] ≡ [] → (exprs : List ExprNode) (stmts : List StmtNode) (decls counted : List DeclNode) (i : ℕ) → counted ≡ decls → length counted ≤ i
+    → (names : List X) → names ++ g (decls_made (expr_trees exprs) (stmt_trees exprs stmts) (drop i decls)) ≡ g (decls_made (expr_trees exprs) (stmt_trees exprs stmts) decls)
+    → names ≡ g (decl_trees exprs stmts decls)
+gathered g none exprs stmts decls counted i is over names h =
+    let all = g (decls_made (expr_trees exprs) (stmt_trees exprs stmts) decls) in
+    let past : length decls ≤ i = omega (arith, over, ap length is) in
+    gather-end g none (expr_trees exprs) (stmt_trees exprs stmts) decls i past names all h ∙ ap g (sym (trees-made exprs stmts decls))
 
 -- The names of fields or arguments, by the nodes and by the trees.
 pub fields-same : (es : List ExprTree) (fs : List Field) → variable_names (variables (fields_at es fs)) ≡ field_names fs

@@ -499,7 +499,7 @@ module _ (d : Declared) where
   breaks-covered _ (rules.too_many_args m v is e) =
       covers d (record { rule = L7; at = v.name.at }) (inr (is.0, m, (is.1, inl (inr (v.name, (borne (λ v. v.name) m.args 64 v e, refl))))))
 
--- What decides among causes decides among more, where over each of these one of the others decides.
+-- The first refusal of some causes is that of more, where before each of these stands one of the others.
 not-before : (r s t : Refusal) → is_before t r ≡ false → is_before s t ≡ false → is_before s r ≡ false
 not-before r s t p q = by_order (is_before s r) refl
   where
@@ -530,7 +530,7 @@ covered-decides P Q (Some r) to cover h = record {
   first = λ s q. let c = cover s q in not-before r s c.0 (h.first c.0 c.1.0) c.1.1;
 }
 
--- After all passes decides what decided before or what the declarations break.
+-- After all passes it is the first refusal of what was found before and what the declarations break.
 pub declarations-decide : (d : Declared) (P : Refusal → Type 0) (found : Option Refusal) → Decides P found → Decides (λ s. P s ⊎ DeclarationBreaks d s) (declarations_found d found)
 declarations-decide d P found h =
     covered-decides (λ s. P s ⊎ Known d s) (λ s. P s ⊎ DeclarationBreaks d s) (declarations_found d found)

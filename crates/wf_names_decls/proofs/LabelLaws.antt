@@ -70,7 +70,7 @@ breaks-broken d _ (rules.reserved_label loops label at t) = (labelled loops labe
 breaks-broken d _ (rules.unknown_label loops label at t) = (to_label loops label, (at, ap (λ b. refused_if (not b) N5 label.at) t))
 breaks-broken d _ (rules.outside_loops at stands) = (to_innermost [] at, (stands, refl))
 
--- After the walks over all methods decides what decided before or what the loops and jumps break.
+-- After the walks over all methods it is the first refusal of what was found before and what the loops and jumps break.
 pub labels-decide : (d : Declared) (P : Refusal → Type 0) (found : Option Refusal) → Decides P found → Decides (λ s. P s ⊎ LabelBreaks d s) (labels_found d found)
 labels-decide d P found h =
     Decides-map (λ s. P s ⊎ Each (InMethod d.texts) d.methods s) (λ s. P s ⊎ LabelBreaks d s) (labels_found d found)

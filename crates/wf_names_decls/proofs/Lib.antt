@@ -3,4 +3,5 @@ pub mod DeclSteps
 pub mod DeclarationLaws
 pub mod LabelLaws
 pub mod OwnedLaws
+pub mod PairSets
 pub mod PassLaws

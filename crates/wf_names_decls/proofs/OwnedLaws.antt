@@ -10,7 +10,7 @@ use Rattle.wf_ast.specs.declared.numbers.TextId.{TextId}
 use Rattle.wf_ast.specs.declared.parsed.Name.{Name}
 use Rattle.wf_names_rules.specs.Declarations.{Method, is_spelt}
 use Rattle.wf_names_rules.specs.Passes.{refused_if}
-use Rattle.wf_names_rules.specs.Tables.{Pair, same_pair}
+use Rattle.wf_names_rules.specs.Pairs.{Pair, same_pair}
 use Rattle.wf_names_rules.specs.NameRules.{twice, names_owned}
 use Rattle.wf_names_rules.specs.Found.{Finds, RepeatsName}
 use Rattle.wf_names_decls.specs.declared.gathering.Owned.{Owned}
@@ -22,7 +22,7 @@ use Rattle.wf_names_decls.proofs.PassLaws.{refused-cause}
 has : List Pair → Pair → Bool
 has ps p = list_any (same_pair p) ps
 
-pair-self : (p : Pair) → same_pair p p ≡ true
+pub pair-self : (p : Pair) → same_pair p p ≡ true
 pair-self p = grind (arith, nat_tests)
 
 pair-parts : (p q : Pair) → same_pair p q ≡ true → (p.0 ≡ q.0) × (p.1 ≡ q.1)
@@ -70,6 +70,19 @@ insert-has ps p = has-if (list_any (same_pair p) ps) ps p refl
 insert-only : (ps : List Pair) (p q : Pair) → has (insert_key same_pair ps p) q ≡ true → (has ps q ≡ true) ⊎ (same_pair q p ≡ true)
 unfolding has
 insert-only ps p q h = only-if (list_any (same_pair p) ps) ps p q h
+
+-- The same, where what a list has is written out.
+pub pair-keeps : (ps : List Pair) (p q : Pair) → list_any (same_pair q) ps ≡ true → list_any (same_pair q) (insert_key same_pair ps p) ≡ true
+unfolding has
+pair-keeps ps p q h = insert-keeps ps p q h
+
+pub pair-has : (ps : List Pair) (p : Pair) → list_any (same_pair p) (insert_key same_pair ps p) ≡ true
+unfolding has
+pair-has ps p = insert-has ps p
+
+pub pair-only : (ps : List Pair) (p q : Pair) → list_any (same_pair q) (insert_key same_pair ps p) ≡ true → (list_any (same_pair q) ps ≡ true) ⊎ (same_pair q p ≡ true)
+unfolding has
+pair-only ps p q h = insert-only ps p q h
 
 -- Two methods of one struct and of one name; `later` is the name of the second one.
 record Two (ms : List Owned) (j : ℕ) (b : Owned) : Type 0 where

@@ -1,4 +1,4 @@
--- What decides after a pass over a list.
+-- The first refusal after a pass over a list.
 use Rattle.std.proofs.Common.{◌≡◌, ◌⊎◌, ℕ, zero, suc, Bool, true, false, List, [], ◌∷◌, fold, Option, Some, slice_get, refl, sym, ap, subst, inl, inr}
 use Rattle.wf_text.specs.declared.place.Place.{Place}
 use Rattle.wf_text.specs.declared.rules.Rule.{Rule}
@@ -21,7 +21,7 @@ each-cases : {A : Type 0} (B : A → Refusal → Type 0) (x : A) (xs : List A) (
 each-cases {A} B x xs s zero y e b = let same : x ≡ y = cc e in let F : A → Type 0 = λ z. B z s in inl (subst F (sym same) b)
 each-cases B x xs s (suc i) y e b = inr (i, y, (e, b))
 
--- A pass that judges one after the other, where what decides after each is known.
+-- A pass that judges one after the other, where the first refusal after each is known.
 pub fold-decides : {A : Type 0} (f : Option Refusal → A → Option Refusal) (B : A → Refusal → Type 0)
     → ((P : Refusal → Type 0) (found : Option Refusal) (x : A) → Decides P found → Decides (λ s. P s ⊎ B x s) (f found x))
     → (P : Refusal → Type 0) (found : Option Refusal) (xs : List A) → Decides P found → Decides (λ s. P s ⊎ Each B xs s) (fold f found xs)
@@ -36,7 +36,7 @@ fold-decides f B step P found (x ∷ xs) h =
     (λ s c. elim c [ inl p ↦ inl (inl p) | inr e ↦ elim (each-cases B x xs s e.0 e.1 e.2.0 e.2.1) [ inl b ↦ inl (inr b) | inr t ↦ inr t ] ])
     (fold-decides f B step (λ s. P s ⊎ B x s) (f found x) xs (step P found x h))
 
--- A pass adds causes: after it decides what decided before or one of these.
+-- A pass adds causes: after it the first refusal is the one before or one of these.
 abbrev pub Adds : (Option Refusal → Option Refusal) → (Refusal → Type 0) → Type 1
 Adds pass Q = (P : Refusal → Type 0) (found : Option Refusal) → Decides P found → Decides (λ s. P s ⊎ Q s) (pass found)
 

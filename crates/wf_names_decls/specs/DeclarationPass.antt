@@ -9,7 +9,7 @@ use Rattle.wf_ast.specs.declared.parsed.Name.{Name}
 use Rattle.wf_names_rules.specs.Declarations.{Declared, Method, Structure, is_spelt}
 use Rattle.wf_names_rules.specs.NameRules.{later_of, variable_names}
 use Rattle.wf_names_rules.specs.Passes.{refused_if, doubles_of, reserved_of, initializes_of, beyond}
-use Rattle.wf_names_rules.specs.Tables.{Pair, same_pair}
+use Rattle.wf_names_rules.specs.Pairs.{Pair, same_pair}
 use Rattle.wf_names_decls.specs.declared.gathering.Owned.{Owned}
 use Rattle.wf_names_decls.specs.Gathering.{constant_names, struct_names, owned_methods, owned_names}
 

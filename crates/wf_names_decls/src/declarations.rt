@@ -17,9 +17,9 @@ use indexmap::IndexMap;
 use std::alloc::Global;
 use wf_ast::PackageNodes;
 use wf_ast::parsed::{Block, Decl, Field, Name};
-use wf_names_rules::found::Found;
 use wf_names_rules::lists::doubles;
 use wf_text::faults::NoMemory;
+use wf_text::found::Found;
 
 fn judge_statuses(alloc: Global, found: &mut Found, parsed: &PackageNodes) -> Result<(), NoMemory>
     ensures { OnOk result (found.new ≡ statuses_found (declared parsed.now.texts (decl_trees parsed.now.exprs parsed.now.stmts parsed.now.decls)) found.old) }

@@ -9,13 +9,14 @@ ghost use Rattle.wf_names_rules.specs.Passes.{refused_if as refuses_if};
 ghost use Rattle.wf_names_decls.specs.DeclarationPass.{names_judged, owned_doubles as doubles_of_owned, methods_judged, first_spelt, hidden_item, hidden_of, args_judged, locals_judged};
 
 use crate::gathering::{Owned, owned_names};
-use indexmap::{IndexMap, IndexSet};
+use indexmap::IndexMap;
 use std::alloc::Global;
+use std::collections::BTreeSet;
 use wf_ast::PackageNodes;
 use wf_ast::parsed::Name;
-use wf_names_rules::found::Found;
 use wf_names_rules::lists::{beyond, doubles, initializes, reserved};
 use wf_text::faults::NoMemory;
+use wf_text::found::Found;
 use wf_text::precedence::is_before;
 use wf_text::rules::{Refusal, Rule};
 
@@ -46,10 +47,11 @@ fn double_method(fresh: bool, name: Name) -> Option<Refusal>
     }
 }
 
+// Pairs are looked up in an ordered set, so that a look-up takes few comparisons whatever the names are.
 fn owned_doubles(alloc: Global, found: &mut Found, methods: &[Owned]) -> Result<(), NoMemory>
     ensures { OnOk result (found.new ≡ soonest found.old (doubles_of_owned [] methods.now)) }
 {
-    let mut seen: IndexSet<(u32, u32)> = IndexSet::new(alloc);
+    let mut seen: BTreeSet<(u32, u32)> = BTreeSet::new(alloc);
     for method in methods {
         let fresh = seen.insert((method.owner.text.0, method.name.text.0))?;
         found.refuse(double_method(fresh, method.name));

@@ -7,7 +7,7 @@ ghost use Rattle.wf_names_rules.specs.NameRules.{DeclarationBreaks, LabelBreaks}
 ghost use Rattle.wf_names_decls.specs.DeclarationPass.{declarations_found};
 ghost use Rattle.wf_names_rules.specs.Jumps.{labels_found};
 
-/// Of what the declarations of a package break by their names and their number the pass finds what decides, and
+/// Of what the declarations of a package break by their names and their number the pass finds the first refusal, and
 /// nothing exactly where they break nothing.
 pub fn found_of_declarations_decides()
     ensures { (d : Declared) → Decides (DeclarationBreaks d) (declarations_found d None) }

@@ -14,7 +14,7 @@ use Rattle.wf_names_scopes.specs.UsesFound.{uses_found}
 use Rattle.wf_names_laws.specs.Kept.{IsKept, IsKeptSite, AreKeptSites, HasLoop, HaveLoops}
 use Rattle.wf_names_laws.proofs.ListLemmas.{all-from}
 
--- What decides where there is no cause.
+-- The first refusal where there is no cause.
 none-decides : (P : Refusal → Type 0) (o : Option Refusal) → Decides P o → ((s : Refusal) → P s → ⊥) → o ≡ None
 none-decides P None h none = refl
 none-decides P (Some r) h none = absurd (none r h.breaks)

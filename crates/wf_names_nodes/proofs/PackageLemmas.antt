@@ -1,5 +1,5 @@
 -- The resolved package while declarations are added.
-use Rattle.std.proofs.Common.{◌≡◌, ℕ, ◌+◌, ◌≤◌, List, [], ◌∷◌, ◌++◌, map, length, drop, slice_get, Some, Result, Ok, Err, OnOk, refl, sym, ap, ◌∙◌, subst, append_assoc, append-nil}
+use Rattle.std.proofs.Common.{◌≡◌, ℕ, ◌+◌, ◌≤◌, List, [], ◌∷◌, ◌++◌, map, length, drop, slice_get, Some, Result, Ok, Err, OnOk, refl, sym, ap, ◌∙◌, subst, append_assoc, append-nil, length-append, arith}
 use Rattle.std.proofs.lemmas.List.{map-append}
 use Rattle.wf_text.specs.declared.faults.NoMemory.{NoMemory}
 use Rattle.wf_ast.specs.declared.parsed.DeclNode.{DeclNode}
@@ -8,11 +8,13 @@ use Rattle.wf_ast.specs.ParsedTree as tree
 use Rattle.wf_ast.specs.ParsedTree.{ExprTree, StmtTree, DeclTree}
 use Rattle.wf_ast.specs.ParsedTrees.{expr_trees, stmt_trees, decl_trees, decl_made, decls_made}
 use Rattle.wf_named.specs.NamedTree.{Word, ConstTree, NamedStructTree, NamedMethodTree, NamedPackageTree}
-use Rattle.wf_named.specs.NamedParts.{NamedParts, named_package}
+use Rattle.wf_named.specs.NamedParts.{NamedParts, named_package, exprs_of, stmts_of}
+use Rattle.wf_named.specs.NamedTrees.{method_made}
 use Rattle.wf_names_rules.specs.declared.tables.Scope.{Scope as ScopeTables}
-use Rattle.wf_names_rules.specs.Declarations.{Variable, Constant, Method, Declared, variables, locals_of, as_variable, constants_of, statuses_of, text_of}
+use Rattle.wf_names_rules.specs.Declarations.{Variable, Constant, Method, Declared, variables, locals_of, as_variable, constants_of, statuses_of, methods_of, text_of}
 use Rattle.wf_names_rules.specs.Uses.{constant_scope}
 use Rattle.wf_names_scopes.specs.Agreeing.{package_of, TellsScope, TellsConstants}
+use Rattle.wf_names_scopes.proofs.FirstLemmas.{map_length}
 use Rattle.wf_names_scopes.proofs.PackageLemmas.{constants_append, statuses_append, trees_made}
 use Rattle.wf_names_scopes.proofs.UseLemmas.{drop_at, past_end}
 use Rattle.wf_names_resolve.specs.Standing.{standing_at}
@@ -152,6 +154,25 @@ consts_done d began now es ts decls i s h a =
 pub others_done : (d : Declared) (now : NamedPackageTree) (es : List ExprTree) (ts : List StmtTree) (decls : List DeclNode) (i : ℕ) → length decls ≤ i
     → now ≡ with_others d now (decls_made es ts (drop i decls))
 others_done d now es ts decls i h = no_others d now ∙ sym (ap (λ ns. with_others d now (decls_made es ts ns)) (past_end decls i h))
+
+-- The methods of the package are counted by its nodes, and each declaration adds its own.
+pub methods_counted : (p : NamedParts) → length (named_package p).methods ≡ length p.methods
+unfolding named_package
+methods_counted p = map_length (method_made p.texts (exprs_of p) (stmts_of p)) p.methods
+
+pub consts_counted : (old new : NamedParts) (more : List ConstTree) → named_package new ≡ with_consts (named_package old) more → length new.methods ≡ length old.methods
+consts_counted old new more e = sym (methods_counted new) ∙ ap (λ t. length t.methods) e ∙ methods_counted old
+
+methods_of_one : (d : Declared) (x : DeclTree) → length (resolved_methods d (x ∷ [])) ≡ length (methods_of (x ∷ []))
+methods_of_one d (tree.status public text at) = refl
+methods_of_one d (tree.constant public name of value at) = refl
+methods_of_one d (tree.structure public name mark fields at) = refl
+methods_of_one d (tree.method public owner name mark args result body at) = refl
+
+pub others_counted : (d : Declared) (old new : NamedParts) (x : DeclTree) → named_package new ≡ with_others d (named_package old) (x ∷ [])
+    → length new.methods ≡ length old.methods + length (methods_of (x ∷ []))
+others_counted d old new x e =
+    omega (arith, methods_counted old, methods_counted new, ap (λ t. length t.methods) e, length-append (named_package old).methods (resolved_methods d (x ∷ [])), methods_of_one d x)
 
 -- The whole, of a package with nothing in it.
 pub package_new : (p : NamedParts) (name : List ℕ) → p ≡ record { package_name = name; texts = []; exprs = []; stmts = []; consts = []; statuses = []; structs = []; methods = []; order = [] }

@@ -9,6 +9,7 @@ use Rattle.wf_names_rules.specs.Meanings.{fields_known, known_at, callee_on}
 use Rattle.wf_names_rules.specs.Tables.{known_by}
 use Rattle.wf_names_scopes.specs.Agreeing.{TellsPackage, TellsScope}
 use Rattle.wf_names_scopes.proofs.AgreeLemmas.{agree_by, agree_same}
+use Rattle.wf_names_scopes.proofs.MethodLemmas.{local-places, arg-places}
 use Rattle.wf_names_resolve.specs.Standing.{field_numbered, standing_by, standing_at}
 
 -- Numbers that begin later.
@@ -29,10 +30,10 @@ standing_same d scope t s p q = λ i. record {
   bytes = λ text. ap (λ k. k.bytes text) known i;
   status = λ text. (p.statuses.numbers text ∙ numbers_later (is_spelt text) 10 0 d.statuses) i;
   structure = λ text. p.structs.numbers text i;
-  local = λ text. q.locals.places text i;
+  local = λ text. local-places d scope t p.variables s.method q.inside text i;
   constant = λ text. q.constants.places text i;
   field = λ text. (ap (λ this. field_numbered t this text) q.this ∙ field scope.this text) i;
-  arg = λ text. q.args.places text i;
+  arg = λ text. arg-places d scope t p.variables s.method q.inside text i;
   callee = λ on text. ap (λ k. callee_on k on text) known i;
   args = λ m. ap (λ k. k.args m) known i;
 }

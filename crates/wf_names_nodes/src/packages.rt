@@ -5,9 +5,10 @@ ghost use Rattle.std.specs.Prelude.{◌≡◌, ◌<◌, ◌++◌, [], ◌∷◌,
 ghost use Rattle.wf_ast.specs.ParsedTrees.{expr_trees, stmt_trees, decl_trees, expr_at, type_at, fields_at, decl_made};
 ghost use Rattle.wf_ast.specs.ParsedParts.{TypeBelow, FieldsBelow, ResultBelow, BlockBelow, DeclParts};
 ghost use Rattle.wf_named.specs.NamedParts.{named_package};
-ghost use Rattle.wf_names_rules.specs.Declarations.{Variable, variables, as_variable, constants_of};
+ghost use Rattle.wf_names_rules.specs.Declarations.{Variable, variables, as_variable, constants_of, methods_of};
 ghost use Rattle.wf_names_rules.specs.Uses.{constant_scope};
 ghost use Rattle.wf_names_scopes.specs.Agreeing.{package_of, TellsPackage, TellsScope, TellsConstants};
+ghost use Rattle.wf_names_scopes.specs.Growing.{AreNext};
 ghost use Rattle.wf_names_resolve.specs.Package.{resolved_consts, struct_in, method_in, resolved_by};
 ghost use Rattle.wf_names_nodes.specs.Declaring.{method_parsed, with_consts, with_structs, with_methods, with_others};
 
@@ -115,7 +116,7 @@ fn next_struct(
     ensures added { OnOk result (named_package nodes.new ≡ with_structs (named_package nodes.old) (struct_in (package_of parsed.now) structure.entry.public (record { name = structure.entry.name; fields = variables (fields_at (expr_trees parsed.now.exprs) structure.entry.fields.now) }) ∷ [])) }
     ensures known { OnOk result (TellsConstants (package_of parsed.now) scope.new) }
 {
-    enter_struct(alloc, scope, structure.name);
+    enter_struct(scope, structure.name);
     let here = Here {
         parsed,
         tables,
@@ -124,7 +125,7 @@ fn next_struct(
     put_struct(alloc, nodes, &here, structure)
 }
 
-// A method, in its own scope.
+// A method, in its own scope: its number is how many come before it.
 fn next_method(
     alloc: Global,
     nodes: &mut NamedNodes,
@@ -138,11 +139,12 @@ fn next_method(
     requires body { BlockBelow (length parsed.now.stmts) method.body.now }
     requires tables { TellsPackage (package_of parsed.now) tables.now }
     requires constants { TellsConstants (package_of parsed.now) scope.old }
+    requires next { AreNext (package_of parsed.now) (length nodes.old.methods) (method_parsed (expr_trees parsed.now.exprs) (stmt_trees parsed.now.exprs parsed.now.stmts) method.public method.owner method.name method.args.now method.gives.now method.body.now ∷ []) }
     ensures added { OnOk result (named_package nodes.new ≡ with_methods (named_package nodes.old) (method_in (package_of parsed.now) method.entry.mark
         (method_parsed (expr_trees parsed.now.exprs) (stmt_trees parsed.now.exprs parsed.now.stmts) method.entry.public method.entry.owner method.entry.name method.entry.args.now method.entry.gives.now method.entry.body.now) ∷ [])) }
     ensures known { OnOk result (TellsConstants (package_of parsed.now) scope.new) }
 {
-    enter_method(alloc, scope, parsed, method.owner, method.args, method.body)?;
+    enter_method(scope, method.owner, nodes.methods().len());
     let here = Here {
         parsed,
         tables,
@@ -163,6 +165,7 @@ fn other_decl(
     requires parts { DeclParts (length parsed.now.exprs) (length parsed.now.stmts) node.now.decl }
     requires tables { TellsPackage (package_of parsed.now) tables.now }
     requires constants { TellsConstants (package_of parsed.now) scope.old }
+    requires next { AreNext (package_of parsed.now) (length nodes.old.methods) (methods_of (decl_made (expr_trees parsed.now.exprs) (stmt_trees parsed.now.exprs parsed.now.stmts) node.now.public node.now.decl node.now.at ∷ [])) }
     ensures added { OnOk result (named_package nodes.new ≡ with_others (package_of parsed.now) (named_package nodes.old) (decl_made (expr_trees parsed.now.exprs) (stmt_trees parsed.now.exprs parsed.now.stmts) node.now.public node.now.decl node.now.at ∷ [])) }
     ensures known { OnOk result (TellsConstants (package_of parsed.now) scope.new) }
 {
@@ -199,7 +202,7 @@ fn other_decl(
     }
 }
 
-// The statuses, structs and methods of a package.
+// The statuses, structs and methods of a package, added to one that has no methods.
 fn all_others(
     alloc: Global,
     nodes: &mut NamedNodes,
@@ -209,6 +212,7 @@ fn all_others(
 ) -> Result<(), NoMemory>
     requires tables { TellsPackage (package_of parsed.now) tables.now }
     requires constants { TellsConstants (package_of parsed.now) scope.old }
+    requires none { length nodes.old.methods ≡ 0 }
     ensures { OnOk result (named_package nodes.new ≡ with_others (package_of parsed.now) (named_package nodes.old) (decl_trees parsed.now.exprs parsed.now.stmts parsed.now.decls)) }
 {
     let mut number = 0;
@@ -226,7 +230,8 @@ fn all_decls(
     parsed: &PackageNodes,
     tables: &Tables,
 ) -> Result<(), NoMemory>
-    requires { TellsPackage (package_of parsed.now) tables.now }
+    requires tables { TellsPackage (package_of parsed.now) tables.now }
+    requires none { length nodes.old.methods ≡ 0 }
     ensures { OnOk result (named_package nodes.new ≡ with_others (package_of parsed.now) (with_consts (named_package nodes.old) (resolved_consts (package_of parsed.now) [] (package_of parsed.now).constants)) (decl_trees parsed.now.exprs parsed.now.stmts parsed.now.decls)) }
 {
     let mut scope = outside(alloc);

@@ -8,7 +8,7 @@ use Rattle.wf_names_rules.specs.declared.tables.Scope.{Scope as ScopeTables}
 use Rattle.wf_names_rules.specs.Declarations.{Declared, text_of, status_named, struct_named, place_in}
 use Rattle.wf_names_rules.specs.Uses.{Scope}
 use Rattle.wf_names_rules.specs.Meanings.{fields_known, known_at, callee_on}
-use Rattle.wf_names_rules.specs.Tables.{same_pair, known_by, args_at, number_at, place_by, place_at}
+use Rattle.wf_names_rules.specs.Tables.{pair_place, known_by, args_at, number_at, place_at, local_place_at, arg_place_at}
 
 -- What is looked up at a place; names and quoted texts stand by the numbers of their texts.
 pub record Standing : Type 0 where
@@ -45,17 +45,17 @@ standing_at d scope = record {
 -- By tables; `texts` are those of the package.
 abbrev pub field_numbered : Tables → (this : Option ℕ) → ℕ → Option ℕ
 field_numbered t None text = None
-field_numbered t (Some owner) text = place_by same_pair t.fields (owner, text)
+field_numbered t (Some owner) text = pair_place t.fields (owner, text)
 
 abbrev pub standing_by : (texts : List (List ℕ)) → Tables → ScopeTables → Standing
 standing_by texts t s = record {
   bytes = (known_by texts t s).bytes;
   status = number_at t.statuses;
   structure = number_at t.structs;
-  local = place_at s.locals;
+  local = local_place_at t s.method;
   constant = place_at s.constants;
   field = field_numbered t s.this;
-  arg = place_at s.args;
+  arg = arg_place_at t s.method;
   callee = callee_on (known_by texts t s);
   args = args_at t;
 }

@@ -3,7 +3,7 @@
 ghost use Rattle.std.specs.Prelude.{◌≡◌, bytes_eq, drop, IfOk};
 ghost use Rattle.std.specs.List.{position_from};
 ghost use Rattle.wf_names_rules.specs.Meanings.{base_status_texts, callee_on as callee_of_name};
-ghost use Rattle.wf_names_rules.specs.Tables.{same_pair, known_by, number_at, place_by, place_at};
+ghost use Rattle.wf_names_rules.specs.Tables.{pair_place, known_by, number_at, place_at, entry_place as place_of_entry, local_place_at, arg_place_at};
 ghost use Rattle.wf_names_rules.specs.Declarations.{bytes_of};
 ghost use Rattle.wf_names_resolve.specs.Prefixes.{resolved_core};
 ghost use Rattle.wf_names_resolve.specs.Standing.{standing_by, field_numbered};
@@ -18,7 +18,7 @@ use wf_base::base_methods::BaseSig;
 use wf_named::{BaseType, NamedCallee, NamedCore, NamedPath, Variable};
 use wf_names_rules::callees::Callee;
 use wf_names_rules::here::Here;
-use wf_names_rules::tables::{Scope, Tables, Variables, callee_on, text_bytes};
+use wf_names_rules::tables::{Entry, Scope, Tables, arg, callee_on, local, text_bytes};
 use wf_names_rules::types::width_named;
 use wf_text::faults::NoMemory;
 
@@ -79,7 +79,7 @@ pub fn base_status(text: &[u8]) -> StatusId
 }
 
 fn field_of(tables: &Tables, owner: u32, text: TextId) -> Option<u32>
-    ensures { result ≡ place_by same_pair tables.now.fields (owner, text.0) }
+    ensures { result ≡ pair_place tables.now.fields (owner, text.0) }
 {
     match tables.fields.get(&(owner, text.0)) {
         Some(entry) => Some(entry.place),
@@ -96,31 +96,43 @@ fn field(tables: &Tables, scope: &Scope, text: TextId) -> Option<u32>
     }
 }
 
-fn place(variables: &Variables, text: TextId) -> Option<u32>
-    ensures { result ≡ place_at variables.now text.0 }
+fn entry_place(entry: Option<Entry>) -> Option<u32>
+    ensures { result ≡ place_of_entry entry }
 {
-    match variables.entries.get(&text.0) {
+    match entry {
         Some(entry) => Some(entry.place),
         None => None,
     }
 }
 
-fn bare(scope: &Scope, text: TextId) -> Variable
-    ensures { result ≡ bare_variable (place_at scope.now.locals text.0) (place_at scope.now.constants text.0) }
+fn constant_place(scope: &Scope, text: TextId) -> Option<u32>
+    ensures { result ≡ place_at scope.now.constants text.0 }
 {
-    match place(&scope.locals, text) {
+    entry_place(scope.constants.entries.get(&text.0).copied())
+}
+
+fn bare(tables: &Tables, scope: &Scope, text: TextId) -> Variable
+    ensures { result ≡ bare_variable (local_place_at tables.now scope.now.method text.0) (place_at scope.now.constants text.0) }
+{
+    match entry_place(local(tables, scope, text)) {
         Some(n) => Variable::Local(LocalId(n)),
-        None => Variable::Const(ConstId(number_or(place(&scope.constants, text)))),
+        None => Variable::Const(ConstId(number_or(constant_place(scope, text)))),
     }
+}
+
+fn arg_place(tables: &Tables, scope: &Scope, text: TextId) -> Option<u32>
+    ensures { result ≡ arg_place_at tables.now scope.now.method text.0 }
+{
+    entry_place(arg(tables, scope, text))
 }
 
 fn variable(tables: &Tables, scope: &Scope, root: Root, text: TextId) -> Variable
     ensures { (texts : _) → result ≡ variable_at (standing_by texts tables.now scope.now) root text.0 }
 {
     match root {
-        Root::Bare => bare(scope, text),
+        Root::Bare => bare(tables, scope, text),
         Root::This => Variable::Field(FieldId(number_or(field(tables, scope, text)))),
-        Root::Args => Variable::Arg(ArgId(number_or(place(&scope.args, text)))),
+        Root::Args => Variable::Arg(ArgId(number_or(arg_place(tables, scope, text)))),
     }
 }
 

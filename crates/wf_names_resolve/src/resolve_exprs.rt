@@ -5,7 +5,7 @@ ghost use Rattle.std.specs.List.{AllByRecursion};
 ghost use Rattle.wf_ast.specs.ParsedTrees.{expr_trees, expr_at as parsed_expr_at, part_at as parsed_part_at, links_at as parsed_links_at, given_at as parsed_given_at, call_at as parsed_call_at, type_at as parsed_type_at, bounds_at as parsed_bounds_at};
 ghost use Rattle.wf_ast.specs.ParsedParts.{GivenBelow, LinksBelow, IsBelow, TypeBelow, BoundsBelow, PrefixBelow};
 ghost use Rattle.wf_named.specs.NamedParts.{exprs_of, ArgsBelow, NamedTypeBelow, NamedExprParts};
-ghost use Rattle.wf_named.specs.NamedTrees.{expr_at, part_at, links_at, args_at, call_at, bounds_at, type_at, expr_made};
+ghost use Rattle.wf_named.specs.NamedTrees.{expr_at, part_at, links_at, call_at, bounds_at, type_at, expr_made};
 ghost use Rattle.wf_names_resolve.specs.Standing.{standing_here};
 ghost use Rattle.wf_names_resolve.specs.Resolved.{resolved_expr, resolved_part, resolved_links, resolved_given, resolved_call, resolved_type, resolved_bounds};
 ghost use Rattle.wf_names_resolve.specs.Ordered.{given_trees};

@@ -7,7 +7,7 @@ ghost use Rattle.wf_ast.specs.ParsedTrees.{expr_trees, expr_at as parsed_expr_at
 ghost use Rattle.wf_ast.specs.ParsedParts.{BlockBelow, ElseBelow, StmtParts};
 ghost use Rattle.wf_named.specs.NamedParts.{exprs_of, stmts_of, NamedStmtParts};
 ghost use Rattle.wf_named.specs.NamedTree as named_tree;
-ghost use Rattle.wf_named.specs.NamedTrees.{expr_at, stmt_at, block_at, else_at, arms_at, clauses_at, stmt_made};
+ghost use Rattle.wf_named.specs.NamedTrees.{expr_at, stmt_at, block_at, else_at, arms_at, stmt_made};
 ghost use Rattle.wf_names_resolve.specs.Standing.{standing_here};
 ghost use Rattle.wf_names_resolve.specs.Resolved.{resolved_expr, resolved_clauses, resolved_stmt, resolved_block, resolved_arms};
 ghost use Rattle.wf_names_resolve.specs.Growth.{Grows};

@@ -3,6 +3,8 @@ pub mod CalledLemmas
 pub mod InsertLemmas
 pub mod JumpLemmas
 pub mod ListLaws
+pub mod OwnedLemmas
+pub mod PairLemmas
 pub mod StmtLemmas
 pub mod TypeLemmas
 pub mod WalkLemmas

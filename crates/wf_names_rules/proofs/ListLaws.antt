@@ -3,7 +3,7 @@ use Rattle.std.proofs.Common.{◌≡◌, ◌⊎◌, ℕ, zero, suc, ◌+◌, ◌
 use Rattle.indexmap.specs.IndexSet.{insert_key}
 use Rattle.wf_text.specs.declared.place.Place.{Place}
 use Rattle.wf_text.specs.declared.rules.Rule.{Rule}
-use Rattle.wf_text.specs.declared.rules.Rule.TheVariants.{N2, N3, N4}
+use Rattle.wf_text.specs.declared.rules.Rule.TheVariants.{N2, N3}
 use Rattle.wf_text.specs.declared.rules.Refusal.{Refusal}
 use Rattle.wf_ast.specs.declared.numbers.TextId.{TextId}
 use Rattle.wf_ast.specs.declared.parsed.Name.{Name}
@@ -11,7 +11,7 @@ use Rattle.graphs.specs.Graphs.{holds, AreCycles}
 use Rattle.wf_names_rules.specs.Reserved.{is_reserved, is_initialize}
 use Rattle.wf_names_rules.specs.Passes.{refused_if, doubles_of, bytes_at, reserved_item, reserved_of, initialize_item, initializes_of, is_flagged, flagged_from}
 use Rattle.wf_names_rules.specs.NameRules.{twice}
-use Rattle.wf_names_rules.specs.Found.{Finds, RepeatsName, ReservesName, InitializesName, RecursName}
+use Rattle.wf_names_rules.specs.Found.{Finds, RepeatsName, ReservesName, InitializesName, IsOnCycle}
 use Rattle.wf_names_rules.proofs.InsertLemmas.{insert-keeps, insert-has, insert-only}
 
 refusal : Rule → Place → Refusal
@@ -126,34 +126,34 @@ initializes-complete texts names s r =
     (r.place, mapped_at (initialize_item texts) names r.place r.name r.is ∙ ap (λ t. Some (refused_if t N3 r.name.at)) r.initialize ∙ ap (λ x. Some (Some x)) (sym r.refused))
 
 -- Numbers that are flagged.
-flagged_cause : (a : ℕ) (flags : List Bool) (names : List Name) (i : ℕ) (s : Refusal) → slice_get (flagged_from a flags names) i ≡ Some (Some s)
-    → (n : Name) × ((slice_get names i ≡ Some n) × ((is_flagged (slice_get flags (a + i)) ≡ true) × (s ≡ refusal N4 n.at)))
+flagged_cause : (rule : Rule) (a : ℕ) (flags : List Bool) (names : List Name) (i : ℕ) (s : Refusal) → slice_get (flagged_from rule a flags names) i ≡ Some (Some s)
+    → (n : Name) × ((slice_get names i ≡ Some n) × ((is_flagged (slice_get flags (a + i)) ≡ true) × (s ≡ refusal rule n.at)))
 unfolding refusal
-flagged_cause a flags [] i s e = absurd (cc e)
-flagged_cause a flags (n ∷ ns) zero s e =
-    let c = refused-cause (is_flagged (slice_get flags a)) N4 n.at s (inner (refused_if (is_flagged (slice_get flags a)) N4 n.at) (Some s) e) in
+flagged_cause rule a flags [] i s e = absurd (cc e)
+flagged_cause rule a flags (n ∷ ns) zero s e =
+    let c = refused-cause (is_flagged (slice_get flags a)) rule n.at s (inner (refused_if (is_flagged (slice_get flags a)) rule n.at) (Some s) e) in
     let spot : a ≡ a + 0 = omega arith in
     let P : ℕ → Type 0 = λ b. is_flagged (slice_get flags b) ≡ true in
     (n, (refl, (subst P spot c.0, c.1)))
-flagged_cause a flags (n ∷ ns) (suc i) s e =
-    let r = flagged_cause (a + 1) flags ns i s e in
+flagged_cause rule a flags (n ∷ ns) (suc i) s e =
+    let r = flagged_cause rule (a + 1) flags ns i s e in
     let spot : a + 1 + i ≡ a + suc i = omega arith in
     let P : ℕ → Type 0 = λ b. is_flagged (slice_get flags b) ≡ true in
     (r.0, (r.1.0, (subst P spot r.1.1.0, r.1.1.1)))
 
-flagged_at : (a : ℕ) (flags : List Bool) (names : List Name) (i : ℕ) (n : Name) → slice_get names i ≡ Some n → is_flagged (slice_get flags (a + i)) ≡ true
-    → slice_get (flagged_from a flags names) i ≡ Some (Some (refusal N4 n.at))
+flagged_at : (rule : Rule) (a : ℕ) (flags : List Bool) (names : List Name) (i : ℕ) (n : Name) → slice_get names i ≡ Some n → is_flagged (slice_get flags (a + i)) ≡ true
+    → slice_get (flagged_from rule a flags names) i ≡ Some (Some (refusal rule n.at))
 unfolding refusal
-flagged_at a flags [] i n e h = absurd (cc e)
-flagged_at a flags (m ∷ ms) zero n e h =
+flagged_at rule a flags [] i n e h = absurd (cc e)
+flagged_at rule a flags (m ∷ ms) zero n e h =
     let same : m ≡ n = cc e in
     let spot : a + 0 ≡ a = omega arith in
     let P : ℕ → Type 0 = λ b. is_flagged (slice_get flags b) ≡ true in
-    ap (λ t. Some (refused_if t N4 m.at)) (subst P spot h) ∙ ap (λ (x : Name). Some (Some (record { rule = N4; at = x.at }))) same
-flagged_at a flags (m ∷ ms) (suc i) n e h =
+    ap (λ t. Some (refused_if t rule m.at)) (subst P spot h) ∙ ap (λ (x : Name). Some (Some (record { rule = rule; at = x.at }))) same
+flagged_at rule a flags (m ∷ ms) (suc i) n e h =
     let spot : a + suc i ≡ a + 1 + i = omega arith in
     let P : ℕ → Type 0 = λ b. is_flagged (slice_get flags b) ≡ true in
-    flagged_at (a + 1) flags ms i n e (subst P spot h)
+    flagged_at rule (a + 1) flags ms i n e (subst P spot h)
 
 flag_true : (flag : Option Bool) → is_flagged flag ≡ true → flag ≡ Some true
 flag_true None h = absurd (cc h)
@@ -165,18 +165,18 @@ within [] i n e = absurd (cc e)
 within (m ∷ ms) zero n e = omega arith
 within (m ∷ ms) (suc i) n e = omega (arith, within ms i n e)
 
-pub flagged-sound : (rows : List (List ℕ)) (flags : List Bool) (names : List Name) (s : Refusal) → AreCycles rows flags (length names) → Finds (flagged_from 0 flags names) s → RecursName rows names s
+pub flagged-sound : (rule : Rule) (rows : List (List ℕ)) (flags : List Bool) (names : List Name) (s : Refusal) → AreCycles rows flags (length names) → Finds (flagged_from rule 0 flags names) s → IsOnCycle rule rows names s
 unfolding refusal
-flagged-sound rows flags names s h f =
-    let r = flagged_cause 0 flags names f.0 s f.1 in
+flagged-sound rule rows flags names s h f =
+    let r = flagged_cause rule 0 flags names f.0 s f.1 in
     let spot : 0 + f.0 ≡ f.0 = omega arith in
     let P : ℕ → Type 0 = λ b. is_flagged (slice_get flags b) ≡ true in
     record { number = f.0; name = r.0; is = r.1.0; path = h.sound f.0 (flag_true (slice_get flags f.0) (subst P spot r.1.1.0)); refused = r.1.1.1 }
 
-pub flagged-complete : (rows : List (List ℕ)) (flags : List Bool) (names : List Name) (s : Refusal) → AreCycles rows flags (length names) → RecursName rows names s → Finds (flagged_from 0 flags names) s
+pub flagged-complete : (rule : Rule) (rows : List (List ℕ)) (flags : List Bool) (names : List Name) (s : Refusal) → AreCycles rows flags (length names) → IsOnCycle rule rows names s → Finds (flagged_from rule 0 flags names) s
 unfolding refusal
-flagged-complete rows flags names s h r =
+flagged-complete rule rows flags names s h r =
     let flag : slice_get flags r.number ≡ Some true = h.complete r.number (within names r.number r.name r.is) r.path in
     let spot : r.number ≡ 0 + r.number = omega arith in
     let P : ℕ → Type 0 = λ b. is_flagged (slice_get flags b) ≡ true in
-    (r.number, flagged_at 0 flags names r.number r.name r.is (subst P spot (ap is_flagged flag)) ∙ ap (λ x. Some (Some x)) (sym r.refused))
+    (r.number, flagged_at rule 0 flags names r.number r.name r.is (subst P spot (ap is_flagged flag)) ∙ ap (λ x. Some (Some x)) (sym r.refused))

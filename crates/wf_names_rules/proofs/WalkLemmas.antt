@@ -41,7 +41,7 @@ walked-append k seen (u ∷ us) vs = walked-append k (walked_one k seen u) us vs
 pub ok_same : {X : Type 0} (r : Result X NoMemory) (x s t : Seen) → s ≡ t → OnOk r (x ≡ s) → OnOk r (x ≡ t)
 ok_same r x s t e h = let P : Seen → Type 0 = λ u. OnOk r (x ≡ u) in subst P e h
 
--- What decides doesn't depend on what has a meaning before it.
+-- The first refusal doesn't depend on what has a meaning before it.
 pub walked-found : (k : Known) (s t : Seen) (us : List Use) → s.found ≡ t.found → (walked k s us).found ≡ (walked k t us).found
 walked-found k s t [] e = e
 walked-found k s t (u ∷ us) e = walked-found k (walked_one k s u) (walked_one k t u) us (ap (λ f. judged k f u) e)

@@ -1,7 +1,8 @@
 -- What a pass over a list finds, by the rules.
 use Rattle.std.specs.Prelude.{◌≡◌, ℕ, true, List, Option, Some, slice_get}
 use Rattle.wf_text.specs.declared.rules.Refusal.{Refusal}
-use Rattle.wf_text.specs.declared.rules.Rule.TheVariants.{N3, N4}
+use Rattle.wf_text.specs.declared.rules.Rule.{Rule}
+use Rattle.wf_text.specs.declared.rules.Rule.TheVariants.{N3}
 use Rattle.wf_ast.specs.declared.parsed.Name.{Name}
 use Rattle.wf_names_rules.specs.Reserved.{is_reserved, is_initialize}
 use Rattle.graphs.specs.Graphs.{Path, goes}
@@ -32,10 +33,10 @@ pub record InitializesName (texts : List (List ℕ)) (names : List Name) (s : Re
   pub initialize : is_initialize (bytes_at texts name) ≡ true
   pub refused : s ≡ record { rule = N3; at = name.at }
 
--- The name of a number that has a way back to itself.
-pub record RecursName (rows : List (List ℕ)) (names : List Name) (s : Refusal) : Type 0 where
+-- The name of a number that has a way back to itself, by the rule that this breaks.
+pub record IsOnCycle (rule : Rule) (rows : List (List ℕ)) (names : List Name) (s : Refusal) : Type 0 where
   pub number : ℕ
   pub name : Name
   pub is : slice_get names number ≡ Some name
   pub path : Path (goes rows) number number
-  pub refused : s ≡ record { rule = N4; at = name.at }
+  pub refused : s ≡ record { rule = rule; at = name.at }

@@ -9,6 +9,7 @@ pub mod Judged
 pub mod Meanings
 pub mod NameRules
 pub mod NodeUses
+pub mod Pairs
 pub mod Passes
 pub mod Reserved
 pub mod Tables

@@ -6,7 +6,7 @@ use Rattle.indexmap.specs.IndexSet.{insert_key}
 use Rattle.wf_text.specs.declared.place.Place.{Place}
 use Rattle.wf_text.specs.declared.rules.Rule.{Rule}
 use Rattle.wf_text.specs.declared.rules.Refusal.{Refusal}
-use Rattle.wf_text.specs.declared.rules.Rule.TheVariants.{N2, N3, N4}
+use Rattle.wf_text.specs.declared.rules.Rule.TheVariants.{N2, N3}
 use Rattle.wf_ast.specs.declared.parsed.Name.{Name}
 use Rattle.wf_names_rules.specs.Declarations.{bytes_in}
 use Rattle.wf_names_rules.specs.Reserved.{is_reserved, is_initialize}
@@ -38,14 +38,14 @@ initialize_item texts name = refused_if (is_initialize (bytes_at texts name)) N3
 abbrev pub initializes_of : List (List ℕ) → List Name → List (Option Refusal)
 initializes_of texts names = map (initialize_item texts) names
 
--- Names of numbers that are flagged, as those of a graph that have a way back.
+-- Names of numbers that are flagged, as those of a graph that have a way back; each breaks the rule.
 abbrev pub is_flagged : Option Bool → Bool
 is_flagged (Some true) = true
 is_flagged _ = false
 
-abbrev pub flagged_from : (a : ℕ) → List Bool → List Name → List (Option Refusal)
-flagged_from a flags [] = []
-flagged_from a flags (name ∷ names) = refused_if (is_flagged (slice_get flags a)) N4 name.at ∷ flagged_from (a + 1) flags names
+abbrev pub flagged_from : Rule → (a : ℕ) → List Bool → List Name → List (Option Refusal)
+flagged_from rule a flags [] = []
+flagged_from rule a flags (name ∷ names) = refused_if (is_flagged (slice_get flags a)) rule name.at ∷ flagged_from rule (a + 1) flags names
 
 -- The name that passes a limit, if there are so many.
 abbrev pub beyond_in : Rule → Option Name → Option Refusal

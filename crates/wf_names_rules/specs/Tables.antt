@@ -1,22 +1,18 @@
 -- What tables know.
-use Rattle.std.specs.Prelude.{ℕ, Bool, true, false, ◌&&◌, List, [], ◌∷◌, Option, Some, None, is_some, slice_get, nat_eq, option_map}
+use Rattle.std.specs.Prelude.{ℕ, Bool, false, List, [], Option, Some, None, is_some, slice_get, nat_eq, option_map}
+use Rattle.std.specs.BTreeMap.{BTreeMap}
 use Rattle.indexmap.specs.IndexMap.{IndexMap, get}
 use Rattle.indexmap.specs.IndexSet.{IndexSet, contains}
 use Rattle.wf_names_rules.specs.declared.sorts.Sort.{Sort}
 use Rattle.wf_names_rules.specs.declared.tables.Numbers.{Numbers}
 use Rattle.wf_names_rules.specs.declared.tables.Entry.{Entry}
 use Rattle.wf_names_rules.specs.declared.tables.Variables.{Variables}
+use Rattle.wf_names_rules.specs.declared.tables.MethodVariables.{MethodVariables}
 use Rattle.wf_names_rules.specs.declared.tables.Tables.{Tables}
 use Rattle.wf_names_rules.specs.declared.tables.Scope.{Scope}
 use Rattle.wf_names_rules.specs.Declarations.{bytes_in}
 use Rattle.wf_names_rules.specs.Meanings.{Known}
-
--- Names in pairs, as that of a struct with that of a field.
-abbrev pub Pair : Type 0
-Pair = ℕ × ℕ
-
-abbrev pub same_pair : Pair → Pair → Bool
-same_pair a b = nat_eq a.0 b.0 && nat_eq a.1 b.1
+use Rattle.wf_names_rules.specs.Pairs.{Pair, pair_at}
 
 -- The number of a name, and whether it has one.
 abbrev pub number_at : Numbers → ℕ → Option ℕ
@@ -32,11 +28,54 @@ sort_by same table key = option_map (λ e. e.sort) (get same table key)
 abbrev pub place_by : {K S : Type 0} → (same : K → K → Bool) → IndexMap K Entry S → K → Option ℕ
 place_by same table key = option_map (λ e. e.place) (get same table key)
 
+-- The same of a table of fields, by the names of their structs and their own.
+abbrev pub pair_sort : BTreeMap Pair Entry → Pair → Option Sort
+pair_sort fields pair = option_map (λ e. e.sort) (pair_at fields pair)
+
+abbrev pub pair_place : BTreeMap Pair Entry → Pair → Option ℕ
+pair_place fields pair = option_map (λ e. e.place) (pair_at fields pair)
+
 abbrev pub sort_at : Variables → ℕ → Option Sort
 sort_at variables = sort_by nat_eq variables.entries
 
 abbrev pub place_at : Variables → ℕ → Option ℕ
 place_at variables = place_by nat_eq variables.entries
+
+-- The local of a method that has this name, and its argument; outside methods there are none.
+abbrev pub local_in : Option MethodVariables → ℕ → Option Entry
+local_in None text = None
+local_in (Some known) text = get nat_eq known.locals.entries text
+
+abbrev pub local_at : Tables → (method : Option ℕ) → ℕ → Option Entry
+local_at t None text = None
+local_at t (Some m) text = local_in (slice_get t.variables.items m) text
+
+abbrev pub arg_in : Option MethodVariables → ℕ → Option Entry
+arg_in None text = None
+arg_in (Some known) text = get nat_eq known.args.entries text
+
+abbrev pub arg_at : Tables → (method : Option ℕ) → ℕ → Option Entry
+arg_at t None text = None
+arg_at t (Some m) text = arg_in (slice_get t.variables.items m) text
+
+-- What may be called on them, and their places.
+abbrev pub entry_sort : Option Entry → Option Sort
+entry_sort entry = option_map (λ e. e.sort) entry
+
+abbrev pub entry_place : Option Entry → Option ℕ
+entry_place entry = option_map (λ e. e.place) entry
+
+abbrev pub local_sort_at : Tables → (method : Option ℕ) → ℕ → Option Sort
+local_sort_at t method text = entry_sort (local_at t method text)
+
+abbrev pub arg_sort_at : Tables → (method : Option ℕ) → ℕ → Option Sort
+arg_sort_at t method text = entry_sort (arg_at t method text)
+
+abbrev pub local_place_at : Tables → (method : Option ℕ) → ℕ → Option ℕ
+local_place_at t method text = entry_place (local_at t method text)
+
+abbrev pub arg_place_at : Tables → (method : Option ℕ) → ℕ → Option ℕ
+arg_place_at t method text = entry_place (arg_at t method text)
 
 abbrev pub flag_in : Option Bool → Bool
 flag_in None = false
@@ -47,11 +86,11 @@ public_at t m = flag_in (slice_get t.publics.items m)
 
 abbrev pub field_at : Tables → (this : Option ℕ) → ℕ → Option Sort
 field_at t None text = None
-field_at t (Some owner) text = sort_by same_pair t.fields (owner, text)
+field_at t (Some owner) text = pair_sort t.fields (owner, text)
 
 abbrev pub own_method_at : Tables → (this : Option ℕ) → ℕ → Option ℕ
 own_method_at t None text = None
-own_method_at t (Some owner) text = get same_pair t.methods (owner, text)
+own_method_at t (Some owner) text = pair_at t.methods (owner, text)
 
 abbrev pub names_in : {S : Type 0} → Option (IndexSet ℕ S) → List ℕ
 names_in None = []
@@ -65,12 +104,12 @@ known_by texts t s = record {
   bytes = λ text. bytes_in (slice_get texts text);
   is_status = has_number t.statuses;
   is_struct = has_number t.structs;
-  local = sort_at s.locals;
+  local = local_sort_at t s.method;
   constant = sort_at s.constants;
   field = field_at t s.this;
-  arg = sort_at s.args;
+  arg = arg_sort_at t s.method;
   own_method = own_method_at t s.this;
-  struct_method = λ owner text. get same_pair t.methods (owner, text);
+  struct_method = λ owner text. pair_at t.methods (owner, text);
   is_method = contains nat_eq t.method_names;
   is_public = public_at t;
   args = args_at t;

@@ -1,6 +1,6 @@
 // What the arguments of a call break, where everything in it has a meaning.
 
-ghost use Rattle.std.specs.Prelude.{◌≡◌, ◌<◌, not, ℕ, List, [], length, map, slice_get, nat_eq, bytes_eq, IfOk, OnOk};
+ghost use Rattle.std.specs.Prelude.{◌≡◌, ◌<◌, not, [], length, map, slice_get, nat_eq, bytes_eq, IfOk, OnOk};
 ghost use Rattle.std.specs.List.{list_any};
 ghost use Rattle.indexmap.specs.IndexSet.{insert_all};
 ghost use Rattle.wf_text.specs.Precedence.{soonest};
@@ -8,24 +8,23 @@ ghost use Rattle.wf_base.specs.BaseTable.{row_of};
 ghost use Rattle.wf_ast.specs.ParsedTrees.{expr_trees, expr_at, given_at};
 ghost use Rattle.wf_ast.specs.ParsedParts.{GivenBelow};
 ghost use Rattle.wf_names_rules.specs.Declarations.{bytes_in, bytes_of};
-ghost use Rattle.wf_names_rules.specs.Tables.{args_at, sort_at};
+ghost use Rattle.wf_names_rules.specs.Tables.{args_at, arg_sort_at};
 ghost use Rattle.wf_names_rules.specs.Here.{known_here};
-ghost use Rattle.wf_names_rules.specs.Meanings.{given_values, of_base, of_method, parameters_of, is_parameter as has_parameter, lacks_one as lacks, is_io as reads_or_writes};
-ghost use Rattle.wf_names_rules.specs.Passes.{refused_if as refuses_if};
+ghost use Rattle.wf_names_rules.specs.Meanings.{given_values, of_base, parameters_of, is_parameter as has_parameter, lacks_one as lacks, is_io as reads_or_writes};
 ghost use Rattle.wf_names_rules.specs.Judged.{arg_path, arg_path_at, passed_item, passed_seen, passed_of, unknown_item, unknown_of, args_judged};
 
 use crate::callees::Callee;
-use crate::found::Found;
 use crate::here::Here;
 use crate::lists::{doubles, refused_if};
 use crate::sorts::Sort;
-use crate::tables::{Scope, Tables, text_bytes, variable};
+use crate::tables::{Scope, Tables, arg_sort, text_bytes};
 use indexmap::IndexSet;
 use std::alloc::Global;
 use wf_ast::parsed::{Expr, Given, Name, Path, Root};
 use wf_ast::{ExprId, PackageNodes, TextId};
 use wf_base::base_methods::{BaseSig, Kind};
 use wf_text::faults::NoMemory;
+use wf_text::found::Found;
 use wf_text::rules::{Refusal, Rule};
 
 fn given_names(alloc: Global, args: &[Given]) -> Result<Vec<Name>, NoMemory>
@@ -48,10 +47,10 @@ fn is_io(sort: Option<Sort>) -> bool
     }
 }
 
-fn is_io_arg(scope: &Scope, text: TextId) -> bool
-    ensures { result ≡ reads_or_writes (sort_at scope.now.args text.0) }
+fn is_io_arg(tables: &Tables, scope: &Scope, text: TextId) -> bool
+    ensures { result ≡ reads_or_writes (arg_sort_at tables.now scope.now.method text.0) }
 {
-    is_io(variable(&scope.args, text))
+    is_io(arg_sort(tables, scope, text))
 }
 
 // The argument of the calling method that a value is, where it is nothing else.
@@ -77,18 +76,19 @@ fn as_arg(path: Path) -> Option<Path>
 
 // One value after those that passed the arguments in `seen`, which its own joins.
 fn passed_again(
+    tables: &Tables,
     scope: &Scope,
     seen: &mut IndexSet<u32>,
     path: Option<Path>,
 ) -> Result<Option<Refusal>, NoMemory>
-    ensures item { IfOk result (λ now. now ≡ passed_item (sort_at scope.now.args) seen.old.keys path) }
+    ensures item { IfOk result (λ now. now ≡ passed_item (arg_sort_at tables.now scope.now.method) seen.old.keys path) }
     ensures seen { OnOk result (seen.new.keys ≡ passed_seen seen.old.keys path) }
 {
     match path {
         Some(path) => {
             let fresh = seen.insert(path.name.text.0)?;
             Ok(refused_if(
-                is_io_arg(scope, path.name.text) && !fresh,
+                is_io_arg(tables, scope, path.name.text) && !fresh,
                 Rule::N2,
                 path.at,
             ))
@@ -101,15 +101,16 @@ fn passed_twice(
     alloc: Global,
     found: &mut Found,
     parsed: &PackageNodes,
+    tables: &Tables,
     scope: &Scope,
     args: &[Given],
 ) -> Result<(), NoMemory>
     requires { GivenBelow (length parsed.now.exprs) args.now }
-    ensures { OnOk result (found.new ≡ soonest found.old (passed_of (sort_at scope.now.args) [] (given_values (given_at (expr_trees parsed.now.exprs) args.now)))) }
+    ensures { OnOk result (found.new ≡ soonest found.old (passed_of (arg_sort_at tables.now scope.now.method) [] (given_values (given_at (expr_trees parsed.now.exprs) args.now)))) }
 {
     let mut seen = IndexSet::new(alloc);
     for given in args {
-        let now = passed_again(scope, &mut seen, passed(parsed, given.value))?;
+        let now = passed_again(tables, scope, &mut seen, passed(parsed, given.value))?;
         found.refuse(now);
     }
     Ok(())
@@ -286,7 +287,7 @@ pub(crate) fn arguments(
 {
     let names = given_names(alloc, args)?;
     doubles(alloc, found, names.as_slice())?;
-    passed_twice(alloc, found, here.parsed, here.scope, args)?;
+    passed_twice(alloc, found, here.parsed, here.tables, here.scope, args)?;
     unknown_args(found, here.parsed, here.tables, callee, names.as_slice());
     let lacking = lacks_one(alloc, here.parsed, here.tables, callee, names.as_slice())?;
     found.refuse(refused_if(lacking, Rule::N7, name.at));

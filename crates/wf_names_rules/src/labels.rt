@@ -4,13 +4,13 @@
 ghost use Rattle.std.specs.Prelude.{◌≡◌, ◌++◌, ◌∷◌, [], OnOk};
 ghost use Rattle.wf_names_rules.specs.Jumps.{labelled, to_innermost, label_jumps, jump as jump_of, is_labelled as labels_it, has_label as among_labels, jump_judged, jumped};
 
-use crate::found::Found;
 use crate::lists::{refused_if, reserved_name};
 use crate::seen::Gathered;
 use wf_ast::parsed::Name;
 use wf_ast::{PackageNodes, TextId};
 use wf_text::Place;
 use wf_text::faults::NoMemory;
+use wf_text::found::Found;
 use wf_text::rules::{Refusal, Rule};
 
 fn is_labelled(text: TextId, label: Option<Name>) -> bool

@@ -1,10 +1,9 @@
-// The rules of names: from the parsed tree of a package to the refusal that decides. What each rule asks stands as
+// The rules of names: from the parsed tree of a package to the first refusal. What each rule asks stands as
 // definitions over the mathematical tree; each pass of this crate is exact against its part of them.
 #![tactic(auto)]
 
 pub mod arguments;
 pub mod callees;
-pub mod found;
 pub mod here;
 pub mod labels;
 pub mod laws;

@@ -1,10 +1,9 @@
 // The passes over lists of names: each adds what it can refuse to what was found before.
 
-ghost use Rattle.std.specs.Prelude.{◌≡◌, ◌<◌, not, [], length, slice_get, OnOk};
+ghost use Rattle.std.specs.Prelude.{◌≡◌, ◌<◌, not, [], slice_get, OnOk};
 ghost use Rattle.wf_text.specs.Precedence.{soonest};
 ghost use Rattle.wf_names_rules.specs.Passes.{refused_if as refuses_if, doubles_of, reserved_item, reserved_of, initialize_item, initializes_of, is_flagged as flags_at, flagged_from, beyond as beyond_of};
 
-use crate::found::Found;
 use crate::reserved::{is_initialize, is_reserved};
 use crate::tables::text_bytes;
 use indexmap::IndexSet;
@@ -13,6 +12,7 @@ use wf_ast::PackageNodes;
 use wf_ast::parsed::Name;
 use wf_text::Place;
 use wf_text::faults::NoMemory;
+use wf_text::found::Found;
 use wf_text::rules::{Refusal, Rule};
 
 /// That a rule is broken at a place, if it is.
@@ -99,13 +99,13 @@ fn is_flagged(flags: &[bool], a: usize) -> bool
     }
 }
 
-/// Names whose number is flagged: methods or structs that can reach themselves.
-pub fn flagged(found: &mut Found, flags: &[bool], names: &[Name])
-    ensures { found.new ≡ soonest found.old (flagged_from 0 flags.now names.now) }
+/// Names whose number is flagged: each breaks the rule.
+pub fn flagged(found: &mut Found, rule: Rule, flags: &[bool], names: &[Name])
+    ensures { found.new ≡ soonest found.old (flagged_from rule 0 flags.now names.now) }
 {
     let mut a = 0;
     for name in names {
-        found.refuse(refused_if(is_flagged(flags, a), Rule::N4, name.at));
+        found.refuse(refused_if(is_flagged(flags, a), rule, name.at));
         a += 1;
     }
 }

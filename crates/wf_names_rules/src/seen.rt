@@ -1,8 +1,8 @@
 // What a walk has found so far.
 
-use crate::found::Found;
 use graphs::rows::Row;
 use wf_ast::parsed::Name;
+use wf_text::found::Found;
 
 /// The first refusal so far, and whether all names that were used have a meaning.
 #[derive(Clone, Copy)]

@@ -4,12 +4,13 @@ ghost use Rattle.std.specs.Prelude.{◌≡◌, slice_get, nat_eq};
 ghost use Rattle.indexmap.specs.IndexSet.{contains};
 ghost use Rattle.wf_base.specs.BaseTable.{method_named};
 ghost use Rattle.wf_names_rules.specs.Declarations.{bytes_in};
-ghost use Rattle.wf_names_rules.specs.Meanings.{or_sort, path_sort as sort_of_path, this_callee as callee_here, public_callee as callee_if_public, struct_callee as callee_in_struct, found_base, part_callee as callee_in_part, sorted_callee as callee_by_sort, callee_on as callee_of_name};
-ghost use Rattle.wf_names_rules.specs.Tables.{known_by, public_at, same_pair, sort_by, sort_at, field_at, own_method_at};
+ghost use Rattle.wf_names_rules.specs.Meanings.{or_sort, path_sort as sort_of_path, this_callee as callee_here, struct_callee as callee_in_struct, found_base, part_callee as callee_in_part, sorted_callee as callee_by_sort, callee_on as callee_of_name};
+ghost use Rattle.wf_names_rules.specs.Tables.{known_by, public_at, pair_sort, entry_sort as sort_of_entry, sort_at, local_in as local_known, local_at, local_sort_at, arg_in as arg_known, arg_at, arg_sort_at, field_at, own_method_at};
 
 use crate::callees::Callee;
 use crate::sorts::Sort;
 use indexmap::{IndexMap, IndexSet};
+use std::collections::BTreeMap;
 use wf_ast::parsed::{Path, Receiver, Root};
 use wf_ast::{PackageNodes, TextId};
 use wf_base::base_methods::{Kind, base_method};
@@ -52,21 +53,35 @@ impl Drop for Variables {
     }
 }
 
+/// The arguments and the locals of a method.
+pub struct MethodVariables {
+    pub args: Variables,
+    pub locals: Variables,
+}
+
+impl Drop for MethodVariables {
+    fn drop(self) {
+        let MethodVariables { args: _, locals: _ } = self;
+    }
+}
+
 /// What the whole package knows. Names stand by their texts, methods by their numbers in order.
 pub struct Tables {
     /// The statuses, from 10 on: the numbers below are those of the language's own.
     pub statuses: Numbers,
     /// The structs, from 0.
     pub structs: Numbers,
-    /// A field, by its struct's name and its own.
-    pub fields: IndexMap<(u32, u32), Entry>,
+    /// A field, by its struct's name and its own; ordered, so that a look-up takes few comparisons whatever the names are.
+    pub fields: BTreeMap<(u32, u32), Entry>,
     /// The number of a method, by its struct's name and its own.
-    pub methods: IndexMap<(u32, u32), usize>,
+    pub methods: BTreeMap<(u32, u32), usize>,
     pub method_names: IndexSet<u32>,
     /// Of each method whether it is public.
     pub publics: Vec<bool>,
     /// Of each method the names of its arguments.
     pub args: Vec<IndexSet<u32>>,
+    /// Of each method its arguments and its locals.
+    pub variables: Vec<MethodVariables>,
 }
 
 impl Drop for Tables {
@@ -79,16 +94,17 @@ impl Drop for Tables {
             method_names: _,
             publics: _,
             args: _,
+            variables: _,
         } = self;
     }
 }
 
-/// What is known at a place besides: constants, the struct of `this` by its name, arguments and locals.
+/// What is known at a place besides: constants, the struct of `this` by its name, and the method, by its number, whose
+/// arguments and locals are known. Outside methods there are none.
 pub struct Scope {
     pub constants: Variables,
     pub this: Option<u32>,
-    pub args: Variables,
-    pub locals: Variables,
+    pub method: Option<usize>,
 }
 
 impl Drop for Scope {
@@ -96,8 +112,7 @@ impl Drop for Scope {
         let Scope {
             constants: _,
             this: _,
-            args: _,
-            locals: _,
+            method: _,
         } = self;
     }
 }
@@ -123,7 +138,7 @@ fn is_public(tables: &Tables, m: usize) -> bool
 }
 
 fn field_of(tables: &Tables, owner: u32, text: TextId) -> Option<Sort>
-    ensures { result ≡ sort_by same_pair tables.now.fields (owner, text.0) }
+    ensures { result ≡ pair_sort tables.now.fields (owner, text.0) }
 {
     match tables.fields.get(&(owner, text.0)) {
         Some(entry) => Some(entry.sort),
@@ -140,8 +155,8 @@ fn field(tables: &Tables, scope: &Scope, text: TextId) -> Option<Sort>
     }
 }
 
-/// What may be called on the variable of this name.
-pub(crate) fn variable(variables: &Variables, text: TextId) -> Option<Sort>
+// What may be called on the variable of this name.
+fn variable(variables: &Variables, text: TextId) -> Option<Sort>
     ensures { result ≡ sort_at variables.now text.0 }
 {
     match variables.entries.get(&text.0) {
@@ -150,10 +165,64 @@ pub(crate) fn variable(variables: &Variables, text: TextId) -> Option<Sort>
     }
 }
 
-fn bare(scope: &Scope, text: TextId) -> Option<Sort>
-    ensures { result ≡ or_sort (sort_at scope.now.locals text.0) (sort_at scope.now.constants text.0) }
+fn local_in(tables: &Tables, m: usize, text: TextId) -> Option<Entry>
+    ensures { result ≡ local_known (slice_get tables.now.variables.items m) text.0 }
 {
-    match variable(&scope.locals, text) {
+    match tables.variables.get(m) {
+        Some(known) => known.locals.entries.get(&text.0).copied(),
+        None => None,
+    }
+}
+
+/// The local of this name.
+pub fn local(tables: &Tables, scope: &Scope, text: TextId) -> Option<Entry>
+    ensures { result ≡ local_at tables.now scope.now.method text.0 }
+{
+    match scope.method {
+        Some(m) => local_in(tables, m, text),
+        None => None,
+    }
+}
+
+fn arg_in(tables: &Tables, m: usize, text: TextId) -> Option<Entry>
+    ensures { result ≡ arg_known (slice_get tables.now.variables.items m) text.0 }
+{
+    match tables.variables.get(m) {
+        Some(known) => known.args.entries.get(&text.0).copied(),
+        None => None,
+    }
+}
+
+/// The argument of this name.
+pub fn arg(tables: &Tables, scope: &Scope, text: TextId) -> Option<Entry>
+    ensures { result ≡ arg_at tables.now scope.now.method text.0 }
+{
+    match scope.method {
+        Some(m) => arg_in(tables, m, text),
+        None => None,
+    }
+}
+
+fn entry_sort(entry: Option<Entry>) -> Option<Sort>
+    ensures { result ≡ sort_of_entry entry }
+{
+    match entry {
+        Some(entry) => Some(entry.sort),
+        None => None,
+    }
+}
+
+/// What may be called on the argument of this name.
+pub(crate) fn arg_sort(tables: &Tables, scope: &Scope, text: TextId) -> Option<Sort>
+    ensures { result ≡ arg_sort_at tables.now scope.now.method text.0 }
+{
+    entry_sort(arg(tables, scope, text))
+}
+
+fn bare(tables: &Tables, scope: &Scope, text: TextId) -> Option<Sort>
+    ensures { result ≡ or_sort (local_sort_at tables.now scope.now.method text.0) (sort_at scope.now.constants text.0) }
+{
+    match entry_sort(local(tables, scope, text)) {
         Some(sort) => Some(sort),
         None => variable(&scope.constants, text),
     }
@@ -169,9 +238,9 @@ pub(crate) fn path_sort(
     ensures { result ≡ sort_of_path (known_by parsed.now.texts tables.now scope.now) path }
 {
     match path.root {
-        Root::Bare => bare(scope, path.name.text),
+        Root::Bare => bare(tables, scope, path.name.text),
         Root::This => field(tables, scope, path.name.text),
-        Root::Args => variable(&scope.args, path.name.text),
+        Root::Args => arg_sort(tables, scope, path.name.text),
     }
 }
 

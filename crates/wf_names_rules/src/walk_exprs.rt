@@ -1,10 +1,10 @@
 // The walk over expressions, types and calls: what their uses of names break, and the row of the methods that they call.
 
-ghost use Rattle.std.specs.Prelude.{◌≡◌, ◌<◌, ◌++◌, ◌&&◌, true, length, bytes_eq, IfOk, OnOk};
+ghost use Rattle.std.specs.Prelude.{◌≡◌, ◌<◌, ◌++◌, ◌&&◌, true, length, bytes_eq, OnOk};
 ghost use Rattle.std.specs.List.{list_any, flat_map, AllByRecursion};
 ghost use Rattle.wf_ast.specs.ParsedTrees.{expr_trees, expr_at, part_at, links_at, given_at, call_at, type_at, core_at, bounds_at};
 ghost use Rattle.wf_ast.specs.ParsedParts.{GivenBelow, LinksBelow, IsBelow, TypeBelow, BoundsBelow, PrefixBelow};
-ghost use Rattle.wf_names_rules.specs.Uses.{Use, own_status, base_status, variable, structure, receiver_uses, uses_of, part_uses, link_uses, given_uses, call_uses, type_uses, bounds_uses};
+ghost use Rattle.wf_names_rules.specs.Uses.{own_status, base_status, variable, structure, receiver_uses, uses_of, part_uses, link_uses, given_uses, call_uses, type_uses, bounds_uses};
 ghost use Rattle.wf_names_rules.specs.NodeUses.{prefix_uses};
 ghost use Rattle.wf_names_rules.specs.Tables.{known_by, args_at};
 ghost use Rattle.wf_names_rules.specs.Here.{known_here};
@@ -14,7 +14,6 @@ ghost use Rattle.wf_names_rules.specs.Called.{with_callee, with_calls};
 
 use crate::arguments::arguments;
 use crate::callees::{Callee, add_callee};
-use crate::found::Found;
 use crate::here::Here;
 use crate::lists::refused_if;
 use crate::seen::Seen;
@@ -27,6 +26,7 @@ use wf_ast::parsed::{
 use wf_ast::{ExprId, PackageNodes};
 use wf_text::Place;
 use wf_text::faults::NoMemory;
+use wf_text::found::Found;
 use wf_text::rules::{Refusal, Rule};
 
 const BASE_STATUSES: [&str; 9] = [

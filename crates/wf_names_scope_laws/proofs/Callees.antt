@@ -1,5 +1,5 @@
 -- What the names of called methods mean.
-use Rattle.std.proofs.Common.{◌≡◌, inl, inr, ℕ, zero, suc, Bool, true, false, ◌&&◌, if◌then◌else◌, List, [], ◌∷◌, map, Option, Some, None, IfSome, slice_get, nat_eq, is_some, refl, sym, ap, ◌∙◌, subst, arith}
+use Rattle.std.proofs.Common.{◌≡◌, inl, inr, ℕ, Bool, true, false, ◌&&◌, if◌then◌else◌, List, [], ◌∷◌, map, Option, Some, None, IfSome, slice_get, nat_eq, is_some, refl, sym, ap, ◌∙◌, subst}
 use Rattle.wf_text.specs.declared.place.Place.{Place}
 use Rattle.wf_text.specs.Precedence.{Decides}
 use Rattle.wf_base.specs.declared.base_methods.BaseSig.{BaseSig}
@@ -23,6 +23,7 @@ use Rattle.wf_names_rules.specs.NameRules.{Breaks, by_declaration, declared_twic
 use Rattle.wf_names_rules.specs.Meanings.{method_known, public_in, known_at, sort_at, path_sort, this_callee, public_callee, found_base, part_callee, sorted_callee, callee_on}
 use Rattle.wf_names_rules.specs.Uses.{Scope}
 use Rattle.graphs.proofs.NumberLemmas.{same_number, number_self}
+use Rattle.wf_names_rules.proofs.OwnedLemmas.{owned_before, owned-at, before-same}
 use Rattle.wf_names_uses.specs.Fitting.{is_open}
 use Rattle.wf_names_uses.proofs.FoundLemmas.{both}
 use Rattle.wf_names_resolve.specs.Standing.{standing_at}
@@ -34,49 +35,6 @@ use Rattle.wf_names_scope_laws.proofs.Apart.{AreOnce, IsApart, one-found, name-o
 use Rattle.wf_names_scope_laws.proofs.Variables.{Met, root-met}
 
 -- ---- the methods of a struct
-
--- Where a method of an owner stands among the names of that owner's methods.
-abbrev owned_before : (owner : ℕ) → List Method → ℕ → ℕ
-owned_before owner [] i = 0
-owned_before owner (x ∷ ms) zero = 0
-owned_before owner (x ∷ ms) (suc i) = if is_spelt owner x.owner then suc (owned_before owner ms i) else owned_before owner ms i
-
-owned-at : (owner : ℕ) (ms : List Method) (i : ℕ) (m : Method) → slice_get ms i ≡ Some m → is_spelt owner m.owner ≡ true → slice_get (names_owned owner ms) (owned_before owner ms i) ≡ Some m.name
-owned-at owner [] i m e h = absurd (cc e)
-owned-at owner (x ∷ ms) zero m e h =
-    let same : x ≡ m = cc e in
-    let P : Method → Type 0 = λ z. slice_get (if is_spelt owner z.owner then z.name ∷ names_owned owner ms else names_owned owner ms) 0 ≡ Some m.name in
-    subst P (sym same) (rw h refl)
-owned-at owner (x ∷ ms) (suc i) m e h = by (is_spelt owner x.owner) (owned-at owner ms i m e h)
-  where
-    by : (b : Bool) → slice_get (names_owned owner ms) (owned_before owner ms i) ≡ Some m.name
-        → slice_get (if b then x.name ∷ names_owned owner ms else names_owned owner ms) (if b then suc (owned_before owner ms i) else owned_before owner ms i) ≡ Some m.name
-    by true k = k
-    by false k = k
-
-before-same : (owner : ℕ) (ms : List Method) (i j : ℕ) (m n : Method) → slice_get ms i ≡ Some m → slice_get ms j ≡ Some n → is_spelt owner m.owner ≡ true → is_spelt owner n.owner ≡ true
-    → owned_before owner ms i ≡ owned_before owner ms j → i ≡ j
-before-same owner [] i j m n e g h k same = absurd (cc e)
-before-same owner (x ∷ ms) zero zero m n e g h k same = refl
-before-same owner (x ∷ ms) zero (suc j) m n e g h k same =
-    let one : x ≡ m = cc e in
-    let P : Method → Type 0 = λ z. is_spelt owner z.owner ≡ true in
-    let own : is_spelt owner x.owner ≡ true = subst P (sym one) h in
-    let Q : Bool → Type 0 = λ b. 0 ≡ (if b then suc (owned_before owner ms j) else owned_before owner ms j) in
-    let none : 0 ≡ suc (owned_before owner ms j) = subst Q own same in
-    absurd (omega (arith, none))
-before-same owner (x ∷ ms) (suc i) zero m n e g h k same =
-    let one : x ≡ n = cc g in
-    let P : Method → Type 0 = λ z. is_spelt owner z.owner ≡ true in
-    let own : is_spelt owner x.owner ≡ true = subst P (sym one) k in
-    let Q : Bool → Type 0 = λ b. (if b then suc (owned_before owner ms i) else owned_before owner ms i) ≡ 0 in
-    let none : suc (owned_before owner ms i) ≡ 0 = subst Q own same in
-    absurd (omega (arith, none))
-before-same owner (x ∷ ms) (suc i) (suc j) m n e g h k same = ap suc (by (is_spelt owner x.owner) same (before-same owner ms i j m n e g h k))
-  where
-    by : (b : Bool) → (if b then suc (owned_before owner ms i) else owned_before owner ms i) ≡ (if b then suc (owned_before owner ms j) else owned_before owner ms j) → (owned_before owner ms i ≡ owned_before owner ms j → i ≡ j) → i ≡ j
-    by true s more = more (omega (arith, s))
-    by false s more = more s
 
 spelt-so : (text : ℕ) (name : Name) → IsCalled text name → is_spelt text name ≡ true
 spelt-so text name p = subst (λ n. nat_eq name.text.0 n ≡ true) p (number_self name.text.0)

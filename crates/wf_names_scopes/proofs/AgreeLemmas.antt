@@ -10,6 +10,7 @@ use Rattle.wf_names_rules.specs.Meanings.{Known, known_at, sort_in, fields_known
 use Rattle.wf_names_rules.specs.Tables.{known_by, number_at, field_at, own_method_at, flag_in, names_in}
 use Rattle.wf_names_scopes.specs.Agreeing.{Agree, TellsPackage, TellsScope}
 use Rattle.wf_names_scopes.proofs.FirstLemmas.{position_any}
+use Rattle.wf_names_scopes.proofs.MethodLemmas.{local-sorts, arg-sorts}
 
 -- What each method has, by its number.
 public_at_place : (ms : List Method) (m : ℕ) → flag_in (slice_get (map (λ m. m.public) ms) m) ≡ public_in (slice_get ms m)
@@ -41,10 +42,10 @@ agree_by d scope t s p q = record {
   bytes = λ text. refl;
   is_status = λ text. numbered (is_spelt text) 10 d.statuses (number_at t.statuses text) (p.statuses.numbers text);
   is_struct = λ text. ap is_some (p.structs.numbers text);
-  local = q.locals.sorts;
+  local = local-sorts d scope t p.variables s.method q.inside;
   constant = q.constants.sorts;
   field = λ text. ap (λ this. field_at t this text) q.this ∙ field scope.this text;
-  arg = q.args.sorts;
+  arg = arg-sorts d scope t p.variables s.method q.inside;
   own_method = λ text. ap (λ this. own_method_at t this text) q.this ∙ own scope.this text;
   struct_method = p.methods;
   is_method = p.method_names;

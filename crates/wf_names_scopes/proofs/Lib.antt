@@ -1,6 +1,8 @@
 pub mod AgreeLemmas
 pub mod CallRowLemmas
 pub mod FirstLemmas
+pub mod MethodLemmas
+pub mod NextLemmas
 pub mod NumberLemmas
 pub mod PackageLemmas
 pub mod RowLemmas

@@ -1,5 +1,5 @@
 -- Tables that grow by one name at a time.
-use Rattle.std.proofs.Common.{◌≡◌, ℕ, ◌+◌, Bool, cond, List, [], ◌∷◌, ◌++◌, Some, None, nat_eq, option_map, sym, ap, ◌∙◌, length-append, arith}
+use Rattle.std.proofs.Common.{◌≡◌, ℕ, ◌+◌, Bool, cond, List, [], ◌∷◌, ◌++◌, Option, Some, None, nat_eq, option_map, sym, ap, ◌∙◌, length-append, arith}
 use Rattle.std.specs.Option.{option_or}
 use Rattle.std.specs.List.{position_from}
 use Rattle.std.specs.Map.{lookup}
@@ -9,7 +9,7 @@ use Rattle.wf_names_rules.specs.declared.sorts.Sort.{Sort}
 use Rattle.wf_names_rules.specs.declared.tables.Entry.{Entry}
 use Rattle.wf_names_rules.specs.declared.tables.Numbers.{Numbers}
 use Rattle.wf_names_rules.specs.Declarations.{is_spelt}
-use Rattle.wf_names_rules.specs.Tables.{number_at, sort_by, place_by}
+use Rattle.wf_names_rules.specs.Tables.{number_at}
 use Rattle.wf_names_scopes.specs.Agreeing.{TellsNumbers}
 use Rattle.wf_names_scopes.specs.Growing.{with_first}
 use Rattle.wf_names_scopes.proofs.FirstLemmas.{mapped, position_pushed}
@@ -18,17 +18,17 @@ use Rattle.wf_names_scopes.proofs.FirstLemmas.{mapped, position_pushed}
 pub nothing_yet : {K X S : Type 0} (same : K → K → Bool) (table : IndexMap K X S) → IsEmpty table → (key : K) → get same table key ≡ None
 nothing_yet same table e key = ap (lookup (same key)) e
 
--- What is told of the entries, after one more.
-module _ {K S : Type 0} (same : K → K → Bool) (old new : IndexMap K Entry S) (key : K) (entry : Entry) (put : (other : K) → get same new other ≡ with_first same (get same old) key entry other) where
-  pub sort_put : (other : K) → sort_by same new other ≡ with_first same (sort_by same old) key entry.sort other
+-- What is told of the entries, after one more; `old` and `new` are what the table answers before it and after it.
+module _ {K : Type 0} (same : K → K → Bool) (old new : K → Option Entry) (key : K) (entry : Entry) (put : (other : K) → new other ≡ with_first same old key entry other) where
+  pub sort_put : (other : K) → option_map (λ e. e.sort) (new other) ≡ with_first same (λ k. option_map (λ e. e.sort) (old k)) key entry.sort other
   sort_put other =
       let sort : Entry → Sort = λ e. e.sort in
-      ap (option_map sort) (put other) ∙ mapped sort (get same old other) (same key other) entry
+      ap (option_map sort) (put other) ∙ mapped sort (old other) (same key other) entry
 
-  pub place_put : (other : K) → place_by same new other ≡ with_first same (place_by same old) key entry.place other
+  pub place_put : (other : K) → option_map (λ e. e.place) (new other) ≡ with_first same (λ k. option_map (λ e. e.place) (old k)) key entry.place other
   place_put other =
       let place : Entry → ℕ = λ e. e.place in
-      ap (option_map place) (put other) ∙ mapped place (get same old other) (same key other) entry
+      ap (option_map place) (put other) ∙ mapped place (old other) (same key other) entry
 
 -- One more name.
 pub number_added : {X : Type 0} (first : ℕ) (name : X → Name) (named : List X) (x : X) (old new : Numbers) → new.next ≡ old.next + 1

@@ -1,5 +1,5 @@
 -- Tables of a package that grow by one declaration at a time.
-use Rattle.std.proofs.Common.{◌≡◌, ℕ, ◌+◌, ◌<◌, ◌≤◌, Bool, true, false, not, cond, ◌&&◌, ◌||◌, List, [], ◌∷◌, ◌++◌, map, length, take, slice_get, slice_index_or, Option, Some, None, is_some, nat_eq, Result, Ok, Err, OnOk, refl, sym, ap, ◌∙◌, subst, append_assoc, append-nil, length-append, arith, add-one, take-suc, take_all, Vec, vec_len}
+use Rattle.std.proofs.Common.{◌≡◌, ℕ, zero, suc, ◌+◌, ◌≤◌, Bool, true, false, not, cond, ◌&&◌, ◌||◌, List, [], ◌∷◌, ◌++◌, map, length, take, slice_get, Option, Some, None, is_some, nat_eq, Result, Ok, Err, OnOk, refl, sym, ap, ◌∙◌, subst, append_assoc, append-nil, length-append, arith, take_all, Vec, vec_len}
 use Rattle.std.specs.Option.{option_or}
 use Rattle.std.specs.List.{find, position_from, list_any}
 use Rattle.indexmap.specs.IndexSet.{IndexSet, insert_all}
@@ -16,13 +16,16 @@ use Rattle.wf_ast.specs.ParsedTrees.{expr_trees, stmt_trees, decl_trees, decl_ma
 use Rattle.wf_ast.proofs.TreeLemmas.{slice_get-seam}
 use Rattle.wf_names_rules.specs.declared.tables.Numbers.{Numbers}
 use Rattle.wf_names_rules.specs.declared.tables.Tables.{Tables}
+use Rattle.wf_names_rules.specs.declared.tables.MethodVariables.{MethodVariables}
 use Rattle.wf_names_rules.specs.Declarations.{Variable, Constant, Structure, Method, Declared, declared, variables, statuses_of, constants_of, structs_of, methods_of, is_spelt, struct_named, method_named, structure_in, fields_in, fields_of, locals_of}
 use Rattle.wf_names_rules.specs.Meanings.{args_in}
-use Rattle.wf_names_rules.specs.Tables.{Pair, same_pair, has_number}
+use Rattle.wf_names_rules.specs.Pairs.{Pair, same_pair}
+use Rattle.wf_names_rules.specs.Tables.{has_number}
 use Rattle.graphs.proofs.NumberLemmas.{same_number}
-use Rattle.wf_names_scopes.specs.Agreeing.{TellsNumbers, TellsPackage, package_of}
+use Rattle.wf_names_scopes.specs.Agreeing.{TellsNumbers, TellsPackage, TellsMethod, TellMethods, package_of}
 use Rattle.wf_names_scopes.specs.Growing.{with_first, with_fields, with_status, with_struct, with_method}
 use Rattle.wf_names_scopes.proofs.FirstLemmas.{or_none, position_pushed, position_any, find_any, find_pushed, any_pushed, map_pushed, map_length}
+use Rattle.wf_names_scopes.proofs.MethodLemmas.{tell-more}
 
 -- The struct that a name stands for.
 struct_at : (d : Declared) (p : Structure → Bool) (front xs : List Structure) → d.structs ≡ front ++ xs → structure_in d (position_from p (length front) xs) ≡ find p xs
@@ -144,7 +147,7 @@ module _ (texts : List (List ℕ)) (ds : List DeclTree) where
       let e : declared texts (ds ++ x ∷ []) ≡ with_these (statuses_of ds) (constants_of ds ++ record { name = name; of = of; value = value } ∷ []) (structs_of ds) (methods_of ds) =
       same_declared (statuses_append ds (x ∷ []) ∙ append-nil (statuses_of ds)) (constants_append ds (x ∷ [])) (structs_append ds (x ∷ []) ∙ append-nil (structs_of ds)) (methods_append ds (x ∷ []) ∙ append-nil (methods_of ds)) in
       let P : Declared → Type 0 = λ d. TellsPackage d t in
-      subst P (sym e) (record { statuses = p.statuses; structs = p.structs; fields = p.fields; places = p.places; methods = p.methods; method_names = p.method_names; publics = p.publics; args = p.args })
+      subst P (sym e) (record { statuses = p.statuses; structs = p.structs; fields = p.fields; places = p.places; methods = p.methods; method_names = p.method_names; publics = p.publics; args = p.args; variables = p.variables })
 
 -- An answer that says more.
 pub on_ok : {X P Q : Type 0} (r : Result X NoMemory) → (P → Q) → OnOk r P → OnOk r Q
@@ -174,12 +177,12 @@ struct_more texts t u public name mark fields at step ds p =
     subst P (sym (struct_declared texts ds public name mark fields at)) (step (declared texts ds) refl p)
 
 pub method_more : (texts : List (List ℕ)) (es : List ExprTree) (t u : Tables) (public : Bool) (owner name : Name) (mark : WrittenMark) (args : List Field) (result : ResultTree) (body : BlockTree) (at : Place)
-    → ((d : Declared) (m : Method) → m.public ≡ public → m.owner ≡ owner → m.name ≡ name → (es : List ExprTree) → m.args ≡ variables (fields_at es args) → TellsPackage d t → TellsPackage (with_method d m) u)
+    → ((d : Declared) (m : Method) → d.texts ≡ texts → m.public ≡ public → m.owner ≡ owner → m.name ≡ name → m.args ≡ variables (fields_at es args) → m.locals ≡ locals_of body → TellsPackage d t → TellsPackage (with_method d m) u)
     → (ds : List DeclTree) → TellsPackage (declared texts ds) t → TellsPackage (declared texts (ds ++ tree.method public owner name mark (fields_at es args) result body at ∷ [])) u
 method_more texts es t u public owner name mark args result body at step ds p =
     let P : Declared → Type 0 = λ d. TellsPackage d u in
     let m : Method = record { public = public; owner = owner; name = name; args = variables (fields_at es args); result = result; locals = locals_of body; body = body } in
-    subst P (sym (method_declared texts ds public owner name mark (fields_at es args) result body at)) (step (declared texts ds) m refl refl refl es refl p)
+    subst P (sym (method_declared texts ds public owner name mark (fields_at es args) result body at)) (step (declared texts ds) m refl refl refl refl refl refl p)
 
 -- The parts of the tables after one more.
 pub count : {Z : Type 0} (n : ℕ) (publics : Vec Bool Z) (ms : List Method) → n ≡ vec_len publics → publics.items ≡ map (λ m. m.public) ms → n ≡ length ms
@@ -210,14 +213,21 @@ module _ (d : Declared) (m : Method) where
   public_added public old new is e k =
       e ∙ ap (λ xs. xs ++ public ∷ []) k ∙ ap (λ b. map (λ m. m.public) d.methods ++ b ∷ []) (sym is) ∙ sym (map_pushed (λ m. m.public) d.methods m)
 
-  pub args_added : {S : Type 0} (old new : List (IndexSet ℕ S)) (names : IndexSet ℕ S) (es : List ExprTree) (args : List Field) → m.args ≡ variables (fields_at es args) → new ≡ old ++ names ∷ []
-      → names.keys ≡ insert_all nat_eq [] (map (λ v. v.name.text.0) (variables (fields_at es args))) → map (λ s. s.keys) old ≡ map (λ m. args_in (Some m)) d.methods
-      → map (λ s. s.keys) new ≡ map (λ m. args_in (Some m)) (d.methods ++ m ∷ [])
-  args_added {S} old new names es args is e keys k =
+  pub args_added : {S : Type 0} (old new : List (IndexSet ℕ S)) (names : IndexSet ℕ S) → new ≡ old ++ names ∷ [] → names.keys ≡ args_in (Some m)
+      → map (λ s. s.keys) old ≡ map (λ m. args_in (Some m)) d.methods → map (λ s. s.keys) new ≡ map (λ m. args_in (Some m)) (d.methods ++ m ∷ [])
+  args_added {S} old new names e own k =
       let keys_of : IndexSet ℕ S → List ℕ = λ s. s.keys in
-      let own : names.keys ≡ args_in (Some m) = keys ∙ ap (λ (vs : List Variable). insert_all nat_eq [] (map (λ v. v.name.text.0) vs)) (sym is) in
       ap (map keys_of) e ∙ map_pushed keys_of old names ∙ ap (λ xs. xs ++ names.keys ∷ []) k ∙ ap (λ x. map (λ m. args_in (Some m)) d.methods ++ x ∷ []) own
       ∙ sym (map_pushed (λ m. args_in (Some m)) d.methods m)
+
+  pub variables_added : (old new : List MethodVariables) (known : MethodVariables) → new ≡ old ++ known ∷ [] → TellsMethod d.texts m known → TellMethods d.texts d.methods old
+      → TellMethods d.texts (d.methods ++ m ∷ []) new
+  variables_added old new known e tells k = subst (TellMethods d.texts (d.methods ++ m ∷ [])) (sym e) (tell-more d.texts d.methods old m known k tells)
+
+-- The names of arguments by the method.
+pub own_names : (es : List ExprTree) (args : List Field) (m : Method) (keys : List ℕ) → m.args ≡ variables (fields_at es args)
+    → keys ≡ insert_all nat_eq [] (map (λ v. v.name.text.0) (variables (fields_at es args))) → keys ≡ args_in (Some m)
+own_names es args m keys is e = e ∙ ap (λ (vs : List Variable). insert_all nat_eq [] (map (λ v. v.name.text.0) vs)) (sym is)
 
 pub taken : (fresh before : Bool) → fresh ≡ not before → fresh ≡ false → before ≡ true
 taken fresh true e f = refl
@@ -232,27 +242,31 @@ made_append : (es : List ExprTree) (ts : List StmtTree) (xs ys : List DeclNode) 
 made_append es ts [] ys = refl
 made_append es ts (x ∷ xs) ys = ap (λ r. decl_made es ts x.public x.decl x.at ∷ r) (made_append es ts xs ys)
 
-take_one : {X : Type 0} (xs : List X) (i : ℕ) (d : X) → i < length xs → take (i + 1) xs ≡ take i xs ++ slice_index_or xs i d ∷ []
-take_one xs i d h = rw (add-one, take-suc xs i d) refl
+take_at : {X : Type 0} (xs : List X) (i : ℕ) (x : X) → slice_get xs i ≡ Some x → take (i + 1) xs ≡ take i xs ++ x ∷ []
+take_at [] i x e = absurd (cc e)
+take_at (y ∷ ys) zero x e = let same : y ≡ x = cc e in ap (λ z. z ∷ []) same
+take_at {X} (y ∷ ys) (suc i) x e =
+    let next : suc (i + 1) ≡ suc i + 1 = omega arith in
+    let P : ℕ → Type 0 = λ j. take j (y ∷ ys) ≡ y ∷ (take i ys ++ x ∷ []) in
+    subst P next (ap (λ r. y ∷ r) (take_at ys i x e))
 
 pub trees_made : (p : Parsed) → decl_trees p.exprs p.stmts p.decls ≡ decls_made (expr_trees p.exprs) (stmt_trees p.exprs p.stmts) p.decls
 unfolding decl_trees
 trees_made p = refl
 
-pub node_next : (p : Parsed) (ns : List DeclNode) (i : ℕ) (x : DeclNode) (t u : Tables) → ns ≡ p.decls → x ≡ slice_index_or ns i x → i < length ns
+pub node_next : (p : Parsed) (i : ℕ) (x : DeclNode) (t u : Tables) → slice_get p.decls i ≡ Some x
     → TellsPackage (declared p.texts (decls_made (expr_trees p.exprs) (stmt_trees p.exprs p.stmts) (take i p.decls))) t
     → ((ds : List DeclTree) → TellsPackage (declared p.texts ds) t → TellsPackage (declared p.texts (ds ++ decl_made (expr_trees p.exprs) (stmt_trees p.exprs p.stmts) x.public x.decl x.at ∷ [])) u)
     → TellsPackage (declared p.texts (decls_made (expr_trees p.exprs) (stmt_trees p.exprs p.stmts) (take (i + 1) p.decls))) u
-node_next p ns i x t u e is h tells step =
+node_next p i x t u at tells step =
     let es = expr_trees p.exprs in
     let ts = stmt_trees p.exprs p.stmts in
-    let split : take (i + 1) p.decls ≡ take i p.decls ++ x ∷ [] = ap (take (i + 1)) (sym e) ∙ take_one ns i x h ∙ ap (λ y. take i ns ++ y ∷ []) (sym is) ∙ ap (λ xs. take i xs ++ x ∷ []) e in
     let P : List DeclTree → Type 0 = λ ds. TellsPackage (declared p.texts ds) u in
-    subst P (sym (ap (decls_made es ts) split ∙ made_append es ts (take i p.decls) (x ∷ []))) (step (decls_made es ts (take i p.decls)) tells)
+    subst P (sym (ap (decls_made es ts) (take_at p.decls i x at) ∙ made_append es ts (take i p.decls) (x ∷ []))) (step (decls_made es ts (take i p.decls)) tells)
 
-pub nodes_done : (p : Parsed) (ns : List DeclNode) (i : ℕ) (t : Tables) → ns ≡ p.decls → length ns ≤ i
+pub nodes_done : (p : Parsed) (i : ℕ) (t : Tables) → length p.decls ≤ i
     → TellsPackage (declared p.texts (decls_made (expr_trees p.exprs) (stmt_trees p.exprs p.stmts) (take i p.decls))) t → TellsPackage (package_of p) t
-nodes_done p ns i t e h tells =
+nodes_done p i t h tells =
     let P : List DeclTree → Type 0 = λ ds. TellsPackage (declared p.texts ds) t in
-    let whole : take i p.decls ≡ p.decls = ap (take i) (sym e) ∙ take_all i ns h ∙ e in
+    let whole : take i p.decls ≡ p.decls = take_all i p.decls h in
     subst P (ap (decls_made (expr_trees p.exprs) (stmt_trees p.exprs p.stmts)) whole ∙ sym (trees_made p)) tells

@@ -1,5 +1,5 @@
 -- Walks over the uses of declarations, and what they judge.
-use Rattle.std.proofs.Common.{◌≡◌, ℕ, ◌+◌, ◌<◌, ◌≤◌, List, [], ◌∷◌, ◌++◌, map, fold, length, drop, slice_get, slice_index_or, Option, Some, Result, Ok, Err, IfOk, true, refl, sym, ap, ◌∙◌, subst, append_assoc, append-nil, arith, zero, suc}
+use Rattle.std.proofs.Common.{◌≡◌, ℕ, ◌+◌, ◌<◌, ◌≤◌, List, [], ◌∷◌, ◌++◌, map, fold, length, drop, slice_get, slice_index_or, Option, Some, Result, Ok, Err, IfOk, refl, sym, ap, ◌∙◌, subst, append_assoc, append-nil, arith, zero, suc}
 use Rattle.std.specs.List.{flat_map}
 use Rattle.wf_text.specs.declared.faults.NoMemory.{NoMemory}
 use Rattle.wf_text.specs.declared.rules.Refusal.{Refusal}
@@ -29,7 +29,7 @@ pub sites_judged-append : (d : Declared) (found : Option Refusal) (xs ys : List 
 sites_judged-append d found [] ys = refl
 sites_judged-append d found (x ∷ xs) ys = sites_judged-append d (judged (known_at d x.scope) found x.usage) xs ys
 
--- A walk decides as the sites that it passes.
+-- A walk finds the first refusal of the sites that it passes.
 walked_sites : (d : Declared) (scope : Scope) (seen : Seen) (us : List Use) → (walked (known_at d scope) seen us).found ≡ sites_judged d seen.found (sites_in scope us)
 walked_sites d scope seen [] = refl
 walked_sites d scope seen (u ∷ us) = walked_sites d scope (walked_one (known_at d scope) seen u) us

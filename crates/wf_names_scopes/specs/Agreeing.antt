@@ -1,19 +1,20 @@
 -- What it is that tables tell what the declarations of a package mean.
-use Rattle.std.specs.Prelude.{◌≡◌, ◌+◌, ℕ, List, Option, Some, length, map, nat_eq, option_map}
+use Rattle.std.specs.Prelude.{◌≡◌, ◌+◌, ℕ, ⊤, List, [], ◌∷◌, Option, Some, None, length, map, slice_get, nat_eq, option_map}
 use Rattle.std.specs.List.{list_any, position_from}
-use Rattle.indexmap.specs.IndexMap.{get}
 use Rattle.indexmap.specs.IndexSet.{contains}
 use Rattle.wf_names_rules.specs.declared.sorts.Sort.{Sort}
 use Rattle.wf_names_rules.specs.declared.tables.Numbers.{Numbers}
 use Rattle.wf_names_rules.specs.declared.tables.Variables.{Variables}
+use Rattle.wf_names_rules.specs.declared.tables.MethodVariables.{MethodVariables}
 use Rattle.wf_names_rules.specs.declared.tables.Tables.{Tables}
 use Rattle.wf_names_rules.specs.declared.tables.Scope.{Scope as ScopeTables}
 use Rattle.wf_ast.specs.declared.parsed.Name.{Name}
 use Rattle.wf_ast.specs.ParsedParts.{Parsed}
 use Rattle.wf_ast.specs.ParsedTrees.{decl_trees}
-use Rattle.wf_names_rules.specs.Declarations.{Variable, Declared, declared, as_variable, bytes_of, is_spelt, method_named, variable_named, place_in, fields_of}
+use Rattle.wf_names_rules.specs.Declarations.{Variable, Method, Declared, declared, as_variable, bytes_of, is_spelt, method_named, variable_named, place_in, fields_of}
 use Rattle.wf_names_rules.specs.Meanings.{Known, sort_of, sort_in, args_in}
-use Rattle.wf_names_rules.specs.Tables.{same_pair, number_at, sort_by, place_by, sort_at, place_at}
+use Rattle.wf_names_rules.specs.Pairs.{pair_at}
+use Rattle.wf_names_rules.specs.Tables.{number_at, pair_sort, pair_place, sort_at, place_at}
 use Rattle.wf_names_rules.specs.Uses.{Scope}
 
 -- The same is known: each look-up answers the same.
@@ -41,19 +42,6 @@ pub record TellsNumbers {X : Type 0} (first : ℕ) (name : X → Name) (named : 
   pub next : t.next ≡ first + length named
   pub numbers : (text : ℕ) → number_at t text ≡ position_from (λ x. is_spelt text (name x)) first named
 
--- The tables of a package tell what its declarations mean, and by which number each name stands: a status by its place
--- after the ten of the language, a struct by its place among the structs, a field by its place in its struct. Of two
--- declarations with one name the first is meant.
-pub record TellsPackage (d : Declared) (t : Tables) : Type 0 where
-  pub statuses : TellsNumbers 10 (λ name. name) d.statuses t.statuses
-  pub structs : TellsNumbers 0 (λ s. s.name) d.structs t.structs
-  pub fields : (owner text : ℕ) → sort_by same_pair t.fields (owner, text) ≡ sort_in d (fields_of d owner) text
-  pub places : (owner text : ℕ) → place_by same_pair t.fields (owner, text) ≡ place_in (fields_of d owner) text
-  pub methods : (owner text : ℕ) → get same_pair t.methods (owner, text) ≡ method_named d owner text
-  pub method_names : (text : ℕ) → contains nat_eq t.method_names text ≡ list_any (λ m. is_spelt text m.name) d.methods
-  pub publics : t.publics.items ≡ map (λ m. m.public) d.methods
-  pub args : map (λ names. names.keys) t.args.items ≡ map (λ m. args_in (Some m)) d.methods
-
 -- What may be called on the first of these variables that has this name; `texts` are those of the package.
 abbrev pub sort_among : (texts : List (List ℕ)) → List Variable → ℕ → Option Sort
 sort_among texts variables text = option_map (λ v. sort_of (bytes_of texts) v.of) (variable_named variables text)
@@ -64,12 +52,47 @@ pub record TellsVariables (texts : List (List ℕ)) (variables : List Variable) 
   pub sorts : (text : ℕ) → sort_at t text ≡ sort_among texts variables text
   pub places : (text : ℕ) → place_at t text ≡ place_in variables text
 
+-- Tables tell the arguments and the locals of a method, and of methods one after the other.
+pub record TellsMethod (texts : List (List ℕ)) (m : Method) (t : MethodVariables) : Type 0 where
+  pub args : TellsVariables texts m.args t.args
+  pub locals : TellsVariables texts m.locals t.locals
+
+abbrev pub TellMethods : (texts : List (List ℕ)) → List Method → List MethodVariables → Type 0
+TellMethods texts [] [] = ⊤
+TellMethods texts (m ∷ ms) (t ∷ ts) = TellsMethod texts m t × TellMethods texts ms ts
+TellMethods texts _ _ = ⊥
+
+-- The tables of a package tell what its declarations mean, and by which number each name stands: a status by its place
+-- after the ten of the language, a struct by its place among the structs, a field by its place in its struct. Of two
+-- declarations with one name the first is meant.
+pub record TellsPackage (d : Declared) (t : Tables) : Type 0 where
+  pub statuses : TellsNumbers 10 (λ name. name) d.statuses t.statuses
+  pub structs : TellsNumbers 0 (λ s. s.name) d.structs t.structs
+  pub fields : (owner text : ℕ) → pair_sort t.fields (owner, text) ≡ sort_in d (fields_of d owner) text
+  pub places : (owner text : ℕ) → pair_place t.fields (owner, text) ≡ place_in (fields_of d owner) text
+  pub methods : (owner text : ℕ) → pair_at t.methods (owner, text) ≡ method_named d owner text
+  pub method_names : (text : ℕ) → contains nat_eq t.method_names text ≡ list_any (λ m. is_spelt text m.name) d.methods
+  pub publics : t.publics.items ≡ map (λ m. m.public) d.methods
+  pub args : map (λ names. names.keys) t.args.items ≡ map (λ m. args_in (Some m)) d.methods
+  pub variables : TellMethods d.texts d.methods t.variables.items
+
+-- The method whose number this is has the arguments and the locals of the scope.
+pub record IsInMethod (d : Declared) (scope : Scope) (m : ℕ) : Type 0 where
+  pub method : Method
+  pub at : slice_get d.methods m ≡ Some method
+  pub args : scope.args ≡ method.args
+  pub locals : scope.locals ≡ method.locals
+
+-- The scope is inside this method, or outside all of them.
+abbrev pub IsInside : Declared → Scope → (method : Option ℕ) → Type 0
+IsInside d scope None = (scope.args ≡ []) × (scope.locals ≡ [])
+IsInside d scope (Some m) = IsInMethod d scope m
+
 -- The tables of a scope tell what is known there besides.
 pub record TellsScope (d : Declared) (scope : Scope) (t : ScopeTables) : Type 0 where
   pub constants : TellsVariables d.texts scope.constants t.constants
   pub this : t.this ≡ scope.this
-  pub args : TellsVariables d.texts scope.args t.args
-  pub locals : TellsVariables d.texts scope.locals t.locals
+  pub inside : IsInside d scope t.method
 
 -- The table of constants tells all of the package.
 abbrev pub TellsConstants : Declared → ScopeTables → Type 0

@@ -1,5 +1,5 @@
 -- Tables that grow by a name at a time, of which the first declared keeps its place.
-use Rattle.std.specs.Prelude.{◌≡◌, ℕ, Bool, cond, List, [], ◌∷◌, ◌++◌, map, Option, Some, None, nat_eq}
+use Rattle.std.specs.Prelude.{◌≡◌, ℕ, Bool, cond, List, [], ◌∷◌, ◌++◌, length, map, Option, Some, None, nat_eq}
 use Rattle.std.specs.Option.{option_or}
 use Rattle.std.specs.List.{position_from}
 use Rattle.wf_text.specs.declared.rules.Refusal.{Refusal}
@@ -8,7 +8,7 @@ use Rattle.wf_names_rules.specs.declared.tables.Scope.{Scope as ScopeTables}
 use Rattle.wf_ast.specs.declared.parsed.Name.{Name}
 use Rattle.wf_names_rules.specs.Declarations.{Variable, Constant, Structure, Method, Declared, as_variable, is_spelt}
 use Rattle.wf_names_rules.specs.Uses.{Scope, constant_scope, constant_sites}
-use Rattle.wf_names_rules.specs.Tables.{Pair}
+use Rattle.wf_names_rules.specs.Pairs.{Pair}
 use Rattle.wf_names_scopes.specs.Agreeing.{TellsVariables, TellsScope}
 use Rattle.wf_names_scopes.specs.UsesFound.{sites_judged}
 
@@ -29,6 +29,16 @@ pub record TellsUpTo (texts : List (List ℕ)) (rest whole : List Variable) (tab
   pub front : List Variable
   pub split : front ++ rest ≡ whole
   pub tells : TellsVariables texts front table
+
+-- The methods before `left` are `n`.
+pub record AreLeft (d : Declared) (n : ℕ) (left : List Method) : Type 0 where
+  pub front : List Method
+  pub whole : d.methods ≡ front ++ left
+  pub long : length front ≡ n
+
+-- The next methods, after the first `n`, are these.
+abbrev pub AreNext : Declared → (n : ℕ) → List Method → Type 0
+AreNext d n ms = (left : List Method) × AreLeft d n (ms ++ left)
 
 -- Packages with one more declaration.
 abbrev pub with_status : Declared → Name → Declared

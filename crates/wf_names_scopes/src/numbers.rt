@@ -2,10 +2,12 @@
 
 ghost use Rattle.std.specs.Prelude.{◌≡◌, ◌+◌, not, ℕ, is_some, nat_eq, IfOk, OnOk};
 ghost use Rattle.indexmap.specs.IndexMap.{get};
-ghost use Rattle.wf_names_rules.specs.Tables.{Pair, same_pair, has_number, number_at, sort_by, place_by, sort_at, place_at};
+ghost use Rattle.wf_names_rules.specs.Pairs.{Pair, same_pair, pair_at};
+ghost use Rattle.wf_names_rules.specs.Tables.{has_number, number_at, pair_sort, pair_place, sort_at, place_at};
 ghost use Rattle.wf_names_scopes.specs.Growing.{with_first};
 
 use indexmap::IndexMap;
+use std::collections::BTreeMap;
 use wf_ast::TextId;
 use wf_names_rules::sorts::Sort;
 use wf_names_rules::tables::{Entry, Numbers, Variables};
@@ -79,30 +81,30 @@ pub(crate) fn add_entry(variables: &mut Variables, name: TextId, sort: Sort) -> 
     Ok(())
 }
 
-fn put_field(
-    fields: &mut IndexMap<(u32, u32), Entry>,
-    owner: TextId,
-    name: TextId,
-    entry: Entry,
+/// Adds a pair of names, unless it stands for something already.
+pub(crate) fn put_pair<V: Copy + Drop>(
+    table: &mut BTreeMap<(u32, u32), V>,
+    key: (u32, u32),
+    value: V,
 ) -> Result<(), NoMemory>
-    ensures { OnOk result ((key : Pair) → get same_pair fields.new key ≡ with_first same_pair (get same_pair fields.old) (owner.0, name.0) entry key) }
+    ensures { OnOk result ((pair : Pair) → pair_at table.new pair ≡ with_first same_pair (pair_at table.old) key value pair) }
 {
-    if fields.contains_key(&(owner.0, name.0)) {
+    if table.contains_key(&key) {
         return Ok(());
     }
-    fields.insert((owner.0, name.0), entry)?;
+    table.insert(key, value)?;
     Ok(())
 }
 
 /// The same of a field of the struct with the name `owner`.
 pub(crate) fn add_field(
-    fields: &mut IndexMap<(u32, u32), Entry>,
+    fields: &mut BTreeMap<(u32, u32), Entry>,
     owner: TextId,
     name: TextId,
     entry: Entry,
 ) -> Result<(), NoMemory>
-    ensures sorts { OnOk result ((key : Pair) → sort_by same_pair fields.new key ≡ with_first same_pair (sort_by same_pair fields.old) (owner.0, name.0) entry.sort key) }
-    ensures places { OnOk result ((key : Pair) → place_by same_pair fields.new key ≡ with_first same_pair (place_by same_pair fields.old) (owner.0, name.0) entry.place key) }
+    ensures sorts { OnOk result ((key : Pair) → pair_sort fields.new key ≡ with_first same_pair (pair_sort fields.old) (owner.0, name.0) entry.sort key) }
+    ensures places { OnOk result ((key : Pair) → pair_place fields.new key ≡ with_first same_pair (pair_place fields.old) (owner.0, name.0) entry.place key) }
 {
-    put_field(fields, owner, name, entry)
+    put_pair(fields, (owner.0, name.0), entry)
 }

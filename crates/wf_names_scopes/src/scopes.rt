@@ -1,18 +1,17 @@
-// The tables of a scope. One is kept for a whole package: from a declaration to the next only `this`, the arguments and
-// the locals are replaced, and the constants grow as they are declared.
+// The tables of a scope. One is kept for a whole package: from a declaration to the next only `this` and the method are
+// replaced, and the constants grow as they are declared.
 
-ghost use Rattle.std.specs.Prelude.{◌≡◌, ◌++◌, [], ◌∷◌, List, Some, length, OnOk};
-ghost use Rattle.wf_ast.specs.ParsedTrees.{expr_trees, stmt_trees, type_at, fields_at, block_at};
-ghost use Rattle.wf_ast.specs.ParsedParts.{BlockBelow};
-ghost use Rattle.wf_names_rules.specs.Declarations.{Declared, Variable, variables, locals_of, as_variable};
+ghost use Rattle.std.specs.Prelude.{◌≡◌, ◌++◌, [], ◌∷◌, List, Some, slice_get, OnOk};
+ghost use Rattle.wf_ast.specs.ParsedTrees.{expr_trees, type_at};
+ghost use Rattle.wf_names_rules.specs.Declarations.{Declared, Method, Variable};
 ghost use Rattle.wf_names_rules.specs.Uses.{constant_scope};
 ghost use Rattle.wf_names_scopes.specs.Agreeing.{TellsScope, TellsConstants, package_of};
 ghost use Rattle.wf_names_scopes.specs.Growing.{scope_in};
 
-use crate::variables::{add_variable, arguments, locals, no_variables};
+use crate::variables::{add_variable, no_variables};
 use std::alloc::Global;
 use wf_ast::PackageNodes;
-use wf_ast::parsed::{Block, Field, Name, TypeExpr};
+use wf_ast::parsed::{Name, TypeExpr};
 use wf_names_rules::tables::Scope;
 use wf_text::faults::NoMemory;
 
@@ -23,8 +22,7 @@ pub fn outside(alloc: Global) -> Scope
     Scope {
         constants: no_variables(alloc),
         this: None,
-        args: no_variables(alloc),
-        locals: no_variables(alloc),
+        method: None,
     }
 }
 
@@ -42,31 +40,18 @@ pub fn add_constant(
 }
 
 /// On to a struct of this name.
-pub fn enter_struct(alloc: Global, scope: &mut Scope, name: Name)
+pub fn enter_struct(scope: &mut Scope, name: Name)
     ensures { (d : Declared) → TellsConstants d scope.old → TellsScope d (scope_in d name [] []) scope.new }
 {
     scope.this = Some(name.text.0);
-    scope.args = no_variables(alloc);
-    scope.locals = no_variables(alloc);
+    scope.method = None;
 }
 
-/// On to a method of the struct with the name `owner`.
-pub fn enter_method(
-    alloc: Global,
-    scope: &mut Scope,
-    parsed: &PackageNodes,
-    owner: Name,
-    args: &[Field],
-    body: &Block,
-) -> Result<(), NoMemory>
-    requires { BlockBelow (length parsed.now.stmts) body.now }
-    ensures { OnOk result (TellsConstants (package_of parsed.now) scope.old
-        → TellsScope (package_of parsed.now) (scope_in (package_of parsed.now) owner (variables (fields_at (expr_trees parsed.now.exprs) args.now)) (locals_of (block_at (stmt_trees parsed.now.exprs parsed.now.stmts) body.now))) scope.new) }
+/// On to the method of this number, of the struct with the name `owner`.
+pub fn enter_method(scope: &mut Scope, owner: Name, number: usize)
+    ensures { (d : Declared) (m : Method) → TellsConstants d scope.old → slice_get d.methods number ≡ Some m
+        → TellsScope d (scope_in d owner m.args m.locals) scope.new }
 {
-    let args = arguments(alloc, parsed, args)?;
-    let locals = locals(alloc, parsed, body)?;
     scope.this = Some(owner.text.0);
-    scope.args = args;
-    scope.locals = locals;
-    Ok(())
+    scope.method = Some(number);
 }

@@ -1,23 +1,26 @@
 // The tables of a package: what its declarations mean, by their names. Of two declarations with one name the first is
 // meant.
 
-ghost use Rattle.std.specs.Prelude.{◌≡◌, ◌++◌, ◌||◌, [], ◌∷◌, ℕ, List, map, nat_eq, IfOk, OnOk};
-ghost use Rattle.indexmap.specs.IndexMap.{get};
+ghost use Rattle.std.specs.Prelude.{◌≡◌, ◌++◌, ◌||◌, [], ◌∷◌, ℕ, List, Some, length, map, nat_eq, IfOk, OnOk};
 ghost use Rattle.indexmap.specs.IndexSet.{contains, insert_all};
 ghost use Rattle.wf_ast.specs.declared.parsed.Name.{Name};
 ghost use Rattle.wf_ast.specs.ParsedTree.{ExprTree, DeclTree};
-ghost use Rattle.wf_ast.specs.ParsedTrees.{expr_trees, stmt_trees, fields_at, decl_made};
-ghost use Rattle.wf_names_rules.specs.Declarations.{Declared, Structure, Method, declared, variables};
-ghost use Rattle.wf_names_rules.specs.Tables.{same_pair, sort_by, place_by, Pair};
-ghost use Rattle.wf_names_scopes.specs.Agreeing.{TellsNumbers, TellsPackage, package_of, sort_among};
-ghost use Rattle.wf_names_scopes.specs.Growing.{with_first, with_fields, place_from, with_status, with_struct, with_method};
+ghost use Rattle.wf_ast.specs.ParsedTrees.{expr_trees, stmt_trees, fields_at, block_at, decl_made};
+ghost use Rattle.wf_ast.specs.ParsedParts.{BlockBelow, DeclParts};
+ghost use Rattle.wf_names_rules.specs.Declarations.{Declared, Structure, Method, declared, variables, locals_of};
+ghost use Rattle.wf_names_rules.specs.Meanings.{args_in};
+ghost use Rattle.wf_names_rules.specs.Tables.{pair_sort, pair_place};
+ghost use Rattle.wf_names_scopes.specs.Agreeing.{TellsNumbers, TellsPackage, TellsMethod, package_of, sort_among};
+ghost use Rattle.wf_names_scopes.specs.Growing.{with_fields, place_from, with_status, with_struct, with_method};
 
-use crate::numbers::{add_field, add_number, next_number};
+use crate::numbers::{add_field, add_number, next_number, put_pair};
+use crate::variables::method_variables;
 use indexmap::{IndexMap, IndexSet};
 use std::alloc::Global;
-use wf_ast::parsed::{Decl, DeclNode, Field, Name};
+use std::collections::BTreeMap;
+use wf_ast::parsed::{Block, Decl, DeclNode, Field, Name};
 use wf_ast::{PackageNodes, TextId};
-use wf_names_rules::tables::{Entry, Numbers, Tables};
+use wf_names_rules::tables::{Entry, MethodVariables, Numbers, Tables};
 use wf_names_rules::types::sort;
 use wf_text::faults::NoMemory;
 
@@ -42,11 +45,12 @@ fn empty(alloc: Global) -> Tables
     Tables {
         statuses: no_names(alloc, BASE_STATUSES),
         structs: no_names(alloc, 0),
-        fields: IndexMap::new(alloc),
-        methods: IndexMap::new(alloc),
+        fields: BTreeMap::new(alloc),
+        methods: BTreeMap::new(alloc),
         method_names: IndexSet::new(alloc),
         publics: Vec::new(alloc),
         args: Vec::new(alloc),
+        variables: Vec::new(alloc),
     }
 }
 
@@ -60,15 +64,15 @@ fn add_name(names: &mut IndexSet<u32>, name: Name) -> Result<(), NoMemory>
 
 // The fields of a struct whose name is new.
 fn add_fields(
-    table: &mut IndexMap<(u32, u32), Entry>,
+    table: &mut BTreeMap<(u32, u32), Entry>,
     parsed: &PackageNodes,
     owner: TextId,
     fields: &[Field],
 ) -> Result<(), NoMemory>
-    ensures sorts { OnOk result ((other text : ℕ) → sort_by same_pair table.new (other, text)
-        ≡ with_fields (sort_by same_pair table.old) owner.0 (sort_among parsed.now.texts) (variables (fields_at (expr_trees parsed.now.exprs) fields.now)) other text) }
-    ensures places { OnOk result ((es : List ExprTree) (other text : ℕ) → place_by same_pair table.new (other, text)
-        ≡ with_fields (place_by same_pair table.old) owner.0 (place_from 0) (variables (fields_at es fields.now)) other text) }
+    ensures sorts { OnOk result ((other text : ℕ) → pair_sort table.new (other, text)
+        ≡ with_fields (pair_sort table.old) owner.0 (sort_among parsed.now.texts) (variables (fields_at (expr_trees parsed.now.exprs) fields.now)) other text) }
+    ensures places { OnOk result ((es : List ExprTree) (other text : ℕ) → pair_place table.new (other, text)
+        ≡ with_fields (pair_place table.old) owner.0 (place_from 0) (variables (fields_at es fields.now)) other text) }
 {
     let mut place = 0;
     for field in fields {
@@ -79,21 +83,6 @@ fn add_fields(
         add_field(table, owner, field.name.text, entry)?;
         place = next_number(place)?;
     }
-    Ok(())
-}
-
-fn number_method(
-    methods: &mut IndexMap<(u32, u32), usize>,
-    owner: TextId,
-    name: TextId,
-    m: usize,
-) -> Result<(), NoMemory>
-    ensures { OnOk result ((key : Pair) → get same_pair methods.new key ≡ with_first same_pair (get same_pair methods.old) (owner.0, name.0) m key) }
-{
-    if methods.contains_key(&(owner.0, name.0)) {
-        return Ok(());
-    }
-    methods.insert((owner.0, name.0), m)?;
     Ok(())
 }
 
@@ -131,25 +120,52 @@ fn add_struct(
     }
 }
 
-// A method after those that the tables tell: its number is how many these are.
-fn add_method(
-    alloc: Global,
-    tables: &mut Tables,
+// What the heading of a method says of it.
+#[derive(Clone, Copy)]
+struct Heading {
     public: bool,
     owner: Name,
     name: Name,
-    args: &[Field],
+}
+
+// A method after those that the tables tell, by the names of its arguments and its tables: its number is how many these are.
+fn put_method(
+    tables: &mut Tables,
+    heading: Heading,
+    names: IndexSet<u32>,
+    variables: MethodVariables,
 ) -> Result<(), NoMemory>
-    ensures { OnOk result ((d : Declared) (m : Method) → m.public ≡ public → m.owner ≡ owner → m.name ≡ name
-        → (es : _) → m.args ≡ variables (fields_at es args.now) → TellsPackage d tables.old → TellsPackage (with_method d m) tables.new) }
+    ensures { OnOk result ((d : Declared) (m : Method) → m.public ≡ heading.public → m.owner ≡ heading.owner → m.name ≡ heading.name
+        → names.keys ≡ args_in (Some m) → TellsMethod d.texts m variables → TellsPackage d tables.old → TellsPackage (with_method d m) tables.new) }
+{
+    let m = tables.publics.len();
+    tables.args.push(names)?;
+    tables.variables.push(variables)?;
+    tables.publics.push(heading.public)?;
+    add_name(&mut tables.method_names, heading.name)?;
+    put_pair(
+        &mut tables.methods,
+        (heading.owner.text.0, heading.name.text.0),
+        m,
+    )
+}
+
+fn add_method(
+    alloc: Global,
+    tables: &mut Tables,
+    parsed: &PackageNodes,
+    heading: Heading,
+    args: &[Field],
+    body: &Block,
+) -> Result<(), NoMemory>
+    requires { BlockBelow (length parsed.now.stmts) body.now }
+    ensures { OnOk result ((d : Declared) (m : Method) → d.texts ≡ parsed.now.texts → m.public ≡ heading.public → m.owner ≡ heading.owner → m.name ≡ heading.name
+        → m.args ≡ variables (fields_at (expr_trees parsed.now.exprs) args.now) → m.locals ≡ locals_of (block_at (stmt_trees parsed.now.exprs parsed.now.stmts) body.now)
+        → TellsPackage d tables.old → TellsPackage (with_method d m) tables.new) }
 {
     let names = arg_names(alloc, args)?;
-    let m = tables.publics.len();
-    number_method(&mut tables.methods, owner.text, name.text, m)?;
-    add_name(&mut tables.method_names, name)?;
-    tables.publics.push(public)?;
-    tables.args.push(names)?;
-    Ok(())
+    let variables = method_variables(alloc, parsed, args, body)?;
+    put_method(tables, heading, names, variables)
 }
 
 fn add_decl(
@@ -158,6 +174,7 @@ fn add_decl(
     parsed: &PackageNodes,
     node: &DeclNode,
 ) -> Result<(), NoMemory>
+    requires { DeclParts (length parsed.now.exprs) (length parsed.now.stmts) node.now.decl }
     ensures { OnOk result ((ds : List DeclTree) → TellsPackage (declared parsed.now.texts ds) tables.old
         → TellsPackage (declared parsed.now.texts (ds ++ decl_made (expr_trees parsed.now.exprs) (stmt_trees parsed.now.exprs parsed.now.stmts) node.now.public node.now.decl node.now.at ∷ [])) tables.new) }
 {
@@ -165,8 +182,19 @@ fn add_decl(
         Decl::Status(name) => add_status(tables, *name),
         Decl::Const { .. } => Ok(()),
         Decl::Struct { name, fields, .. } => add_struct(tables, parsed, *name, fields.as_slice()),
-        Decl::Method { of, name, args, .. } => {
-            add_method(alloc, tables, node.public, *of, *name, args.as_slice())
+        Decl::Method {
+            of,
+            name,
+            args,
+            body,
+            ..
+        } => {
+            let heading = Heading {
+                public: node.public,
+                owner: *of,
+                name: *name,
+            };
+            add_method(alloc, tables, parsed, heading, args.as_slice(), body)
         }
     }
 }
@@ -176,8 +204,8 @@ pub fn tables(alloc: Global, parsed: &PackageNodes) -> Result<Tables, NoMemory>
     ensures { IfOk result (λ tables. TellsPackage (package_of parsed.now) tables) }
 {
     let mut tables = empty(alloc);
-    for node in parsed.decls() {
-        add_decl(alloc, &mut tables, parsed, node)?;
+    for number in 0..parsed.decls().len() {
+        add_decl(alloc, &mut tables, parsed, parsed.decl(number))?;
     }
     Ok(tables)
 }

@@ -12,7 +12,7 @@ ghost use Rattle.wf_names_rules.specs.Uses.{structure, uses_of, type_uses, resul
 ghost use Rattle.wf_names_rules.specs.Meanings.{known_at};
 ghost use Rattle.wf_names_scopes.specs.Agreeing.{package_of, TellsPackage, TellsScope, TellsConstants};
 ghost use Rattle.wf_names_scopes.specs.CallRows.{AreRows, AreRowsInFront};
-ghost use Rattle.wf_names_scopes.specs.Growing.{scope_in};
+ghost use Rattle.wf_names_scopes.specs.Growing.{scope_in, AreNext};
 ghost use Rattle.wf_names_scopes.specs.UsesFound.{sites_judged, names_found};
 
 use crate::declared_uses::{WrittenMethod, walk_constant, walk_fields, walk_method};
@@ -21,11 +21,11 @@ use graphs::rows::Row;
 use std::alloc::Global;
 use wf_ast::parsed::{Decl, DeclNode, Field, Name, TypeExpr};
 use wf_ast::{ExprId, PackageNodes};
-use wf_names_rules::found::Found;
 use wf_names_rules::here::Here;
 use wf_names_rules::seen::{Gathered, Seen};
 use wf_names_rules::tables::{Scope, Tables};
 use wf_text::faults::NoMemory;
+use wf_text::found::Found;
 
 // A package and what is known of all of it.
 #[derive(Clone, Copy)]
@@ -160,7 +160,7 @@ fn struct_uses(
     ensures found { OnOk result (seen.new.found ≡ sites_judged (package_of whole.now.parsed.now) seen.old.found (struct_sites (package_of whole.now.parsed.now) (record { name = name; fields = variables (fields_at (expr_trees whole.now.parsed.now.exprs) fields.now) }))) }
     ensures constants { TellsConstants (package_of whole.now.parsed.now) scope.new }
 {
-    enter_struct(alloc, scope, name);
+    enter_struct(scope, name);
     let mut row = Row::new(alloc);
     let here = Here {
         parsed: whole.parsed,
@@ -220,36 +220,26 @@ fn method_uses(
     seen: &mut Seen,
     gathered: &mut Gathered,
     whole: &Whole<'_>,
-    scope: &mut Scope,
+    scope: &Scope,
     method: WrittenMethod<'_>,
 ) -> Result<(), NoMemory>
     requires args { FieldsBelow (length whole.now.parsed.now.exprs) method.args.now }
     requires gives { ResultBelow (length whole.now.parsed.now.exprs) method.gives.now }
     requires body { BlockBelow (length whole.now.parsed.now.stmts) method.body.now }
     requires tables { TellsPackage (package_of whole.now.parsed.now) whole.now.tables.now }
-    requires constants { TellsConstants (package_of whole.now.parsed.now) scope.old }
+    requires inside { TellsScope (package_of whole.now.parsed.now) (scope_in (package_of whole.now.parsed.now) method.owner (variables (fields_at (expr_trees whole.now.parsed.now.exprs) method.args.now)) (locals_of (block_at (stmt_trees whole.now.parsed.now.exprs whole.now.parsed.now.stmts) method.body.now))) scope.now }
     ensures found { OnOk result (seen.new.found ≡ sites_judged (package_of whole.now.parsed.now) seen.old.found (sites_in (scope_in (package_of whole.now.parsed.now) method.entry.owner (variables (fields_at (expr_trees whole.now.parsed.now.exprs) method.entry.args.now)) (locals_of (block_at (stmt_trees whole.now.parsed.now.exprs whole.now.parsed.now.stmts) method.entry.body.now)))
         (structure method.entry.owner ∷ (variable_uses (variables (fields_at (expr_trees whole.now.parsed.now.exprs) method.entry.args.now)) ++ (result_uses (result_at (expr_trees whole.now.parsed.now.exprs) method.entry.gives.now) ++ block_uses (block_at (stmt_trees whole.now.parsed.now.exprs whole.now.parsed.now.stmts) method.entry.body.now)))))) }
     ensures row { OnOk result (gathered.new.row ≡ with_calls (known_at (package_of whole.now.parsed.now) (scope_in (package_of whole.now.parsed.now) method.entry.owner (variables (fields_at (expr_trees whole.now.parsed.now.exprs) method.entry.args.now)) (locals_of (block_at (stmt_trees whole.now.parsed.now.exprs whole.now.parsed.now.stmts) method.entry.body.now)))) gathered.old.row
         (variable_uses (variables (fields_at (expr_trees whole.now.parsed.now.exprs) method.entry.args.now)) ++ (result_uses (result_at (expr_trees whole.now.parsed.now.exprs) method.entry.gives.now) ++ block_uses (block_at (stmt_trees whole.now.parsed.now.exprs whole.now.parsed.now.stmts) method.entry.body.now)))) }
     ensures labels { OnOk result (gathered.new.labels ≡ jumped whole.now.parsed.now.texts gathered.old.labels (block_jumps gathered.old.loops.items (block_at (stmt_trees whole.now.parsed.now.exprs whole.now.parsed.now.stmts) method.entry.body.now))) }
-    ensures constants { OnOk result (TellsConstants (package_of whole.now.parsed.now) scope.new) }
 {
-    enter_method(
-        alloc,
-        scope,
-        whole.parsed,
-        method.owner,
-        method.args,
-        method.body,
-    )?;
     let here = Here {
         parsed: whole.parsed,
         tables: whole.tables,
         scope,
     };
-    walk_method(alloc, seen, gathered, &here, method)?;
-    Ok(())
+    walk_method(alloc, seen, gathered, &here, method)
 }
 
 // What was gathered of a method joins what is known of those before it.
@@ -275,6 +265,7 @@ fn method_decl(
     requires parts { DeclParts (length whole.now.parsed.now.exprs) (length whole.now.parsed.now.stmts) node.now.decl }
     requires tables { TellsPackage (package_of whole.now.parsed.now) whole.now.tables.now }
     requires constants { TellsConstants (package_of whole.now.parsed.now) scope.old }
+    requires next { AreNext (package_of whole.now.parsed.now) (length bodies.old.rows.items) (methods_of (decl_made (expr_trees whole.now.parsed.now.exprs) (stmt_trees whole.now.parsed.now.exprs whole.now.parsed.now.stmts) node.now.public node.now.decl node.now.at ∷ [])) }
     ensures found { OnOk result (seen.new.found ≡ sites_judged (package_of whole.now.parsed.now) seen.old.found (flat_map (method_sites (package_of whole.now.parsed.now)) (methods_of (decl_made (expr_trees whole.now.parsed.now.exprs) (stmt_trees whole.now.parsed.now.exprs whole.now.parsed.now.stmts) node.now.public node.now.decl node.now.at ∷ [])))) }
     ensures rows { OnOk result ((left : List Method) → AreRowsInFront (package_of whole.now.parsed.now) bodies.old.rows.items (methods_of (decl_made (expr_trees whole.now.parsed.now.exprs) (stmt_trees whole.now.parsed.now.exprs whole.now.parsed.now.stmts) node.now.public node.now.decl node.now.at ∷ []) ++ left)
         → AreRowsInFront (package_of whole.now.parsed.now) bodies.new.rows.items left) }
@@ -300,6 +291,7 @@ fn method_decl(
                 loops: Vec::new(alloc),
                 labels: bodies.labels,
             };
+            enter_method(scope, *of, bodies.rows.len());
             method_uses(alloc, seen, &mut gathered, whole, scope, method)?;
             add_body(bodies, gathered)
         }

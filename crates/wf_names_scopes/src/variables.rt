@@ -4,15 +4,15 @@
 ghost use Rattle.std.specs.Prelude.{◌≡◌, ◌<◌, ◌++◌, [], ◌∷◌, ℕ, List, length, IfOk, OnOk};
 ghost use Rattle.wf_ast.specs.ParsedTrees.{expr_trees, stmt_trees, type_at, fields_at, stmt_at, block_at};
 ghost use Rattle.wf_ast.specs.ParsedParts.{BlockBelow};
-ghost use Rattle.wf_names_rules.specs.Declarations.{Variable, variables, local_of, locals_of};
-ghost use Rattle.wf_names_scopes.specs.Agreeing.{TellsVariables};
+ghost use Rattle.wf_names_rules.specs.Declarations.{Method, Variable, variables, local_of, locals_of};
+ghost use Rattle.wf_names_scopes.specs.Agreeing.{TellsVariables, TellsMethod};
 
 use crate::numbers::add_entry;
 use indexmap::IndexMap;
 use std::alloc::Global;
 use wf_ast::parsed::{Block, Field, Name, Stmt, TypeExpr};
 use wf_ast::{PackageNodes, StmtId};
-use wf_names_rules::tables::Variables;
+use wf_names_rules::tables::{MethodVariables, Variables};
 use wf_names_rules::types::sort;
 use wf_text::faults::NoMemory;
 
@@ -39,12 +39,8 @@ pub(crate) fn add_variable(
     add_entry(table, name.text, sort(parsed, of))
 }
 
-/// The table of a method's arguments.
-pub fn arguments(
-    alloc: Global,
-    parsed: &PackageNodes,
-    args: &[Field],
-) -> Result<Variables, NoMemory>
+// The table of a method's arguments.
+fn arguments(alloc: Global, parsed: &PackageNodes, args: &[Field]) -> Result<Variables, NoMemory>
     ensures { IfOk result (λ table. TellsVariables parsed.now.texts (variables (fields_at (expr_trees parsed.now.exprs) args.now)) table) }
 {
     let mut table = no_variables(alloc);
@@ -66,8 +62,8 @@ fn add_local(table: &mut Variables, parsed: &PackageNodes, s: StmtId) -> Result<
     }
 }
 
-/// The table of a method's locals: what the statements of its body, and not of the blocks in it, declare.
-pub fn locals(alloc: Global, parsed: &PackageNodes, body: &Block) -> Result<Variables, NoMemory>
+// The table of a method's locals: what the statements of its body, and not of the blocks in it, declare.
+fn locals(alloc: Global, parsed: &PackageNodes, body: &Block) -> Result<Variables, NoMemory>
     requires { BlockBelow (length parsed.now.stmts) body.now }
     ensures { IfOk result (λ table. TellsVariables parsed.now.texts (locals_of (block_at (stmt_trees parsed.now.exprs parsed.now.stmts) body.now)) table) }
 {
@@ -76,4 +72,20 @@ pub fn locals(alloc: Global, parsed: &PackageNodes, body: &Block) -> Result<Vari
         add_local(&mut table, parsed, *s)?;
     }
     Ok(table)
+}
+
+/// The tables of a method's arguments and locals.
+pub(crate) fn method_variables(
+    alloc: Global,
+    parsed: &PackageNodes,
+    args: &[Field],
+    body: &Block,
+) -> Result<MethodVariables, NoMemory>
+    requires { BlockBelow (length parsed.now.stmts) body.now }
+    ensures { IfOk result (λ known. (m : Method) → m.args ≡ variables (fields_at (expr_trees parsed.now.exprs) args.now)
+        → m.locals ≡ locals_of (block_at (stmt_trees parsed.now.exprs parsed.now.stmts) body.now) → TellsMethod parsed.now.texts m known) }
+{
+    let args = arguments(alloc, parsed, args)?;
+    let locals = locals(alloc, parsed, body)?;
+    Ok(MethodVariables { args, locals })
 }

@@ -1,4 +1,4 @@
--- What decides after a pass.
+-- The first refusal after a pass.
 use Rattle.std.proofs.Common.{◌≡◌, ◌⊎◌, ℕ, zero, suc, Bool, map, List, [], ◌∷◌, ◌++◌, Option, Some, None, slice_get, refl, sym, ap, ◌∙◌, subst, inl, inr}
 use Rattle.std.specs.List.{flat_map}
 use Rattle.wf_text.specs.declared.rules.Refusal.{Refusal}
@@ -23,7 +23,7 @@ among-finds : (t : Refusal) (ns : List (Option Refusal)) → Among t ns → Find
 among-finds t _ (here n ns e) = (0, ap (λ x. Some x) e)
 among-finds t _ (there n ns a) = let r = among-finds t ns a in (suc r.0, r.1)
 
--- What decides among what was known and what breaks the rule.
+-- The first refusal of what was known and what breaks the rule.
 pub behind-decides : (P Breaks : Refusal → Type 0) (found all : Option Refusal) → Decides P found → DecidesBehind Breaks found all → Decides (λ s. P s ⊎ Breaks s) all
 behind-decides P Breaks found all h b =
     let F : Option Refusal → Type 0 = Decides (λ s. P s ⊎ Breaks s) in

@@ -1,4 +1,4 @@
--- What the pass over the variables finds is what the rule says of arrays, and the refusal that decides is the first
+-- What the pass over the variables finds is what the rule says of arrays, and it keeps the first
 -- of these.
 use Rattle.std.proofs.Common.{◌≡◌, ◌⊎◌, ℕ, zero, suc, Bool, true, false, List, [], ◌∷◌, ◌++◌, map, Option, Some, None, slice_get, refl, sym, ap, ◌∙◌, subst, inl, inr}
 use Rattle.std.specs.List.{flat_map}
@@ -116,7 +116,7 @@ found-break d t h =
     let P : Refusal → Type 0 = λ s. Among s (flat_map (struct_longs d) d.structs) ⊎ Among s (flat_map (method_longs d) d.methods) in
     subst P (sym h.refused) (here-found d h.locals h.variable h.here h.long)
 
--- What decides among what was known and the arrays that are too long.
+-- The first refusal of what was known and the arrays that are too long.
 pub arrays-decide-behind : (d : Declared) (P : Refusal → Type 0) (found : Option Refusal) → Decides P found → Decides (λ s. P s ⊎ HasLongArray d s) (arrays_found d found)
 arrays-decide-behind d P found h =
     let xs = flat_map (struct_longs d) d.structs in
@@ -126,7 +126,7 @@ arrays-decide-behind d P found h =
     (λ t c. elim c [ inl k ↦ inl (inl k) | inr b ↦ elim (found-break d t b) [ inl a ↦ inl (inr a) | inr a ↦ inr a ] ])
     (Decides-soonest (λ t. P t ⊎ Among t xs) (soonest found xs) ys (Decides-soonest P found xs h))
 
--- What decides among the arrays that are too long.
+-- The first refusal of the arrays that are too long.
 pub arrays-decide : (d : Declared) → Decides (HasLongArray d) (arrays_found d None)
 arrays-decide d =
     Decides-map (λ s. ⊥ ⊎ HasLongArray d s) (HasLongArray d) (arrays_found d None) (λ t c. elim c [ inl k ↦ absurd k | inr b ↦ b ]) (λ t b. inr b)

@@ -21,9 +21,9 @@ use indexmap::{IndexMap, IndexSet};
 use std::alloc::Global;
 use wf_ast::parsed::{Block, Decl, Field, Prefix, Stmt, TypeExpr};
 use wf_ast::{ExprId, PackageNodes, StmtId};
-use wf_names_rules::found::Found;
 use wf_names_rules::lists::refused_if;
 use wf_text::faults::NoMemory;
+use wf_text::found::Found;
 use wf_text::rules::Rule;
 
 // The longest array.

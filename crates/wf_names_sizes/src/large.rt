@@ -24,10 +24,10 @@ use indexmap::IndexSet;
 use std::alloc::Global;
 use wf_ast::PackageNodes;
 use wf_ast::parsed::{Decl, Field};
-use wf_names_rules::found::Found;
 use wf_names_rules::lists::refused_if;
 use wf_names_rules::tables::Numbers;
 use wf_text::faults::NoMemory;
+use wf_text::found::Found;
 use wf_text::rules::Rule;
 
 // The most bytes that the fields of a struct may take together.

@@ -23,7 +23,7 @@ pub fn fields_take_one_number()
     ensures { (d : Declared) (fields : List Variable) (n m : ℕ) → Take d fields n → Take d fields m → n ≡ m }
 {}
 
-/// What is found where nothing was found before decides.
+/// What is found where nothing was found before is the first refusal.
 pub fn first_size_decides()
     ensures { (d : Declared) (all : Option Refusal) → DecidesBehind (SizeBreaks d) None all → Decides (SizeBreaks d) all }
 {}

@@ -1,6 +1,6 @@
 // Fields of structs by their bytes, as far as these don't depend on other structs.
 
-ghost use Rattle.std.specs.Prelude.{◌≡◌, ◌*◌, ◌<◌, ◌≤◌, length, min, map, IfOk, OnOk, false, codes, bytes_eq};
+ghost use Rattle.std.specs.Prelude.{◌≡◌, ◌*◌, ◌<◌, ◌≤◌, length, min, map, IfOk, false, codes, bytes_eq};
 ghost use Rattle.wf_ast.specs.ParsedTrees.{expr_trees, expr_at, type_at, core_at, fields_at};
 ghost use Rattle.wf_ast.specs.ParsedParts.{TypeBelow, FieldsBelow};
 ghost use Rattle.wf_names_rules.specs.Declarations.{variables};

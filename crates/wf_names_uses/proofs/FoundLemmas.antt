@@ -1,4 +1,4 @@
--- What is among a list of findings, and what decides of it.
+-- What is among a list of findings, and the first refusal of it.
 use Rattle.std.proofs.Common.{◌≡◌, ◌⊎◌, ℕ, zero, suc, Bool, true, false, not, ◌&&◌, List, [], ◌∷◌, Option, Some, None, slice_get, is_some, refl, sym, ap, inl, inr}
 use Rattle.wf_text.specs.declared.place.Place.{Place}
 use Rattle.wf_text.specs.declared.rules.Rule.{Rule}
@@ -26,7 +26,7 @@ item-has s [] h = absurd h
 item-has s (n ∷ ns) (inl e) = (0, ap (λ x. Some x) e)
 item-has s (n ∷ ns) (inr h) = let f = item-has s ns h in (suc f.0, f.1)
 
--- What decides among the causes that were known and those of a list.
+-- The first refusal of the causes that were known and those of a list.
 pub Decides-all : (P : Refusal → Type 0) (found : Option Refusal) (now : List (Option Refusal)) → Decides P found → Decides (λ s. P s ⊎ Has s now) (soonest found now)
 Decides-all P found [] h = Decides-map P (λ s. P s ⊎ ⊥) found (λ s p. inl p) (λ s c. elim c [ inl p ↦ p | inr q ↦ absurd q ]) h
 Decides-all P found (n ∷ ns) h =

@@ -245,7 +245,7 @@ every-row-is-found d _ (rules.private_method scope c n used is) =
 pub what-is-found-breaks : (d : Declared) (s : Refusal) → SitesBreak d (sites d) s → UseBreaks d s
 what-is-found-breaks d s h = all-sites d s (UseBreaks d s) (sites d) (λ i site e k. here-breaks d site.scope site.usage s (i, e) k) h
 
--- What decides among the causes that were known and what the uses of names break.
+-- The first refusal of the causes that were known and what the uses of names break.
 pub uses_found-decides-behind : (d : Declared) (P : Refusal → Type 0) (found : Option Refusal) → Decides P found → Decides (λ s. P s ⊎ UseBreaks d s) (uses_found d found)
 uses_found-decides-behind d P found h =
     Decides-map (λ s. P s ⊎ SitesBreak d (sites d) s) (λ s. P s ⊎ UseBreaks d s) (sites_judged d found (sites d))

@@ -10,7 +10,7 @@ ghost use Rattle.wf_names_rules.specs.NameRules.{UseBreaks, IsUsed};
 ghost use Rattle.wf_names_uses.specs.Fitting.{Fits};
 ghost use Rattle.wf_names_scopes.specs.UsesFound.{uses_found};
 
-/// What is found at all places that use a name is the refusal that decides among all that the table has of uses, and
+/// What is found at all places that use a name is the first refusal of all that the table has of uses, and
 /// there is none exactly where every use keeps the rules.
 pub fn what_the_uses_break_is_found()
     ensures { (d : Declared) → Decides (UseBreaks d) (uses_found d None) }

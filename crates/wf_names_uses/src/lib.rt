@@ -1,4 +1,4 @@
-// What the uses of names in a package break: the refusal that decides among all that the table of the rules of names
+// What the uses of names in a package break: the first refusal of all that the table of the rules of names
 // has of them.
 #![tactic(auto)]
 

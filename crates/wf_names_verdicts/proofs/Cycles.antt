@@ -1,4 +1,4 @@
--- Of the methods and structs that can reach themselves one decides, or there is none.
+-- Of the methods and structs that can reach themselves there is a first refusal, or there is none at all.
 use Rattle.std.proofs.Common.{◌≡◌, ◌⊎◌, inl, inr, ℕ, ◌<◌, true, false, length, slice_get, Option, None, Some, refl, sym, ap, subst, arith}
 use Rattle.std.proofs.lemmas.Option.{slice_get_within}
 use Rattle.graphs.specs.Graphs.{Path}

@@ -1,4 +1,4 @@
--- Of the arrays that are too long and the structs that are too large one decides, or there is none.
+-- Of the arrays that are too long and the structs that are too large there is a first refusal, or there is none at all.
 use Rattle.std.proofs.Common.{◌≡◌, ◌⊎◌, inl, inr, ℕ, zero, suc, ◌+◌, Bool, true, false, List, [], ◌∷◌, map, slice_get, Option, None, Some, is_some, refl, sym, ◌∙◌, ap, subst, arith}
 use Rattle.std.specs.List.{list_any, flat_map}
 use Rattle.std.specs.Option.{option_map}

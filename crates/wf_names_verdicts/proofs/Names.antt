@@ -1,4 +1,4 @@
--- Of all that a package breaks of the rules of names one refusal decides, or it keeps them all: section by section.
+-- Of all that a package breaks of the rules of names there is a first refusal, or it keeps them all: section by section.
 use Rattle.std.proofs.Common.{◌⊎◌, inl, inr, None}
 use Rattle.wf_text.specs.declared.rules.Refusal.{Refusal}
 use Rattle.wf_names_rules.specs.Declarations.{Declared}

@@ -10,7 +10,7 @@ use Rattle.wf_names_rules.specs.Sizes.{Take}
 use Rattle.wf_names_resolve.specs.Package.{resolved_package}
 use Rattle.wf_names_laws.specs.Ordered.{HasOrder}
 
--- Of all that a package breaks of the rules of names one refusal decides, or it breaks none of them.
+-- Of all that a package breaks of the rules of names there is a first refusal, or it breaks none of them.
 abbrev pub NamesAreDecided : Type 0
 NamesAreDecided = (d : Declared) → (found : Option Refusal) × Decides (Breaks d) found
 

@@ -12,7 +12,7 @@ pub fn fields_take_bytes()
     ensures { FieldsTakeBytes }
 {}
 
-/// Of all that a package breaks of the rules of names one refusal decides, or it breaks none of them.
+/// Of all that a package breaks of the rules of names there is a first refusal, or it breaks none of them.
 pub fn names_are_decided()
     ensures { NamesAreDecided }
 {}

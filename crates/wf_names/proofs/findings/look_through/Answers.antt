@@ -1,8 +1,4 @@
-use Rattle.std.proofs.Common.{Option, ap, ◌∙◌}
-use Rattle.wf_text.specs.declared.rules.Refusal.{Refusal}
-use Rattle.wf_names_decls.specs.DeclarationPass.{declarations_found}
 use Rattle.wf_names_scopes.specs.Agreeing.{package_of}
-use Rattle.wf_names_scopes.specs.UsesFound.{names_found}
 use Rattle.wf_names.proofs.DecidingLemmas.{order-of-calls}
 use Rattle.wf_names.proofs.findings.look_through.Goals as goal
 
@@ -13,9 +9,7 @@ pub method_cycles-requires-clause-rows : goal.method_cycles-requires-clause-rows
 method_cycles-requires-clause-rows c = rw c.as_slice.ensures.value c.in_ok-rows.ensures.rows
 
 pub deciding-requires-clause-named : goal.deciding-requires-clause-named
-deciding-requires-clause-named c =
-    c.in_ok-rows.ensures.found
-    ∙ ap (λ (o : Option Refusal). names_found (package_of c.args.parsed.now) (declarations_found (package_of c.args.parsed.now) o)) c.nothing-found.ensures
+deciding-requires-clause-named c = rw c.nothing-found.ensures at c.in_ok-rows.ensures.found
 
 pub returns : goal.returns
 returns c = record {

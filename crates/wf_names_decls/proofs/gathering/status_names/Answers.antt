@@ -1,8 +1,8 @@
-use Rattle.std.proofs.Common.{◌≡◌, ◌≤◌, ◌∙◌, length, ap, sym, refl, arith}
-use Rattle.wf_ast.specs.ParsedTrees.{expr_trees, stmt_trees, decls_made}
+use Rattle.std.proofs.Common.{◌≤◌, ◌∙◌, length, refl, arith}
+use Rattle.wf_ast.specs.ParsedTrees.{expr_trees, stmt_trees}
 use Rattle.wf_names_rules.specs.Declarations.{statuses_of}
 use Rattle.wf_names_decls.specs.Gathering.{listed}
-use Rattle.wf_names_decls.proofs.DeclSteps.{trees-made, gather_step, gather-end, statuses-split}
+use Rattle.wf_names_decls.proofs.DeclSteps.{gather_step, gathered, statuses-split}
 use Rattle.wf_names_decls.proofs.gathering.status_names.Goals as goal
 
 pub loop-number-preserved : goal.loop-number-preserved
@@ -15,10 +15,5 @@ loop-number-preserved c =
 
 pub returns : goal.returns
 returns c =
-    let es = expr_trees c.args.parsed.now.exprs in
-    let ts = stmt_trees c.args.parsed.now.exprs c.args.parsed.now.stmts in
-    let decls = c.args.parsed.now.decls in
-    let same : length c.decls-number-end.result.now ≡ length decls = ap length c.decls-number-end.ensures in
-    let over : length decls ≤ c.loop-number.number = omega (arith, c.loop-number-test.false, same) in
-    gather-end statuses_of refl es ts decls c.loop-number.number over c.loop-number.names.items (statuses_of (decls_made es ts decls)) c.loop-number.invariant
-    ∙ ap statuses_of (sym (trees-made c.args.parsed.now.exprs c.args.parsed.now.stmts decls))
+    let over : length c.decls-number-end.result.now ≤ c.loop-number.number = omega (arith, c.loop-number-test.false) in
+    gathered statuses_of refl c.args.parsed.now.exprs c.args.parsed.now.stmts c.args.parsed.now.decls c.decls-number-end.result.now c.loop-number.number c.decls-number-end.ensures over c.loop-number.names.items c.loop-number.invariant

@@ -1,7 +1,12 @@
-use Rattle.std.proofs.Common.{◌≡◌, [], drop}
+use Rattle.std.proofs.Common.{◌≡◌, [], drop, List}
+use Rattle.std.specs.List.{list_any}
+use Rattle.std.specs.BTreeSet.{contains}
 use Rattle.wf_text.specs.Precedence.{soonest}
+use Rattle.wf_names_rules.specs.Pairs.{Pair, same_pair, pair_cmp}
 use Rattle.wf_names_decls.specs.DeclarationPass.{owned_doubles}
 use Rattle.wf_names_decls.proofs.judging.owned_doubles.Given as goal
 
 abbrev pub invariant-loop-method : goal.invariant-loop-method
-invariant-loop-method l = soonest l.found (owned_doubles l.seen.keys (drop l.method-index l.methods)) ≡ soonest l.fn.found (owned_doubles [] l.methods)
+invariant-loop-method l =
+    (ps : List Pair) × ((p : Pair) → contains pair_cmp l.seen p ≡ list_any (same_pair p) ps)
+    × (soonest l.found (owned_doubles ps (drop l.method-index l.methods)) ≡ soonest l.fn.found (owned_doubles [] l.methods))

@@ -1,12 +1,15 @@
-use Rattle.std.proofs.Common.{ap}
+use Rattle.std.proofs.Common.{◌∙◌, ap}
 use Rattle.wf_ast.specs.ParsedTrees.{decl_trees}
 use Rattle.wf_names_scopes.specs.Agreeing.{package_of}
 use Rattle.wf_names_nodes.specs.Declaring.{with_others}
-use Rattle.wf_names_nodes.proofs.PackageLemmas.{ok_equal_more}
+use Rattle.wf_names_nodes.proofs.PackageLemmas.{consts_counted, ok_equal_more}
 use Rattle.wf_names_nodes.proofs.packages.all_decls.Goals as goal
 
 pub all_consts-requires-clause-outside : goal.all_consts-requires-clause-outside
 all_consts-requires-clause-outside c = c.outside-scope.ensures (package_of c.args.parsed.now)
+
+pub all_others-requires-clause-none : goal.all_others-requires-clause-none
+all_others-requires-clause-none c = consts_counted c.args.nodes.now c.all_consts.new.nodes _ c.in_ok-all_consts.ensures.added ∙ c.requires.none
 
 pub returns : goal.returns
 returns c =

@@ -1,9 +1,10 @@
-use Rattle.std.proofs.Common.{[], ◌∷◌, ap}
+use Rattle.std.proofs.Common.{◌∙◌, [], ◌∷◌, length, slice_get, ap}
 use Rattle.wf_ast.specs.ParsedTrees.{expr_trees, stmt_trees, fields_at, block_at}
 use Rattle.wf_named.specs.NamedParts.{named_package}
 use Rattle.wf_names_rules.specs.Declarations.{variables, locals_of}
 use Rattle.wf_names_scopes.specs.Agreeing.{package_of}
 use Rattle.wf_names_scopes.specs.Growing.{scope_in}
+use Rattle.wf_names_scopes.proofs.NextLemmas.{next-at}
 use Rattle.wf_names_resolve.specs.Package.{resolved_method}
 use Rattle.wf_names_resolve.proofs.Growth.{ok_still}
 use Rattle.wf_names_nodes.specs.Declaring.{method_parsed, with_methods}
@@ -19,8 +20,15 @@ returns-clause-added c =
     let args = variables (fields_at es c.args.method.args.now) in
     let locals = locals_of (block_at ts c.args.method.body.now) in
     let m = method_parsed es ts c.args.method.public c.args.method.owner c.args.method.name c.args.method.args.now c.args.method.gives.now c.args.method.body.now in
-    let stands = standing_same d (scope_in d c.args.method.owner args locals) c.args.tables.now c.enter_method.new.scope c.requires.tables (c.in_ok-enter_method.ensures c.requires.constants) in
+    let at = ap (λ ms. slice_get d.methods (length ms)) c.methods.ensures.all ∙ next-at d (length c.args.nodes.now.methods) m c.requires.next in
+    let stands = standing_same d (scope_in d c.args.method.owner args locals) c.args.tables.now c.enter_method.new.scope c.requires.tables (c.enter_method.ensures d m c.requires.constants at) in
     ok_equal_more c.put_method.result _ _ _ (ap (λ k. with_methods (named_package c.args.nodes.now) (resolved_method k c.args.method.mark m ∷ [])) stands) c.put_method.ensures
 
 pub returns-clause-known : goal.returns-clause-known
-returns-clause-known c = ok_still c.put_method.result _ (c.in_ok-enter_method.ensures c.requires.constants).constants
+returns-clause-known c =
+    let d = package_of c.args.parsed.now in
+    let es = expr_trees c.args.parsed.now.exprs in
+    let ts = stmt_trees c.args.parsed.now.exprs c.args.parsed.now.stmts in
+    let m = method_parsed es ts c.args.method.public c.args.method.owner c.args.method.name c.args.method.args.now c.args.method.gives.now c.args.method.body.now in
+    let at = ap (λ ms. slice_get d.methods (length ms)) c.methods.ensures.all ∙ next-at d (length c.args.nodes.now.methods) m c.requires.next in
+    ok_still c.put_method.result _ (c.enter_method.ensures d m c.requires.constants at).constants

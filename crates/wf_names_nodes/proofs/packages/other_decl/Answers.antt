@@ -20,3 +20,6 @@ returns-in-Struct-clause-added c =
 pub returns-in-Method-clause-added : goal.returns-in-Method-clause-added
 returns-in-Method-clause-added c =
     rw c.in-Method.is (ok_equal_more c.next_method.result _ _ _ (only_methods (named_package c.args.nodes.now) _) (rw c.as_slice-in-Method.ensures at c.next_method.ensures.added))
+
+pub next_method-requires-clause-next : goal.next_method-requires-clause-next
+next_method-requires-clause-next c = rw c.as_slice-in-Method.ensures (rw c.in-Method.is at c.requires.next)

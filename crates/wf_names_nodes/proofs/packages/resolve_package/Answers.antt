@@ -1,6 +1,10 @@
+use Rattle.std.proofs.Common.{length, ap}
 use Rattle.wf_named.specs.NamedParts.{named_package}
 use Rattle.wf_names_nodes.proofs.PackageLemmas.{package_made}
 use Rattle.wf_names_nodes.proofs.packages.resolve_package.Goals as goal
+
+pub all_decls-requires-clause-none : goal.all_decls-requires-clause-none
+all_decls-requires-clause-none c = ap (λ p. length p.methods) c.in_ok-nodes.ensures
 
 pub returns : goal.returns
 returns c =

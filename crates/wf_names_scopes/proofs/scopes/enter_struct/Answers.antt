@@ -2,4 +2,4 @@ use Rattle.std.proofs.Common.{refl}
 use Rattle.wf_names_scopes.proofs.scopes.enter_struct.Goals as goal
 
 pub returns : goal.returns
-returns c = λ d all. record { constants = all; this = refl; args = c.no_variables.ensures d.texts; locals = c.no_variables-2.ensures d.texts }
+returns c = λ d all. record { constants = all; this = refl; inside = (refl, refl) }
