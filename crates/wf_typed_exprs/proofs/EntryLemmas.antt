@@ -1,8 +1,10 @@
 -- Which entries are added, step by step.
-use Rattle.std.proofs.Common.{◌≡◌, ◌∙◌, ℕ, ◌+◌, ◌<◌, length, drop, slice_index_or, List, [], ◌∷◌, ◌++◌, Option, Some, None, Result, Ok, Err, OnOk, map, refl, sym, ap, subst}
+use Rattle.std.proofs.Common.{◌≡◌, ◌∙◌, ℕ, ◌+◌, ◌<◌, length, drop, slice_index_or, List, [], ◌∷◌, ◌++◌, Option, Some, None, Result, Ok, Err, OnOk, arith, refl, sym, ap, subst}
 use Rattle.std.proofs.lemmas.List.{append_assoc, append-nil}
 use Rattle.wf_text.specs.declared.place.Place.{Place}
 use Rattle.wf_ast.specs.declared.parsed.Link.{Link}
+use Rattle.wf_ast.specs.declared.typed_code.ExprNode.{ExprNode}
+use Rattle.wf_ast.specs.declared.types.Ty.{Ty}
 use Rattle.wf_ast.specs.declared.typed_nodes.TypedNodes.{TypedNodes}
 use Rattle.wf_named.specs.NamedTree.{NamedExprTree}
 use Rattle.wf_named.specs.NamedTrees.{expr_at, links_at}
@@ -13,9 +15,10 @@ use Rattle.wf_types_rules.specs.ExprTypes.{meaning}
 use Rattle.wf_types_exprs.proofs.ListLemmas.{drop-one}
 use Rattle.wf_typed_tree.specs.ElaboratedExprs.{type_meant}
 use Rattle.wf_typed_tree.specs.Entries.{Entry, entries_in, entries, entry_of, part_entries, link_entries, expr_entries}
+use Rattle.wf_typed_exprs.specs.declared.columns.Columns.{Columns}
 use Rattle.wf_typed_exprs.specs.declared.elaborated.MadeNode.{MadeNode}
 use Rattle.wf_typed_exprs.specs.declared.typed_exprs.TypedExpr.{TypedExpr}
-use Rattle.wf_typed_exprs.specs.Growth.{with_exprs, AddsEntries, entry_made}
+use Rattle.wf_typed_exprs.specs.Growth.{with_columns, IsPushed, IsBuilt, AddsEntries, entry_made}
 use Rattle.wf_typed_exprs.specs.Nodes.{number_meant, MakesExpr}
 
 pub adds_nothing : (p : TypedNodes) → AddsEntries p p []
@@ -39,17 +42,20 @@ made_adds s t p q r n result g made h =
     ok_adds p q r (part_entries s t) (entry_of (place_of t) (meaning s t) ∷ []) result g (subst A one h)
 
 -- One expression that is pushed.
-entries_mapped : (es : List TypedExpr) → entries_in (map (λ x. x.node) es) (map (λ x. x.ty) es) (map (λ x. x.constant) es) ≡ map entry_made es
-entries_mapped [] = refl
-entries_mapped (x ∷ es) = ap (λ l. entry_made x ∷ l) (entries_mapped es)
+entries_more : (ns : List ExprNode) (tys : List Ty) (ks : List (Option ℕ)) (n : ExprNode) (ty : Ty) (k : Option ℕ) → length tys ≡ length ns → length ks ≡ length ns
+    → entries_in (ns ++ n ∷ []) (tys ++ ty ∷ []) (ks ++ k ∷ []) ≡ entries_in ns tys ks ++ record { at = n.at; ty = ty; constant = k } ∷ []
+entries_more [] [] [] n ty k g h = refl
+entries_more (m ∷ ns) (u ∷ tys) (c ∷ ks) n ty k g h = ap (λ l. record { at = m.at; ty = u; constant = c } ∷ l) (entries_more ns tys ks n ty k (omega (arith, g)) (omega (arith, h)))
+entries_more [] (u ∷ tys) ks n ty k g h = absurd (grind (arith, g))
+entries_more [] [] (c ∷ ks) n ty k g h = absurd (grind (arith, h))
+entries_more (m ∷ ns) [] ks n ty k g h = absurd (grind (arith, g))
+entries_more (m ∷ ns) (u ∷ tys) [] n ty k g h = absurd (grind (arith, h))
 
-mapped_more : (es : List TypedExpr) (x : TypedExpr) → map entry_made (es ++ x ∷ []) ≡ map entry_made es ++ entry_made x ∷ []
-mapped_more [] x = refl
-mapped_more (y ∷ es) x = ap (λ l. entry_made y ∷ l) (mapped_more es x)
-
-pub pushed_adds : (rest : TypedNodes) (es new : List TypedExpr) (x : TypedExpr) → new ≡ es ++ x ∷ [] → AddsEntries (with_exprs rest es) (with_exprs rest new) (entry_made x ∷ [])
+pub pushed_adds : (rest : TypedNodes) (old new : Columns) (x : TypedExpr) → IsBuilt (with_columns rest old) → IsPushed old new x → AddsEntries (with_columns rest old) (with_columns rest new) (entry_made x ∷ [])
 unfolding entries
-pushed_adds rest es new x e = record { is = entries_mapped new ∙ ap (map entry_made) e ∙ mapped_more es x ∙ ap (λ l. l ++ entry_made x ∷ []) (sym (entries_mapped es)) }
+pushed_adds rest old new x built p =
+    let more = entries_more old.exprs.items old.types.items old.constants.items x.node x.ty x.constant built.typed built.counted in
+    record { is = rw (p.exprs, p.types, p.constants) more }
 
 -- The operands of a chain, one by one: what is left to add, from here, comes to all.
 abbrev pub EntriesLeft : Setting → List NamedExprTree → (ls left : List Link) → (old nodes : TypedNodes) → Type 0

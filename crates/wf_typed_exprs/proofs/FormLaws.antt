@@ -18,8 +18,8 @@ use Rattle.wf_base.specs.BaseTable.{bits_of, row_of}
 use Rattle.wf_ast.specs.declared.numbers.ExprId.{ExprId}
 use Rattle.wf_ast.specs.declared.types.Ty.{Ty}
 use Rattle.wf_ast.specs.declared.types.Ty.TheVariants as types
-use Rattle.wf_ast.specs.declared.resolved.Expr.{Expr}
-use Rattle.wf_ast.specs.declared.resolved.Expr.TheVariants as exprs
+use Rattle.wf_ast.specs.declared.typed_code.Expr.{Expr}
+use Rattle.wf_ast.specs.declared.typed_code.Expr.TheVariants as exprs
 use Rattle.wf_ast.specs.declared.typed_nodes.TypedNodes.{TypedNodes}
 use Rattle.wf_ast.specs.TypedTree as typed
 use Rattle.wf_ast.specs.TypedTree.{ValueTree, numeric, logical, state, elements, element, cut}
@@ -48,7 +48,8 @@ use Rattle.wf_typed_tree.specs.MeaningTrees.{kind_meant}
 use Rattle.wf_typed_tree.proofs.NumberLemmas.{both, and-true, then-parts, map-parts, where-parts, in-64}
 use Rattle.wf_typed_tree.proofs.ExprLaws.{numbered, kind-wanted}
 use Rattle.wf_typed_exprs.specs.declared.elaborated.Elaborated.{Elaborated}
-use Rattle.wf_typed_exprs.specs.Forms.{naming, node_of, end_kept}
+use Rattle.wf_types_exprs.specs.Found.{end_kept}
+use Rattle.wf_typed_exprs.specs.Forms.{naming, node_of, value_of}
 use Rattle.wf_typed_exprs.specs.Nodes.{number_meant, StandsForExpr, StandsForPath, StandsForEnd, Makes, MakesExpr}
 use Rattle.wf_typed_exprs.specs.Right.{Around, IsRight, is_struct, IsRightPath, IsRightEnd}
 
@@ -365,7 +366,7 @@ module _ (s : Setting) (nodes : TypedNodes) where
   end-numeric absent x ty (Some a) h e = absurd e
   end-numeric (present t) x ty None h e = absurd e
 
-  end-means : (part : NamedPartTree) (x : Option Ty) (a : Option Elaborated) → StandsForEnd s part nodes a → end_kept a x ≡ if_end s part x
+  end-means : (part : NamedPartTree) (x : Option Ty) (a : Option Elaborated) → StandsForEnd s part nodes a → end_kept (value_of a) x ≡ if_end s part x
   end-means absent x None e = refl
   end-means (present t) x (Some a) e = rw e.1 refl
   end-means absent x (Some a) e = absurd e
@@ -408,7 +409,7 @@ module _ (s : Setting) (nodes : TypedNodes) where
   pub slice-makes : (p : NamedPath) (from to : NamedPartTree) (at : Place) (b : ExprId) (a z : Option Elaborated) → IsRight s (length nodes.statuses) (slice p from to at)
       → StandsForPath s p nodes b → StandsForEnd s from nodes a → StandsForEnd s to nodes z
       → MakesExpr s (slice p from to at) nodes
-      (record { node = record { expr = exprs.Cut b (node_of a) (node_of z); at = at; signs = [] }; of = option_map meanings.Typed (end_kept a (end_kept z (option_and_then told.slice_in (variable s p.of)))) })
+      (record { node = record { expr = exprs.Cut b (node_of a) (node_of z); at = at; signs = [] }; of = option_map meanings.Typed (end_kept (value_of a) (end_kept (value_of z) (option_and_then told.slice_in (variable s p.of)))) })
   slice-makes p from to at b a z right base first last =
       let cells = option_and_then told.slice_in (variable s p.of) in
       let grammar = both (end_by_grammar from) (end_by_grammar to) right.grammar in
@@ -425,7 +426,7 @@ module _ (s : Setting) (nodes : TypedNodes) where
       let T : Option Meaning → Type 0 = λ o. made_or_number (tree_of nodes) at [] (type_meant o) (number_meant o) x ≡ elements (cut at (slice_in (path_tree s p)) (end_tree s from) (end_tree s to)) in
       record {
         placed = refl;
-        means = ap (option_map meanings.Typed) (end-means from (end_kept z cells) a first ∙ ap (if_end s from) (end-means to cells z last));
+        means = ap (option_map meanings.Typed) (end-means from (end_kept (value_of z) cells) a first ∙ ap (if_end s from) (end-means to cells z last));
         below = cut-below b a z base.there (end-below from a first) (end-below to z last);
         fits =
             subst F (sym is)

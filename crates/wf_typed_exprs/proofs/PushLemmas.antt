@@ -1,16 +1,15 @@
 -- One expression more: its tree joins the others, and these keep theirs.
-use Rattle.std.proofs.Common.{◌≡◌, ℕ, suc, ◌+◌, ◌<◌, ◌≤◌, Bool, true, false, ◌&&◌, List, [], ◌∷◌, ◌++◌, length, map, Option, Some, None, nat_lt, refl, sym, ap, ◌∙◌, subst, arith, length-append}
+use Rattle.std.proofs.Common.{◌≡◌, ℕ, ◌+◌, ◌<◌, ◌≤◌, Bool, true, false, ◌&&◌, List, [], ◌∷◌, ◌++◌, length, Option, Some, None, nat_lt, refl, sym, ap, ◌∙◌, subst, arith, length-append}
 use Rattle.std.specs.Prelude.{if◌then◌else◌, slice_get, unwrap_or}
 use Rattle.std.specs.Bool.{⊤}
 use Rattle.std.specs.List.{list_all}
 use Rattle.std.proofs.lemmas.Bool.Decides.{nat_tests}
-use Rattle.std.proofs.lemmas.List.{map-append}
 use Rattle.wf_ast.specs.declared.numbers.ExprId.{ExprId}
 use Rattle.wf_ast.specs.declared.types.Ty.{Ty}
 use Rattle.wf_ast.specs.declared.types.Ty.TheVariants as types
-use Rattle.wf_ast.specs.declared.resolved.Expr.{Expr}
-use Rattle.wf_ast.specs.declared.resolved.Expr.TheVariants as exprs
-use Rattle.wf_ast.specs.declared.resolved.ExprNode.{ExprNode}
+use Rattle.wf_ast.specs.declared.typed_code.Expr.{Expr}
+use Rattle.wf_ast.specs.declared.typed_code.Expr.TheVariants as exprs
+use Rattle.wf_ast.specs.declared.typed_code.ExprNode.{ExprNode}
 use Rattle.wf_ast.specs.declared.typed_nodes.TypedNodes.{TypedNodes}
 use Rattle.wf_ast.specs.TypedTree.{ValueTree, lost}
 use Rattle.wf_ast.specs.TypedTrees.{Sort, arithmetic, ordering, joining, sort_of, made_or_number, tree_in, tree_of, expr_trees, exprs_after, type_of_node, constant_of_node}
@@ -18,7 +17,8 @@ use Rattle.wf_ast.specs.TypedInvariant.{parts_of, parts_below, each_numbered, is
 use Rattle.wf_ast.proofs.Arena.{both_true, get_front, get_seam}
 use Rattle.wf_typed_tree.proofs.NumberLemmas.{and-true}
 use Rattle.wf_typed_exprs.specs.declared.typed_exprs.TypedExpr.{TypedExpr}
-use Rattle.wf_typed_exprs.specs.Growth.{with_exprs, IsBuilt, Grows}
+use Rattle.wf_typed_exprs.specs.declared.columns.Columns.{Columns}
+use Rattle.wf_typed_exprs.specs.Growth.{with_columns, IsPushed, IsBuilt, Grows}
 
 below : (m n : ℕ) → nat_lt m n ≡ true → m < n
 below m n h = grind (arith, nat_tests, h)
@@ -189,55 +189,41 @@ module _ (p : TypedNodes) (typed : length p.types ≡ length p.exprs) (counted :
     few = omega (arith, few, length-append p.exprs (n ∷ []));
   }
 
--- The same by the list that the code keeps.
-pub with_one_more : (rest : TypedNodes) (es : List TypedExpr) (x : TypedExpr)
-    → with_exprs rest (es ++ x ∷ [])
-    ≡ record (with_exprs rest es) { exprs = (with_exprs rest es).exprs ++ x.node ∷ []; types = (with_exprs rest es).types ++ x.ty ∷ []; constants = (with_exprs rest es).constants ++ x.constant ∷ [] }
-with_one_more rest es x =
-    let a = map-append (λ (y : TypedExpr). y.node) es (x ∷ []) in
-    let b = map-append (λ (y : TypedExpr). y.ty) es (x ∷ []) in
-    let c = map-append (λ (y : TypedExpr). y.constant) es (x ∷ []) in
-    rw (a, b, c) refl
-
-mapped : {X Y : Type 0} (f : X → Y) (xs : List X) → length (map f xs) ≡ length xs
-mapped f [] = refl
-mapped f (x ∷ xs) = ap suc (mapped f xs)
-
-module _ (rest : TypedNodes) (es new : List TypedExpr) (x : TypedExpr) (built : IsBuilt (with_exprs rest es)) where
-  abbrev old : TypedNodes
-  old = with_exprs rest es
+-- The same by the lists that the code keeps.
+module _ (rest : TypedNodes) (old new : Columns) (x : TypedExpr) (built : IsBuilt (with_columns rest old)) where
+  abbrev before : TypedNodes
+  before = with_columns rest old
 
   abbrev more : TypedNodes
-  more = longer old built.typed built.counted x.node x.ty x.constant
+  more = longer before built.typed built.counted x.node x.ty x.constant
 
-  count : length old.exprs ≡ length es
-  count = mapped (λ (y : TypedExpr). y.node) es
+  pub pushed_is : IsPushed old new x → with_columns rest new ≡ more
+  pushed_is p = rw (p.exprs, p.types, p.constants) refl
 
-  pub pushed_is : new ≡ es ++ x ∷ [] → with_exprs rest new ≡ more
-  pushed_is e = ap (with_exprs rest) e ∙ with_one_more rest es x
+  pub pushed_grows : IsPushed old new x → Grows before (with_columns rest new)
+  pushed_grows p = subst (Grows before) (sym (pushed_is p)) (longer_grows before built.typed built.counted x.node x.ty x.constant)
 
-  pub pushed_grows : new ≡ es ++ x ∷ [] → Grows old (with_exprs rest new)
-  pushed_grows e = subst (Grows old) (sym (pushed_is e)) (longer_grows old built.typed built.counted x.node x.ty x.constant)
+  pub pushed_made : (e : ExprId) → e.0 ≡ length old.exprs.items → IsPushed old new x → tree_of (with_columns rest new) e ≡ made_or_number (tree_of before) x.node.at x.node.signs x.ty x.constant x.node.expr
+  pushed_made e at p = ap (λ q. tree_of q e) (pushed_is p) ∙ tree_last before built.typed built.counted x.node x.ty x.constant e at
 
-  pub pushed_made : (e : ExprId) → e.0 ≡ length es → new ≡ es ++ x ∷ [] → tree_of (with_exprs rest new) e ≡ made_or_number (tree_of old) x.node.at x.node.signs x.ty x.constant x.node.expr
-  pushed_made e at is = ap (λ p. tree_of p e) (pushed_is is) ∙ tree_last old built.typed built.counted x.node x.ty x.constant e (at ∙ sym count)
+  pub pushed_typed : (e : ExprId) → e.0 ≡ length old.exprs.items → IsPushed old new x → type_of_node (with_columns rest new) e.0 ≡ x.ty
+  pushed_typed e at p = ap (λ q. type_of_node q e.0) (pushed_is p) ∙ ap (type_of_node more) at ∙ type_last before built.typed built.counted x.node x.ty x.constant
 
-  pub pushed_typed : (e : ExprId) → e.0 ≡ length es → new ≡ es ++ x ∷ [] → type_of_node (with_exprs rest new) e.0 ≡ x.ty
-  pushed_typed e at is =
-      ap (λ p. type_of_node p e.0) (pushed_is is) ∙ ap (type_of_node more) (at ∙ sym count) ∙ type_last old built.typed built.counted x.node x.ty x.constant
+  pub pushed_counted : (e : ExprId) → e.0 ≡ length old.exprs.items → IsPushed old new x → constant_of_node (with_columns rest new) e.0 ≡ x.constant
+  pushed_counted e at p =
+      ap (λ q. constant_of_node q e.0) (pushed_is p) ∙ ap (constant_of_node more) at ∙ constant_last before built.typed built.counted x.node x.ty x.constant
 
-  pub pushed_counted : (e : ExprId) → e.0 ≡ length es → new ≡ es ++ x ∷ [] → constant_of_node (with_exprs rest new) e.0 ≡ x.constant
-  pushed_counted e at is =
-      ap (λ p. constant_of_node p e.0) (pushed_is is) ∙ ap (constant_of_node more) (at ∙ sym count) ∙ constant_last old built.typed built.counted x.node x.ty x.constant
+  pub pushed_there : (e : ExprId) → e.0 ≡ length old.exprs.items → IsPushed old new x → e.0 < length (with_columns rest new).exprs
+  pushed_there e at p =
+      let all = ap (λ (xs : List ExprNode). length xs) p.exprs in
+      omega (arith, at, all, length-append old.exprs.items (x.node ∷ []))
 
-  pub pushed_there : (e : ExprId) → e.0 ≡ length es → new ≡ es ++ x ∷ [] → e.0 < length (with_exprs rest new).exprs
-  pushed_there e at is =
-      let long = mapped (λ (y : TypedExpr). y.node) new in
-      let all = ap (λ (xs : List TypedExpr). length xs) is in
-      omega (arith, at, long, all, length-append es (x ∷ []))
-
-  pub pushed_built : (added : Bool) → length es < 4294967295 → parts_below (length old.exprs) x.node.expr ≡ true → node_fits old x.ty x.constant x.node.expr ≡ true
-      → new ≡ (if added then es ++ x ∷ [] else es) → IsBuilt (with_exprs rest new)
-  pushed_built false few parts fits e = subst (λ xs. IsBuilt (with_exprs rest xs)) (sym e) built
-  pushed_built true few parts fits e =
-      subst IsBuilt (sym (pushed_is e)) (longer_built old built.typed built.counted x.node x.ty x.constant built (omega (arith, few, count)) parts fits)
+  pub pushed_built : (added : Bool) → length old.exprs.items < 4294967295 → parts_below (length old.exprs.items) x.node.expr ≡ true → node_fits before x.ty x.constant x.node.expr ≡ true
+      → new.exprs.items ≡ (if added then old.exprs.items ++ x.node ∷ [] else old.exprs.items) → new.types.items ≡ (if added then old.types.items ++ x.ty ∷ [] else old.types.items)
+      → new.constants.items ≡ (if added then old.constants.items ++ x.constant ∷ [] else old.constants.items) → IsBuilt (with_columns rest new)
+  pushed_built false few parts fits a b c =
+      let same : with_columns rest new ≡ before = rw (a, b, c) refl in
+      subst IsBuilt (sym same) built
+  pushed_built true few parts fits a b c =
+      let p : IsPushed old new x = record { exprs = a; types = b; constants = c } in
+      subst IsBuilt (sym (pushed_is p)) (longer_built before built.typed built.counted x.node x.ty x.constant built few parts fits)

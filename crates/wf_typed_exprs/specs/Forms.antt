@@ -1,12 +1,11 @@
 -- What the parts of an expression come to, by what they mean.
 use Rattle.std.specs.Prelude.{Option, None, Some}
 use Rattle.wf_ast.specs.declared.numbers.ExprId.{ExprId}
-use Rattle.wf_ast.specs.declared.resolved.Expr.{Expr}
-use Rattle.wf_ast.specs.declared.resolved.Expr.TheVariants as exprs
-use Rattle.wf_ast.specs.declared.types.Ty.{Ty}
+use Rattle.wf_ast.specs.declared.typed_code.Expr.{Expr}
+use Rattle.wf_ast.specs.declared.typed_code.Expr.TheVariants as exprs
 use Rattle.wf_named.specs.declared.nodes.Variable.{Variable}
 use Rattle.wf_named.specs.declared.nodes.Variable.TheVariants as variables
-use Rattle.wf_types_rules.specs.ExprTypes.{if_number}
+use Rattle.wf_types_rules.specs.declared.meanings.Value.{Value}
 use Rattle.wf_typed_exprs.specs.declared.elaborated.Elaborated.{Elaborated}
 
 -- What names a variable.
@@ -21,7 +20,7 @@ abbrev pub node_of : Option Elaborated → Option ExprId
 node_of None = None
 node_of (Some e) = Some e.node
 
--- The type of a slice, where an end that is there is a number.
-abbrev pub end_kept : Option Elaborated → Option Ty → Option Ty
-end_kept None ty = ty
-end_kept (Some e) ty = if_number e.value.of ty
+-- What it means.
+abbrev pub value_of : Option Elaborated → Option Value
+value_of None = None
+value_of (Some e) = Some e.value

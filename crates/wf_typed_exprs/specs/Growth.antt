@@ -1,15 +1,23 @@
 -- How the nodes of a typed package grow while expressions are added.
-use Rattle.std.specs.Prelude.{◌≡◌, ◌<◌, ◌≤◌, ◌^◌, ℕ, true, List, [], ◌++◌, length, map, slice_get}
+use Rattle.std.specs.Prelude.{◌≡◌, ◌<◌, ◌≤◌, ◌^◌, ℕ, true, List, [], ◌∷◌, ◌++◌, length, slice_get}
 use Rattle.wf_ast.specs.declared.typed_nodes.TypedNodes.{TypedNodes}
 use Rattle.wf_ast.specs.TypedTrees.{expr_trees, type_of_node, constant_of_node}
 use Rattle.wf_ast.specs.TypedInvariant.{parts_below, each_numbered, node_fits}
 use Rattle.wf_typed_tree.specs.Entries.{Entry, entries}
+use Rattle.wf_typed_exprs.specs.declared.columns.Columns.{Columns}
 use Rattle.wf_typed_exprs.specs.declared.typed_exprs.TypedExpr.{TypedExpr}
 
--- A package with these expressions, and one with none.
-abbrev pub with_exprs : TypedNodes → List TypedExpr → TypedNodes
-with_exprs nodes es = record nodes { exprs = map (λ x. x.node) es; types = map (λ x. x.ty) es; constants = map (λ x. x.constant) es }
+-- A package with these expressions.
+abbrev pub with_columns : TypedNodes → Columns → TypedNodes
+with_columns nodes columns = record nodes { exprs = columns.exprs.items; types = columns.types.items; constants = columns.constants.items }
 
+-- The lists of expressions with one more.
+pub record IsPushed (old new : Columns) (x : TypedExpr) : Type 0 where
+  pub exprs : new.exprs.items ≡ old.exprs.items ++ x.node ∷ []
+  pub types : new.types.items ≡ old.types.items ++ x.ty ∷ []
+  pub constants : new.constants.items ≡ old.constants.items ++ x.constant ∷ []
+
+-- One with no expression.
 abbrev pub without_exprs : TypedNodes → TypedNodes
 without_exprs nodes = record nodes { exprs = []; types = []; constants = [] }
 

@@ -5,12 +5,11 @@ ghost use Rattle.wf_ast.specs.TypedTrees.{tree_of, made_or_number, type_of_node,
 ghost use Rattle.wf_ast.specs.TypedInvariant.{parts_below, node_fits};
 ghost use Rattle.wf_typed_exprs.specs.Growth.{Grows, IsBuilt, AddsEntries, entry_made};
 
-use crate::finishing::taken_apart;
+use crate::columns::Columns;
 use crate::typed_exprs::TypedExpr;
 use std::alloc::{AllocError, Global};
 use std::marker::Model;
-use wf_ast::{ExprId, TypedNodes};
-use wf_text::faults::NoMemory;
+use wf_ast::{ExprId, Sequence, TypedNodes};
 
 // How many expressions a typed package may have.
 const NUMBERS: usize = 4294967295;
@@ -19,18 +18,18 @@ const NUMBERS: usize = 4294967295;
 #[derive(Drop)]
 pub struct Building {
     rest: TypedNodes,
-    exprs: Vec<TypedExpr>,
+    columns: Columns,
 }
 
 impl Model for Building {
     ghost use Rattle.wf_ast.specs.declared.typed_nodes.TypedNodes.{TypedNodes};
-    ghost use Rattle.wf_typed_exprs.specs.Growth.{IsBuilt, with_exprs};
+    ghost use Rattle.wf_typed_exprs.specs.Growth.{IsBuilt, with_columns};
 
     ghost Value = { TypedNodes };
 
-    ghost view = { λ b. with_exprs b.rest b.exprs.items };
+    ghost view = { λ b. with_columns b.rest b.columns };
 
-    ghost invariant = { λ b. IsBuilt (with_exprs b.rest b.exprs.items) };
+    ghost invariant = { λ b. IsBuilt (with_columns b.rest b.columns) };
 }
 
 impl Building {
@@ -40,7 +39,7 @@ impl Building {
     {
         Building {
             rest: declared,
-            exprs: Vec::new(alloc),
+            columns: Columns::new(alloc),
         }
     }
 
@@ -59,11 +58,11 @@ impl Building {
         ensures counted { IfOk result (λ e. constant_of_node self.new e.0 ≡ one.constant) }
         ensures err { OnErr result (self.new ≡ self.old) }
     {
-        let number = self.exprs.len();
+        let number = self.columns.len();
         if number >= NUMBERS {
             return Err(AllocError);
         }
-        self.exprs.push(one)?;
+        self.columns.push(one)?;
         Ok(ExprId(number as u32))
     }
 
@@ -71,19 +70,18 @@ impl Building {
     pub fn next_expr(&self) -> ExprId
         ensures { result.0 ≡ length self.now.exprs }
     {
-        ExprId(self.exprs.len() as u32)
+        ExprId(self.columns.len() as u32)
     }
 
     /// The package that is built.
-    pub fn finish(self, alloc: Global) -> Result<TypedNodes, NoMemory>
-        ensures nodes { IfOk result (λ nodes. nodes ≡ self) }
-        ensures built { IfOk result IsBuilt }
+    pub fn finish(self) -> TypedNodes
+        ensures nodes { result ≡ self }
+        ensures built { IsBuilt result }
     {
-        let all = taken_apart(alloc, self.exprs)?;
         let mut whole = self.rest;
-        whole.exprs = all.exprs;
-        whole.types = all.types;
-        whole.constants = all.constants;
-        Ok(whole)
+        whole.exprs = Sequence::from_vec(self.columns.exprs);
+        whole.types = Sequence::from_vec(self.columns.types);
+        whole.constants = Sequence::from_vec(self.columns.constants);
+        whole
     }
 }

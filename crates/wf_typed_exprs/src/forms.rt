@@ -1,28 +1,23 @@
 // The node of each form of expression, by the nodes of its parts and what these mean.
 
-ghost use Rattle.std.specs.Prelude.{◌≡◌, [], Some, None, option_map, option_and_then};
-ghost use Rattle.wf_ast.specs.TypedTrees.{sort_of};
+ghost use Rattle.std.specs.Prelude.{◌≡◌, [], None};
 ghost use Rattle.wf_named.specs.NamedTree as tree;
 ghost use Rattle.wf_named.specs.NamedTrees.{core_at, type_at};
-ghost use Rattle.wf_types_rules.specs.declared.meanings.Meaning.TheVariants as meanings;
 ghost use Rattle.wf_types_rules.specs.Meanings.{variable as variable_in};
-ghost use Rattle.wf_types_rules.specs.ExprTypes.{slice_in, plain_width as width_written};
-ghost use Rattle.wf_types_rules.specs.Operands.{meaning_of_operator as meaning_given};
+ghost use Rattle.wf_types_rules.specs.ExprTypes.{plain_width as width_written};
 ghost use Rattle.wf_typed_tree.specs.ElaboratedExprs.{type_meant as type_of_meaning};
 ghost use Rattle.wf_typed_tree.specs.ElaboratedStmts.{unrefined as without_bounds};
-ghost use Rattle.wf_typed_exprs.specs.Forms.{naming, node_of as node_in, end_kept};
+ghost use Rattle.wf_typed_exprs.specs.Forms.{naming, node_of as node_in, value_of as value_in};
 
 use crate::elaborated::{Elaborated, MadeNode};
 use std::alloc::Global;
-use wf_ast::{Expr, ExprId, ExprNode, Op, Sequence, Ty};
+use wf_ast::{Expr, ExprId, ExprNode, Sequence, Ty};
 use wf_base::Width;
 use wf_named::{BaseType, NamedCore, NamedPath, NamedType, Variable};
 use wf_text::Place;
-use wf_types_meanings::values::{if_number, slices};
-use wf_types_meanings::variables::{typed, variable};
-use wf_types_operators::given::meaning_of_operator;
+use wf_types_meanings::variables::variable;
 use wf_types_operators::meanings::all_of;
-use wf_types_rules::{Around, Meaning, Operand};
+use wf_types_rules::{Around, Meaning, Value};
 
 /// The type of what means this. A constant has all numbers of its width, and 64 bits where it has none.
 pub fn type_meant(of: Option<Meaning>) -> Ty
@@ -83,42 +78,22 @@ pub(crate) fn path_node(alloc: Global, around: &Around<'_>, path: NamedPath) -> 
     }
 }
 
+/// What an end of a slice means, where it is there.
+pub(crate) fn value_of(end: Option<Elaborated>) -> Option<Value>
+    ensures { result ≡ value_in end }
+{
+    match end {
+        Some(e) => Some(e.value),
+        None => None,
+    }
+}
+
 /// The number of the node of an end that may be absent.
 pub(crate) fn node_of(end: Option<Elaborated>) -> Option<ExprId>
     ensures { result ≡ node_in end }
 {
     match end {
         Some(e) => Some(e.node),
-        None => None,
-    }
-}
-
-fn if_end(end: Option<Elaborated>, ty: Option<Ty>) -> Option<Ty>
-    ensures { result ≡ end_kept end ty }
-{
-    match end {
-        Some(e) => if_number(e.value.of, ty),
-        None => ty,
-    }
-}
-
-/// What a slice of an array or of a slice means, by what its ends do.
-pub(crate) fn slice_meant(
-    base: Option<Meaning>,
-    from: Option<Elaborated>,
-    to: Option<Elaborated>,
-) -> Option<Meaning>
-    ensures { result ≡ option_map meanings.Typed (end_kept from (end_kept to (option_and_then slice_in base))) }
-{
-    typed(if_end(from, if_end(to, slices(base))))
-}
-
-/// What a chain means, where each of its operands means something.
-pub(crate) fn chain_meant(op: Op, operands: Option<Sequence<Operand>>) -> Option<Meaning>
-    ensures { result ≡ option_and_then (meaning_given (sort_of op)) operands }
-{
-    match operands {
-        Some(os) => meaning_of_operator(op, os.as_slice()),
         None => None,
     }
 }

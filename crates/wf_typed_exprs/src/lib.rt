@@ -3,8 +3,8 @@
 #![tactic(auto)]
 
 pub mod building;
+pub mod columns;
 pub mod elaborated;
-pub mod finishing;
 pub mod forms;
 pub mod laws;
 pub mod operands;

@@ -8,7 +8,7 @@ ghost use Rattle.wf_named.specs.NamedParts.{exprs_of};
 ghost use Rattle.wf_named.specs.NamedTrees.{expr_at, part_at, links_at, type_at};
 ghost use Rattle.wf_named.specs.NamedTree as tree;
 ghost use Rattle.wf_types_rules.specs.Meanings.{variable as variable_in};
-ghost use Rattle.wf_types_rules.specs.Judgements.{value_of};
+ghost use Rattle.wf_types_rules.specs.Judgements.{value_of as value_meant};
 ghost use Rattle.wf_typed_tree.specs.ElaboratedExprs.{type_meant as type_of_meaning};
 ghost use Rattle.wf_typed_tree.specs.Entries.{path_entry, expr_entries, part_entries, end_entries, link_entries, callee_entries};
 ghost use Rattle.wf_typed_exprs.specs.Growth.{Grows, AddsEntries};
@@ -18,22 +18,19 @@ ghost use Rattle.wf_typed_exprs.specs.Right.{IsRight, IsRightPath, IsRightAnswer
 
 use crate::building::Building;
 use crate::elaborated::{Elaborated, MadeNode, MadeOperands};
-use crate::forms::{
-    chain_meant, node_of, path_node, plain_width, slice_meant, type_meant, unsigned,
-};
+use crate::forms::{node_of, path_node, plain_width, type_meant, unsigned, value_of};
 use crate::operands::{no_operand, with_operand, with_sign};
 use crate::typed_exprs::TypedExpr;
-use std::alloc::Global;
 use wf_ast::parsed::Link;
 use wf_ast::{Expr, ExprId, ExprNode, Op, Ty};
-use wf_named::{NamedCall, NamedCallee, NamedExpr, NamedNodes, NamedPath, NamedType};
+use wf_named::{NamedCall, NamedCallee, NamedExpr, NamedPath, NamedType};
 use wf_text::Place;
 use wf_text::faults::NoMemory;
-use wf_types_exprs::parts::inner_answer;
+use wf_types_exprs::Here;
+use wf_types_exprs::parts::{chain_meaning, index_meaning, inner_answer, slice_meaning};
 use wf_types_exprs::reading::place_of;
-use wf_types_meanings::values::{as_flag, as_value, conversion, elements, if_number, number_in};
-use wf_types_meanings::variables::typed;
-use wf_types_rules::{Around, Meaning, Value};
+use wf_types_meanings::values::{as_flag, as_value, conversion, number_in};
+use wf_types_rules::{Meaning, Value};
 
 // Adds a node whose parts are there.
 fn put(nodes: &mut Building, made: MadeNode, at: Place) -> Result<Elaborated, NoMemory>
@@ -61,20 +58,19 @@ fn put(nodes: &mut Building, made: MadeNode, at: Place) -> Result<Elaborated, No
 
 /// Adds the node of a path. `Err` also comes where no number is left.
 pub fn elaborate_path(
-    alloc: Global,
+    here: &Here<'_>,
     nodes: &mut Building,
-    around: &Around<'_>,
     path: NamedPath,
 ) -> Result<Elaborated, NoMemory>
-    requires { IsRightPath around.now (length nodes.old.statuses) path }
+    requires { IsRightPath here.now.around.now (length nodes.old.statuses) path }
     ensures grows { OnOk result (Grows nodes.old nodes.new) }
-    ensures entries { OnOk result (AddsEntries nodes.old nodes.new (path_entry around.now path ∷ [])) }
-    ensures stands { IfOk result (λ r. StandsForPath around.now path nodes.new r.node) }
-    ensures value { IfOk result (λ r. r.value ≡ record { of = variable_in around.now path.of; at = path.at }) }
+    ensures entries { OnOk result (AddsEntries nodes.old nodes.new (path_entry here.now.around.now path ∷ [])) }
+    ensures stands { IfOk result (λ r. StandsForPath here.now.around.now path nodes.new r.node) }
+    ensures value { IfOk result (λ r. r.value ≡ record { of = variable_in here.now.around.now path.of; at = path.at }) }
     ensures number { IfOk result (λ r. r.node.0 ≡ length nodes.old.exprs) }
     ensures count { OnOk result (length nodes.new.exprs ≡ length nodes.old.exprs + 1) }
 {
-    let made = put(nodes, path_node(alloc, around, path), path.at)?;
+    let made = put(nodes, path_node(here.alloc, here.around, path), path.at)?;
     Ok(made)
 }
 
@@ -82,166 +78,139 @@ pub fn elaborate_path(
 /// trees and its types. `Err` also comes where no number is left.
 #[cycle(elaborate_exprs)]
 pub fn elaborate_expr(
-    alloc: Global,
+    here: &Here<'_>,
     nodes: &mut Building,
-    named: &NamedNodes,
-    around: &Around<'_>,
     e: ExprId,
 ) -> Result<Elaborated, NoMemory>
-    requires there { e.0 < length named.now.exprs }
-    requires right { IsRight around.now (length nodes.old.statuses) (expr_at (exprs_of named.now) e) }
+    requires there { e.0 < length here.now.nodes.now.exprs }
+    requires right { IsRight here.now.around.now (length nodes.old.statuses) (expr_at (exprs_of here.now.nodes.now) e) }
     ensures grows { OnOk result (Grows nodes.old nodes.new) }
-    ensures entries { OnOk result (AddsEntries nodes.old nodes.new (expr_entries around.now (expr_at (exprs_of named.now) e))) }
-    ensures stands { IfOk result (λ r. StandsForExpr around.now (expr_at (exprs_of named.now) e) nodes.new r.node) }
-    ensures value { IfOk result (λ r. r.value ≡ value_of around.now (expr_at (exprs_of named.now) e)) }
+    ensures entries { OnOk result (AddsEntries nodes.old nodes.new (expr_entries here.now.around.now (expr_at (exprs_of here.now.nodes.now) e))) }
+    ensures stands { IfOk result (λ r. StandsForExpr here.now.around.now (expr_at (exprs_of here.now.nodes.now) e) nodes.new r.node) }
+    ensures value { IfOk result (λ r. r.value ≡ value_meant here.now.around.now (expr_at (exprs_of here.now.nodes.now) e)) }
 {
-    let made = elaborate_node(alloc, nodes, named, around, e)?;
-    put(nodes, made, place_of(named, e))
+    let made = elaborate_node(here, nodes, e)?;
+    put(nodes, made, place_of(here.nodes, e))
 }
 
 /// Adds the nodes of an element that is written to, as those of the expression that it would be. `Err` also comes where no
 /// number is left.
 pub fn elaborate_element(
-    alloc: Global,
+    here: &Here<'_>,
     nodes: &mut Building,
-    named: &NamedNodes,
-    around: &Around<'_>,
     base: NamedPath,
     index: ExprId,
     at: Place,
 ) -> Result<Elaborated, NoMemory>
-    requires there { index.0 < length named.now.exprs }
-    requires right { IsRight around.now (length nodes.old.statuses) (tree.index base (expr_at (exprs_of named.now) index) at) }
+    requires there { index.0 < length here.now.nodes.now.exprs }
+    requires right { IsRight here.now.around.now (length nodes.old.statuses) (tree.index base (expr_at (exprs_of here.now.nodes.now) index) at) }
     ensures grows { OnOk result (Grows nodes.old nodes.new) }
-    ensures entries { OnOk result (AddsEntries nodes.old nodes.new (expr_entries around.now (tree.index base (expr_at (exprs_of named.now) index) at))) }
-    ensures stands { IfOk result (λ r. StandsForExpr around.now (tree.index base (expr_at (exprs_of named.now) index) at) nodes.new r.node) }
-    ensures value { IfOk result (λ r. r.value ≡ value_of around.now (tree.index base (expr_at (exprs_of named.now) index) at)) }
+    ensures entries { OnOk result (AddsEntries nodes.old nodes.new (expr_entries here.now.around.now (tree.index base (expr_at (exprs_of here.now.nodes.now) index) at))) }
+    ensures stands { IfOk result (λ r. StandsForExpr here.now.around.now (tree.index base (expr_at (exprs_of here.now.nodes.now) index) at) nodes.new r.node) }
+    ensures value { IfOk result (λ r. r.value ≡ value_meant here.now.around.now (tree.index base (expr_at (exprs_of here.now.nodes.now) index) at)) }
 {
-    let made = elaborate_index(alloc, nodes, named, around, base, index, at)?;
+    let made = elaborate_index(here, nodes, base, index, at)?;
     put(nodes, made, at)
 }
 
 // The node of an expression, whose parts are added.
 #[cycle(elaborate_exprs)]
-fn elaborate_node(
-    alloc: Global,
-    nodes: &mut Building,
-    named: &NamedNodes,
-    around: &Around<'_>,
-    e: ExprId,
-) -> Result<MadeNode, NoMemory>
-    requires there { e.0 < length named.now.exprs }
-    requires right { IsRight around.now (length nodes.old.statuses) (expr_at (exprs_of named.now) e) }
+fn elaborate_node(here: &Here<'_>, nodes: &mut Building, e: ExprId) -> Result<MadeNode, NoMemory>
+    requires there { e.0 < length here.now.nodes.now.exprs }
+    requires right { IsRight here.now.around.now (length nodes.old.statuses) (expr_at (exprs_of here.now.nodes.now) e) }
     ensures grows { OnOk result (Grows nodes.old nodes.new) }
-    ensures entries { OnOk result (AddsEntries nodes.old nodes.new (part_entries around.now (expr_at (exprs_of named.now) e))) }
-    ensures made { IfOk result (λ n. MakesExpr around.now (expr_at (exprs_of named.now) e) nodes.new n) }
+    ensures entries { OnOk result (AddsEntries nodes.old nodes.new (part_entries here.now.around.now (expr_at (exprs_of here.now.nodes.now) e))) }
+    ensures made { IfOk result (λ n. MakesExpr here.now.around.now (expr_at (exprs_of here.now.nodes.now) e) nodes.new n) }
 {
-    let node = named.expr(e);
+    let node = here.nodes.expr(e);
     match &node.expr {
         NamedExpr::Number(value) => Ok(MadeNode {
-            node: unsigned(alloc, Expr::Number(*value), node.at),
+            node: unsigned(here.alloc, Expr::Number(*value), node.at),
             of: Some(Meaning::Constant {
                 width: None,
                 value: *value,
             }),
         }),
         NamedExpr::Status(number) => Ok(MadeNode {
-            node: unsigned(alloc, Expr::Status(*number), node.at),
+            node: unsigned(here.alloc, Expr::Status(*number), node.at),
             of: Some(Meaning::Typed(Ty::Status)),
         }),
         NamedExpr::Truth(value) => Ok(MadeNode {
-            node: unsigned(alloc, Expr::Truth(*value), node.at),
+            node: unsigned(here.alloc, Expr::Truth(*value), node.at),
             of: Some(Meaning::Typed(Ty::Flag)),
         }),
         NamedExpr::Path(path) => {
-            let made = path_node(alloc, around, *path);
+            let made = path_node(here.alloc, here.around, *path);
             Ok(MadeNode {
                 node: made.node,
                 of: as_value(made.of),
             })
         }
-        NamedExpr::Index { base, index } => {
-            elaborate_index(alloc, nodes, named, around, *base, *index, node.at)
-        }
+        NamedExpr::Index { base, index } => { elaborate_index(here, nodes, *base, *index, node.at) }
         NamedExpr::Slice { base, from, to } => {
-            elaborate_slice(alloc, nodes, named, around, *base, *from, *to, node.at)
+            elaborate_slice(here, nodes, *base, *from, *to, node.at)
         }
-        NamedExpr::Call(call) => elaborate_answer(alloc, nodes, around, call),
+        NamedExpr::Call(call) => elaborate_answer(here, nodes, call),
         NamedExpr::Chain { op, first, links } => {
-            elaborate_chain(
-                alloc,
-                nodes,
-                named,
-                around,
-                *op,
-                *first,
-                links.as_slice(),
-                node.at,
-            )
+            elaborate_chain(here, nodes, *op, *first, links.as_slice(), node.at)
         }
-        NamedExpr::Convert { of, to } => {
-            elaborate_convert(alloc, nodes, named, around, *of, to, node.at)
-        }
-        NamedExpr::Not(of) => elaborate_negation(alloc, nodes, named, around, *of, node.at),
+        NamedExpr::Convert { of, to } => { elaborate_convert(here, nodes, *of, to, node.at) }
+        NamedExpr::Not(of) => elaborate_negation(here, nodes, *of, node.at),
     }
 }
 
 // An element of what a path stands for.
 #[cycle(elaborate_exprs)]
 fn elaborate_index(
-    alloc: Global,
+    here: &Here<'_>,
     nodes: &mut Building,
-    named: &NamedNodes,
-    around: &Around<'_>,
     base: NamedPath,
     index: ExprId,
     at: Place,
 ) -> Result<MadeNode, NoMemory>
-    requires there { index.0 < length named.now.exprs }
-    requires right { IsRight around.now (length nodes.old.statuses) (tree.index base (expr_at (exprs_of named.now) index) at) }
+    requires there { index.0 < length here.now.nodes.now.exprs }
+    requires right { IsRight here.now.around.now (length nodes.old.statuses) (tree.index base (expr_at (exprs_of here.now.nodes.now) index) at) }
     ensures grows { OnOk result (Grows nodes.old nodes.new) }
-    ensures entries { OnOk result (AddsEntries nodes.old nodes.new (part_entries around.now (tree.index base (expr_at (exprs_of named.now) index) at))) }
-    ensures made { IfOk result (λ n. MakesExpr around.now (tree.index base (expr_at (exprs_of named.now) index) at) nodes.new n) }
+    ensures entries { OnOk result (AddsEntries nodes.old nodes.new (part_entries here.now.around.now (tree.index base (expr_at (exprs_of here.now.nodes.now) index) at))) }
+    ensures made { IfOk result (λ n. MakesExpr here.now.around.now (tree.index base (expr_at (exprs_of here.now.nodes.now) index) at) nodes.new n) }
 {
-    let cells = elaborate_path(alloc, nodes, around, base)?;
-    let index = elaborate_expr(alloc, nodes, named, around, index)?;
+    let cells = elaborate_path(here, nodes, base)?;
+    let index = elaborate_expr(here, nodes, index)?;
     Ok(MadeNode {
         node: unsigned(
-            alloc,
+            here.alloc,
             Expr::Index {
                 base: cells.node,
                 at: index.node,
             },
             at,
         ),
-        of: typed(if_number(index.value.of, elements(cells.value.of))),
+        of: index_meaning(cells.value.of, index.value.of),
     })
 }
 
 // A slice of what a path stands for.
 #[cycle(elaborate_exprs)]
 fn elaborate_slice(
-    alloc: Global,
+    here: &Here<'_>,
     nodes: &mut Building,
-    named: &NamedNodes,
-    around: &Around<'_>,
     base: NamedPath,
     from: Option<ExprId>,
     to: Option<ExprId>,
     at: Place,
 ) -> Result<MadeNode, NoMemory>
-    requires from { IsBelow (length named.now.exprs) from }
-    requires to { IsBelow (length named.now.exprs) to }
-    requires right { IsRight around.now (length nodes.old.statuses) (tree.slice base (part_at (exprs_of named.now) from) (part_at (exprs_of named.now) to) at) }
+    requires from { IsBelow (length here.now.nodes.now.exprs) from }
+    requires to { IsBelow (length here.now.nodes.now.exprs) to }
+    requires right { IsRight here.now.around.now (length nodes.old.statuses) (tree.slice base (part_at (exprs_of here.now.nodes.now) from) (part_at (exprs_of here.now.nodes.now) to) at) }
     ensures grows { OnOk result (Grows nodes.old nodes.new) }
-    ensures entries { OnOk result (AddsEntries nodes.old nodes.new (part_entries around.now (tree.slice base (part_at (exprs_of named.now) from) (part_at (exprs_of named.now) to) at))) }
-    ensures made { IfOk result (λ n. MakesExpr around.now (tree.slice base (part_at (exprs_of named.now) from) (part_at (exprs_of named.now) to) at) nodes.new n) }
+    ensures entries { OnOk result (AddsEntries nodes.old nodes.new (part_entries here.now.around.now (tree.slice base (part_at (exprs_of here.now.nodes.now) from) (part_at (exprs_of here.now.nodes.now) to) at))) }
+    ensures made { IfOk result (λ n. MakesExpr here.now.around.now (tree.slice base (part_at (exprs_of here.now.nodes.now) from) (part_at (exprs_of here.now.nodes.now) to) at) nodes.new n) }
 {
-    let cells = elaborate_path(alloc, nodes, around, base)?;
-    let (from, to) = elaborate_ends(alloc, nodes, named, around, from, to)?;
+    let cells = elaborate_path(here, nodes, base)?;
+    let (from, to) = elaborate_ends(here, nodes, from, to)?;
     Ok(MadeNode {
         node: unsigned(
-            alloc,
+            here.alloc,
             Expr::Cut {
                 base: cells.node,
                 from: node_of(from),
@@ -249,52 +218,48 @@ fn elaborate_slice(
             },
             at,
         ),
-        of: slice_meant(cells.value.of, from, to),
+        of: slice_meaning(cells.value.of, value_of(from), value_of(to)),
     })
 }
 
 // Both ends of a slice.
 #[cycle(elaborate_exprs)]
 fn elaborate_ends(
-    alloc: Global,
+    here: &Here<'_>,
     nodes: &mut Building,
-    named: &NamedNodes,
-    around: &Around<'_>,
     from: Option<ExprId>,
     to: Option<ExprId>,
 ) -> Result<(Option<Elaborated>, Option<Elaborated>), NoMemory>
-    requires from { IsBelow (length named.now.exprs) from }
-    requires to { IsBelow (length named.now.exprs) to }
-    requires from_right { IsRightEnd around.now (length nodes.old.statuses) (part_at (exprs_of named.now) from) }
-    requires to_right { IsRightEnd around.now (length nodes.old.statuses) (part_at (exprs_of named.now) to) }
+    requires from { IsBelow (length here.now.nodes.now.exprs) from }
+    requires to { IsBelow (length here.now.nodes.now.exprs) to }
+    requires from_right { IsRightEnd here.now.around.now (length nodes.old.statuses) (part_at (exprs_of here.now.nodes.now) from) }
+    requires to_right { IsRightEnd here.now.around.now (length nodes.old.statuses) (part_at (exprs_of here.now.nodes.now) to) }
     ensures grows { OnOk result (Grows nodes.old nodes.new) }
-    ensures entries { OnOk result (AddsEntries nodes.old nodes.new (end_entries around.now (part_at (exprs_of named.now) from) ++ end_entries around.now (part_at (exprs_of named.now) to))) }
-    ensures from { IfOk result (λ r. StandsForEnd around.now (part_at (exprs_of named.now) from) nodes.new r.0) }
-    ensures to { IfOk result (λ r. StandsForEnd around.now (part_at (exprs_of named.now) to) nodes.new r.1) }
+    ensures entries { OnOk result (AddsEntries nodes.old nodes.new (end_entries here.now.around.now (part_at (exprs_of here.now.nodes.now) from) ++ end_entries here.now.around.now (part_at (exprs_of here.now.nodes.now) to))) }
+    ensures from { IfOk result (λ r. StandsForEnd here.now.around.now (part_at (exprs_of here.now.nodes.now) from) nodes.new r.0) }
+    ensures to { IfOk result (λ r. StandsForEnd here.now.around.now (part_at (exprs_of here.now.nodes.now) to) nodes.new r.1) }
 {
-    let from = elaborate_end(alloc, nodes, named, around, from)?;
-    let to = elaborate_end(alloc, nodes, named, around, to)?;
+    let from = elaborate_end(here, nodes, from)?;
+    let to = elaborate_end(here, nodes, to)?;
     Ok((from, to))
 }
 
 // An end of a slice, which may be absent.
 #[cycle(elaborate_exprs)]
 fn elaborate_end(
-    alloc: Global,
+    here: &Here<'_>,
     nodes: &mut Building,
-    named: &NamedNodes,
-    around: &Around<'_>,
     end: Option<ExprId>,
 ) -> Result<Option<Elaborated>, NoMemory>
-    requires there { IsBelow (length named.now.exprs) end }
-    requires right { IsRightEnd around.now (length nodes.old.statuses) (part_at (exprs_of named.now) end) }
+    requires there { IsBelow (length here.now.nodes.now.exprs) end }
+    requires right { IsRightEnd here.now.around.now (length nodes.old.statuses) (part_at (exprs_of here.now.nodes.now) end) }
     ensures grows { OnOk result (Grows nodes.old nodes.new) }
-    ensures entries { OnOk result (AddsEntries nodes.old nodes.new (end_entries around.now (part_at (exprs_of named.now) end))) }
-    ensures stands { IfOk result (λ r. StandsForEnd around.now (part_at (exprs_of named.now) end) nodes.new r) }
+    ensures entries { OnOk result (AddsEntries nodes.old nodes.new (end_entries here.now.around.now (part_at (exprs_of here.now.nodes.now) end))) }
+    ensures stands { IfOk result (λ r. StandsForEnd here.now.around.now (part_at (exprs_of here.now.nodes.now) end) nodes.new r) }
 {
     match end {
         Some(e) => {
-            let made = elaborate_expr(alloc, nodes, named, around, e)?;
+            let made = elaborate_expr(here, nodes, e)?;
             Ok(Some(made))
         }
         None => Ok(None),
@@ -303,29 +268,28 @@ fn elaborate_end(
 
 // What a pure base method answers, which has no arguments.
 fn elaborate_answer(
-    alloc: Global,
+    here: &Here<'_>,
     nodes: &mut Building,
-    around: &Around<'_>,
     call: &NamedCall,
 ) -> Result<MadeNode, NoMemory>
-    requires { IsRightAnswer around.now (length nodes.old.statuses) call.now }
+    requires { IsRightAnswer here.now.around.now (length nodes.old.statuses) call.now }
     ensures grows { OnOk result (Grows nodes.old nodes.new) }
-    ensures entries { OnOk result (AddsEntries nodes.old nodes.new (callee_entries around.now call.now.callee)) }
-    ensures made { IfOk result (λ n. (args : _) → MakesExpr around.now (tree.answer (tree.call call.now.callee call.now.at call.now.mark args)) nodes.new n) }
+    ensures entries { OnOk result (AddsEntries nodes.old nodes.new (callee_entries here.now.around.now call.now.callee)) }
+    ensures made { IfOk result (λ n. (args : _) → MakesExpr here.now.around.now (tree.answer (tree.call call.now.callee call.now.at call.now.mark args)) nodes.new n) }
 {
     match call.callee {
         NamedCallee::Base { on, sig } => {
-            let asked = elaborate_path(alloc, nodes, around, on)?;
+            let asked = elaborate_path(here, nodes, on)?;
             Ok(MadeNode {
                 node: unsigned(
-                    alloc,
+                    here.alloc,
                     Expr::Base {
                         on: asked.node,
                         sig,
                     },
                     call.at,
                 ),
-                of: inner_answer(around, call),
+                of: inner_answer(here.around, call),
             })
         }
         NamedCallee::Own(_) => unreachable!(),
@@ -336,23 +300,21 @@ fn elaborate_answer(
 // A chain of operands.
 #[cycle(elaborate_exprs)]
 fn elaborate_chain(
-    alloc: Global,
+    here: &Here<'_>,
     nodes: &mut Building,
-    named: &NamedNodes,
-    around: &Around<'_>,
     op: Op,
     first: ExprId,
     links: &[Link],
     at: Place,
 ) -> Result<MadeNode, NoMemory>
-    requires first { first.0 < length named.now.exprs }
-    requires links { LinksBelow (length named.now.exprs) links.now }
-    requires right { IsRight around.now (length nodes.old.statuses) (tree.chain op (expr_at (exprs_of named.now) first) (links_at (exprs_of named.now) links.now) at) }
+    requires first { first.0 < length here.now.nodes.now.exprs }
+    requires links { LinksBelow (length here.now.nodes.now.exprs) links.now }
+    requires right { IsRight here.now.around.now (length nodes.old.statuses) (tree.chain op (expr_at (exprs_of here.now.nodes.now) first) (links_at (exprs_of here.now.nodes.now) links.now) at) }
     ensures grows { OnOk result (Grows nodes.old nodes.new) }
-    ensures entries { OnOk result (AddsEntries nodes.old nodes.new (part_entries around.now (tree.chain op (expr_at (exprs_of named.now) first) (links_at (exprs_of named.now) links.now) at))) }
-    ensures made { IfOk result (λ n. MakesExpr around.now (tree.chain op (expr_at (exprs_of named.now) first) (links_at (exprs_of named.now) links.now) at) nodes.new n) }
+    ensures entries { OnOk result (AddsEntries nodes.old nodes.new (part_entries here.now.around.now (tree.chain op (expr_at (exprs_of here.now.nodes.now) first) (links_at (exprs_of here.now.nodes.now) links.now) at))) }
+    ensures made { IfOk result (λ n. MakesExpr here.now.around.now (tree.chain op (expr_at (exprs_of here.now.nodes.now) first) (links_at (exprs_of here.now.nodes.now) links.now) at) nodes.new n) }
 {
-    let operands = elaborate_operands(alloc, nodes, named, around, first, links)?;
+    let operands = elaborate_operands(here, nodes, first, links)?;
     Ok(MadeNode {
         node: ExprNode {
             expr: Expr::Chain {
@@ -362,72 +324,66 @@ fn elaborate_chain(
             at,
             signs: operands.signs,
         },
-        of: chain_meant(op, operands.of),
+        of: chain_meaning(op, &operands.of),
     })
 }
 
 // The operands of a chain.
 #[cycle(elaborate_exprs)]
 fn elaborate_operands(
-    alloc: Global,
+    here: &Here<'_>,
     nodes: &mut Building,
-    named: &NamedNodes,
-    around: &Around<'_>,
     first: ExprId,
     links: &[Link],
 ) -> Result<MadeOperands, NoMemory>
-    requires first { first.0 < length named.now.exprs }
-    requires links { LinksBelow (length named.now.exprs) links.now }
-    requires first_right { IsRight around.now (length nodes.old.statuses) (expr_at (exprs_of named.now) first) }
-    requires right { AreRight around.now (length nodes.old.statuses) (links_at (exprs_of named.now) links.now) }
+    requires first { first.0 < length here.now.nodes.now.exprs }
+    requires links { LinksBelow (length here.now.nodes.now.exprs) links.now }
+    requires first_right { IsRight here.now.around.now (length nodes.old.statuses) (expr_at (exprs_of here.now.nodes.now) first) }
+    requires right { AreRight here.now.around.now (length nodes.old.statuses) (links_at (exprs_of here.now.nodes.now) links.now) }
     ensures grows { OnOk result (Grows nodes.old nodes.new) }
-    ensures entries { OnOk result (AddsEntries nodes.old nodes.new (expr_entries around.now (expr_at (exprs_of named.now) first) ++ link_entries around.now (links_at (exprs_of named.now) links.now))) }
-    ensures all { IfOk result (λ all. AreOperands around.now (expr_at (exprs_of named.now) first) (links_at (exprs_of named.now) links.now) nodes.new all) }
+    ensures entries { OnOk result (AddsEntries nodes.old nodes.new (expr_entries here.now.around.now (expr_at (exprs_of here.now.nodes.now) first) ++ link_entries here.now.around.now (links_at (exprs_of here.now.nodes.now) links.now))) }
+    ensures all { IfOk result (λ all. AreOperands here.now.around.now (expr_at (exprs_of here.now.nodes.now) first) (links_at (exprs_of here.now.nodes.now) links.now) nodes.new all) }
 {
-    let begun = elaborate_operand(alloc, no_operand(alloc), nodes, named, around, first)?;
-    let all = elaborate_links(alloc, begun, nodes, named, around, links)?;
+    let begun = elaborate_operand(here, nodes, no_operand(here.alloc), first)?;
+    let all = elaborate_links(here, nodes, begun, links)?;
     Ok(all)
 }
 
 // An operand after others.
 #[cycle(elaborate_exprs)]
 fn elaborate_operand(
-    alloc: Global,
-    before: MadeOperands,
+    here: &Here<'_>,
     nodes: &mut Building,
-    named: &NamedNodes,
-    around: &Around<'_>,
+    before: MadeOperands,
     e: ExprId,
 ) -> Result<MadeOperands, NoMemory>
-    requires there { e.0 < length named.now.exprs }
-    requires right { IsRight around.now (length nodes.old.statuses) (expr_at (exprs_of named.now) e) }
+    requires there { e.0 < length here.now.nodes.now.exprs }
+    requires right { IsRight here.now.around.now (length nodes.old.statuses) (expr_at (exprs_of here.now.nodes.now) e) }
     ensures grows { OnOk result (Grows nodes.old nodes.new) }
-    ensures entries { OnOk result (AddsEntries nodes.old nodes.new (expr_entries around.now (expr_at (exprs_of named.now) e))) }
-    ensures adds { IfOk result (λ all. AddsOperand around.now (expr_at (exprs_of named.now) e) nodes.new before all) }
+    ensures entries { OnOk result (AddsEntries nodes.old nodes.new (expr_entries here.now.around.now (expr_at (exprs_of here.now.nodes.now) e))) }
+    ensures adds { IfOk result (λ all. AddsOperand here.now.around.now (expr_at (exprs_of here.now.nodes.now) e) nodes.new before all) }
 {
-    let next = elaborate_expr(alloc, nodes, named, around, e)?;
+    let next = elaborate_expr(here, nodes, e)?;
     with_operand(before, next)
 }
 
 // The operands after the first, each with the sign before it.
 #[cycle(elaborate_exprs)]
 fn elaborate_links(
-    alloc: Global,
-    before: MadeOperands,
+    here: &Here<'_>,
     nodes: &mut Building,
-    named: &NamedNodes,
-    around: &Around<'_>,
+    before: MadeOperands,
     links: &[Link],
 ) -> Result<MadeOperands, NoMemory>
-    requires there { LinksBelow (length named.now.exprs) links.now }
-    requires right { AreRight around.now (length nodes.old.statuses) (links_at (exprs_of named.now) links.now) }
+    requires there { LinksBelow (length here.now.nodes.now.exprs) links.now }
+    requires right { AreRight here.now.around.now (length nodes.old.statuses) (links_at (exprs_of here.now.nodes.now) links.now) }
     ensures grows { OnOk result (Grows nodes.old nodes.new) }
-    ensures entries { OnOk result (AddsEntries nodes.old nodes.new (link_entries around.now (links_at (exprs_of named.now) links.now))) }
-    ensures adds { IfOk result (λ all. AddsLinks around.now (links_at (exprs_of named.now) links.now) nodes.new before all) }
+    ensures entries { OnOk result (AddsEntries nodes.old nodes.new (link_entries here.now.around.now (links_at (exprs_of here.now.nodes.now) links.now))) }
+    ensures adds { IfOk result (λ all. AddsLinks here.now.around.now (links_at (exprs_of here.now.nodes.now) links.now) nodes.new before all) }
 {
     let mut all = before;
     for link in links {
-        all = elaborate_link(alloc, all, nodes, named, around, *link)?;
+        all = elaborate_link(here, nodes, all, *link)?;
     }
     Ok(all)
 }
@@ -435,46 +391,42 @@ fn elaborate_links(
 // An operand with the sign before it.
 #[cycle(elaborate_exprs)]
 fn elaborate_link(
-    alloc: Global,
-    before: MadeOperands,
+    here: &Here<'_>,
     nodes: &mut Building,
-    named: &NamedNodes,
-    around: &Around<'_>,
+    before: MadeOperands,
     link: Link,
 ) -> Result<MadeOperands, NoMemory>
-    requires there { link.operand.0 < length named.now.exprs }
-    requires right { IsRight around.now (length nodes.old.statuses) (expr_at (exprs_of named.now) link.operand) }
+    requires there { link.operand.0 < length here.now.nodes.now.exprs }
+    requires right { IsRight here.now.around.now (length nodes.old.statuses) (expr_at (exprs_of here.now.nodes.now) link.operand) }
     ensures grows { OnOk result (Grows nodes.old nodes.new) }
-    ensures entries { OnOk result (AddsEntries nodes.old nodes.new (expr_entries around.now (expr_at (exprs_of named.now) link.operand))) }
-    ensures adds { IfOk result (λ all. AddsOperand around.now (expr_at (exprs_of named.now) link.operand) nodes.new (record before { signs = before.signs ++ link.sign ∷ [] }) all) }
+    ensures entries { OnOk result (AddsEntries nodes.old nodes.new (expr_entries here.now.around.now (expr_at (exprs_of here.now.nodes.now) link.operand))) }
+    ensures adds { IfOk result (λ all. AddsOperand here.now.around.now (expr_at (exprs_of here.now.nodes.now) link.operand) nodes.new (record before { signs = before.signs ++ link.sign ∷ [] }) all) }
 {
     let signed = with_sign(before, link.sign)?;
-    elaborate_operand(alloc, signed, nodes, named, around, link.operand)
+    elaborate_operand(here, nodes, signed, link.operand)
 }
 
 // A conversion to numbers of a width.
 #[cycle(elaborate_exprs)]
 fn elaborate_convert(
-    alloc: Global,
+    here: &Here<'_>,
     nodes: &mut Building,
-    named: &NamedNodes,
-    around: &Around<'_>,
     of: ExprId,
     to: &NamedType,
     at: Place,
 ) -> Result<MadeNode, NoMemory>
-    requires there { of.0 < length named.now.exprs }
-    requires right { IsRight around.now (length nodes.old.statuses) (tree.convert (expr_at (exprs_of named.now) of) (type_at (exprs_of named.now) to.now) at) }
+    requires there { of.0 < length here.now.nodes.now.exprs }
+    requires right { IsRight here.now.around.now (length nodes.old.statuses) (tree.convert (expr_at (exprs_of here.now.nodes.now) of) (type_at (exprs_of here.now.nodes.now) to.now) at) }
     ensures grows { OnOk result (Grows nodes.old nodes.new) }
-    ensures entries { OnOk result (AddsEntries nodes.old nodes.new (part_entries around.now (tree.convert (expr_at (exprs_of named.now) of) (type_at (exprs_of named.now) to.now) at))) }
-    ensures made { IfOk result (λ n. MakesExpr around.now (tree.convert (expr_at (exprs_of named.now) of) (type_at (exprs_of named.now) to.now) at) nodes.new n) }
+    ensures entries { OnOk result (AddsEntries nodes.old nodes.new (part_entries here.now.around.now (tree.convert (expr_at (exprs_of here.now.nodes.now) of) (type_at (exprs_of here.now.nodes.now) to.now) at))) }
+    ensures made { IfOk result (λ n. MakesExpr here.now.around.now (tree.convert (expr_at (exprs_of here.now.nodes.now) of) (type_at (exprs_of here.now.nodes.now) to.now) at) nodes.new n) }
 {
     match plain_width(to) {
         Some(width) => {
-            let made = elaborate_expr(alloc, nodes, named, around, of)?;
+            let made = elaborate_expr(here, nodes, of)?;
             Ok(MadeNode {
                 node: unsigned(
-                    alloc,
+                    here.alloc,
                     Expr::Convert {
                         of: made.node,
                         to: width,
@@ -491,22 +443,20 @@ fn elaborate_convert(
 // A `not`.
 #[cycle(elaborate_exprs)]
 fn elaborate_negation(
-    alloc: Global,
+    here: &Here<'_>,
     nodes: &mut Building,
-    named: &NamedNodes,
-    around: &Around<'_>,
     of: ExprId,
     at: Place,
 ) -> Result<MadeNode, NoMemory>
-    requires there { of.0 < length named.now.exprs }
-    requires right { IsRight around.now (length nodes.old.statuses) (tree.negation (expr_at (exprs_of named.now) of) at) }
+    requires there { of.0 < length here.now.nodes.now.exprs }
+    requires right { IsRight here.now.around.now (length nodes.old.statuses) (tree.negation (expr_at (exprs_of here.now.nodes.now) of) at) }
     ensures grows { OnOk result (Grows nodes.old nodes.new) }
-    ensures entries { OnOk result (AddsEntries nodes.old nodes.new (part_entries around.now (tree.negation (expr_at (exprs_of named.now) of) at))) }
-    ensures made { IfOk result (λ n. MakesExpr around.now (tree.negation (expr_at (exprs_of named.now) of) at) nodes.new n) }
+    ensures entries { OnOk result (AddsEntries nodes.old nodes.new (part_entries here.now.around.now (tree.negation (expr_at (exprs_of here.now.nodes.now) of) at))) }
+    ensures made { IfOk result (λ n. MakesExpr here.now.around.now (tree.negation (expr_at (exprs_of here.now.nodes.now) of) at) nodes.new n) }
 {
-    let made = elaborate_expr(alloc, nodes, named, around, of)?;
+    let made = elaborate_expr(here, nodes, of)?;
     Ok(MadeNode {
-        node: unsigned(alloc, Expr::Not(made.node), at),
+        node: unsigned(here.alloc, Expr::Not(made.node), at),
         of: as_flag(made.value.of),
     })
 }

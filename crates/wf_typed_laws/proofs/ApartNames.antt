@@ -1,5 +1,5 @@
 -- Which names of a package that is read and keeps the rules of names differ in its typed tree.
-use Rattle.std.proofs.Common.{◌≡◌, ◌⊎◌, inl, inr, ◌+◌, ◌<◌, ◌≤◌, ℕ, zero, suc, Bool, true, false, List, [], ◌∷◌, ◌++◌, map, Option, Some, None, slice_get, nat_eq, nat_lt, refl, sym, ap, ◌∙◌, subst, arith}
+use Rattle.std.proofs.Common.{◌≡◌, ◌+◌, ◌<◌, ◌≤◌, ℕ, zero, suc, Bool, true, false, List, [], ◌∷◌, ◌++◌, map, Option, Some, None, slice_get, nat_eq, nat_lt, refl, sym, ap, ◌∙◌, subst, arith}
 use Rattle.std.specs.Prelude.{cond, if◌then◌else◌}
 use Rattle.std.specs.List.{AllByRecursion, flat_map, position_from}
 use Rattle.std.proofs.lemmas.Bool.Decides.{nat_tests}
@@ -8,7 +8,7 @@ use Rattle.wf_text.specs.declared.rules.Rule.TheVariants.{N3}
 use Rattle.wf_ast.specs.declared.numbers.TextId.{TextId}
 use Rattle.wf_ast.specs.declared.parsed.Name.{Name}
 use Rattle.wf_ast.specs.declared.parsed.WrittenMark.{WrittenMark}
-use Rattle.wf_ast.specs.ParsedParts.{Parsed, AreDistinct}
+use Rattle.wf_ast.specs.ParsedParts.{AreDistinct}
 use Rattle.wf_ast.specs.ParsedTree as parsed
 use Rattle.wf_ast.specs.ParsedTree.{DeclTree}
 use Rattle.wf_ast.specs.TypedPackage.{StructTree, MethodTree}
@@ -18,11 +18,12 @@ use Rattle.wf_parse.proofs.OneReadings.{parsed_distinct}
 use Rattle.wf_types_rules.specs.declared.settings.Role.{Role}
 use Rattle.wf_types_rules.specs.declared.settings.Role.TheVariants as roles
 use Rattle.wf_names_rules.specs.Declarations.{Declared, Structure, Method, Variable, declared, variables, locals_of, structs_of, methods_of, bytes_in, text_of, is_spelt, struct_named}
-use Rattle.wf_names_rules.specs.NameRules.{Breaks, by_declaration, by_use, declared_twice, initialize, unknown_struct, twice, unknown, IsRepeated, AreApart, names_owned, variable_names, IsUsed}
+use Rattle.wf_names_rules.specs.NameRules.{Breaks, by_declaration, by_use, declared_twice, initialize, unknown_struct, twice, unknown, AreApart, names_owned, variable_names, IsUsed}
 use Rattle.wf_names_rules.specs.NameRules as rules
 use Rattle.wf_names_rules.specs.Reserved.{is_initialize}
 use Rattle.wf_names_rules.specs.Uses as uses
-use Rattle.wf_names_rules.specs.Uses.{Scope, Site, Use, struct_scope, method_scope, method_uses, method_sites, constant_sites, struct_sites, sites, sites_in}
+use Rattle.wf_names_rules.specs.Uses.{Scope, Site, struct_scope, method_scope, method_sites, constant_sites, struct_sites}
+use Rattle.wf_names_rules.proofs.OwnedLemmas.{owned_before, owned-at, before-same}
 use Rattle.wf_names_resolve.specs.Standing.{standing_at}
 use Rattle.wf_names_resolve.specs.Package.{resolved_variable, resolved_structs, resolved_methods, resolved_package, method_in}
 use Rattle.wf_names_resolve.specs.Resolved.{number_or}
@@ -30,7 +31,7 @@ use Rattle.wf_typed_tree.specs.ElaboratedPackage.{typed_variable, typed_struct, 
 use Rattle.wf_typed_tree.specs.ElaboratedStmts.{count_block}
 use Rattle.wf_typed_laws.specs.ApartNames.{names_of, HasApartNames, ReadNamesAreApart}
 use Rattle.wf_typed_laws.proofs.ListLemmas.{all-from, all-mapped}
-use Rattle.wf_typed_laws.proofs.ReadNames.{IsSpelt, names-spelt}
+use Rattle.wf_typed_laws.proofs.ReadNames.{names-spelt}
 use Rattle.wf_typed_laws.proofs.KeptNames.{VariablesHave, StructureHas, MethodHas}
 use Rattle.wf_typed_laws.proofs.TypedNames.{NameIsSpelt, spelt-structs, spelt-methods}
 
@@ -202,49 +203,6 @@ module _ (d : Declared) (distinct : AreDistinct d.texts) (kept : (refusal : Refu
         by (Some a) p (Some b) q k =
             let there : struct_named d n.owner.text.0 ≡ Some a = q ∙ ap Some (sym k) in
             same-owner 0 d.structs m.owner.text.0 n.owner.text.0 a p there
-
-    -- Where a method of an owner stands among the names of that owner's methods.
-    abbrev owned_before : (owner : ℕ) → List Method → ℕ → ℕ
-    owned_before owner [] i = 0
-    owned_before owner (x ∷ ms) zero = 0
-    owned_before owner (x ∷ ms) (suc i) = if is_spelt owner x.owner then suc (owned_before owner ms i) else owned_before owner ms i
-
-    owned-at : (owner : ℕ) (ms : List Method) (i : ℕ) (m : Method) → slice_get ms i ≡ Some m → is_spelt owner m.owner ≡ true → slice_get (names_owned owner ms) (owned_before owner ms i) ≡ Some m.name
-    owned-at owner [] i m e h = absurd (cc e)
-    owned-at owner (x ∷ ms) zero m e h =
-        let same : x ≡ m = cc e in
-        let P : Method → Type 0 = λ z. slice_get (if is_spelt owner z.owner then z.name ∷ names_owned owner ms else names_owned owner ms) 0 ≡ Some m.name in
-        subst P (sym same) (rw h refl)
-    owned-at owner (x ∷ ms) (suc i) m e h = by (is_spelt owner x.owner) (owned-at owner ms i m e h)
-      where
-        by : (b : Bool) → slice_get (names_owned owner ms) (owned_before owner ms i) ≡ Some m.name
-            → slice_get (if b then x.name ∷ names_owned owner ms else names_owned owner ms) (if b then suc (owned_before owner ms i) else owned_before owner ms i) ≡ Some m.name
-        by true k = k
-        by false k = k
-
-    before-same : (owner : ℕ) (ms : List Method) (i j : ℕ) (m n : Method) → slice_get ms i ≡ Some m → slice_get ms j ≡ Some n → is_spelt owner m.owner ≡ true → is_spelt owner n.owner ≡ true
-        → owned_before owner ms i ≡ owned_before owner ms j → i ≡ j
-    before-same owner [] i j m n e g h k same = absurd (cc e)
-    before-same owner (x ∷ ms) zero zero m n e g h k same = refl
-    before-same owner (x ∷ ms) zero (suc j) m n e g h k same =
-        let one : x ≡ m = cc e in
-        let P : Method → Type 0 = λ z. is_spelt owner z.owner ≡ true in
-        let own : is_spelt owner x.owner ≡ true = subst P (sym one) h in
-        let Q : Bool → Type 0 = λ b. 0 ≡ (if b then suc (owned_before owner ms j) else owned_before owner ms j) in
-        let none : 0 ≡ suc (owned_before owner ms j) = subst Q own same in
-        absurd (omega (arith, none))
-    before-same owner (x ∷ ms) (suc i) zero m n e g h k same =
-        let one : x ≡ n = cc g in
-        let P : Method → Type 0 = λ z. is_spelt owner z.owner ≡ true in
-        let own : is_spelt owner x.owner ≡ true = subst P (sym one) k in
-        let Q : Bool → Type 0 = λ b. (if b then suc (owned_before owner ms i) else owned_before owner ms i) ≡ 0 in
-        let none : suc (owned_before owner ms i) ≡ 0 = subst Q own same in
-        absurd (omega (arith, none))
-    before-same owner (x ∷ ms) (suc i) (suc j) m n e g h k same = ap suc (by (is_spelt owner x.owner) same (before-same owner ms i j m n e g h k))
-      where
-        by : (b : Bool) → (if b then suc (owned_before owner ms i) else owned_before owner ms i) ≡ (if b then suc (owned_before owner ms j) else owned_before owner ms j) → (owned_before owner ms i ≡ owned_before owner ms j → i ≡ j) → i ≡ j
-        by true s more = more (omega (arith, s))
-        by false s more = more s
 
     spelt-owned : (owner : ℕ) (ms : List Method) → AllByRecursion (MethodHas (NameIsSpelt d.texts)) ms → AllByRecursion (NameIsSpelt d.texts) (names_owned owner ms)
     spelt-owned owner [] a = tt

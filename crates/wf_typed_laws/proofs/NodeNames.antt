@@ -6,7 +6,7 @@ use Rattle.std.proofs.lemmas.List.Elements.{All-from_recursion}
 use Rattle.wf_ast.specs.declared.declarations.Var.{Var}
 use Rattle.wf_ast.specs.declared.declarations.Method.{Method}
 use Rattle.wf_ast.specs.declared.declarations.Struct.{Struct}
-use Rattle.wf_ast.specs.declared.resolved.Block as resolved
+use Rattle.wf_ast.specs.declared.typed_code.Block as typed_code
 use Rattle.wf_ast.specs.declared.typed_nodes.TypedNodes.{TypedNodes}
 use Rattle.wf_ast.specs.TypedPackage.{variable_of, struct_of, methods_of, package_of}
 use Rattle.wf_tokens.specs.Runs.{is_letter, begins}
@@ -31,7 +31,7 @@ module _ (nodes : TypedNodes) where
   structs-named [] a = tt
   structs-named (s ∷ ss) a = (has-text nodes.texts s.name.0 a.0.name, structs-named ss a.1)
 
-  methods-named : (ms : List Method) (bodies : List resolved.Block) → length bodies ≡ length ms → AllByRecursion HasPlainVariables (methods_of nodes ms bodies) → AllByRecursion (IsNamed (length nodes.texts)) ms
+  methods-named : (ms : List Method) (bodies : List typed_code.Block) → length bodies ≡ length ms → AllByRecursion HasPlainVariables (methods_of nodes ms bodies) → AllByRecursion (IsNamed (length nodes.texts)) ms
   methods-named [] bodies count a = tt
   methods-named (m ∷ ms) [] count a = absurd (cc count)
   methods-named (m ∷ ms) (body ∷ bodies) count a =

@@ -3,6 +3,7 @@
 use Rattle.std.proofs.Common.{◌≡◌, ◌∙◌, ℕ, Bool, true, false, not, ◌&&◌, ◌||◌, nat_eq, nat_le, List, [], ◌∷◌, ◌++◌, map, codes, Option, None, Some, slice_get, refl, sym, ap, subst, arith}
 use Rattle.std.proofs.lemmas.Bool.Decides.{nat_tests}
 use Rattle.std.specs.List.{AllByRecursion, list_all}
+use Rattle.wf_text.specs.Precedence.{refused}
 use Rattle.wf_text.specs.declared.place.Place.{Place}
 use Rattle.wf_text.specs.declared.rules.Refusal.{Refusal}
 use Rattle.wf_ast.specs.declared.parsed.Name.{Name}
@@ -18,7 +19,7 @@ use Rattle.wf_names_resolve.specs.Resolved.{word_of}
 use Rattle.wf_types_rules.specs.DeclaredTypes.{for_types}
 use Rattle.wf_types_rules.specs.Judgements.{two_questions, is_status_text, wrong_status}
 use Rattle.wf_types_rules.specs.Parts.{Part, Site, sites, at_sites, const_sites, status_declared}
-use Rattle.wf_types_rules.specs.TypeRules.{Breaks, refused}
+use Rattle.wf_types_rules.specs.TypeRules.{Breaks}
 use Rattle.wf_types_rules.proofs.TypeRows as rows
 use Rattle.wf_text.specs.declared.rules.Rule.TheVariants.{T5}
 use Rattle.wf_typed_tree.specs.ElaboratedPackage.{seen_text, typed_package}

@@ -6,8 +6,8 @@ use Rattle.wf_ast.specs.declared.numbers.ExprId.{ExprId}
 use Rattle.wf_ast.specs.declared.numbers.StmtId.{StmtId}
 use Rattle.wf_ast.specs.declared.parsed.Arm as parsed
 use Rattle.wf_ast.specs.declared.parsed.Block as parsed_block
-use Rattle.wf_ast.specs.declared.resolved.Arm.{Arm}
-use Rattle.wf_ast.specs.declared.resolved.Block as resolved
+use Rattle.wf_ast.specs.declared.typed_code.Arm.{Arm}
+use Rattle.wf_ast.specs.declared.typed_code.Block as typed_code
 use Rattle.wf_ast.specs.declared.typed_nodes.TypedNodes.{TypedNodes}
 use Rattle.wf_ast.specs.TypedTree.{ValueTree, Site, Block, end, choose}
 use Rattle.wf_ast.specs.TypedTrees.{cond_in, tree_of, block_made, otherwise_made, if_made, stmt_makers, onto, block_of}
@@ -36,7 +36,7 @@ use Rattle.wf_typed_stmts.proofs.ListLemmas.{all_push}
 pub ids_more : (m n : ℕ) → m ≤ n → (ss : List StmtId) → list_all (λ s. nat_lt s.0 m) ss ≡ true → list_all (λ s. nat_lt s.0 n) ss ≡ true
 ids_more m n l ss h = all_more (λ (s : StmtId). nat_lt s.0 m) (λ s. nat_lt s.0 n) ss (λ s k. less s.0 n (let b = below s.0 m k in omega (arith, b, l))) h
 
-pub optional_ids_more : (m n : ℕ) → m ≤ n → (b : Option resolved.Block) → optional_block_below m b ≡ true → optional_block_below n b ≡ true
+pub optional_ids_more : (m n : ℕ) → m ≤ n → (b : Option typed_code.Block) → optional_block_below m b ≡ true → optional_block_below n b ≡ true
 optional_ids_more m n l None h = refl
 optional_ids_more m n l (Some b) h = ids_more m n l b.items h
 
@@ -64,10 +64,10 @@ module _ (p q : TypedNodes) (g : GrowsStmts p q) where
   made_kept ss h = onto_end (onto (stmt_makers q)) ss ∙ onto_kept ss end h ∙ sym (onto_end (onto (stmt_makers p)) ss)
 
   -- A block keeps its tree.
-  pub block_kept : (b : resolved.Block) → block_below (length p.stmts) b ≡ true → block_of q b ≡ block_of p b
+  pub block_kept : (b : typed_code.Block) → block_below (length p.stmts) b ≡ true → block_of q b ≡ block_of p b
   block_kept b h = made_kept b.items h
 
-  pub else_kept : (b : Option resolved.Block) → optional_block_below (length p.stmts) b ≡ true → else_made (onto (stmt_makers q)) b ≡ else_made (onto (stmt_makers p)) b
+  pub else_kept : (b : Option typed_code.Block) → optional_block_below (length p.stmts) b ≡ true → else_made (onto (stmt_makers q)) b ≡ else_made (onto (stmt_makers p)) b
   else_kept None h = refl
   else_kept (Some b) h = made_kept b.items h
 
@@ -173,12 +173,12 @@ module _ (look : ExprId → ValueTree) (inner : StmtId → Block → Block) (of 
   arms_same f g each chained [] rest = each chained rest
   arms_same f g each chained (x ∷ arms) rest = ap (λ o. choose of chained (cond_in (look x.cond)) (block_made inner x.body.items) o rest) (arms_same f g each true arms end)
 
-  otherwise_onto : (arms : List Arm) (other : Option resolved.Block) → otherwise_made look inner of arms other ≡ arms_onto look inner of true arms (λ b m. else_made inner other) end
+  otherwise_onto : (arms : List Arm) (other : Option typed_code.Block) → otherwise_made look inner of arms other ≡ arms_onto look inner of true arms (λ b m. else_made inner other) end
   otherwise_onto [] None = refl
   otherwise_onto [] (Some b) = refl
   otherwise_onto (a ∷ arms) other = ap (λ o. choose of true (cond_in (look a.cond)) (block_made inner a.body.items) o end) (otherwise_onto arms other)
 
-  pub if_onto : (arms : List Arm) (other : Option resolved.Block) (rest : Block) → 0 < length arms → if_made look inner of arms other rest ≡ arms_onto look inner of false arms (λ b m. else_made inner other) rest
+  pub if_onto : (arms : List Arm) (other : Option typed_code.Block) (rest : Block) → 0 < length arms → if_made look inner of arms other rest ≡ arms_onto look inner of false arms (λ b m. else_made inner other) rest
   if_onto [] other rest h = absurd (omega (arith, h))
   if_onto (a ∷ arms) other rest h = ap (λ o. choose of false (cond_in (look a.cond)) (block_made inner a.body.items) o rest) (otherwise_onto arms other)
 

@@ -1,11 +1,11 @@
 -- Which entries are added with the parts of statements.
-use Rattle.std.proofs.Common.{◌≡◌, ◌∙◌, refl, sym, ap, subst, Bool, true, false, List, [], ◌∷◌, ◌++◌, Option, Some, None, Result, Ok, Err, OnOk}
+use Rattle.std.proofs.Common.{◌≡◌, ◌∙◌, refl, sym, ap, subst, Bool, true, false, List, [], ◌∷◌, ◌++◌, Some, None}
 use Rattle.std.specs.Prelude.{if◌then◌else◌}
 use Rattle.std.proofs.lemmas.List.{append-nil, append_assoc}
 use Rattle.wf_text.specs.declared.place.Place.{Place}
 use Rattle.wf_base.specs.declared.marks.Mark.{Mark}
 use Rattle.wf_ast.specs.declared.parsed.Arm as parsed
-use Rattle.wf_ast.specs.declared.resolved.StmtNode.{StmtNode}
+use Rattle.wf_ast.specs.declared.typed_code.StmtNode.{StmtNode}
 use Rattle.wf_ast.specs.declared.typed_nodes.TypedNodes.{TypedNodes}
 use Rattle.wf_named.specs.declared.nodes.NamedCallee.{NamedCallee}
 use Rattle.wf_named.specs.declared.nodes.NamedCallee.TheVariants as callees

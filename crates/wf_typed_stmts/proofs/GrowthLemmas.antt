@@ -8,17 +8,17 @@ use Rattle.wf_ast.specs.declared.numbers.ExprId.{ExprId}
 use Rattle.wf_ast.specs.declared.numbers.StmtId.{StmtId}
 use Rattle.wf_ast.specs.declared.numbers.TextId.{TextId}
 use Rattle.wf_ast.specs.declared.parsed.Clause.{Clause}
-use Rattle.wf_ast.specs.declared.resolved.Arm.{Arm}
-use Rattle.wf_ast.specs.declared.resolved.AxiomRef.{AxiomRef}
-use Rattle.wf_ast.specs.declared.resolved.Callee.{Callee}
-use Rattle.wf_ast.specs.declared.resolved.Callee.TheVariants as callees
-use Rattle.wf_ast.specs.declared.resolved.Expr.TheVariants as nodes
-use Rattle.wf_ast.specs.declared.resolved.ExprNode.{ExprNode}
+use Rattle.wf_ast.specs.declared.typed_code.Arm.{Arm}
+use Rattle.wf_ast.specs.declared.typed_code.AxiomRef.{AxiomRef}
+use Rattle.wf_ast.specs.declared.typed_code.Callee.{Callee}
+use Rattle.wf_ast.specs.declared.typed_code.Callee.TheVariants as callees
+use Rattle.wf_ast.specs.declared.typed_code.Expr.TheVariants as nodes
+use Rattle.wf_ast.specs.declared.typed_code.ExprNode.{ExprNode}
 use Rattle.wf_ast.specs.declared.operators.Op.{Op}
 use Rattle.wf_text.specs.declared.place.Place.{Place}
-use Rattle.wf_ast.specs.declared.resolved.Stmt.{Stmt}
-use Rattle.wf_ast.specs.declared.resolved.Stmt.TheVariants as stmts
-use Rattle.wf_ast.specs.declared.resolved.StmtNode.{StmtNode}
+use Rattle.wf_ast.specs.declared.typed_code.Stmt.{Stmt}
+use Rattle.wf_ast.specs.declared.typed_code.Stmt.TheVariants as stmts
+use Rattle.wf_ast.specs.declared.typed_code.StmtNode.{StmtNode}
 use Rattle.wf_ast.specs.declared.typed_nodes.TypedNodes.{TypedNodes}
 use Rattle.wf_ast.specs.declared.types.Ty.{Ty}
 use Rattle.wf_ast.specs.declared.types.Ty.TheVariants as types

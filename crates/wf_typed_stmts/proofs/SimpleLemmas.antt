@@ -13,11 +13,11 @@ use Rattle.wf_ast.specs.declared.numbers.StmtId.{StmtId}
 use Rattle.wf_ast.specs.declared.operators.Op.{Op}
 use Rattle.wf_ast.specs.declared.variables.FieldId.{FieldId}
 use Rattle.wf_base.specs.declared.marks.Mark.TheVariants.{Pure}
-use Rattle.wf_ast.specs.declared.resolved.AxiomRef.{AxiomRef}
-use Rattle.wf_ast.specs.declared.resolved.Callee.{Callee}
-use Rattle.wf_ast.specs.declared.resolved.Callee.TheVariants as callees
-use Rattle.wf_ast.specs.declared.resolved.Stmt.TheVariants as stmts
-use Rattle.wf_ast.specs.declared.resolved.StmtNode.{StmtNode}
+use Rattle.wf_ast.specs.declared.typed_code.AxiomRef.{AxiomRef}
+use Rattle.wf_ast.specs.declared.typed_code.Callee.{Callee}
+use Rattle.wf_ast.specs.declared.typed_code.Callee.TheVariants as callees
+use Rattle.wf_ast.specs.declared.typed_code.Stmt.TheVariants as stmts
+use Rattle.wf_ast.specs.declared.typed_code.StmtNode.{StmtNode}
 use Rattle.wf_ast.specs.declared.typed_nodes.TypedNodes.{TypedNodes}
 use Rattle.wf_ast.specs.TypedTree.{ValueTree, Target, Simple, break_from, continue_in, give_back, yield, invoke, own, sub, Block, plain}
 use Rattle.wf_ast.specs.TypedTree as typed
@@ -32,7 +32,7 @@ use Rattle.wf_named.specs.NamedParts.{NamedParts, named_package}
 use Rattle.wf_named.specs.NamedTree.{NamedExprTree, number, status, truth, path, index, slice, answer, chain, convert, negation, NamedPartTree, NamedArgTrees, NamedCallTree, call, NamedTargetTree, NamedViaTree, NamedStmtTree, leave, again}
 use Rattle.wf_types_rules.specs.declared.settings.Setting.{Setting}
 use Rattle.wf_types_rules.specs.Meanings.{variable}
-use Rattle.wf_typed_tree.specs.ElaboratedExprs.{type_meant, path_tree, expr_tree, arg_trees}
+use Rattle.wf_typed_tree.specs.ElaboratedExprs.{type_meant, expr_tree, arg_trees}
 use Rattle.wf_typed_tree.specs.ElaboratedStmts.{target_tree, update_tree, call_tree, assign_tree, returned_tree, axiom_tree, loop_meant, count_stmt, site, stmt_tree}
 use Rattle.wf_typed_tree.proofs.NumberLemmas.{and-true}
 use Rattle.wf_typed_stmts.specs.Parts.{HasTree, StandForArgs, call_meant, StandsForCallee, value_assigned, StandsForPart, StandsForVia, MakesSimple}

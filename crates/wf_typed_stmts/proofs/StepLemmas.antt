@@ -5,12 +5,12 @@ use Rattle.wf_text.specs.declared.place.Place.{Place}
 use Rattle.wf_ast.specs.declared.numbers.StmtId.{StmtId}
 use Rattle.wf_ast.specs.declared.parsed.Arm as parsed
 use Rattle.wf_ast.specs.declared.parsed.Block as parsed_block
-use Rattle.wf_ast.specs.declared.resolved.Arm.{Arm}
-use Rattle.wf_ast.specs.declared.resolved.Block as resolved
-use Rattle.wf_ast.specs.declared.resolved.LoopHead.{LoopHead}
-use Rattle.wf_ast.specs.declared.resolved.Stmt.{Stmt}
-use Rattle.wf_ast.specs.declared.resolved.Stmt.TheVariants as stmts
-use Rattle.wf_ast.specs.declared.resolved.StmtNode.{StmtNode}
+use Rattle.wf_ast.specs.declared.typed_code.Arm.{Arm}
+use Rattle.wf_ast.specs.declared.typed_code.Block as typed_code
+use Rattle.wf_ast.specs.declared.typed_code.LoopHead.{LoopHead}
+use Rattle.wf_ast.specs.declared.typed_code.Stmt.{Stmt}
+use Rattle.wf_ast.specs.declared.typed_code.Stmt.TheVariants as stmts
+use Rattle.wf_ast.specs.declared.typed_code.StmtNode.{StmtNode}
 use Rattle.wf_ast.specs.declared.typed_nodes.TypedNodes.{TypedNodes}
 use Rattle.wf_ast.specs.TypedTree.{Block, Site, choose}
 use Rattle.wf_ast.specs.TypedTree as typed
@@ -61,7 +61,7 @@ loop_adds loops n p q r is g h =
           ∙ g.jumps limit (and-true (nat_lt n limit) (loops_below limit loops) (less n limit (omega (arith, is, same, b))) a) (omega (arith, same, b)) c;
     }
 
-pub loop_made : (s : Setting) (loops : List ℕ) (p q r : TypedNodes) (e : NamedExprTree) (clauses : NamedClauseTrees) (body : NamedBlockTree) (at close : Place) (head : LoopHead) (inside : resolved.Block)
+pub loop_made : (s : Setting) (loops : List ℕ) (p q r : TypedNodes) (e : NamedExprTree) (clauses : NamedClauseTrees) (body : NamedBlockTree) (at close : Place) (head : LoopHead) (inside : typed_code.Block)
     → StandsForBlock s ((length p.stmts + count_block body) ∷ loops) (length p.stmts) body q inside → GrowsExprs q r → StandsForHead s e clauses body close r head
     → MakesStmt s loops (length p.stmts) (loop e clauses body at) r (record { stmt = stmts.While head inside; at = at; inner = close })
 loop_made s loops p q r e clauses body at close head inside b g h =
@@ -90,7 +90,7 @@ module _ (s : Setting) (k : Known) (n : ℕ) (es : List NamedExprTree) (ts : Lis
   right_arms (a ∷ arms) last h = let r = right_arms arms last h.1.1 in ((h.0, (h.1.0, r.0)), r.1)
 
 pub if_made_so : (s : Setting) (loops : List ℕ) (p q r : TypedNodes) (es : List NamedExprTree) (ts : List NamedStmtTree) (arms : List parsed.Arm) (other : Option parsed_block.Block) (at : Place)
-    (made : List Arm) (otherwise : Option resolved.Block)
+    (made : List Arm) (otherwise : Option typed_code.Block)
     → has_condition (arms_at es ts arms (else_at ts other)) ≡ true → StandForArms s loops (length p.stmts) es ts arms q made → GrowsStmts q r
     → StandsForElse s loops (length q.stmts) (else_at ts other) r otherwise
     → MakesStmt s loops (length p.stmts) (branch (arms_at es ts arms (else_at ts other)) at) r (record { stmt = stmts.If made otherwise; at = at; inner = at })

@@ -8,14 +8,14 @@ use Rattle.wf_ast.specs.declared.numbers.ExprId.{ExprId}
 use Rattle.wf_ast.specs.declared.numbers.StmtId.{StmtId}
 use Rattle.wf_ast.specs.declared.numbers.TextId.{TextId}
 use Rattle.wf_ast.specs.declared.parsed.Clause.{Clause}
-use Rattle.wf_ast.specs.declared.resolved.AxiomRef.{AxiomRef}
-use Rattle.wf_ast.specs.declared.resolved.Arm.{Arm}
-use Rattle.wf_ast.specs.declared.resolved.Block as resolved
-use Rattle.wf_ast.specs.declared.resolved.Callee.{Callee}
-use Rattle.wf_ast.specs.declared.resolved.Callee.TheVariants as callees
-use Rattle.wf_ast.specs.declared.resolved.Stmt.{Stmt}
-use Rattle.wf_ast.specs.declared.resolved.Stmt.TheVariants as stmts
-use Rattle.wf_ast.specs.declared.resolved.StmtNode.{StmtNode}
+use Rattle.wf_ast.specs.declared.typed_code.AxiomRef.{AxiomRef}
+use Rattle.wf_ast.specs.declared.typed_code.Arm.{Arm}
+use Rattle.wf_ast.specs.declared.typed_code.Block as typed_code
+use Rattle.wf_ast.specs.declared.typed_code.Callee.{Callee}
+use Rattle.wf_ast.specs.declared.typed_code.Callee.TheVariants as callees
+use Rattle.wf_ast.specs.declared.typed_code.Stmt.{Stmt}
+use Rattle.wf_ast.specs.declared.typed_code.Stmt.TheVariants as stmts
+use Rattle.wf_ast.specs.declared.typed_code.StmtNode.{StmtNode}
 use Rattle.wf_ast.specs.declared.typed_nodes.TypedNodes.{TypedNodes}
 use Rattle.wf_ast.specs.TypedTree.{ValueTree, Target, Site, Block, plain, give_back}
 use Rattle.wf_ast.specs.TypedTrees.{type_of_node, optional_target, call_made, axiom_made, otherwise_made, if_made, stmt_made, onto, stmts_after}
@@ -60,7 +60,7 @@ module _ (p q : TypedNodes) (methods : q.methods ≡ p.methods) (texts : q.texts
   conditions_same (c ∷ cs) h = let k = both_true (is_expr p c.1) _ h in let a = look c.1 k.0 in let b = conditions_same cs k.1 in rw (a, b) refl
 
   module _ (inner : StmtId → Block → Block) (site : Site) (s : ℕ) where
-    otherwise_same : (arms : List Arm) (other : Option resolved.Block) → list_all (λ a. is_expr p a.cond && block_below s a.body) arms ≡ true
+    otherwise_same : (arms : List Arm) (other : Option typed_code.Block) → list_all (λ a. is_expr p a.cond && block_below s a.body) arms ≡ true
         → otherwise_made g inner site arms other ≡ otherwise_made f inner site arms other
     otherwise_same [] None h = refl
     otherwise_same [] (Some b) h = refl
@@ -70,7 +70,7 @@ module _ (p q : TypedNodes) (methods : q.methods ≡ p.methods) (texts : q.texts
         let b = otherwise_same arms other k.1 in
         rw (a, b) refl
 
-    if_same : (arms : List Arm) (other : Option resolved.Block) (rest : Block) → list_all (λ a. is_expr p a.cond && block_below s a.body) arms ≡ true
+    if_same : (arms : List Arm) (other : Option typed_code.Block) (rest : Block) → list_all (λ a. is_expr p a.cond && block_below s a.body) arms ≡ true
         → if_made g inner site arms other rest ≡ if_made f inner site arms other rest
     if_same [] other rest h = refl
     if_same (arm ∷ arms) other rest h =

@@ -4,8 +4,8 @@ use Rattle.std.specs.List.{list_all}
 use Rattle.wf_ast.specs.declared.numbers.ExprId.{ExprId}
 use Rattle.wf_ast.specs.declared.numbers.StmtId.{StmtId}
 use Rattle.wf_ast.specs.declared.parsed.Arm as parsed
-use Rattle.wf_ast.specs.declared.resolved.Arm.{Arm}
-use Rattle.wf_ast.specs.declared.resolved.Block as resolved
+use Rattle.wf_ast.specs.declared.typed_code.Arm.{Arm}
+use Rattle.wf_ast.specs.declared.typed_code.Block as typed_code
 use Rattle.wf_ast.specs.declared.typed_nodes.TypedNodes.{TypedNodes}
 use Rattle.wf_ast.specs.TypedTree.{ValueTree, Site, Block, end, choose}
 use Rattle.wf_ast.specs.TypedTrees.{cond_in, tree_of, block_made, stmt_makers, onto}
@@ -50,11 +50,11 @@ pub record StandForArms (s : Setting) (loops : List ℕ) (n : ℕ) (es : List Na
   pub some : length arms ≡ length made
 
 -- What stands after the last `else`.
-abbrev pub else_made : (StmtId → Block → Block) → Option resolved.Block → Block
+abbrev pub else_made : (StmtId → Block → Block) → Option typed_code.Block → Block
 else_made inner None = end
 else_made inner (Some block) = block_made inner block.items
 
-pub record StandsForElse (s : Setting) (loops : List ℕ) (n : ℕ) (last : NamedArmTrees) (nodes : TypedNodes) (b : Option resolved.Block) : Type 0 where
+pub record StandsForElse (s : Setting) (loops : List ℕ) (n : ℕ) (last : NamedArmTrees) (nodes : TypedNodes) (b : Option typed_code.Block) : Type 0 where
   pub below : optional_block_below (length nodes.stmts) b ≡ true
   pub count : length nodes.stmts ≡ n + count_arms last
   pub makes : (of : Site) (chained : Bool) (rest : Block) → else_made (onto (stmt_makers nodes)) b ≡ arms_tree s loops n of chained last rest

@@ -6,10 +6,10 @@ use Rattle.wf_base.specs.declared.marks.Mark.{Mark}
 use Rattle.wf_ast.specs.declared.numbers.ExprId.{ExprId}
 use Rattle.wf_ast.specs.declared.numbers.TextId.{TextId}
 use Rattle.wf_ast.specs.declared.parsed.Clause.{Clause}
-use Rattle.wf_ast.specs.declared.resolved.AxiomRef.{AxiomRef}
-use Rattle.wf_ast.specs.declared.resolved.Callee.{Callee}
-use Rattle.wf_ast.specs.declared.resolved.LoopHead.{LoopHead}
-use Rattle.wf_ast.specs.declared.resolved.StmtNode.{StmtNode}
+use Rattle.wf_ast.specs.declared.typed_code.AxiomRef.{AxiomRef}
+use Rattle.wf_ast.specs.declared.typed_code.Callee.{Callee}
+use Rattle.wf_ast.specs.declared.typed_code.LoopHead.{LoopHead}
+use Rattle.wf_ast.specs.declared.typed_code.StmtNode.{StmtNode}
 use Rattle.wf_ast.specs.declared.typed_nodes.TypedNodes.{TypedNodes}
 use Rattle.wf_ast.specs.TypedTree as typed
 use Rattle.wf_ast.specs.TypedTree.{NumTree, CondTree, ValueTree, Target, Simple, invoke, own, sub, Block, plain}

@@ -2,10 +2,10 @@
 use Rattle.std.specs.Prelude.{◌≡◌, ◌<◌, ◌≤◌, ◌^◌, ◌+◌, ℕ, Bool, true, List, [], length, map, nat_lt}
 use Rattle.std.specs.List.{list_all}
 use Rattle.wf_ast.specs.declared.numbers.StmtId.{StmtId}
-use Rattle.wf_ast.specs.declared.resolved.Block as resolved
-use Rattle.wf_ast.specs.declared.resolved.Stmt.{Stmt}
-use Rattle.wf_ast.specs.declared.resolved.Stmt.TheVariants as stmts
-use Rattle.wf_ast.specs.declared.resolved.StmtNode.{StmtNode}
+use Rattle.wf_ast.specs.declared.typed_code.Block as typed_code
+use Rattle.wf_ast.specs.declared.typed_code.Stmt.{Stmt}
+use Rattle.wf_ast.specs.declared.typed_code.Stmt.TheVariants as stmts
+use Rattle.wf_ast.specs.declared.typed_code.StmtNode.{StmtNode}
 use Rattle.wf_ast.specs.declared.typed_nodes.TypedNodes.{TypedNodes}
 use Rattle.wf_ast.specs.TypedTree.{Block}
 use Rattle.wf_ast.specs.TypedTrees.{expr_trees, tree_of, stmt_made, stmt_makers, onto, block_of}
@@ -95,7 +95,7 @@ pub record StandsForStmt (s : Setting) (loops : List ℕ) (n : ℕ) (t : NamedSt
   pub count : length nodes.stmts ≡ n + count_stmt t
   pub makes : (rest : Block) → onto (stmt_makers nodes) id rest ≡ stmt_tree s loops n t rest
 
-pub record StandsForBlock (s : Setting) (loops : List ℕ) (n : ℕ) (t : NamedBlockTree) (nodes : TypedNodes) (b : resolved.Block) : Type 0 where
+pub record StandsForBlock (s : Setting) (loops : List ℕ) (n : ℕ) (t : NamedBlockTree) (nodes : TypedNodes) (b : typed_code.Block) : Type 0 where
   pub below : block_below (length nodes.stmts) b ≡ true
   pub count : length nodes.stmts ≡ n + count_block t
   pub makes : block_of nodes b ≡ block_tree s loops n t

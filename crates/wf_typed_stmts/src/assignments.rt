@@ -15,17 +15,16 @@ ghost use Rattle.wf_typed_stmts.specs.Right.{known_in, is_answer as is_pure_answ
 ghost use Rattle.wf_typed_stmts.specs.StmtGrowth.{IsBegun, GrowsExprs};
 ghost use Rattle.wf_typed_exprs.specs.Right.{IsRight};
 
-use crate::building::BodyBuilding;
+use crate::building::{BodyBuilding, Operator};
 use crate::calls::add_call;
 use crate::targets::add_target;
-use std::alloc::Global;
 use wf_ast::{ExprId, Op, Stmt, StmtNode};
-use wf_named::{NamedCall, NamedCallee, NamedNodes, NamedTarget};
+use wf_named::{NamedCall, NamedCallee, NamedTarget};
 use wf_text::Place;
 use wf_text::faults::NoMemory;
 use wf_typed_exprs::forms::{type_meant, unrefined};
+use wf_types_exprs::Here;
 use wf_types_meanings::marks::is_pure;
-use wf_types_rules::Around;
 use wf_types_stmts::assignments::as_call;
 
 /// An assignment as it is written. `sign` is the place of the `=` with what stands before it, and `at` that of the
@@ -52,24 +51,22 @@ fn is_answer(callee: NamedCallee) -> bool
 
 // Adds the nodes of an expression that is assigned to a target whose node is there.
 fn add_assigned(
-    alloc: Global,
+    here: &Here<'_>,
     nodes: &mut BodyBuilding,
-    named: &NamedNodes,
-    around: &Around<'_>,
     target: ExprId,
     e: ExprId,
     at: Place,
 ) -> Result<StmtNode, NoMemory>
-    requires there { e.0 < length named.now.exprs }
+    requires there { e.0 < length here.now.nodes.now.exprs }
     requires target { is_expr nodes.old target ≡ true }
-    requires begun { IsBegun named.now nodes.old }
-    requires right { IsRight around.now (known_in (named_package named.now)).statuses (expr_at (exprs_of named.now) e) }
+    requires begun { IsBegun here.now.nodes.now nodes.old }
+    requires right { IsRight here.now.around.now (known_in (named_package here.now.nodes.now)).statuses (expr_at (exprs_of here.now.nodes.now) e) }
     ensures grows { OnOk result (GrowsExprs nodes.old nodes.new) }
-    ensures entries { OnOk result (AddsEntries nodes.old nodes.new (expr_entries around.now (expr_at (exprs_of named.now) e))) }
-    ensures begun { OnOk result (IsBegun named.now nodes.new) }
-    ensures made { IfOk result (λ n. MakesSimple (typed.assign (target_of (tree_of nodes.old target)) None (expr_tree around.now (expr_at (exprs_of named.now) e))) at nodes.new n) }
+    ensures entries { OnOk result (AddsEntries nodes.old nodes.new (expr_entries here.now.around.now (expr_at (exprs_of here.now.nodes.now) e))) }
+    ensures begun { OnOk result (IsBegun here.now.nodes.now nodes.new) }
+    ensures made { IfOk result (λ n. MakesSimple (typed.assign (target_of (tree_of nodes.old target)) None (expr_tree here.now.around.now (expr_at (exprs_of here.now.nodes.now) e))) at nodes.new n) }
 {
-    let made = nodes.push_value(alloc, named, around, e)?;
+    let made = nodes.push_value(here, e)?;
     Ok(StmtNode {
         stmt: Stmt::Assign {
             target,
@@ -83,82 +80,81 @@ fn add_assigned(
 
 // Adds the nodes of the right side of `=` after a target whose node is there.
 fn add_right(
-    alloc: Global,
+    here: &Here<'_>,
     nodes: &mut BodyBuilding,
-    named: &NamedNodes,
-    around: &Around<'_>,
     target: ExprId,
     e: ExprId,
     at: Place,
 ) -> Result<StmtNode, NoMemory>
-    requires there { e.0 < length named.now.exprs }
+    requires there { e.0 < length here.now.nodes.now.exprs }
     requires target { is_expr nodes.old target ≡ true }
-    requires begun { IsBegun named.now nodes.old }
-    requires right { IsRightValue around.now (known_in (named_package named.now)) (expr_at (exprs_of named.now) e) }
+    requires begun { IsBegun here.now.nodes.now nodes.old }
+    requires right { IsRightValue here.now.around.now (known_in (named_package here.now.nodes.now)) (expr_at (exprs_of here.now.nodes.now) e) }
     ensures grows { OnOk result (GrowsExprs nodes.old nodes.new) }
-    ensures entries { OnOk result (AddsEntries nodes.old nodes.new (assigned_entries around.now (expr_at (exprs_of named.now) e))) }
-    ensures begun { OnOk result (IsBegun named.now nodes.new) }
-    ensures made { IfOk result (λ n. MakesSimple (value_assigned around.now (target_of (tree_of nodes.old target)) (expr_at (exprs_of named.now) e)) at nodes.new n) }
+    ensures entries { OnOk result (AddsEntries nodes.old nodes.new (assigned_entries here.now.around.now (expr_at (exprs_of here.now.nodes.now) e))) }
+    ensures begun { OnOk result (IsBegun here.now.nodes.now nodes.new) }
+    ensures made { IfOk result (λ n. MakesSimple (value_assigned here.now.around.now (target_of (tree_of nodes.old target)) (expr_at (exprs_of here.now.nodes.now) e)) at nodes.new n) }
 {
-    match as_call(named, e) {
+    match as_call(here.nodes, e) {
         Some(call) => {
             if is_answer(call.callee) {
-                add_assigned(alloc, nodes, named, around, target, e, at)
+                add_assigned(here, nodes, target, e, at)
             } else {
-                add_call(alloc, nodes, named, around, Some(target), false, call, at)
+                add_call(here, nodes, Some(target), false, call, at)
             }
         }
-        None => add_assigned(alloc, nodes, named, around, target, e, at),
+        None => add_assigned(here, nodes, target, e, at),
     }
 }
 
 // `=`.
 fn add_equal(
-    alloc: Global,
+    here: &Here<'_>,
     nodes: &mut BodyBuilding,
-    named: &NamedNodes,
-    around: &Around<'_>,
     target: NamedTarget,
     e: ExprId,
     at: Place,
 ) -> Result<StmtNode, NoMemory>
-    requires below { NamedTargetBelow (length named.now.exprs) target }
-    requires there { e.0 < length named.now.exprs }
-    requires begun { IsBegun named.now nodes.old }
-    requires target_right { IsRightTarget around.now (known_in (named_package named.now)) (target_at (exprs_of named.now) target) }
-    requires right { IsRightValue around.now (known_in (named_package named.now)) (expr_at (exprs_of named.now) e) }
+    requires below { NamedTargetBelow (length here.now.nodes.now.exprs) target }
+    requires there { e.0 < length here.now.nodes.now.exprs }
+    requires begun { IsBegun here.now.nodes.now nodes.old }
+    requires target_right { IsRightTarget here.now.around.now (known_in (named_package here.now.nodes.now)) (target_at (exprs_of here.now.nodes.now) target) }
+    requires right { IsRightValue here.now.around.now (known_in (named_package here.now.nodes.now)) (expr_at (exprs_of here.now.nodes.now) e) }
     ensures grows { OnOk result (GrowsExprs nodes.old nodes.new) }
-    ensures entries { OnOk result (AddsEntries nodes.old nodes.new (target_entries around.now (target_at (exprs_of named.now) target) ++ assigned_entries around.now (expr_at (exprs_of named.now) e))) }
-    ensures begun { OnOk result (IsBegun named.now nodes.new) }
-    ensures made { IfOk result (λ n. MakesSimple (value_assigned around.now (target_tree around.now (target_at (exprs_of named.now) target)) (expr_at (exprs_of named.now) e)) at nodes.new n) }
+    ensures entries { OnOk result (AddsEntries nodes.old nodes.new (target_entries here.now.around.now (target_at (exprs_of here.now.nodes.now) target) ++ assigned_entries here.now.around.now (expr_at (exprs_of here.now.nodes.now) e))) }
+    ensures begun { OnOk result (IsBegun here.now.nodes.now nodes.new) }
+    ensures made { IfOk result (λ n. MakesSimple (value_assigned here.now.around.now (target_tree here.now.around.now (target_at (exprs_of here.now.nodes.now) target)) (expr_at (exprs_of here.now.nodes.now) e)) at nodes.new n) }
 {
-    let to = add_target(alloc, nodes, named, around, target)?;
-    add_right(alloc, nodes, named, around, to.node, e, at)
+    let to = add_target(here, nodes, target)?;
+    add_right(here, nodes, to.node, e, at)
 }
 
 // An operator with `=`: its node stands between the target's and the value's.
 fn add_update(
-    alloc: Global,
+    here: &Here<'_>,
     nodes: &mut BodyBuilding,
-    named: &NamedNodes,
-    around: &Around<'_>,
     it: Assignment,
     op: Op,
 ) -> Result<StmtNode, NoMemory>
-    requires below { NamedTargetBelow (length named.now.exprs) it.target }
-    requires there { it.value.0 < length named.now.exprs }
-    requires begun { IsBegun named.now nodes.old }
-    requires target_right { IsRightTarget around.now (known_in (named_package named.now)) (target_at (exprs_of named.now) it.target) }
-    requires right { IsRightUpdate around.now (known_in (named_package named.now)) (target_at (exprs_of named.now) it.target) op (expr_at (exprs_of named.now) it.value) }
+    requires below { NamedTargetBelow (length here.now.nodes.now.exprs) it.target }
+    requires there { it.value.0 < length here.now.nodes.now.exprs }
+    requires begun { IsBegun here.now.nodes.now nodes.old }
+    requires target_right { IsRightTarget here.now.around.now (known_in (named_package here.now.nodes.now)) (target_at (exprs_of here.now.nodes.now) it.target) }
+    requires right { IsRightUpdate here.now.around.now (known_in (named_package here.now.nodes.now)) (target_at (exprs_of here.now.nodes.now) it.target) op (expr_at (exprs_of here.now.nodes.now) it.value) }
     ensures grows { OnOk result (GrowsExprs nodes.old nodes.new) }
-    ensures entries { OnOk result (AddsEntries nodes.old nodes.new (target_entries around.now (target_at (exprs_of named.now) it.target) ++ (expr_entries around.now (expr_at (exprs_of named.now) it.value) ++ update_entry around.now (target_at (exprs_of named.now) it.target) it.sign ∷ []))) }
-    ensures begun { OnOk result (IsBegun named.now nodes.new) }
-    ensures made { IfOk result (λ n. MakesSimple (assign_tree around.now (target_at (exprs_of named.now) it.target) (Some op) it.sign (expr_at (exprs_of named.now) it.value)) it.at nodes.new n) }
+    ensures entries { OnOk result (AddsEntries nodes.old nodes.new (target_entries here.now.around.now (target_at (exprs_of here.now.nodes.now) it.target) ++ (expr_entries here.now.around.now (expr_at (exprs_of here.now.nodes.now) it.value) ++ update_entry here.now.around.now (target_at (exprs_of here.now.nodes.now) it.target) it.sign ∷ []))) }
+    ensures begun { OnOk result (IsBegun here.now.nodes.now nodes.new) }
+    ensures made { IfOk result (λ n. MakesSimple (assign_tree here.now.around.now (target_at (exprs_of here.now.nodes.now) it.target) (Some op) it.sign (expr_at (exprs_of here.now.nodes.now) it.value)) it.at nodes.new n) }
 {
-    let to = add_target(alloc, nodes, named, around, it.target)?;
-    let value = nodes.push_value(alloc, named, around, it.value)?;
+    let to = add_target(here, nodes, it.target)?;
+    let value = nodes.push_value(here, it.value)?;
     let ty = unrefined(type_meant(to.value.of));
-    let whole = nodes.push_operator(alloc, named, op, it.sign, ty, to.node, value.node)?;
+    let by = Operator {
+        op,
+        sign: it.sign,
+        ty,
+    };
+    let whole = nodes.push_operator(here, by, to.node, value.node)?;
     Ok(StmtNode {
         stmt: Stmt::Assign {
             target: to.node,
@@ -172,48 +168,44 @@ fn add_update(
 
 /// Adds the nodes of an assignment's parts, with or without an operator, and answers it.
 pub(crate) fn add_assign(
-    alloc: Global,
+    here: &Here<'_>,
     nodes: &mut BodyBuilding,
-    named: &NamedNodes,
-    around: &Around<'_>,
     it: Assignment,
 ) -> Result<StmtNode, NoMemory>
-    requires below { NamedTargetBelow (length named.now.exprs) it.target }
-    requires there { it.value.0 < length named.now.exprs }
-    requires begun { IsBegun named.now nodes.old }
-    requires target_right { IsRightTarget around.now (known_in (named_package named.now)) (target_at (exprs_of named.now) it.target) }
-    requires right { IsRightSide around.now (known_in (named_package named.now)) (target_at (exprs_of named.now) it.target) it.op (expr_at (exprs_of named.now) it.value) }
+    requires below { NamedTargetBelow (length here.now.nodes.now.exprs) it.target }
+    requires there { it.value.0 < length here.now.nodes.now.exprs }
+    requires begun { IsBegun here.now.nodes.now nodes.old }
+    requires target_right { IsRightTarget here.now.around.now (known_in (named_package here.now.nodes.now)) (target_at (exprs_of here.now.nodes.now) it.target) }
+    requires right { IsRightSide here.now.around.now (known_in (named_package here.now.nodes.now)) (target_at (exprs_of here.now.nodes.now) it.target) it.op (expr_at (exprs_of here.now.nodes.now) it.value) }
     ensures grows { OnOk result (GrowsExprs nodes.old nodes.new) }
-    ensures entries { OnOk result (AddsEntries nodes.old nodes.new (assign_entries around.now (target_at (exprs_of named.now) it.target) it.op it.sign (expr_at (exprs_of named.now) it.value))) }
-    ensures begun { OnOk result (IsBegun named.now nodes.new) }
-    ensures made { IfOk result (λ n. MakesSimple (assign_tree around.now (target_at (exprs_of named.now) it.target) it.op it.sign (expr_at (exprs_of named.now) it.value)) it.at nodes.new n) }
+    ensures entries { OnOk result (AddsEntries nodes.old nodes.new (assign_entries here.now.around.now (target_at (exprs_of here.now.nodes.now) it.target) it.op it.sign (expr_at (exprs_of here.now.nodes.now) it.value))) }
+    ensures begun { OnOk result (IsBegun here.now.nodes.now nodes.new) }
+    ensures made { IfOk result (λ n. MakesSimple (assign_tree here.now.around.now (target_at (exprs_of here.now.nodes.now) it.target) it.op it.sign (expr_at (exprs_of here.now.nodes.now) it.value)) it.at nodes.new n) }
 {
     match it.op {
-        Some(op) => add_update(alloc, nodes, named, around, it, op),
-        None => add_equal(alloc, nodes, named, around, it.target, it.value, it.at),
+        Some(op) => add_update(here, nodes, it, op),
+        None => add_equal(here, nodes, it.target, it.value, it.at),
     }
 }
 
 /// Adds the nodes of what stands round `=?`, and answers the call.
 pub(crate) fn add_keep(
-    alloc: Global,
+    here: &Here<'_>,
     nodes: &mut BodyBuilding,
-    named: &NamedNodes,
-    around: &Around<'_>,
     target: NamedTarget,
     call: &NamedCall,
     at: Place,
 ) -> Result<StmtNode, NoMemory>
-    requires below { NamedTargetBelow (length named.now.exprs) target }
-    requires args { ArgsBelow (length named.now.exprs) call.now.args }
-    requires begun { IsBegun named.now nodes.old }
-    requires target_right { IsRightTarget around.now (known_in (named_package named.now)) (target_at (exprs_of named.now) target) }
-    requires right { IsRightCall around.now (known_in (named_package named.now)) (call_at (exprs_of named.now) call.now) }
+    requires below { NamedTargetBelow (length here.now.nodes.now.exprs) target }
+    requires args { ArgsBelow (length here.now.nodes.now.exprs) call.now.args }
+    requires begun { IsBegun here.now.nodes.now nodes.old }
+    requires target_right { IsRightTarget here.now.around.now (known_in (named_package here.now.nodes.now)) (target_at (exprs_of here.now.nodes.now) target) }
+    requires right { IsRightCall here.now.around.now (known_in (named_package here.now.nodes.now)) (call_at (exprs_of here.now.nodes.now) call.now) }
     ensures grows { OnOk result (GrowsExprs nodes.old nodes.new) }
-    ensures entries { OnOk result (AddsEntries nodes.old nodes.new (target_entries around.now (target_at (exprs_of named.now) target) ++ call_entries around.now (call_at (exprs_of named.now) call.now))) }
-    ensures begun { OnOk result (IsBegun named.now nodes.new) }
-    ensures made { IfOk result (λ n. MakesSimple (call_tree around.now (target_tree around.now (target_at (exprs_of named.now) target)) true (call_at (exprs_of named.now) call.now)) at nodes.new n) }
+    ensures entries { OnOk result (AddsEntries nodes.old nodes.new (target_entries here.now.around.now (target_at (exprs_of here.now.nodes.now) target) ++ call_entries here.now.around.now (call_at (exprs_of here.now.nodes.now) call.now))) }
+    ensures begun { OnOk result (IsBegun here.now.nodes.now nodes.new) }
+    ensures made { IfOk result (λ n. MakesSimple (call_tree here.now.around.now (target_tree here.now.around.now (target_at (exprs_of here.now.nodes.now) target)) true (call_at (exprs_of here.now.nodes.now) call.now)) at nodes.new n) }
 {
-    let to = add_target(alloc, nodes, named, around, target)?;
-    add_call(alloc, nodes, named, around, Some(to.node), true, call, at)
+    let to = add_target(here, nodes, target)?;
+    add_call(here, nodes, Some(to.node), true, call, at)
 }

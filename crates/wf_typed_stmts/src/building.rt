@@ -2,7 +2,7 @@
 // loop that a jump tells.
 
 ghost use Rattle.std.specs.Prelude.{◌≡◌, ◌<◌, ◌+◌, ◌++◌, [], ◌∷◌, true, length, IfOk, OnOk, None};
-ghost use Rattle.wf_ast.specs.declared.resolved.Expr.TheVariants as exprs;
+ghost use Rattle.wf_ast.specs.declared.typed_code.Expr.TheVariants as exprs;
 ghost use Rattle.wf_ast.specs.TypedTrees.{sort_of, chain_of, tree_of, stmt_made, stmt_makers, onto};
 ghost use Rattle.wf_ast.specs.TypedInvariant.{chain_fits};
 ghost use Rattle.wf_named.specs.NamedParts.{exprs_of, named_package};
@@ -17,20 +17,28 @@ ghost use Rattle.wf_typed_tree.specs.Entries.{path_entry, expr_entries};
 ghost use Rattle.wf_typed_stmts.specs.Right.{known_in};
 ghost use Rattle.wf_typed_stmts.specs.StmtGrowth.{AreStmtsBuilt, IsBegun, GrowsExprs, GrowsStmts, stmt_there};
 
-use crate::lists::{all_of, one, two};
+use crate::lists::{one, two};
 use std::alloc::Global;
 use std::marker::Model;
-use wf_ast::{Expr, ExprId, ExprNode, Op, StmtId, StmtNode, Ty, TypedNodes};
+use wf_ast::{Expr, ExprId, ExprNode, Op, Sequence, StmtId, StmtNode, Ty, TypedNodes};
 use wf_named::{NamedNodes, NamedPath};
-use wf_text::Place;
 use wf_text::faults::NoMemory;
+use wf_text::{Place, add_last};
 use wf_typed_exprs::typed_exprs::TypedExpr;
 use wf_typed_exprs::walk::{elaborate_element, elaborate_expr, elaborate_path};
 use wf_typed_exprs::{Building, Elaborated};
-use wf_types_rules::Around;
+use wf_types_exprs::Here;
 
 // How many statements a typed package may have.
 const NUMBERS: usize = 4294967295;
+
+/// An operator between two expressions: the place of its sign, and the type of the numbers that it gives.
+#[derive(Clone, Copy)]
+pub(crate) struct Operator {
+    pub op: Op,
+    pub sign: Place,
+    pub ty: Ty,
+}
 
 /// A typed package, as far as it is built.
 #[derive(Drop)]
@@ -60,15 +68,13 @@ impl BodyBuilding {
     }
 
     /// The package that is built.
-    pub fn finish(self, alloc: Global) -> Result<TypedNodes, NoMemory>
-        ensures nodes { IfOk result (λ nodes. nodes ≡ self) }
-        ensures exprs { IfOk result IsBuilt }
+    pub fn finish(self) -> TypedNodes
+        ensures nodes { result ≡ self }
+        ensures exprs { IsBuilt result }
     {
-        let stmts = all_of(alloc, self.stmts)?;
-        let nodes = self.building.finish(alloc)?;
-        let mut whole = nodes;
-        whole.stmts = stmts;
-        Ok(whole)
+        let mut whole = self.building.finish();
+        whole.stmts = Sequence::from_vec(self.stmts);
+        whole
     }
 
     /// How many statements there are.
@@ -86,93 +92,76 @@ impl BodyBuilding {
     }
 
     /// Adds the node of a path.
-    pub fn push_path(
-        &mut self,
-        alloc: Global,
-        named: &NamedNodes,
-        around: &Around<'_>,
-        path: NamedPath,
-    ) -> Result<Elaborated, NoMemory>
-        requires begun { IsBegun named.now self.old }
-        requires right { IsRightPath around.now (known_in (named_package named.now)).statuses path }
+    pub fn push_path(&mut self, here: &Here<'_>, path: NamedPath) -> Result<Elaborated, NoMemory>
+        requires begun { IsBegun here.now.nodes.now self.old }
+        requires right { IsRightPath here.now.around.now (known_in (named_package here.now.nodes.now)).statuses path }
         ensures grows { OnOk result (GrowsExprs self.old self.new) }
-        ensures entries { OnOk result (AddsEntries self.old self.new (path_entry around.now path ∷ [])) }
-        ensures begun { OnOk result (IsBegun named.now self.new) }
-        ensures stands { IfOk result (λ r. StandsForPath around.now path self.new r.node) }
-        ensures value { IfOk result (λ r. r.value ≡ record { of = variable_in around.now path.of; at = path.at }) }
+        ensures entries { OnOk result (AddsEntries self.old self.new (path_entry here.now.around.now path ∷ [])) }
+        ensures begun { OnOk result (IsBegun here.now.nodes.now self.new) }
+        ensures stands { IfOk result (λ r. StandsForPath here.now.around.now path self.new r.node) }
+        ensures value { IfOk result (λ r. r.value ≡ record { of = variable_in here.now.around.now path.of; at = path.at }) }
         ensures number { IfOk result (λ r. r.node.0 ≡ length self.old.exprs) }
         ensures count { OnOk result (length self.new.exprs ≡ length self.old.exprs + 1) }
     {
-        elaborate_path(alloc, &mut self.building, around, path)
+        elaborate_path(here, &mut self.building, path)
     }
 
     /// Adds the nodes of an expression.
-    pub(crate) fn push_value(
-        &mut self,
-        alloc: Global,
-        named: &NamedNodes,
-        around: &Around<'_>,
-        e: ExprId,
-    ) -> Result<Elaborated, NoMemory>
-        requires there { e.0 < length named.now.exprs }
-        requires begun { IsBegun named.now self.old }
-        requires right { IsRight around.now (known_in (named_package named.now)).statuses (expr_at (exprs_of named.now) e) }
+    pub(crate) fn push_value(&mut self, here: &Here<'_>, e: ExprId) -> Result<Elaborated, NoMemory>
+        requires there { e.0 < length here.now.nodes.now.exprs }
+        requires begun { IsBegun here.now.nodes.now self.old }
+        requires right { IsRight here.now.around.now (known_in (named_package here.now.nodes.now)).statuses (expr_at (exprs_of here.now.nodes.now) e) }
         ensures grows { OnOk result (GrowsExprs self.old self.new) }
-        ensures entries { OnOk result (AddsEntries self.old self.new (expr_entries around.now (expr_at (exprs_of named.now) e))) }
-        ensures begun { OnOk result (IsBegun named.now self.new) }
-        ensures stands { IfOk result (λ r. StandsForExpr around.now (expr_at (exprs_of named.now) e) self.new r.node) }
-        ensures value { IfOk result (λ r. r.value ≡ value_of around.now (expr_at (exprs_of named.now) e)) }
+        ensures entries { OnOk result (AddsEntries self.old self.new (expr_entries here.now.around.now (expr_at (exprs_of here.now.nodes.now) e))) }
+        ensures begun { OnOk result (IsBegun here.now.nodes.now self.new) }
+        ensures stands { IfOk result (λ r. StandsForExpr here.now.around.now (expr_at (exprs_of here.now.nodes.now) e) self.new r.node) }
+        ensures value { IfOk result (λ r. r.value ≡ value_of here.now.around.now (expr_at (exprs_of here.now.nodes.now) e)) }
     {
-        elaborate_expr(alloc, &mut self.building, named, around, e)
+        elaborate_expr(here, &mut self.building, e)
     }
 
     /// Adds the nodes of an element that is written to.
     pub(crate) fn push_element(
         &mut self,
-        alloc: Global,
-        named: &NamedNodes,
-        around: &Around<'_>,
+        here: &Here<'_>,
         base: NamedPath,
         index: ExprId,
         at: Place,
     ) -> Result<Elaborated, NoMemory>
-        requires there { index.0 < length named.now.exprs }
-        requires begun { IsBegun named.now self.old }
-        requires right { IsRight around.now (known_in (named_package named.now)).statuses (tree.index base (expr_at (exprs_of named.now) index) at) }
+        requires there { index.0 < length here.now.nodes.now.exprs }
+        requires begun { IsBegun here.now.nodes.now self.old }
+        requires right { IsRight here.now.around.now (known_in (named_package here.now.nodes.now)).statuses (tree.index base (expr_at (exprs_of here.now.nodes.now) index) at) }
         ensures grows { OnOk result (GrowsExprs self.old self.new) }
-        ensures entries { OnOk result (AddsEntries self.old self.new (expr_entries around.now (tree.index base (expr_at (exprs_of named.now) index) at))) }
-        ensures begun { OnOk result (IsBegun named.now self.new) }
-        ensures stands { IfOk result (λ r. StandsForExpr around.now (tree.index base (expr_at (exprs_of named.now) index) at) self.new r.node) }
-        ensures value { IfOk result (λ r. r.value ≡ value_of around.now (tree.index base (expr_at (exprs_of named.now) index) at)) }
+        ensures entries { OnOk result (AddsEntries self.old self.new (expr_entries here.now.around.now (tree.index base (expr_at (exprs_of here.now.nodes.now) index) at))) }
+        ensures begun { OnOk result (IsBegun here.now.nodes.now self.new) }
+        ensures stands { IfOk result (λ r. StandsForExpr here.now.around.now (tree.index base (expr_at (exprs_of here.now.nodes.now) index) at) self.new r.node) }
+        ensures value { IfOk result (λ r. r.value ≡ value_of here.now.around.now (tree.index base (expr_at (exprs_of here.now.nodes.now) index) at)) }
     {
-        elaborate_element(alloc, &mut self.building, named, around, base, index, at)
+        elaborate_element(here, &mut self.building, base, index, at)
     }
 
-    /// Adds the node of an operator between two expressions that are there, which gives numbers of this type.
+    /// Adds the node of an operator between two expressions that are there.
     pub(crate) fn push_operator(
         &mut self,
-        alloc: Global,
-        named: &NamedNodes,
-        op: Op,
-        sign: Place,
-        ty: Ty,
+        here: &Here<'_>,
+        by: Operator,
         left: ExprId,
         right: ExprId,
     ) -> Result<ExprId, NoMemory>
-        requires begun { IsBegun named.now self.old }
+        requires begun { IsBegun here.now.nodes.now self.old }
         requires left { left.0 < length self.old.exprs }
         requires right { right.0 < length self.old.exprs }
-        requires fits { chain_fits self.old (sort_of op) (left ∷ right ∷ []) ty ≡ true }
+        requires fits { chain_fits self.old (sort_of by.op) (left ∷ right ∷ []) by.ty ≡ true }
         ensures grows { OnOk result (GrowsExprs self.old self.new) }
-        ensures entries { OnOk result (AddsEntries self.old self.new (record { at = sign; ty = ty; constant = None } ∷ [])) }
-        ensures begun { OnOk result (IsBegun named.now self.new) }
+        ensures entries { OnOk result (AddsEntries self.old self.new (record { at = by.sign; ty = by.ty; constant = None } ∷ [])) }
+        ensures begun { OnOk result (IsBegun here.now.nodes.now self.new) }
         ensures there { IfOk result (λ e. e.0 < length self.new.exprs) }
-        ensures made { IfOk result (λ e. tree_of self.new e ≡ chain_of sign (sign ∷ []) ty (sort_of op) (tree_of self.old left ∷ tree_of self.old right ∷ [])) }
+        ensures made { IfOk result (λ e. tree_of self.new e ≡ chain_of by.sign (by.sign ∷ []) by.ty (sort_of by.op) (tree_of self.old left ∷ tree_of self.old right ∷ [])) }
     {
-        let node = operator_node(alloc, op, sign, left, right)?;
+        let node = operator_node(here.alloc, by, left, right)?;
         let chain = TypedExpr {
             node,
-            ty,
+            ty: by.ty,
             constant: None,
         };
         let e = self.building.push_expr(chain)?;
@@ -195,7 +184,7 @@ impl BodyBuilding {
         if number >= NUMBERS {
             return Err(NoMemory);
         }
-        self.stmts.push(node)?;
+        add_last(&mut self.stmts, node)?;
         Ok(StmtId(number as u32))
     }
 }
@@ -203,18 +192,17 @@ impl BodyBuilding {
 // The node of an operator between two expressions.
 fn operator_node(
     alloc: Global,
-    op: Op,
-    sign: Place,
+    by: Operator,
     left: ExprId,
     right: ExprId,
 ) -> Result<ExprNode, NoMemory>
-    ensures { IfOk result (λ n. n ≡ record { expr = exprs.Chain op (left ∷ right ∷ []); at = sign; signs = sign ∷ [] }) }
+    ensures { IfOk result (λ n. n ≡ record { expr = exprs.Chain by.op (left ∷ right ∷ []); at = by.sign; signs = by.sign ∷ [] }) }
 {
     let parts = two(alloc, left, right)?;
-    let signs = one(alloc, sign)?;
+    let signs = one(alloc, by.sign)?;
     Ok(ExprNode {
-        expr: Expr::Chain { op, parts },
-        at: sign,
+        expr: Expr::Chain { op: by.op, parts },
+        at: by.sign,
         signs,
     })
 }

@@ -14,38 +14,31 @@ ghost use Rattle.wf_typed_stmts.specs.Right.{known_in, IsRightArg, AreRightArgs,
 ghost use Rattle.wf_typed_stmts.specs.StmtGrowth.{IsBegun, GrowsExprs};
 
 use crate::building::BodyBuilding;
-use std::alloc::Global;
 use wf_ast::{Callee, ExprId, Sequence, Stmt, StmtNode};
 use wf_base::Mark;
-use wf_named::{NamedCall, NamedCallee, NamedNodes};
+use wf_named::{NamedCall, NamedCallee};
 use wf_text::Place;
 use wf_text::faults::NoMemory;
+use wf_types_exprs::Here;
 use wf_types_exprs::reading::as_path;
-use wf_types_rules::Around;
 
 // Adds the nodes of an argument. A reader or writer is handed on by its path.
-fn add_arg(
-    alloc: Global,
-    nodes: &mut BodyBuilding,
-    named: &NamedNodes,
-    around: &Around<'_>,
-    e: ExprId,
-) -> Result<ExprId, NoMemory>
-    requires there { e.0 < length named.now.exprs }
-    requires begun { IsBegun named.now nodes.old }
-    requires right { IsRightArg around.now (known_in (named_package named.now)) (expr_at (exprs_of named.now) e) }
+fn add_arg(here: &Here<'_>, nodes: &mut BodyBuilding, e: ExprId) -> Result<ExprId, NoMemory>
+    requires there { e.0 < length here.now.nodes.now.exprs }
+    requires begun { IsBegun here.now.nodes.now nodes.old }
+    requires right { IsRightArg here.now.around.now (known_in (named_package here.now.nodes.now)) (expr_at (exprs_of here.now.nodes.now) e) }
     ensures grows { OnOk result (GrowsExprs nodes.old nodes.new) }
-    ensures entries { OnOk result (AddsEntries nodes.old nodes.new (handed_entries around.now (expr_at (exprs_of named.now) e))) }
-    ensures begun { OnOk result (IsBegun named.now nodes.new) }
-    ensures made { IfOk result (λ r. HasTree (expr_tree around.now (expr_at (exprs_of named.now) e)) nodes.new r) }
+    ensures entries { OnOk result (AddsEntries nodes.old nodes.new (handed_entries here.now.around.now (expr_at (exprs_of here.now.nodes.now) e))) }
+    ensures begun { OnOk result (IsBegun here.now.nodes.now nodes.new) }
+    ensures made { IfOk result (λ r. HasTree (expr_tree here.now.around.now (expr_at (exprs_of here.now.nodes.now) e)) nodes.new r) }
 {
-    match as_path(named, e) {
+    match as_path(here.nodes, e) {
         Some(path) => {
-            let made = nodes.push_path(alloc, named, around, path)?;
+            let made = nodes.push_path(here, path)?;
             Ok(made.node)
         }
         None => {
-            let made = nodes.push_value(alloc, named, around, e)?;
+            let made = nodes.push_value(here, e)?;
             Ok(made.node)
         }
     }
@@ -53,23 +46,21 @@ fn add_arg(
 
 // Adds the nodes of a call's arguments, in order.
 fn add_args(
-    alloc: Global,
+    here: &Here<'_>,
     nodes: &mut BodyBuilding,
-    named: &NamedNodes,
-    around: &Around<'_>,
     args: &[ExprId],
 ) -> Result<Sequence<ExprId>, NoMemory>
-    requires below { ArgsBelow (length named.now.exprs) args.now }
-    requires begun { IsBegun named.now nodes.old }
-    requires right { AreRightArgs around.now (known_in (named_package named.now)) (args_at (exprs_of named.now) args.now) }
+    requires below { ArgsBelow (length here.now.nodes.now.exprs) args.now }
+    requires begun { IsBegun here.now.nodes.now nodes.old }
+    requires right { AreRightArgs here.now.around.now (known_in (named_package here.now.nodes.now)) (args_at (exprs_of here.now.nodes.now) args.now) }
     ensures grows { OnOk result (GrowsExprs nodes.old nodes.new) }
-    ensures entries { OnOk result (AddsEntries nodes.old nodes.new (arg_entries around.now (args_at (exprs_of named.now) args.now))) }
-    ensures begun { OnOk result (IsBegun named.now nodes.new) }
-    ensures made { IfOk result (λ r. StandForArgs around.now (args_at (exprs_of named.now) args.now) nodes.new r) }
+    ensures entries { OnOk result (AddsEntries nodes.old nodes.new (arg_entries here.now.around.now (args_at (exprs_of here.now.nodes.now) args.now))) }
+    ensures begun { OnOk result (IsBegun here.now.nodes.now nodes.new) }
+    ensures made { IfOk result (λ r. StandForArgs here.now.around.now (args_at (exprs_of here.now.nodes.now) args.now) nodes.new r) }
 {
-    let mut made = Sequence::new(alloc);
+    let mut made = Sequence::new(here.alloc);
     for arg in args {
-        let e = add_arg(alloc, nodes, named, around, *arg)?;
+        let e = add_arg(here, nodes, *arg)?;
         made.push(e)?;
     }
     Ok(made)
@@ -77,25 +68,23 @@ fn add_args(
 
 // Adds the node of what a base method is called on.
 fn add_callee(
-    alloc: Global,
+    here: &Here<'_>,
     nodes: &mut BodyBuilding,
-    named: &NamedNodes,
-    around: &Around<'_>,
     callee: NamedCallee,
     mark: Mark,
 ) -> Result<Callee, NoMemory>
-    requires begun { IsBegun named.now nodes.old }
-    requires right { IsRightCallee around.now (known_in (named_package named.now)) callee mark }
+    requires begun { IsBegun here.now.nodes.now nodes.old }
+    requires right { IsRightCallee here.now.around.now (known_in (named_package here.now.nodes.now)) callee mark }
     ensures grows { OnOk result (GrowsExprs nodes.old nodes.new) }
-    ensures entries { OnOk result (AddsEntries nodes.old nodes.new (callee_entries around.now callee)) }
-    ensures begun { OnOk result (IsBegun named.now nodes.new) }
-    ensures made { IfOk result (λ c. StandsForCallee around.now callee mark nodes.new c) }
+    ensures entries { OnOk result (AddsEntries nodes.old nodes.new (callee_entries here.now.around.now callee)) }
+    ensures begun { OnOk result (IsBegun here.now.nodes.now nodes.new) }
+    ensures made { IfOk result (λ c. StandsForCallee here.now.around.now callee mark nodes.new c) }
 {
     match callee {
         NamedCallee::Own(method) => Ok(Callee::Own(method)),
         NamedCallee::Sub { field, method } => Ok(Callee::Sub { field, method }),
         NamedCallee::Base { on, sig } => {
-            let made = nodes.push_path(alloc, named, around, on)?;
+            let made = nodes.push_path(here, on)?;
             Ok(Callee::Base { on: made.node, sig })
         }
     }
@@ -104,26 +93,24 @@ fn add_callee(
 /// Adds the nodes of a call's parts, and answers the call. `target` is what it assigns to, if anything, and `keep` tells
 /// whether the target takes whatever status it comes to; `at` is the statement's place.
 pub(crate) fn add_call(
-    alloc: Global,
+    here: &Here<'_>,
     nodes: &mut BodyBuilding,
-    named: &NamedNodes,
-    around: &Around<'_>,
     target: Option<ExprId>,
     keep: bool,
     call: &NamedCall,
     at: Place,
 ) -> Result<StmtNode, NoMemory>
     requires target { is_optional_expr nodes.old target ≡ true }
-    requires below { ArgsBelow (length named.now.exprs) call.now.args }
-    requires begun { IsBegun named.now nodes.old }
-    requires right { IsRightCall around.now (known_in (named_package named.now)) (call_at (exprs_of named.now) call.now) }
+    requires below { ArgsBelow (length here.now.nodes.now.exprs) call.now.args }
+    requires begun { IsBegun here.now.nodes.now nodes.old }
+    requires right { IsRightCall here.now.around.now (known_in (named_package here.now.nodes.now)) (call_at (exprs_of here.now.nodes.now) call.now) }
     ensures grows { OnOk result (GrowsExprs nodes.old nodes.new) }
-    ensures entries { OnOk result (AddsEntries nodes.old nodes.new (call_entries around.now (call_at (exprs_of named.now) call.now))) }
-    ensures begun { OnOk result (IsBegun named.now nodes.new) }
-    ensures made { IfOk result (λ n. MakesSimple (call_tree around.now (optional_target (tree_of nodes.old) target) keep (call_at (exprs_of named.now) call.now)) at nodes.new n) }
+    ensures entries { OnOk result (AddsEntries nodes.old nodes.new (call_entries here.now.around.now (call_at (exprs_of here.now.nodes.now) call.now))) }
+    ensures begun { OnOk result (IsBegun here.now.nodes.now nodes.new) }
+    ensures made { IfOk result (λ n. MakesSimple (call_tree here.now.around.now (optional_target (tree_of nodes.old) target) keep (call_at (exprs_of here.now.nodes.now) call.now)) at nodes.new n) }
 {
-    let callee = add_callee(alloc, nodes, named, around, call.callee, call.mark)?;
-    let args = add_args(alloc, nodes, named, around, call.args.as_slice())?;
+    let callee = add_callee(here, nodes, call.callee, call.mark)?;
+    let args = add_args(here, nodes, call.args.as_slice())?;
     Ok(StmtNode {
         stmt: Stmt::Call {
             target,

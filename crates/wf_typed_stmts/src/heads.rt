@@ -14,53 +14,47 @@ ghost use Rattle.wf_typed_stmts.specs.Right.{known_in, AreRightClauses, AreRight
 ghost use Rattle.wf_typed_stmts.specs.StmtGrowth.{IsBegun, GrowsExprs};
 
 use crate::building::BodyBuilding;
-use std::alloc::Global;
 use wf_ast::parsed::{Block, Given, LoopClause, Via};
 use wf_ast::{AxiomRef, Clause, ExprId, LoopHead, Sequence, TextId};
-use wf_named::NamedNodes;
 use wf_text::faults::NoMemory;
-use wf_types_rules::Around;
+use wf_types_exprs::Here;
 use wf_types_stmts::ends::block_leaves;
 
 /// Adds the nodes of a condition, or of another expression of which the tree alone is wanted.
 pub(crate) fn add_tree(
-    alloc: Global,
+    here: &Here<'_>,
     nodes: &mut BodyBuilding,
-    named: &NamedNodes,
-    around: &Around<'_>,
     e: ExprId,
 ) -> Result<ExprId, NoMemory>
-    requires there { e.0 < length named.now.exprs }
-    requires begun { IsBegun named.now nodes.old }
-    requires right { IsRight around.now (known_in (named_package named.now)).statuses (expr_at (exprs_of named.now) e) }
+    requires there { e.0 < length here.now.nodes.now.exprs }
+    requires begun { IsBegun here.now.nodes.now nodes.old }
+    requires right { IsRight here.now.around.now (known_in (named_package here.now.nodes.now)).statuses (expr_at (exprs_of here.now.nodes.now) e) }
     ensures grows { OnOk result (GrowsExprs nodes.old nodes.new) }
-    ensures entries { OnOk result (AddsEntries nodes.old nodes.new (expr_entries around.now (expr_at (exprs_of named.now) e))) }
-    ensures begun { OnOk result (IsBegun named.now nodes.new) }
-    ensures made { IfOk result (λ r. HasTree (expr_tree around.now (expr_at (exprs_of named.now) e)) nodes.new r) }
+    ensures entries { OnOk result (AddsEntries nodes.old nodes.new (expr_entries here.now.around.now (expr_at (exprs_of here.now.nodes.now) e))) }
+    ensures begun { OnOk result (IsBegun here.now.nodes.now nodes.new) }
+    ensures made { IfOk result (λ r. HasTree (expr_tree here.now.around.now (expr_at (exprs_of here.now.nodes.now) e)) nodes.new r) }
 {
-    let made = nodes.push_value(alloc, named, around, e)?;
+    let made = nodes.push_value(here, e)?;
     Ok(made.node)
 }
 
 // Adds the nodes of a loop's promises, in order.
 fn add_clauses(
-    alloc: Global,
+    here: &Here<'_>,
     nodes: &mut BodyBuilding,
-    named: &NamedNodes,
-    around: &Around<'_>,
     clauses: &[LoopClause],
 ) -> Result<Sequence<(Clause, ExprId)>, NoMemory>
-    requires below { AllByRecursion (λ c. c.condition.0 < length named.now.exprs) clauses.now }
-    requires begun { IsBegun named.now nodes.old }
-    requires right { AreRightClauses around.now (known_in (named_package named.now)) (clauses_at (exprs_of named.now) clauses.now) }
+    requires below { AllByRecursion (λ c. c.condition.0 < length here.now.nodes.now.exprs) clauses.now }
+    requires begun { IsBegun here.now.nodes.now nodes.old }
+    requires right { AreRightClauses here.now.around.now (known_in (named_package here.now.nodes.now)) (clauses_at (exprs_of here.now.nodes.now) clauses.now) }
     ensures grows { OnOk result (GrowsExprs nodes.old nodes.new) }
-    ensures entries { OnOk result (AddsEntries nodes.old nodes.new (clause_entries around.now (clauses_at (exprs_of named.now) clauses.now))) }
-    ensures begun { OnOk result (IsBegun named.now nodes.new) }
-    ensures made { IfOk result (λ r. StandForClauses around.now (clauses_at (exprs_of named.now) clauses.now) nodes.new r) }
+    ensures entries { OnOk result (AddsEntries nodes.old nodes.new (clause_entries here.now.around.now (clauses_at (exprs_of here.now.nodes.now) clauses.now))) }
+    ensures begun { OnOk result (IsBegun here.now.nodes.now nodes.new) }
+    ensures made { IfOk result (λ r. StandForClauses here.now.around.now (clauses_at (exprs_of here.now.nodes.now) clauses.now) nodes.new r) }
 {
-    let mut made = Sequence::new(alloc);
+    let mut made = Sequence::new(here.alloc);
     for clause in clauses {
-        let e = add_tree(alloc, nodes, named, around, clause.condition)?;
+        let e = add_tree(here, nodes, clause.condition)?;
         made.push((clause.kind, e))?;
     }
     Ok(made)
@@ -68,53 +62,49 @@ fn add_clauses(
 
 /// Adds the nodes of what stands before a loop's body.
 pub(crate) fn add_head(
-    alloc: Global,
+    here: &Here<'_>,
     nodes: &mut BodyBuilding,
-    named: &NamedNodes,
-    around: &Around<'_>,
     condition: ExprId,
     clauses: &[LoopClause],
     body: &Block,
 ) -> Result<LoopHead, NoMemory>
-    requires there { condition.0 < length named.now.exprs }
-    requires below { AllByRecursion (λ c. c.condition.0 < length named.now.exprs) clauses.now }
-    requires body { BlockBelow (length named.now.stmts) body.now }
-    requires begun { IsBegun named.now nodes.old }
-    requires right { IsRight around.now (known_in (named_package named.now)).statuses (expr_at (exprs_of named.now) condition) }
-    requires clauses_right { AreRightClauses around.now (known_in (named_package named.now)) (clauses_at (exprs_of named.now) clauses.now) }
+    requires there { condition.0 < length here.now.nodes.now.exprs }
+    requires below { AllByRecursion (λ c. c.condition.0 < length here.now.nodes.now.exprs) clauses.now }
+    requires body { BlockBelow (length here.now.nodes.now.stmts) body.now }
+    requires begun { IsBegun here.now.nodes.now nodes.old }
+    requires right { IsRight here.now.around.now (known_in (named_package here.now.nodes.now)).statuses (expr_at (exprs_of here.now.nodes.now) condition) }
+    requires clauses_right { AreRightClauses here.now.around.now (known_in (named_package here.now.nodes.now)) (clauses_at (exprs_of here.now.nodes.now) clauses.now) }
     ensures grows { OnOk result (GrowsExprs nodes.old nodes.new) }
-    ensures entries { OnOk result (AddsEntries nodes.old nodes.new (expr_entries around.now (expr_at (exprs_of named.now) condition) ++ clause_entries around.now (clauses_at (exprs_of named.now) clauses.now))) }
-    ensures begun { OnOk result (IsBegun named.now nodes.new) }
-    ensures made { IfOk result (λ r. StandsForHead around.now (expr_at (exprs_of named.now) condition) (clauses_at (exprs_of named.now) clauses.now) (block_at (stmts_of named.now) body.now) body.now.close nodes.new r) }
+    ensures entries { OnOk result (AddsEntries nodes.old nodes.new (expr_entries here.now.around.now (expr_at (exprs_of here.now.nodes.now) condition) ++ clause_entries here.now.around.now (clauses_at (exprs_of here.now.nodes.now) clauses.now))) }
+    ensures begun { OnOk result (IsBegun here.now.nodes.now nodes.new) }
+    ensures made { IfOk result (λ r. StandsForHead here.now.around.now (expr_at (exprs_of here.now.nodes.now) condition) (clauses_at (exprs_of here.now.nodes.now) clauses.now) (block_at (stmts_of here.now.nodes.now) body.now) body.now.close nodes.new r) }
 {
-    let cond = add_tree(alloc, nodes, named, around, condition)?;
-    let clauses = add_clauses(alloc, nodes, named, around, clauses)?;
+    let cond = add_tree(here, nodes, condition)?;
+    let clauses = add_clauses(here, nodes, clauses)?;
     Ok(LoopHead {
         cond,
         clauses,
-        has_break: block_leaves(named, 0, body),
+        has_break: block_leaves(here.nodes, 0, body),
     })
 }
 
 // Adds the nodes of what is given for the letters of an axiom, in order.
 fn add_letters(
-    alloc: Global,
+    here: &Here<'_>,
     nodes: &mut BodyBuilding,
-    named: &NamedNodes,
-    around: &Around<'_>,
     given: &[Given],
 ) -> Result<Sequence<(TextId, ExprId)>, NoMemory>
-    requires below { LettersBelow (length named.now.texts) (length named.now.exprs) given.now }
-    requires begun { IsBegun named.now nodes.old }
-    requires right { AreRightLetters around.now (known_in (named_package named.now)) (letters_at named.now.texts (exprs_of named.now) given.now) }
+    requires below { LettersBelow (length here.now.nodes.now.texts) (length here.now.nodes.now.exprs) given.now }
+    requires begun { IsBegun here.now.nodes.now nodes.old }
+    requires right { AreRightLetters here.now.around.now (known_in (named_package here.now.nodes.now)) (letters_at here.now.nodes.now.texts (exprs_of here.now.nodes.now) given.now) }
     ensures grows { OnOk result (GrowsExprs nodes.old nodes.new) }
-    ensures entries { OnOk result (AddsEntries nodes.old nodes.new (letter_entries around.now (letters_at named.now.texts (exprs_of named.now) given.now))) }
-    ensures begun { OnOk result (IsBegun named.now nodes.new) }
-    ensures made { IfOk result (λ r. StandForLetters around.now (letters_at named.now.texts (exprs_of named.now) given.now) nodes.new r) }
+    ensures entries { OnOk result (AddsEntries nodes.old nodes.new (letter_entries here.now.around.now (letters_at here.now.nodes.now.texts (exprs_of here.now.nodes.now) given.now))) }
+    ensures begun { OnOk result (IsBegun here.now.nodes.now nodes.new) }
+    ensures made { IfOk result (λ r. StandForLetters here.now.around.now (letters_at here.now.nodes.now.texts (exprs_of here.now.nodes.now) given.now) nodes.new r) }
 {
-    let mut made = Sequence::new(alloc);
+    let mut made = Sequence::new(here.alloc);
     for one in given {
-        let e = add_tree(alloc, nodes, named, around, one.value)?;
+        let e = add_tree(here, nodes, one.value)?;
         made.push((one.name.text, e))?;
     }
     Ok(made)
@@ -122,23 +112,21 @@ fn add_letters(
 
 /// Adds the nodes of an axiom, if one is named.
 pub(crate) fn add_via(
-    alloc: Global,
+    here: &Here<'_>,
     nodes: &mut BodyBuilding,
-    named: &NamedNodes,
-    around: &Around<'_>,
     via: &Option<Via>,
 ) -> Result<Option<AxiomRef>, NoMemory>
-    requires below { AxiomBelow (length named.now.texts) (length named.now.exprs) via.now }
-    requires begun { IsBegun named.now nodes.old }
-    requires right { IsRightVia around.now (known_in (named_package named.now)) (via_at named.now.texts (exprs_of named.now) via.now) }
+    requires below { AxiomBelow (length here.now.nodes.now.texts) (length here.now.nodes.now.exprs) via.now }
+    requires begun { IsBegun here.now.nodes.now nodes.old }
+    requires right { IsRightVia here.now.around.now (known_in (named_package here.now.nodes.now)) (via_at here.now.nodes.now.texts (exprs_of here.now.nodes.now) via.now) }
     ensures grows { OnOk result (GrowsExprs nodes.old nodes.new) }
-    ensures entries { OnOk result (AddsEntries nodes.old nodes.new (via_entries around.now (via_at named.now.texts (exprs_of named.now) via.now))) }
-    ensures begun { OnOk result (IsBegun named.now nodes.new) }
-    ensures made { IfOk result (λ r. StandsForVia around.now (via_at named.now.texts (exprs_of named.now) via.now) nodes.new r) }
+    ensures entries { OnOk result (AddsEntries nodes.old nodes.new (via_entries here.now.around.now (via_at here.now.nodes.now.texts (exprs_of here.now.nodes.now) via.now))) }
+    ensures begun { OnOk result (IsBegun here.now.nodes.now nodes.new) }
+    ensures made { IfOk result (λ r. StandsForVia here.now.around.now (via_at here.now.nodes.now.texts (exprs_of here.now.nodes.now) via.now) nodes.new r) }
 {
     match via {
         Some(via) => {
-            let given = add_letters(alloc, nodes, named, around, via.given.as_slice())?;
+            let given = add_letters(here, nodes, via.given.as_slice())?;
             Ok(Some(AxiomRef {
                 name: via.axiom.text,
                 at: via.axiom.at,

@@ -1,9 +1,9 @@
-// Lists of a few items, and of all that a vector has.
+// Lists of a few items.
 
 ghost use Rattle.std.specs.Prelude.{◌≡◌, [], ◌∷◌, IfOk};
 
 use std::alloc::Global;
-use wf_ast::{Sequence, StmtNode};
+use wf_ast::Sequence;
 use wf_text::faults::NoMemory;
 
 /// A list of one.
@@ -22,17 +22,6 @@ pub(crate) fn two<T: Drop>(alloc: Global, a: T, b: T) -> Result<Sequence<T>, NoM
     let first = one(alloc, a)?;
     let mut all = first;
     all.push(b)?;
-    Ok(all)
-}
-
-/// The statements of a vector.
-pub(crate) fn all_of(alloc: Global, stmts: Vec<StmtNode>) -> Result<Sequence<StmtNode>, NoMemory>
-    ensures { IfOk result (λ all. all ≡ stmts.items) }
-{
-    let mut all = Sequence::new(alloc);
-    for stmt in stmts {
-        all.push(stmt)?;
-    }
     Ok(all)
 }
 

@@ -18,32 +18,29 @@ ghost use Rattle.wf_typed_stmts.specs.StmtGrowth.{IsBegun, GrowsExprs};
 use crate::building::BodyBuilding;
 use crate::calls::add_call;
 use crate::heads::{add_tree, add_via};
-use std::alloc::Global;
 use wf_ast::parsed::Via;
 use wf_ast::{ExprId, Stmt, StmtId, StmtNode};
 use wf_named::{NamedCall, NamedExpr, NamedNodes};
 use wf_text::faults::NoMemory;
 use wf_text::{Place, StatusId};
-use wf_types_rules::Around;
+use wf_types_exprs::Here;
 
 /// Adds the nodes of a call that is a whole statement.
 pub(crate) fn add_do_call(
-    alloc: Global,
+    here: &Here<'_>,
     nodes: &mut BodyBuilding,
-    named: &NamedNodes,
-    around: &Around<'_>,
     call: &NamedCall,
     at: Place,
 ) -> Result<StmtNode, NoMemory>
-    requires args { ArgsBelow (length named.now.exprs) call.now.args }
-    requires begun { IsBegun named.now nodes.old }
-    requires right { IsRightCall around.now (known_in (named_package named.now)) (call_at (exprs_of named.now) call.now) }
+    requires args { ArgsBelow (length here.now.nodes.now.exprs) call.now.args }
+    requires begun { IsBegun here.now.nodes.now nodes.old }
+    requires right { IsRightCall here.now.around.now (known_in (named_package here.now.nodes.now)) (call_at (exprs_of here.now.nodes.now) call.now) }
     ensures grows { OnOk result (GrowsExprs nodes.old nodes.new) }
-    ensures entries { OnOk result (AddsEntries nodes.old nodes.new (call_entries around.now (call_at (exprs_of named.now) call.now))) }
-    ensures begun { OnOk result (IsBegun named.now nodes.new) }
-    ensures made { IfOk result (λ n. MakesSimple (call_tree around.now typed.to_nothing false (call_at (exprs_of named.now) call.now)) at nodes.new n) }
+    ensures entries { OnOk result (AddsEntries nodes.old nodes.new (call_entries here.now.around.now (call_at (exprs_of here.now.nodes.now) call.now))) }
+    ensures begun { OnOk result (IsBegun here.now.nodes.now nodes.new) }
+    ensures made { IfOk result (λ n. MakesSimple (call_tree here.now.around.now typed.to_nothing false (call_at (exprs_of here.now.nodes.now) call.now)) at nodes.new n) }
 {
-    let node = add_call(alloc, nodes, named, around, None, false, call, at)?;
+    let node = add_call(here, nodes, None, false, call, at)?;
     Ok(node)
 }
 
@@ -61,23 +58,21 @@ pub(crate) fn loop_number(loops: &[u32], outwards: u32) -> StmtId
 
 // Adds the nodes of an expression that may be absent.
 fn add_part(
-    alloc: Global,
+    here: &Here<'_>,
     nodes: &mut BodyBuilding,
-    named: &NamedNodes,
-    around: &Around<'_>,
     part: Option<ExprId>,
 ) -> Result<Option<ExprId>, NoMemory>
-    requires below { IsBelow (length named.now.exprs) part }
-    requires begun { IsBegun named.now nodes.old }
-    requires right { IsRightEnd around.now (known_in (named_package named.now)).statuses (part_at (exprs_of named.now) part) }
+    requires below { IsBelow (length here.now.nodes.now.exprs) part }
+    requires begun { IsBegun here.now.nodes.now nodes.old }
+    requires right { IsRightEnd here.now.around.now (known_in (named_package here.now.nodes.now)).statuses (part_at (exprs_of here.now.nodes.now) part) }
     ensures grows { OnOk result (GrowsExprs nodes.old nodes.new) }
-    ensures entries { OnOk result (AddsEntries nodes.old nodes.new (end_entries around.now (part_at (exprs_of named.now) part))) }
-    ensures begun { OnOk result (IsBegun named.now nodes.new) }
-    ensures made { IfOk result (λ r. StandsForPart around.now (part_at (exprs_of named.now) part) nodes.new r) }
+    ensures entries { OnOk result (AddsEntries nodes.old nodes.new (end_entries here.now.around.now (part_at (exprs_of here.now.nodes.now) part))) }
+    ensures begun { OnOk result (IsBegun here.now.nodes.now nodes.new) }
+    ensures made { IfOk result (λ r. StandsForPart here.now.around.now (part_at (exprs_of here.now.nodes.now) part) nodes.new r) }
 {
     match part {
         Some(e) => {
-            let made = add_tree(alloc, nodes, named, around, e)?;
+            let made = add_tree(here, nodes, e)?;
             Ok(Some(made))
         }
         None => Ok(None),
@@ -86,22 +81,20 @@ fn add_part(
 
 /// Adds the nodes of what a `return` gives.
 pub(crate) fn add_return(
-    alloc: Global,
+    here: &Here<'_>,
     nodes: &mut BodyBuilding,
-    named: &NamedNodes,
-    around: &Around<'_>,
     value: Option<ExprId>,
     at: Place,
 ) -> Result<StmtNode, NoMemory>
-    requires below { IsBelow (length named.now.exprs) value }
-    requires begun { IsBegun named.now nodes.old }
-    requires right { IsRightEnd around.now (known_in (named_package named.now)).statuses (part_at (exprs_of named.now) value) }
+    requires below { IsBelow (length here.now.nodes.now.exprs) value }
+    requires begun { IsBegun here.now.nodes.now nodes.old }
+    requires right { IsRightEnd here.now.around.now (known_in (named_package here.now.nodes.now)).statuses (part_at (exprs_of here.now.nodes.now) value) }
     ensures grows { OnOk result (GrowsExprs nodes.old nodes.new) }
-    ensures entries { OnOk result (AddsEntries nodes.old nodes.new (end_entries around.now (part_at (exprs_of named.now) value))) }
-    ensures begun { OnOk result (IsBegun named.now nodes.new) }
-    ensures made { IfOk result (λ n. MakesSimple (typed.give_back (returned_tree around.now (part_at (exprs_of named.now) value))) at nodes.new n) }
+    ensures entries { OnOk result (AddsEntries nodes.old nodes.new (end_entries here.now.around.now (part_at (exprs_of here.now.nodes.now) value))) }
+    ensures begun { OnOk result (IsBegun here.now.nodes.now nodes.new) }
+    ensures made { IfOk result (λ n. MakesSimple (typed.give_back (returned_tree here.now.around.now (part_at (exprs_of here.now.nodes.now) value))) at nodes.new n) }
 {
-    let value = add_part(alloc, nodes, named, around, value)?;
+    let value = add_part(here, nodes, value)?;
     Ok(StmtNode {
         stmt: Stmt::Return(value),
         at,
@@ -145,26 +138,24 @@ pub(crate) fn yield_node(nodes: &BodyBuilding, named: &NamedNodes, e: ExprId, at
 
 /// Adds the nodes of an `assert`'s parts.
 pub(crate) fn add_claim(
-    alloc: Global,
+    here: &Here<'_>,
     nodes: &mut BodyBuilding,
-    named: &NamedNodes,
-    around: &Around<'_>,
     goal: ExprId,
     via: &Option<Via>,
     at: Place,
 ) -> Result<StmtNode, NoMemory>
-    requires there { goal.0 < length named.now.exprs }
-    requires below { AxiomBelow (length named.now.texts) (length named.now.exprs) via.now }
-    requires begun { IsBegun named.now nodes.old }
-    requires right { IsRight around.now (known_in (named_package named.now)).statuses (expr_at (exprs_of named.now) goal) }
-    requires via_right { IsRightVia around.now (known_in (named_package named.now)) (via_at named.now.texts (exprs_of named.now) via.now) }
+    requires there { goal.0 < length here.now.nodes.now.exprs }
+    requires below { AxiomBelow (length here.now.nodes.now.texts) (length here.now.nodes.now.exprs) via.now }
+    requires begun { IsBegun here.now.nodes.now nodes.old }
+    requires right { IsRight here.now.around.now (known_in (named_package here.now.nodes.now)).statuses (expr_at (exprs_of here.now.nodes.now) goal) }
+    requires via_right { IsRightVia here.now.around.now (known_in (named_package here.now.nodes.now)) (via_at here.now.nodes.now.texts (exprs_of here.now.nodes.now) via.now) }
     ensures grows { OnOk result (GrowsExprs nodes.old nodes.new) }
-    ensures entries { OnOk result (AddsEntries nodes.old nodes.new (expr_entries around.now (expr_at (exprs_of named.now) goal) ++ via_entries around.now (via_at named.now.texts (exprs_of named.now) via.now))) }
-    ensures begun { OnOk result (IsBegun named.now nodes.new) }
-    ensures made { IfOk result (λ n. MakesSimple (typed.claim (cond_in (expr_tree around.now (expr_at (exprs_of named.now) goal))) (axiom_tree around.now (via_at named.now.texts (exprs_of named.now) via.now))) at nodes.new n) }
+    ensures entries { OnOk result (AddsEntries nodes.old nodes.new (expr_entries here.now.around.now (expr_at (exprs_of here.now.nodes.now) goal) ++ via_entries here.now.around.now (via_at here.now.nodes.now.texts (exprs_of here.now.nodes.now) via.now))) }
+    ensures begun { OnOk result (IsBegun here.now.nodes.now nodes.new) }
+    ensures made { IfOk result (λ n. MakesSimple (typed.claim (cond_in (expr_tree here.now.around.now (expr_at (exprs_of here.now.nodes.now) goal))) (axiom_tree here.now.around.now (via_at here.now.nodes.now.texts (exprs_of here.now.nodes.now) via.now))) at nodes.new n) }
 {
-    let goal = add_tree(alloc, nodes, named, around, goal)?;
-    let axiom = add_via(alloc, nodes, named, around, via)?;
+    let goal = add_tree(here, nodes, goal)?;
+    let axiom = add_via(here, nodes, via)?;
     Ok(StmtNode {
         stmt: Stmt::Assert { goal, axiom },
         at,

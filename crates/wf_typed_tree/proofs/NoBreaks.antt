@@ -5,13 +5,13 @@ use Rattle.std.specs.Bool.{⊤}
 use Rattle.wf_text.specs.declared.place.Place.{Place}
 use Rattle.wf_text.specs.declared.rules.Refusal.{Refusal}
 use Rattle.wf_text.specs.declared.rules.Rule.{Rule}
-use Rattle.wf_text.specs.Precedence.{Decides}
+use Rattle.wf_text.specs.Precedence.{Decides, refused}
 use Rattle.wf_named.specs.NamedTree.{NamedPackageTree}
 use Rattle.wf_types_rules.specs.declared.settings.Setting.{Setting}
 use Rattle.wf_types_rules.specs.Operands.{first_of}
 use Rattle.wf_types_rules.specs.Parts.{Part, IsPart}
 use Rattle.wf_types_rules.specs.Judgements.{at_if, fails, both_fail}
-use Rattle.wf_types_rules.specs.TypeRules.{refused, IsRule, Breaks}
+use Rattle.wf_types_rules.specs.TypeRules.{IsRule, Breaks}
 use Rattle.wf_types_rules.specs.FirstBreak.{deciding}
 use Rattle.wf_types_rules.proofs.FirstBreakLaws.{deciding-decides}
 

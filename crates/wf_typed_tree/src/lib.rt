@@ -1,4 +1,4 @@
-// The typed tree that a resolved package stands for, as a definition: a function over trees. No code makes it yet.
+// The typed tree that a resolved package stands for, as a definition: a function over trees. wf_types makes it.
 #![tactic(auto)]
 
 pub mod examples;

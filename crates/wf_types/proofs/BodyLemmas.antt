@@ -8,10 +8,10 @@ use Rattle.std.proofs.lemmas.Option.{slice_get-map}
 use Rattle.wf_ast.specs.declared.declarations.Method.{Method}
 use Rattle.wf_ast.specs.declared.numbers.ExprId.{ExprId}
 use Rattle.wf_ast.specs.declared.numbers.StmtId.{StmtId}
-use Rattle.wf_ast.specs.declared.resolved.Block as resolved
-use Rattle.wf_ast.specs.declared.resolved.Stmt.{Stmt}
-use Rattle.wf_ast.specs.declared.resolved.Stmt.TheVariants as stmts
-use Rattle.wf_ast.specs.declared.resolved.StmtNode.{StmtNode}
+use Rattle.wf_ast.specs.declared.typed_code.Block as typed_code
+use Rattle.wf_ast.specs.declared.typed_code.Stmt.{Stmt}
+use Rattle.wf_ast.specs.declared.typed_code.Stmt.TheVariants as stmts
+use Rattle.wf_ast.specs.declared.typed_code.StmtNode.{StmtNode}
 use Rattle.wf_ast.specs.declared.typed_nodes.TypedNodes.{TypedNodes}
 use Rattle.wf_ast.specs.BaseStatuses.{base_statuses}
 use Rattle.wf_ast.specs.TypedTree.{Block}
@@ -67,21 +67,21 @@ module _ (p : NamedPackageTree) (old new : TypedNodes) (grows : GrowsStmts old n
       let same : onto (stmt_makers new) s ≡ onto (stmt_makers old) s = ap (λ o. unwrap_or o no_stmt) (sym (grows.same_makers s.0 (below s.0 (length old.stmts) both.0))) in
       ap (λ (f : Block → Block). f (block_made (onto (stmt_makers new)) ss)) same ∙ ap (onto (stmt_makers old) s) (items_kept ss both.1)
 
-  body_kept : (n : ℕ) (m : NamedMethodTree) (b : resolved.Block) → IsBody p old n m b → IsBody p new n m b
+  body_kept : (n : ℕ) (m : NamedMethodTree) (b : typed_code.Block) → IsBody p old n m b → IsBody p new n m b
   body_kept n m b is = record { below = numbers_wider (length old.stmts) (length new.stmts) b.items grows.stmts is.below; makes = items_kept b.items is.below ∙ is.makes }
 
-  bodies_kept : (n : ℕ) (ms : List NamedMethodTree) (bs : List resolved.Block) → AreBodies p old n ms bs → AreBodies p new n ms bs
+  bodies_kept : (n : ℕ) (ms : List NamedMethodTree) (bs : List typed_code.Block) → AreBodies p old n ms bs → AreBodies p new n ms bs
   bodies_kept n [] [] h = tt
   bodies_kept n [] (b ∷ bs) h = absurd h
   bodies_kept n (m ∷ ms) [] h = absurd h
   bodies_kept n (m ∷ ms) (b ∷ bs) h = (body_kept n m b h.0, bodies_kept (n + count_block m.body) ms bs h.1)
 
 -- One body more.
-module _ (p : NamedPackageTree) (nodes : TypedNodes) (m : NamedMethodTree) (b : resolved.Block) where
+module _ (p : NamedPackageTree) (nodes : TypedNodes) (m : NamedMethodTree) (b : typed_code.Block) where
   moved : (n k : ℕ) → n ≡ k → IsBody p nodes n m b → IsBody p nodes k m b
   moved n k e is = let P : ℕ → Type 0 = λ i. IsBody p nodes i m b in subst P e is
 
-  bodies_more : (n : ℕ) (ms : List NamedMethodTree) (bs : List resolved.Block) → AreBodies p nodes n ms bs → IsBody p nodes (n + count_methods ms) m b → AreBodies p nodes n (ms ++ m ∷ []) (bs ++ b ∷ [])
+  bodies_more : (n : ℕ) (ms : List NamedMethodTree) (bs : List typed_code.Block) → AreBodies p nodes n ms bs → IsBody p nodes (n + count_methods ms) m b → AreBodies p nodes n (ms ++ m ∷ []) (bs ++ b ∷ [])
   bodies_more n [] [] h is = (moved (n + 0) n (omega arith) is, tt)
   bodies_more n [] (c ∷ bs) h is = absurd h
   bodies_more n (l ∷ ms) [] h is = absurd h
@@ -92,7 +92,7 @@ count_more : (ms : List NamedMethodTree) (m : NamedMethodTree) → count_methods
 count_more [] m = omega arith
 count_more (l ∷ ms) m = let e = count_more ms m in omega (arith, e)
 
-pub bodies_next : (q : NamedParts) (done : List NamedMethodTree) (old new : TypedNodes) (bs : List resolved.Block) (m : NamedMethodTree) (b : resolved.Block) → BodiesMade q done old bs
+pub bodies_next : (q : NamedParts) (done : List NamedMethodTree) (old new : TypedNodes) (bs : List typed_code.Block) (m : NamedMethodTree) (b : typed_code.Block) → BodiesMade q done old bs
     → Adds [] old new → AddsEntries old new (method_entries (named_package q) m) → IsBegun q new → StandsForBlock (in_method (named_package q) m) [] (length old.stmts) m.body new b
     → BodiesMade q (done ++ m ∷ []) new (bs ++ b ∷ [])
 bodies_next q done old new bs m b made adds more begun stands = record {
@@ -146,17 +146,17 @@ pub methods_more : {X Y : Type 0} (made : X → Y) (xs : List X) (i : ℕ) (x : 
 methods_more made xs i x low is =
     ap (map made) (take_more xs i x low ∙ ap (λ y. take i xs ++ y ∷ []) (sym is)) ∙ map-append made (take i xs) (x ∷ [])
 
-pub bodies_with : (q : NamedParts) (i : ℕ) (m : NamedMethod) → i < length q.methods → m ≡ get_or q.methods i m → (old new : TypedNodes) (bs cs : List resolved.Block) (b : resolved.Block)
+pub bodies_with : (q : NamedParts) (i : ℕ) (m : NamedMethod) → i < length q.methods → m ≡ get_or q.methods i m → (old new : TypedNodes) (bs cs : List typed_code.Block) (b : typed_code.Block)
     → BodiesMade q (map (method_made q.texts (exprs_of q) (stmts_of q)) (take i q.methods)) old bs → Adds [] old new → AddsEntries old new (method_entries (named_package q) (method_made q.texts (exprs_of q) (stmts_of q) m)) → IsBegun q new
     → StandsForBlock (in_method (named_package q) (method_made q.texts (exprs_of q) (stmts_of q) m)) [] (length old.stmts) (method_made q.texts (exprs_of q) (stmts_of q) m).body new b
     → cs ≡ bs ++ b ∷ [] → BodiesMade q (map (method_made q.texts (exprs_of q) (stmts_of q)) (take (i + 1) q.methods)) new cs
 bodies_with q i m low is old new bs cs b made adds more begun stands e =
     let of = method_made q.texts (exprs_of q) (stmts_of q) in
     let P : List NamedMethodTree → Type 0 = λ ms. BodiesMade q ms new cs in
-    let R : List resolved.Block → Type 0 = λ xs. BodiesMade q (map of (take i q.methods) ++ of m ∷ []) new xs in
+    let R : List typed_code.Block → Type 0 = λ xs. BodiesMade q (map of (take i q.methods) ++ of m ∷ []) new xs in
     subst P (sym (methods_more of q.methods i m low is)) (subst R (sym e) (bodies_next q (map of (take i q.methods)) old new bs (of m) b made adds more begun stands))
 
-pub bodies_over : (q : NamedParts) (i : ℕ) (nodes : TypedNodes) (bs : List resolved.Block) → length q.methods ≤ i
+pub bodies_over : (q : NamedParts) (i : ℕ) (nodes : TypedNodes) (bs : List typed_code.Block) → length q.methods ≤ i
     → BodiesMade q (map (method_made q.texts (exprs_of q) (stmts_of q)) (take i q.methods)) nodes bs → BodiesMade q (named_package q).methods nodes bs
 bodies_over q i nodes bs past made =
     let P : List NamedMethodTree → Type 0 = λ ms. BodiesMade q ms nodes bs in

@@ -4,7 +4,7 @@ use Rattle.std.proofs.lemmas.List.{append_assoc, append-nil, drop_all}
 use Rattle.std.proofs.lemmas.Option.{slice_get-get_or}
 use Rattle.wf_text.specs.declared.place.Place.{Place}
 use Rattle.wf_ast.specs.declared.numbers.ExprId.{ExprId}
-use Rattle.wf_ast.specs.declared.resolved.Block as resolved
+use Rattle.wf_ast.specs.declared.typed_code.Block as typed_code
 use Rattle.wf_ast.specs.declared.typed_nodes.TypedNodes.{TypedNodes}
 use Rattle.wf_named.specs.declared.declarations.NamedVar.{NamedVar}
 use Rattle.wf_named.specs.declared.nodes.Variable.TheVariants as variables
@@ -58,6 +58,6 @@ pub entries_more : (p : NamedPackageTree) (ms : List NamedMethodTree) (m : Named
 entries_more p ms m old new is adds = adds.is ∙ ap (λ es. es ++ method_entries p m) is ∙ sym (methods_added p ms m)
 
 -- Bodies have no entries.
-pub entries_with : (nodes : TypedNodes) (bs : List resolved.Block) (es : List ExprId) → entries (record nodes { bodies = bs; first_locals = es }) ≡ entries nodes
+pub entries_with : (nodes : TypedNodes) (bs : List typed_code.Block) (es : List ExprId) → entries (record nodes { bodies = bs; first_locals = es }) ≡ entries nodes
 unfolding entries
 entries_with nodes bs es = refl

@@ -7,7 +7,7 @@ use Rattle.wf_text.specs.declared.place.Place.{Place}
 use Rattle.wf_ast.specs.declared.numbers.ExprId.{ExprId}
 use Rattle.wf_ast.specs.declared.declarations.Method.{Method}
 use Rattle.wf_ast.specs.declared.declarations.Var.{Var}
-use Rattle.wf_ast.specs.declared.resolved.Block as resolved
+use Rattle.wf_ast.specs.declared.typed_code.Block as typed_code
 use Rattle.wf_ast.specs.declared.typed_nodes.TypedNodes.{TypedNodes}
 use Rattle.wf_ast.specs.declared.types.Ty.{Ty}
 use Rattle.wf_ast.specs.declared.types.Ty.TheVariants as types
@@ -109,7 +109,7 @@ module _ (texts : List (List ℕ)) (es : List NamedExprTree) (xs locals : List N
       subst P (sym named_so) (subst S inside (subst N (sym same) (nodes_kept s old new first (places_named locals) g h)))
 
 -- A block stands where it stood, since the nodes of locals are no statements.
-pub block_inside : (s t : Setting) (old with_locals new : TypedNodes) (block : NamedBlockTree) (b : resolved.Block) → s ≡ t → GrowsExprs old with_locals
+pub block_inside : (s t : Setting) (old with_locals new : TypedNodes) (block : NamedBlockTree) (b : typed_code.Block) → s ≡ t → GrowsExprs old with_locals
     → StandsForBlock s [] (length with_locals.stmts) block new b → StandsForBlock t [] (length old.stmts) block new b
 block_inside s t old with_locals new block b inside g h =
     let N : ℕ → Type 0 = λ n. StandsForBlock s [] n block new b in
@@ -125,11 +125,11 @@ methods_with p old new (f ∷ es) [] e m g h here = absurd h
 methods_with p old new (f ∷ es) (n ∷ ms) e m g h here = (nodes_kept (in_method p n) old new f.0 (places_of n.locals) g h.0, methods_with p old new es ms e m g h.1 here)
 
 -- The bodies of a package change no node.
-tree_placed : (nodes : TypedNodes) (bs : List resolved.Block) (fs : List ExprId) (e : ExprId) → tree_of (record nodes { bodies = bs; first_locals = fs }) e ≡ tree_of nodes e
+tree_placed : (nodes : TypedNodes) (bs : List typed_code.Block) (fs : List ExprId) (e : ExprId) → tree_of (record nodes { bodies = bs; first_locals = fs }) e ≡ tree_of nodes e
 unfolding expr_trees
 tree_placed nodes bs fs e = refl
 
-pub locals_placed : (p : NamedPackageTree) (nodes : TypedNodes) (bs : List resolved.Block) (all es : List ExprId) (ms : List NamedMethodTree) → MethodsHaveNodes p nodes es ms
+pub locals_placed : (p : NamedPackageTree) (nodes : TypedNodes) (bs : List typed_code.Block) (all es : List ExprId) (ms : List NamedMethodTree) → MethodsHaveNodes p nodes es ms
     → MethodsHaveNodes p (record nodes { bodies = bs; first_locals = all }) es ms
 locals_placed p nodes bs all [] [] h = tt
 locals_placed p nodes bs all [] (m ∷ ms) h = absurd h

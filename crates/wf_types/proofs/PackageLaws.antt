@@ -2,7 +2,7 @@
 use Rattle.std.proofs.Common.{◌≡◌, ◌∙◌, refl, ap, ℕ, ◌+◌, List, [], ◌∷◌, map, slice_get, Option, Some, None, option_map}
 use Rattle.std.specs.Prelude.{unwrap_or}
 use Rattle.wf_ast.specs.declared.parsed.Name.{Name}
-use Rattle.wf_ast.specs.declared.resolved.Block as resolved
+use Rattle.wf_ast.specs.declared.typed_code.Block as typed_code
 use Rattle.wf_ast.specs.declared.typed_nodes.TypedNodes.{TypedNodes}
 use Rattle.wf_ast.specs.declared.types.Ty.{Ty}
 use Rattle.wf_ast.specs.TypedTrees.{text_of}
@@ -56,7 +56,7 @@ module _ (q : NamedParts) (nodes : TypedNodes) (texts : nodes.texts ≡ q.texts)
       ap (λ x. x ∷ map (struct_of nodes) (map (declared_struct q) ss)) (struct_same s)
       ∙ ap (λ xs. typed_struct (named_package q) (struct_made q.texts (exprs_of q) s) ∷ xs) (structs_same ss)
 
-  method_same : (m : NamedMethod) (n : ℕ) (body : resolved.Block) → IsBody (named_package q) nodes n (method_made q.texts (exprs_of q) (stmts_of q) m) body
+  method_same : (m : NamedMethod) (n : ℕ) (body : typed_code.Block) → IsBody (named_package q) nodes n (method_made q.texts (exprs_of q) (stmts_of q) m) body
       → method_of nodes (declared_method q m) body ≡ typed_method (named_package q) n (method_made q.texts (exprs_of q) (stmts_of q) m)
   method_same m n body is =
       let name = name_same m.name in
@@ -66,7 +66,7 @@ module _ (q : NamedParts) (nodes : TypedNodes) (texts : nodes.texts ≡ q.texts)
       let gives = result_same (declared (for_types p) (roles.Result m.mark)) (method_made q.texts (exprs_of q) (stmts_of q) m).gives in
       rw (name, args, locals, gives, is.makes) refl
 
-  methods_same : (ms : List NamedMethod) (bodies : List resolved.Block) (n : ℕ) → AreBodies (named_package q) nodes n (map (method_made q.texts (exprs_of q) (stmts_of q)) ms) bodies
+  methods_same : (ms : List NamedMethod) (bodies : List typed_code.Block) (n : ℕ) → AreBodies (named_package q) nodes n (map (method_made q.texts (exprs_of q) (stmts_of q)) ms) bodies
       → methods_of nodes (map (declared_method q) ms) bodies ≡ typed_methods (named_package q) n (map (method_made q.texts (exprs_of q) (stmts_of q)) ms)
   methods_same [] bodies n h = refl
   methods_same (m ∷ ms) [] n h = absurd h

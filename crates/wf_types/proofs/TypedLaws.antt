@@ -8,10 +8,10 @@ use Rattle.wf_text.specs.declared.categories.Category.TheVariants.{Fine}
 use Rattle.wf_text.specs.StatusText.{category_of}
 use Rattle.wf_ast.specs.declared.numbers.ExprId.{ExprId}
 use Rattle.wf_ast.specs.declared.types.Ty.{Ty}
-use Rattle.wf_ast.specs.declared.resolved.Block as resolved
-use Rattle.wf_ast.specs.declared.resolved.Stmt.{Stmt}
-use Rattle.wf_ast.specs.declared.resolved.Stmt.TheVariants as stmts
-use Rattle.wf_ast.specs.declared.resolved.StmtNode.{StmtNode}
+use Rattle.wf_ast.specs.declared.typed_code.Block as typed_code
+use Rattle.wf_ast.specs.declared.typed_code.Stmt.{Stmt}
+use Rattle.wf_ast.specs.declared.typed_code.Stmt.TheVariants as stmts
+use Rattle.wf_ast.specs.declared.typed_code.StmtNode.{StmtNode}
 use Rattle.wf_ast.specs.declared.typed_nodes.TypedNodes.{TypedNodes}
 use Rattle.wf_ast.specs.StatementOrder.{stand_in_order}
 use Rattle.wf_ast.specs.TypedInvariant.{each_numbered, stmt_below, block_below, has_kind_byte, has_few_variables, numbers_in, numbers_from, IsTyped}
@@ -83,13 +83,13 @@ statuses_told q none =
     texts_told p q.package_name (map (word_at q.texts) q.statuses) (subst P (own_words q) (statuses-fine p none))
 
 -- One body for each method, and each of statements that are there.
-bodies_long : (p : NamedPackageTree) (nodes : TypedNodes) (n : ℕ) (ms : List NamedMethodTree) (bs : List resolved.Block) → AreBodies p nodes n ms bs → length bs ≡ length ms
+bodies_long : (p : NamedPackageTree) (nodes : TypedNodes) (n : ℕ) (ms : List NamedMethodTree) (bs : List typed_code.Block) → AreBodies p nodes n ms bs → length bs ≡ length ms
 bodies_long p nodes n [] [] h = refl
 bodies_long p nodes n [] (b ∷ bs) h = absurd h
 bodies_long p nodes n (m ∷ ms) [] h = absurd h
 bodies_long p nodes n (m ∷ ms) (b ∷ bs) h = let e = bodies_long p nodes (n + count_block m.body) ms bs h.1 in omega (arith, e)
 
-bodies_below : (p : NamedPackageTree) (nodes : TypedNodes) (n : ℕ) (ms : List NamedMethodTree) (bs : List resolved.Block) → AreBodies p nodes n ms bs
+bodies_below : (p : NamedPackageTree) (nodes : TypedNodes) (n : ℕ) (ms : List NamedMethodTree) (bs : List typed_code.Block) → AreBodies p nodes n ms bs
     → list_all (λ b. block_below (length nodes.stmts) b) bs ≡ true
 bodies_below p nodes n [] [] h = refl
 bodies_below p nodes n [] (b ∷ bs) h = absurd h
@@ -125,11 +125,11 @@ unfolding declared_nodes named_package
 methods_long q = length-map q.methods (declared_method q) ∙ sym (length-map q.methods (method_made q.texts (exprs_of q) (stmts_of q)))
 
 -- The bodies change no tree.
-blocks_same : (nodes : TypedNodes) (bs : List resolved.Block) (es : List ExprId) (b : resolved.Block) → block_of (record nodes { bodies = bs; first_locals = es }) b ≡ block_of nodes b
+blocks_same : (nodes : TypedNodes) (bs : List typed_code.Block) (es : List ExprId) (b : typed_code.Block) → block_of (record nodes { bodies = bs; first_locals = es }) b ≡ block_of nodes b
 unfolding stmt_makers expr_trees
 blocks_same nodes bs es b = refl
 
-bodies_placed : (p : NamedPackageTree) (nodes : TypedNodes) (all : List resolved.Block) (es : List ExprId) (n : ℕ) (ms : List NamedMethodTree) (bs : List resolved.Block) → AreBodies p nodes n ms bs
+bodies_placed : (p : NamedPackageTree) (nodes : TypedNodes) (all : List typed_code.Block) (es : List ExprId) (n : ℕ) (ms : List NamedMethodTree) (bs : List typed_code.Block) → AreBodies p nodes n ms bs
     → AreBodies p (record nodes { bodies = all; first_locals = es }) n ms bs
 bodies_placed p nodes all es n [] [] h = tt
 bodies_placed p nodes all es n [] (b ∷ bs) h = absurd h
@@ -141,7 +141,7 @@ declared_alone : (q : NamedParts) → without_bodies (declared_nodes q) ≡ decl
 unfolding declared_nodes
 declared_alone q = refl
 
-whole_made : (q : NamedParts) (nodes : TypedNodes) (bs : List resolved.Block) (es : List ExprId) → BodiesMade q (named_package q).methods nodes bs
+whole_made : (q : NamedParts) (nodes : TypedNodes) (bs : List typed_code.Block) (es : List ExprId) → BodiesMade q (named_package q).methods nodes bs
     → MethodsHaveNodes (named_package q) nodes es (named_package q).methods → IsBuilt nodes → IsWhole q (record nodes { bodies = bs; first_locals = es })
 whole_made q nodes bs es made locals built = record {
   declared = ap without_bodies made.declared ∙ declared_alone q;
@@ -158,7 +158,7 @@ pub declared_bare : (q : NamedParts) → without_nodes (declared_nodes q) ≡ de
 unfolding declared_nodes
 declared_bare q = refl
 
-pub whole_at : (q : NamedParts) (nodes all whole : TypedNodes) (bs : List resolved.Block) (es : List ExprId) → BodiesMade q (named_package q).methods nodes bs
+pub whole_at : (q : NamedParts) (nodes all whole : TypedNodes) (bs : List typed_code.Block) (es : List ExprId) → BodiesMade q (named_package q).methods nodes bs
     → MethodsHaveNodes (named_package q) nodes es (named_package q).methods → all ≡ nodes → IsBuilt all → whole ≡ record all { bodies = bs; first_locals = es } → IsWhole q whole
 whole_at q nodes all whole bs es made locals same built is =
     let M : TypedNodes → Type 0 = λ x. BodiesMade q (named_package q).methods x bs in

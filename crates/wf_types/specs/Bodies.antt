@@ -1,6 +1,6 @@
 -- The bodies of a package's methods among its nodes.
 use Rattle.std.specs.Prelude.{◌≡◌, ◌+◌, ℕ, ⊤, Bool, true, ◌&&◌, List, [], ◌∷◌, length, slice_get, Some, nat_lt}
-use Rattle.wf_ast.specs.declared.resolved.Block as resolved
+use Rattle.wf_ast.specs.declared.typed_code.Block as typed_code
 use Rattle.wf_ast.specs.declared.typed_nodes.TypedNodes.{TypedNodes}
 use Rattle.wf_ast.specs.TypedTrees.{block_of}
 use Rattle.wf_ast.specs.TypedInvariant.{block_below}
@@ -22,18 +22,18 @@ abbrev pub without_bodies : TypedNodes → TypedNodes
 without_bodies nodes = record nodes { exprs = []; types = []; constants = []; stmts = []; bodies = []; first_locals = [] }
 
 -- The body of a method, `n` being the number of the first statement in it.
-pub record IsBody (p : NamedPackageTree) (nodes : TypedNodes) (n : ℕ) (m : NamedMethodTree) (body : resolved.Block) : Type 0 where
+pub record IsBody (p : NamedPackageTree) (nodes : TypedNodes) (n : ℕ) (m : NamedMethodTree) (body : typed_code.Block) : Type 0 where
   pub below : block_below (length nodes.stmts) body ≡ true
   pub makes : block_of nodes body ≡ block_tree (in_method p m) [] n m.body
 
 -- One for each method, in order.
-abbrev pub AreBodies : NamedPackageTree → TypedNodes → (n : ℕ) → List NamedMethodTree → List resolved.Block → Type 0
+abbrev pub AreBodies : NamedPackageTree → TypedNodes → (n : ℕ) → List NamedMethodTree → List typed_code.Block → Type 0
 AreBodies p nodes n [] [] = ⊤
 AreBodies p nodes n (m ∷ ms) (body ∷ bodies) = IsBody p nodes n m body × AreBodies p nodes (n + count_block m.body) ms bodies
 AreBodies p nodes n ms bodies = ⊥
 
 -- What is made while the bodies of methods are added one by one: `done` are the methods that have theirs.
-pub record BodiesMade (q : NamedParts) (done : List NamedMethodTree) (nodes : TypedNodes) (made : List resolved.Block) : Type 0 where
+pub record BodiesMade (q : NamedParts) (done : List NamedMethodTree) (nodes : TypedNodes) (made : List typed_code.Block) : Type 0 where
   pub declared : without_nodes nodes ≡ declared_nodes q
   pub begun : IsBegun q nodes
   pub jumps : jumps_below (length nodes.stmts) nodes.stmts ≡ true

@@ -21,7 +21,7 @@ use wf_text::faults::NoMemory;
 use wf_typed_stmts::{BodyBuilding, elaborate_body};
 use wf_types_decls::Judged;
 use wf_types_decls::packages::round_body;
-use wf_types_rules::Around;
+use wf_types_exprs::Here;
 
 // The body of a method, and the expression that is its first local.
 #[derive(Drop)]
@@ -37,28 +37,26 @@ pub(crate) struct MadeBodies {
     pub first_locals: Sequence<ExprId>,
 }
 
-// Adds the nodes of a method: of the names of its locals, and after them those of its body. `inside` stands round the body.
+// Adds the nodes of a method: of the names of its locals, and after them those of its body. `here` knows what stands round the body.
 fn elaborate_method(
-    alloc: Global,
+    here: &Here<'_>,
     nodes: &mut BodyBuilding,
-    named: &NamedNodes,
-    inside: &Around<'_>,
     method: &NamedMethod,
 ) -> Result<MadeBody, NoMemory>
-    requires inside { inside.now ≡ in_method (named_package named.now) (method_made named.now.texts (exprs_of named.now) (stmts_of named.now) method.now) }
-    requires below { NamedMethodBelow (length named.now.texts) (length named.now.exprs) (length named.now.stmts) method.now }
-    requires begun { IsBegun named.now nodes.old }
-    requires right { IsRightBlock (in_method (named_package named.now) (method_made named.now.texts (exprs_of named.now) (stmts_of named.now) method.now)) (known_in (named_package named.now)) 0 (method_made named.now.texts (exprs_of named.now) (stmts_of named.now) method.now).body }
-    requires paths { AreRightPaths (in_method (named_package named.now) (method_made named.now.texts (exprs_of named.now) (stmts_of named.now) method.now)) (known_in (named_package named.now)).statuses (places_of (method_made named.now.texts (exprs_of named.now) (stmts_of named.now) method.now).locals) }
+    requires inside { here.now.around.now ≡ in_method (named_package here.now.nodes.now) (method_made here.now.nodes.now.texts (exprs_of here.now.nodes.now) (stmts_of here.now.nodes.now) method.now) }
+    requires below { NamedMethodBelow (length here.now.nodes.now.texts) (length here.now.nodes.now.exprs) (length here.now.nodes.now.stmts) method.now }
+    requires begun { IsBegun here.now.nodes.now nodes.old }
+    requires right { IsRightBlock (in_method (named_package here.now.nodes.now) (method_made here.now.nodes.now.texts (exprs_of here.now.nodes.now) (stmts_of here.now.nodes.now) method.now)) (known_in (named_package here.now.nodes.now)) 0 (method_made here.now.nodes.now.texts (exprs_of here.now.nodes.now) (stmts_of here.now.nodes.now) method.now).body }
+    requires paths { AreRightPaths (in_method (named_package here.now.nodes.now) (method_made here.now.nodes.now.texts (exprs_of here.now.nodes.now) (stmts_of here.now.nodes.now) method.now)) (known_in (named_package here.now.nodes.now)).statuses (places_of (method_made here.now.nodes.now.texts (exprs_of here.now.nodes.now) (stmts_of here.now.nodes.now) method.now).locals) }
     ensures adds { OnOk result (Adds [] nodes.old nodes.new) }
-    ensures entries { OnOk result (AddsEntries nodes.old nodes.new (method_entries (named_package named.now) (method_made named.now.texts (exprs_of named.now) (stmts_of named.now) method.now))) }
-    ensures begun { OnOk result (IsBegun named.now nodes.new) }
-    ensures stands { IfOk result (λ made. StandsForBlock (in_method (named_package named.now) (method_made named.now.texts (exprs_of named.now) (stmts_of named.now) method.now)) [] (length nodes.old.stmts) (method_made named.now.texts (exprs_of named.now) (stmts_of named.now) method.now).body nodes.new made.body) }
-    ensures locals { IfOk result (λ made. HaveNodes (in_method (named_package named.now) (method_made named.now.texts (exprs_of named.now) (stmts_of named.now) method.now)) nodes.new made.first_local.0 (places_of (method_made named.now.texts (exprs_of named.now) (stmts_of named.now) method.now).locals)) }
+    ensures entries { OnOk result (AddsEntries nodes.old nodes.new (method_entries (named_package here.now.nodes.now) (method_made here.now.nodes.now.texts (exprs_of here.now.nodes.now) (stmts_of here.now.nodes.now) method.now))) }
+    ensures begun { OnOk result (IsBegun here.now.nodes.now nodes.new) }
+    ensures stands { IfOk result (λ made. StandsForBlock (in_method (named_package here.now.nodes.now) (method_made here.now.nodes.now.texts (exprs_of here.now.nodes.now) (stmts_of here.now.nodes.now) method.now)) [] (length nodes.old.stmts) (method_made here.now.nodes.now.texts (exprs_of here.now.nodes.now) (stmts_of here.now.nodes.now) method.now).body nodes.new made.body) }
+    ensures locals { IfOk result (λ made. HaveNodes (in_method (named_package here.now.nodes.now) (method_made here.now.nodes.now.texts (exprs_of here.now.nodes.now) (stmts_of here.now.nodes.now) method.now)) nodes.new made.first_local.0 (places_of (method_made here.now.nodes.now.texts (exprs_of here.now.nodes.now) (stmts_of here.now.nodes.now) method.now).locals)) }
 {
     let first_local = nodes.next_expr();
-    elaborate_locals(alloc, nodes, named, inside, method.locals.as_slice())?;
-    let body = elaborate_body(alloc, nodes, named, inside, &method.body)?;
+    elaborate_locals(here, nodes, method.locals.as_slice())?;
+    let body = elaborate_body(here, nodes, &method.body)?;
     Ok(MadeBody { body, first_local })
 }
 
@@ -85,7 +83,12 @@ pub(crate) fn elaborate_bodies(
     for number in 0..methods.len() {
         let method = &methods[number];
         let inside = round_body(named, &judged.around, &heads[number], fields, method);
-        let made = elaborate_method(alloc, nodes, named, &inside, method)?;
+        let here = Here {
+            alloc,
+            nodes: named,
+            around: &inside,
+        };
+        let made = elaborate_method(&here, nodes, method)?;
         bodies.push(made.body)?;
         first_locals.push(made.first_local)?;
     }

@@ -7,13 +7,12 @@ ghost use Rattle.wf_types_decls.specs.Packages.{IsJudged};
 ghost use Rattle.wf_types.specs.DeclaredNodes.{seen_statuses as statuses_seen, declared_nodes};
 
 use crate::declared::{methods, structs};
-use crate::texts::{numbers_copied, seen_statuses, texts_copied};
+use crate::texts::{seen_statuses, texts_copied};
 use std::alloc::Global;
 use wf_ast::{Sequence, TypedNodes};
 use wf_named::NamedNodes;
 use wf_text::faults::NoMemory;
 use wf_types_decls::Judged;
-use wf_types_decls::declarations::bytes_copied;
 
 // What a package has beside its structs, its methods and their bodies.
 #[derive(Drop)]
@@ -32,10 +31,10 @@ fn names_copied(
     requires { statuses.now ≡ status_texts (named_package nodes.now) }
     ensures { IfOk result (λ n. n ≡ record { package_name = nodes.now.package_name; statuses = statuses_seen nodes.now; texts = nodes.now.texts; order = nodes.now.order }) }
 {
-    let package_name = bytes_copied(alloc, nodes.package_name())?;
+    let package_name = Sequence::from_slice(alloc, nodes.package_name())?;
     let statuses = seen_statuses(alloc, nodes, statuses)?;
     let texts = texts_copied(alloc, nodes)?;
-    let order = numbers_copied(alloc, nodes.order())?;
+    let order = Sequence::from_slice(alloc, nodes.order())?;
     Ok(Names {
         package_name,
         statuses,

@@ -9,12 +9,11 @@ ghost use Rattle.wf_typed_stmts.specs.Right.{known_in};
 ghost use Rattle.wf_typed_stmts.specs.StmtGrowth.{GrowsExprs, IsBegun};
 ghost use Rattle.wf_types.specs.Locals.{places_named, AreRightPaths, HaveNodes};
 
-use std::alloc::Global;
 use wf_ast::LocalId;
-use wf_named::{NamedNodes, NamedPath, NamedVar, Variable};
+use wf_named::{NamedPath, NamedVar, Variable};
 use wf_text::faults::NoMemory;
 use wf_typed_stmts::BodyBuilding;
-use wf_types_rules::Around;
+use wf_types_exprs::Here;
 
 // How many numbers there are for locals.
 const NUMBERS: usize = 4294967296;
@@ -22,18 +21,16 @@ const NUMBERS: usize = 4294967296;
 /// Adds a node for each local of a method, in order: its path, at the place of its name. `Err` also comes where no number
 /// is left.
 pub(crate) fn elaborate_locals(
-    alloc: Global,
+    here: &Here<'_>,
     nodes: &mut BodyBuilding,
-    named: &NamedNodes,
-    around: &Around<'_>,
     locals: &[NamedVar],
 ) -> Result<(), NoMemory>
-    requires begun { IsBegun named.now nodes.old }
-    requires right { AreRightPaths around.now (known_in (named_package named.now)).statuses (places_named locals.now) }
+    requires begun { IsBegun here.now.nodes.now nodes.old }
+    requires right { AreRightPaths here.now.around.now (known_in (named_package here.now.nodes.now)).statuses (places_named locals.now) }
     ensures grows { OnOk result (GrowsExprs nodes.old nodes.new) }
-    ensures entries { OnOk result (AddsEntries nodes.old nodes.new (local_entries around.now 0 (places_named locals.now))) }
-    ensures begun { OnOk result (IsBegun named.now nodes.new) }
-    ensures stand { OnOk result (HaveNodes around.now nodes.new (length nodes.old.exprs) (places_named locals.now)) }
+    ensures entries { OnOk result (AddsEntries nodes.old nodes.new (local_entries here.now.around.now 0 (places_named locals.now))) }
+    ensures begun { OnOk result (IsBegun here.now.nodes.now nodes.new) }
+    ensures stand { OnOk result (HaveNodes here.now.around.now nodes.new (length nodes.old.exprs) (places_named locals.now)) }
 {
     for number in 0..locals.len() {
         if number >= NUMBERS {
@@ -43,7 +40,7 @@ pub(crate) fn elaborate_locals(
             of: Variable::Local(LocalId(number as u32)),
             at: locals[number].name.at,
         };
-        nodes.push_path(alloc, named, around, path)?;
+        nodes.push_path(here, path)?;
     }
     Ok(())
 }

@@ -28,17 +28,6 @@ fn with_bytes(text: Sequence<u8>, bytes: &[u8]) -> Result<Sequence<u8>, NoMemory
     Ok(text)
 }
 
-/// A copy of these numbers.
-pub(crate) fn numbers_copied(alloc: Global, numbers: &[u32]) -> Result<Sequence<u32>, NoMemory>
-    ensures { IfOk result (λ all. all ≡ numbers.now) }
-{
-    let mut all = Sequence::new(alloc);
-    for number in numbers {
-        all.push(*number)?;
-    }
-    Ok(all)
-}
-
 // The first texts of a list, so many.
 fn first_texts(
     alloc: Global,

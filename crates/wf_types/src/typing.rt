@@ -1,5 +1,5 @@
-// The typed tree of a resolved package, where the package breaks no rule of types and effects; else the refusal that
-// decides.
+// The typed tree of a resolved package, where the package breaks no rule of types and effects; else the first
+// refusal.
 
 ghost use Rattle.std.specs.Prelude.{◌≡◌, ◌&&◌, true, None, length, nat_lt, IfErr, IfOk};
 ghost use Rattle.wf_ast.specs.StatementOrder.{stand_in_order};
@@ -50,8 +50,7 @@ fn whole_nodes(alloc: Global, named: &NamedNodes, judged: Judged) -> Result<Type
     let nodes = declared(alloc, named, &judged)?;
     let mut building = BodyBuilding::new(alloc, nodes);
     let made = elaborate_bodies(alloc, &mut building, named, judged)?;
-    let all = building.finish(alloc)?;
-    Ok(with_bodies(all, made))
+    Ok(with_bodies(building.finish(), made))
 }
 
 // Whether each status, each struct and each method has a number.

@@ -6,7 +6,7 @@ use Rattle.std.proofs.lemmas.Grind.{flat_map-append}
 use Rattle.std.proofs.lemmas.Option.{slice_get-map}
 use Rattle.wf_text.specs.declared.rules.Refusal.{Refusal}
 use Rattle.wf_text.specs.declared.rules.Rule.TheVariants.{T5}
-use Rattle.wf_text.specs.Precedence.{sooner, soonest}
+use Rattle.wf_text.specs.Precedence.{sooner, soonest, told}
 use Rattle.wf_ast.specs.declared.types.Ty.{Ty}
 use Rattle.wf_named.specs.NamedTree.{ConstTree, Word, NamedStructTree, NamedPackageTree}
 use Rattle.wf_named.specs.WellNamed.{fields_in}
@@ -18,7 +18,7 @@ use Rattle.wf_types_rules.specs.ExprTypes.{number_of}
 use Rattle.wf_types_rules.specs.Meanings.{constant_number}
 use Rattle.wf_types_rules.specs.Judgements.{at_if, value_of, two_questions, is_status_text}
 use Rattle.wf_types_rules.specs.Parts.{Part, Site, constant_declared, status_declared, declared_parts, expr_parts, at_sites, const_sites}
-use Rattle.wf_types_rules.specs.FirstBreak.{told, refusals_at, refusals_of}
+use Rattle.wf_types_rules.specs.FirstBreak.{refusals_at, refusals_of}
 use Rattle.wf_types_rules.specs.declared.meanings.Value.{Value}
 use Rattle.wf_types_exprs.specs.Judged.{judged}
 use Rattle.wf_types_exprs.proofs.JudgedLaws.{judged-append, judged-last}
@@ -130,11 +130,6 @@ module _ (bs : List ℕ) (i d : ℕ) (h : i < length bs) (before whole : Bool) (
 
   pub question_found : (before && nat_eq (slice_index_or bs i d) 63) ≡ true → true ≡ whole
   question_found found = sym (ap (λ q. q || questions_behind (nat_eq (slice_index_or bs i d) 63) (drop (i + 1) bs)) found) ∙ behind_one
-
--- A list that is copied, element by element.
-pub one_copied : {X : Type 0} (xs : List X) (i : ℕ) (d : X) → i < length xs → (before next : List X) → next ≡ before ++ slice_index_or xs i d ∷ [] → (next ++ drop (i + 1) xs) ≡ (before ++ drop i xs)
-one_copied xs i d h before next e =
-    ap (λ zs. zs ++ drop (i + 1) xs) e ∙ append_assoc before (slice_index_or xs i d ∷ []) (drop (i + 1) xs) ∙ sym (ap (λ ys. before ++ ys) (drop-one xs i d h))
 
 -- Parts of two settings, one list after the other.
 pub two_settings : (s inner : Setting) (found head last : Option Refusal) (xs ys : List Part) → head ≡ judged s found xs → last ≡ judged inner head ys → last ≡ decided found (at_sites s xs ++ at_sites inner ys)

@@ -3,7 +3,7 @@ use Rattle.std.specs.Prelude.{◌≡◌, ℕ, Bool, false, ◌&&◌, ◌||◌, L
 use Rattle.std.specs.List.{flat_map}
 use Rattle.wf_text.specs.declared.rules.Refusal.{Refusal}
 use Rattle.wf_text.specs.declared.rules.Rule.TheVariants.{T1, T5}
-use Rattle.wf_text.specs.Precedence.{sooner, soonest, Decides}
+use Rattle.wf_text.specs.Precedence.{sooner, soonest, Decides, told}
 use Rattle.wf_ast.specs.declared.types.Ty.{Ty}
 use Rattle.wf_named.specs.NamedTree.{NamedMethodTree, NamedPackageTree}
 use Rattle.wf_types_rules.specs.declared.meanings.Value.{Value}
@@ -12,7 +12,7 @@ use Rattle.wf_types_rules.specs.declared.settings.Setting.{Setting}
 use Rattle.wf_types_rules.specs.DeclaredTypes.{constants_of, types_in, result_in, method_type, status_texts, in_method}
 use Rattle.wf_types_rules.specs.Judgements.{no_constant, lies_outside}
 use Rattle.wf_types_rules.specs.Parts.{Part, Site, variables_parts, result_parts, whole_body, block_parts, at_sites}
-use Rattle.wf_types_rules.specs.FirstBreak.{told, refusals_of, deciding}
+use Rattle.wf_types_rules.specs.FirstBreak.{refusals_of, deciding}
 use Rattle.wf_types_rules.specs.TypeRules.{Breaks}
 use Rattle.wf_types_decls.specs.declared.heads.Head.{Head}
 use Rattle.wf_types_decls.specs.declared.packages.Judged.{Judged}

@@ -19,11 +19,12 @@ use wf_named::{NamedConst, NamedNodes};
 use wf_text::Place;
 use wf_text::categories::Category;
 use wf_text::faults::NoMemory;
+use wf_text::found::Found;
 use wf_text::rules::Rule;
 use wf_text::status_text::category;
+use wf_types_exprs::Here;
 use wf_types_exprs::walk::judge_value;
 use wf_types_exprs::whole::judge_type;
-use wf_types_exprs::{Found, Here};
 use wf_types_meanings::places::at_if;
 use wf_types_meanings::types::{constant_with, lies_in};
 use wf_types_meanings::values::number_in;
@@ -210,17 +211,6 @@ pub(crate) fn judge_statuses(found: &mut Found, nodes: &NamedNodes)
     }
 }
 
-/// A copy of these bytes.
-pub fn bytes_copied(alloc: Global, text: &[u8]) -> Result<Sequence<u8>, NoMemory>
-    ensures { IfOk result (λ all. all ≡ text.now) }
-{
-    let mut all = Sequence::new(alloc);
-    for byte in text {
-        all.push(*byte)?;
-    }
-    Ok(all)
-}
-
 /// A text more.
 pub fn with_text(
     alloc: Global,
@@ -230,7 +220,7 @@ pub fn with_text(
     ensures { IfOk result (λ all. all ≡ texts ++ text.now ∷ []) }
 {
     let mut texts = texts;
-    let copy = bytes_copied(alloc, text)?;
+    let copy = Sequence::from_slice(alloc, text)?;
     texts.push(copy)?;
     Ok(texts)
 }

@@ -10,14 +10,14 @@ ghost use Rattle.wf_types_rules.specs.Parts.{variables_parts, result_parts};
 ghost use Rattle.wf_types_exprs.specs.Judged.{judged};
 ghost use Rattle.wf_types_decls.specs.Packages.{types_or_none};
 
-use std::alloc::Global;
 use wf_ast::{Sequence, Ty};
 use wf_base::Mark;
 use wf_named::{NamedType, NamedVar};
 use wf_text::StructId;
 use wf_text::faults::NoMemory;
+use wf_text::found::Found;
+use wf_types_exprs::Here;
 use wf_types_exprs::whole::judge_type;
-use wf_types_exprs::{Found, Here};
 use wf_types_rules::Role;
 
 /// The types of fields, arguments or locals, in order, each where it breaks no rule.
@@ -71,20 +71,6 @@ pub(crate) fn judge_fields(
     for structure in here.nodes.structs() {
         let fields = judge_variables(here, found, Role::Field, structure.fields.as_slice())?;
         all.push(fields)?;
-    }
-    Ok(all)
-}
-
-/// A copy of these types.
-pub(crate) fn types_copied(
-    alloc: Global,
-    types: &[Option<Ty>],
-) -> Result<Sequence<Option<Ty>>, NoMemory>
-    ensures { IfOk result (λ all. all ≡ types.now) }
-{
-    let mut all = Sequence::new(alloc);
-    for ty in types {
-        all.push(*ty)?;
     }
     Ok(all)
 }

@@ -8,12 +8,13 @@ ghost use Rattle.wf_types_rules.specs.DeclaredTypes.{for_types, method_type as t
 ghost use Rattle.wf_types_exprs.specs.Judged.{judged};
 ghost use Rattle.wf_types_decls.specs.Packages.{head_of, heads_of, head_parts};
 
-use crate::declared_types::{judge_result, judge_variables, types_copied};
+use crate::declared_types::{judge_result, judge_variables};
 use std::alloc::Global;
 use wf_ast::{Sequence, Ty};
 use wf_named::{NamedMethod, NamedNodes};
 use wf_text::faults::NoMemory;
-use wf_types_exprs::{Found, Here};
+use wf_text::found::Found;
+use wf_types_exprs::Here;
 use wf_types_rules::{MethodType, Role};
 
 /// The types of a method's arguments and locals, in order, and of its written result. A type that breaks a rule is absent.
@@ -59,7 +60,7 @@ pub(crate) fn judge_heads(here: &Here<'_>, found: &mut Found) -> Result<Sequence
 fn method_type(alloc: Global, method: &NamedMethod, head: &Head) -> Result<MethodType, NoMemory>
     ensures { IfOk result (λ t. t ≡ record { mark = method.now.mark; args = head.now.args; gives = head.now.gives }) }
 {
-    let args = types_copied(alloc, head.args.as_slice())?;
+    let args = Sequence::from_slice(alloc, head.args.as_slice())?;
     Ok(MethodType {
         mark: method.mark,
         args,

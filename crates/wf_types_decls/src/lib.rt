@@ -1,5 +1,5 @@
-// The rules of types and effects on declarations and whole packages: one walk over a resolved package finds the refusal that
-// decides, if there is one, and what the typed tree is made of.
+// The rules of types and effects on declarations and whole packages: one walk over a resolved package finds the first refusal,
+// if there is one, and what the typed tree is made of.
 #![tactic(auto)]
 
 pub mod declarations;

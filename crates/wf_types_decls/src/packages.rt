@@ -1,4 +1,4 @@
-// The rules of types and effects over a whole package: the refusal that decides, if there is one, and what the typed tree is
+// The rules of types and effects over a whole package: the first refusal, if there is one, and what the typed tree is
 // made of.
 
 ghost use Rattle.std.specs.Prelude.{◌≡◌, ◌∷◌, length, map, IfOk, OnOk};
@@ -19,8 +19,9 @@ use wf_ast::parsed::Block;
 use wf_ast::{Sequence, Ty};
 use wf_named::{NamedMethod, NamedNodes};
 use wf_text::faults::NoMemory;
+use wf_text::found::Found;
 use wf_text::rules::Refusal;
-use wf_types_exprs::{Found, Here};
+use wf_types_exprs::Here;
 use wf_types_rules::{Around, Setting};
 use wf_types_stmts::ends::judge_whole_body;
 use wf_types_stmts::statements::judge_block;
@@ -28,7 +29,7 @@ use wf_types_stmts::statements::judge_block;
 /// What is known of a package once it was judged by the rules of types and effects.
 #[derive(Drop)]
 pub struct Judged {
-    /// The refusal that decides; None exactly where the package keeps all these rules.
+    /// The first refusal; None exactly where the package keeps all these rules.
     pub refusal: Option<Refusal>,
     /// The types of the fields of all structs, by struct.
     pub fields: Sequence<Sequence<Option<Ty>>>,
@@ -148,7 +149,7 @@ fn judge_rest(
     })
 }
 
-/// Judges a package by the rules of types and effects, T1 to T5 and E1 to E5: the refusal that decides, and what its typed tree
+/// Judges a package by the rules of types and effects, T1 to T5 and E1 to E5: the first refusal, and what its typed tree
 /// is made of. `Err` where memory was refused.
 pub fn judge_package(alloc: Global, nodes: &NamedNodes) -> Result<Judged, NoMemory>
     ensures { IfOk result (IsJudged (named_package nodes.now)) }

@@ -3,7 +3,7 @@ use Rattle.std.proofs.Common.{◌≡◌, ◌∙◌, refl, sym, ap, ℕ, Bool, tr
 use Rattle.wf_text.specs.declared.place.Place.{Place}
 use Rattle.wf_text.specs.declared.rules.Refusal.{Refusal}
 use Rattle.wf_text.specs.declared.rules.Rule.TheVariants.{T1}
-use Rattle.wf_text.specs.Precedence.{sooner}
+use Rattle.wf_text.specs.Precedence.{sooner, told}
 use Rattle.wf_base.specs.declared.marks.Mark.{Mark}
 use Rattle.wf_base.specs.declared.widths.Width.{Width}
 use Rattle.wf_ast.specs.declared.operators.Op.{Op}
@@ -19,7 +19,6 @@ use Rattle.wf_types_rules.specs.declared.settings.Setting.{Setting}
 use Rattle.wf_types_rules.specs.ExprTypes.{plain_width, operands}
 use Rattle.wf_types_rules.specs.Judgements.{value_of, base_value, end_value, no_flag, no_value, no_index, no_slice, wanted, meaning_of_argument, argument_value, is_argument}
 use Rattle.wf_types_rules.specs.Parts.{expression, calling, argument, placed_type, expr_parts, end_parts, links_parts, args_parts, type_parts}
-use Rattle.wf_types_rules.specs.FirstBreak.{told}
 use Rattle.wf_types_exprs.specs.Judged.{judged, argument_parts}
 use Rattle.wf_types_exprs.specs.Found.{chain_found, conversion_found, argument_found, calling_found}
 use Rattle.wf_types_exprs.specs.Paths.{path_in}

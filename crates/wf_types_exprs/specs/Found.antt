@@ -3,7 +3,7 @@ use Rattle.std.specs.Prelude.{ℕ, Bool, List, Option, None, Some, option_and_th
 use Rattle.wf_text.specs.declared.place.Place.{Place}
 use Rattle.wf_text.specs.declared.rules.Refusal.{Refusal}
 use Rattle.wf_text.specs.declared.rules.Rule.TheVariants.{T1, T5, E1, E2, E3}
-use Rattle.wf_text.specs.Precedence.{sooner}
+use Rattle.wf_text.specs.Precedence.{sooner, told}
 use Rattle.wf_base.specs.declared.widths.Width.{Width}
 use Rattle.wf_ast.specs.declared.types.Ty.{Ty}
 use Rattle.wf_ast.specs.TypedTrees.{Sort}
@@ -21,7 +21,6 @@ use Rattle.wf_types_rules.specs.ExprTypes.{if_number, refined_type}
 use Rattle.wf_types_rules.specs.DeclaredTypes.{holds_zero, is_zero_kept}
 use Rattle.wf_types_rules.specs.Judgements.{at_if, fails, meets, no_number, is_cut, not_handed, are_unfit, refined_form, wrong_bounds, is_not_plain, is_no_array, may_not_stand, crossing, goes_above, no_count, impure_call, coroutine_call, call_inside, wrong_mark}
 use Rattle.wf_types_rules.specs.Parts.{calling}
-use Rattle.wf_types_rules.specs.FirstBreak.{told}
 
 -- A type, where an end of a slice is absent or a number.
 abbrev pub end_kept : Option Value → Option Ty → Option Ty

@@ -1,55 +1,9 @@
-// The first refusal that a walk finds, and what it answers of parts.
+// What a walk answers of parts.
 
-ghost use Rattle.std.specs.Prelude.{◌≡◌, None};
-ghost use Rattle.wf_text.specs.Precedence.{sooner as sooner_of};
-ghost use Rattle.wf_types_rules.specs.FirstBreak.{told as told_by};
-
-use std::marker::Model;
 use wf_ast::Ty;
 use wf_base::Width;
 use wf_text::Place;
-use wf_text::precedence::sooner;
-use wf_text::rules::{Refusal, Rule};
-use wf_types_meanings::places::told;
 use wf_types_rules::{Form, Value};
-
-/// The first refusal of all that was found so far.
-#[derive(Drop)]
-pub struct Found {
-    first: Option<Refusal>,
-}
-
-impl Model for Found {
-    ghost use Rattle.std.specs.Prelude.{Option};
-    ghost use Rattle.wf_text.specs.declared.rules.Refusal.{Refusal};
-
-    ghost Value = { Option Refusal };
-
-    ghost view = { λ f. f.first };
-}
-
-impl Found {
-    /// Nothing yet.
-    pub fn nothing() -> Found
-        ensures { result ≡ None }
-    {
-        Found { first: None }
-    }
-
-    /// Adds the refusal by a rule at a place, where there is one.
-    pub fn tell(&mut self, rule: Rule, at: Option<Place>)
-        ensures { self.new ≡ sooner_of self.old (told_by rule at) }
-    {
-        self.first = sooner(self.first, told(rule, at));
-    }
-
-    /// The refusal that decides, if anything was found.
-    pub fn first(&self) -> Option<Refusal>
-        ensures { result ≡ self.now }
-    {
-        self.first
-    }
-}
 
 /// The two ends of a slice: what each means that is there.
 #[derive(Clone, Copy, PartialEq, Eq)]

@@ -1,4 +1,4 @@
-// The rules of types and effects on expressions, types and calls: one walk finds the refusal that decides among all their
+// The rules of types and effects on expressions, types and calls: one walk finds the first refusal among all their
 // parts, and what they mean. Each expression is visited once.
 #![tactic(auto)]
 
@@ -11,5 +11,4 @@ pub mod types;
 pub mod walk;
 pub mod whole;
 
-pub use found::Found;
 pub use here::Here;

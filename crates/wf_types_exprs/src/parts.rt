@@ -11,16 +11,17 @@ ghost use Rattle.wf_named.specs.NamedTrees.{call_at};
 ghost use Rattle.wf_types_rules.specs.Judgements as judgements;
 ghost use Rattle.wf_types_rules.specs.Judgements.{at_if as at_place_if, fails, both_fail, meets, takes as takes_value, may_be_handed as may_hand, is_argument as fits_argument, answer_type as type_answered};
 ghost use Rattle.wf_types_rules.specs.Parts as parts;
-ghost use Rattle.wf_types_rules.specs.FirstBreak.{told as told_by};
+ghost use Rattle.wf_text.specs.Precedence.{told as told_by};
 ghost use Rattle.wf_text.specs.Precedence.{sooner as sooner_of};
 ghost use Rattle.wf_text.specs.declared.rules.Rule.TheVariants as rules;
 ghost use Rattle.wf_types_exprs.specs.Found.{end_kept, chain_found, conversion_found, argument_found, calling_found};
 
-use crate::found::{Conversion, Ends, Found};
+use crate::found::{Conversion, Ends};
 use wf_ast::{Op, Sequence, Ty};
 use wf_base::Width;
 use wf_named::{NamedCall, NamedCallee, NamedPath};
 use wf_text::Place;
+use wf_text::found::Found;
 use wf_text::rules::Rule;
 use wf_types_meanings::calls::{answer_type, declared_mark, is_base, pure_answer};
 use wf_types_meanings::marks::{is_coroutine, is_impure, is_pure, same_mark};
@@ -103,13 +104,20 @@ fn wrong_operand_in_index(base: Value, index: Value) -> Option<Place>
     }
 }
 
+/// What an element of what a path stands for means, by what the path and the index mean.
+pub fn index_meaning(base: Option<Meaning>, index: Option<Meaning>) -> Option<Meaning>
+    ensures { result ≡ option_map meanings.Typed (only_for_number index (option_and_then element_of base)) }
+{
+    typed(if_number(index, elements(base)))
+}
+
 /// An element of what a path stands for.
 pub fn judged_index(found: &mut Found, base: Value, index: Value) -> Option<Meaning>
     ensures found { found.new ≡ sooner_of found.old (told_by rules.T1 (judgements.no_index base index)) }
     ensures of { result ≡ option_map meanings.Typed (only_for_number index.of (option_and_then element_of base.of)) }
 {
     found.tell(Rule::T1, wrong_operand_in_index(base, index));
-    typed(if_number(index.of, elements(base.of)))
+    index_meaning(base.of, index.of)
 }
 
 fn wrong_end(end: Option<Value>) -> Option<Place>
@@ -163,13 +171,24 @@ fn wrong_operand_in_slice(base: Value, from: Option<Value>, to: Option<Value>) -
     }
 }
 
+/// What a slice of what a path stands for means, by what the path and the ends mean.
+pub fn slice_meaning(
+    base: Option<Meaning>,
+    from: Option<Value>,
+    to: Option<Value>,
+) -> Option<Meaning>
+    ensures { result ≡ option_map meanings.Typed (end_kept from (end_kept to (option_and_then slice_in base))) }
+{
+    typed(if_end(from, if_end(to, slices(base))))
+}
+
 /// A slice of what a path stands for, by its ends.
 pub(crate) fn judged_slice(found: &mut Found, base: Value, ends: Ends) -> Option<Meaning>
     ensures found { found.new ≡ sooner_of found.old (told_by rules.T1 (judgements.no_slice base ends.from ends.to)) }
     ensures of { result ≡ option_map meanings.Typed (end_kept ends.from (end_kept ends.to (option_and_then slice_in base.of))) }
 {
     found.tell(Rule::T1, wrong_operand_in_slice(base, ends.from, ends.to));
-    typed(if_end(ends.from, if_end(ends.to, slices(base.of))))
+    slice_meaning(base.of, ends.from, ends.to)
 }
 
 fn wrong_operand_in_chain(op: Op, os: &[Operand]) -> Option<Place>
@@ -190,6 +209,16 @@ fn unfit_operand(op: Op, os: &[Operand]) -> Option<Place>
     not_fitting(op, os)
 }
 
+/// What a chain means, where each of its operands means something.
+pub fn chain_meaning(op: Op, operands: &Option<Sequence<Operand>>) -> Option<Meaning>
+    ensures { result ≡ option_and_then (operator_means (sort_of op)) operands.now }
+{
+    match operands {
+        Some(os) => meaning_of_operator(op, os.as_slice()),
+        None => None,
+    }
+}
+
 fn tell_chain(found: &mut Found, op: Op, os: &[Operand], at: Place)
     ensures { found.new ≡ chain_found (sort_of op) (Some os.now) at found.old }
 {
@@ -208,13 +237,10 @@ pub(crate) fn judged_chain(
     ensures found { found.new ≡ chain_found (sort_of op) operands.now at found.old }
     ensures of { result ≡ option_and_then (operator_means (sort_of op)) operands.now }
 {
-    match operands {
-        Some(os) => {
-            tell_chain(found, op, os.as_slice(), at);
-            meaning_of_operator(op, os.as_slice())
-        }
-        None => None,
+    if let Some(os) = operands {
+        tell_chain(found, op, os.as_slice(), at);
     }
+    chain_meaning(op, operands)
 }
 
 fn is_cut(of: Option<Meaning>, width: Option<Width>) -> bool

@@ -11,10 +11,11 @@ ghost use Rattle.wf_types_rules.specs.Judgements.{at_if as at_place_if, fails, b
 ghost use Rattle.wf_types_exprs.specs.Judged.{TellsType};
 ghost use Rattle.wf_types_exprs.specs.Found.{slice_type_found, array_type_found, low_number_of, refined_crossing, refined_wrong, refined_high, refined_found, refined_base as refined_to, refined_base_form, placed_found};
 
-use crate::found::{Found, WrittenType};
+use crate::found::WrittenType;
 use wf_ast::Ty;
 use wf_base::Width;
 use wf_named::BaseType;
+use wf_text::found::Found;
 use wf_text::rules::Rule;
 use wf_text::{Place, StructId};
 use wf_types_meanings::places::at_if;

@@ -13,7 +13,7 @@ ghost use Rattle.wf_types_rules.specs.Judgements.{value_of, end_value, bound_of,
 ghost use Rattle.wf_types_rules.specs.Parts.{calling, placed_type, expr_parts, end_parts, links_parts, args_parts, type_parts};
 ghost use Rattle.wf_types_exprs.specs.Judged.{judged, argument_parts, operand_behind as behind, operands_joined, TellsType};
 
-use crate::found::{Conversion, Ends, Found, WrittenType};
+use crate::found::{Conversion, Ends, WrittenType};
 use crate::here::Here;
 use crate::operands::{all_fit, bound, operand_behind};
 use crate::parts::{
@@ -29,6 +29,7 @@ use wf_ast::{ExprId, Sequence, Ty};
 use wf_named::{BaseType, NamedCall, NamedCallee, NamedCore, NamedExpr, NamedType};
 use wf_text::Place;
 use wf_text::faults::NoMemory;
+use wf_text::found::Found;
 use wf_types_meanings::arguments::wanted;
 use wf_types_rules::{Bound, Meaning, Operand, Role, Value};
 

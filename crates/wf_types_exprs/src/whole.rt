@@ -8,7 +8,6 @@ ghost use Rattle.wf_types_rules.specs.Judgements.{whole_answer as answers_whole}
 ghost use Rattle.wf_types_rules.specs.Parts.{declared_parts, whole_call_parts};
 ghost use Rattle.wf_types_exprs.specs.Judged.{judged};
 
-use crate::found::Found;
 use crate::here::Here;
 use crate::parts::whole_answer;
 use crate::types::tell_place;
@@ -16,6 +15,7 @@ use crate::walk::{judge_call, judge_written};
 use wf_ast::Ty;
 use wf_named::{NamedCall, NamedType};
 use wf_text::faults::NoMemory;
+use wf_text::found::Found;
 use wf_types_meanings::types::allowed;
 use wf_types_rules::{Meaning, Role};
 

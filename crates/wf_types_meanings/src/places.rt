@@ -3,10 +3,8 @@
 ghost use Rattle.std.specs.Prelude.{◌≡◌};
 ghost use Rattle.wf_types_rules.specs.Operands.{first_of};
 ghost use Rattle.wf_types_rules.specs.Judgements.{at_if as place_if};
-ghost use Rattle.wf_types_rules.specs.FirstBreak.{told as told_by};
 
 use wf_text::Place;
-use wf_text::rules::{Refusal, Rule};
 
 /// The place, where the test holds.
 pub fn at_if(test: bool, at: Place) -> Option<Place>
@@ -22,15 +20,5 @@ pub fn first_place(a: Option<Place>, b: Option<Place>) -> Option<Place>
     match a {
         Some(at) => Some(at),
         None => b,
-    }
-}
-
-/// The refusal by a rule at a place that may be absent.
-pub fn told(rule: Rule, at: Option<Place>) -> Option<Refusal>
-    ensures { result ≡ told_by rule at }
-{
-    match at {
-        Some(at) => Some(Refusal { rule, at }),
-        None => None,
     }
 }

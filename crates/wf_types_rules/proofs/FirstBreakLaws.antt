@@ -1,4 +1,4 @@
--- The refusal that decides is the first of those that the table has.
+-- The refusal that is computed is the first of those that the table has.
 use Rattle.std.specs.Prelude.{ℕ, zero, suc, List, [], ◌∷◌, ◌++◌, map, Option, Some, None, option_map, slice_get}
 use Rattle.std.specs.Bool.{⊤}
 use Rattle.std.specs.List.{flat_map}
@@ -6,12 +6,12 @@ use Rattle.std.proofs.Common.{◌≡◌, ◌∙◌, ◌⊎◌, refl, ap, subst, 
 use Rattle.std.proofs.lemmas.Option.{slice_get-map}
 use Rattle.wf_text.specs.declared.place.Place.{Place}
 use Rattle.wf_text.specs.declared.rules.Refusal.{Refusal}
-use Rattle.wf_text.specs.Precedence.{Decides}
+use Rattle.wf_text.specs.Precedence.{Decides, told, refused}
 use Rattle.wf_text.proofs.PrecedenceLaws.{Among, here, there, Decides-map, Decides-soonest}
 use Rattle.wf_named.specs.NamedTree.{NamedPackageTree}
 use Rattle.wf_types_rules.specs.Parts.{Site, sites, IsPart}
-use Rattle.wf_types_rules.specs.TypeRules.{refused, TypeRule, type_rules, IsRule, Breaks}
-use Rattle.wf_types_rules.specs.FirstBreak.{told, refusals_at, refusals_of, refusals, deciding}
+use Rattle.wf_types_rules.specs.TypeRules.{TypeRule, type_rules, IsRule, Breaks}
+use Rattle.wf_types_rules.specs.FirstBreak.{refusals_at, refusals_of, refusals, deciding}
 
 -- An item of a list is among it.
 among-item : (t : Refusal) (ns : List (Option Refusal)) (k : ℕ) → slice_get ns k ≡ Some (Some t) → Among t ns

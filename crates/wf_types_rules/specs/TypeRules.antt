@@ -9,9 +9,6 @@ use Rattle.wf_types_rules.specs.declared.settings.Setting.{Setting}
 use Rattle.wf_types_rules.specs.Parts.{Part, IsPart}
 use Rattle.wf_types_rules.specs.Judgements.{wrong_operand, unfit_operand, node_without_value, wrong_argument, wrong_letter, wrong_type, misplaced_type, crossed_bounds, high_bound, no_elements, element_above_zero, begins_above_zero, value_no_number, value_outside, wrong_status, wrong_target, wrong_assigned, no_value_assigned, wrong_update, unfit_update, wrong_condition, wrong_return, reaches_end, impure_call, impure_write, coroutine_call, kept_outside, yielded_outside, call_inside, wrong_mark, not_kept_in_status, keeps_no_coroutine, wrong_yield}
 
-abbrev pub refused : Rule → Place → Refusal
-refused rule at = record { rule = rule; at = at }
-
 -- A row: a rule, and a judgement that tells where a part of a package breaks it.
 abbrev pub TypeRule : Type 0
 TypeRule = Rule × (Setting → Part → Option Place)

@@ -1,4 +1,4 @@
-// Worked examples: small resolved packages with the refusal that decides, computed. Each is the contract of a function that
+// Worked examples: small resolved packages with the first refusal, computed. Each is the contract of a function that
 // does nothing.
 
 ghost use Rattle.std.specs.Prelude.{◌≡◌, Some, None, true};
@@ -9,7 +9,7 @@ ghost use Rattle.wf_ast.specs.declared.operators.Op.TheVariants as ops;
 ghost use Rattle.wf_named.specs.declared.nodes.BaseType.TheVariants as bases;
 ghost use Rattle.wf_named.specs.NamedTree.{number, status, truth, path, index, answer, chain, convert, absent, present, no_link, link, no_arg, more_args, slice_of, array_of, base_type, unrefined, to_path, to_element, assign, keep, do_call, branch, leave, back, suspend, close, more_stmts, no_else, otherwise, arm};
 ghost use Rattle.wf_named.specs.Examples.{at, local, field, arg};
-ghost use Rattle.wf_types_rules.specs.TypeRules.{refused};
+ghost use Rattle.wf_text.specs.Precedence.{refused};
 ghost use Rattle.wf_types_rules.specs.FirstBreak.{deciding};
 ghost use Rattle.wf_types_rules.specs.Examples.{here, constant_package, byte_type, refined_byte, doing, giving, x_path, assigning, pair, x_at, calls_own, reads, looping};
 

@@ -5,7 +5,7 @@ ghost use Rattle.wf_named.specs.NamedTree.{NamedPackageTree};
 ghost use Rattle.wf_types_rules.specs.TypeRules.{Breaks};
 ghost use Rattle.wf_types_rules.specs.FirstBreak.{deciding};
 
-/// The refusal that is computed from the parts of a package is the one that decides among all that the table has, and
+/// The refusal that is computed from the parts of a package is the first among all that the table has, and
 /// there is none exactly where the package keeps every rule.
 pub fn the_computed_refusal_decides()
     ensures { (p : NamedPackageTree) → Decides (Breaks p) (deciding p) }

@@ -3,7 +3,7 @@ use Rattle.std.proofs.Common.{◌≡◌, ◌∙◌, refl, sym, ap, ℕ, ◌+◌,
 use Rattle.wf_text.specs.declared.place.Place.{Place}
 use Rattle.wf_text.specs.declared.rules.Refusal.{Refusal}
 use Rattle.wf_text.specs.declared.rules.Rule.TheVariants.{T2}
-use Rattle.wf_text.specs.Precedence.{sooner}
+use Rattle.wf_text.specs.Precedence.{sooner, told}
 use Rattle.wf_base.specs.declared.marks.Mark.{Mark}
 use Rattle.wf_ast.specs.declared.operators.Op.{Op}
 use Rattle.wf_ast.specs.declared.parsed.Given.{Given}
@@ -19,7 +19,6 @@ use Rattle.wf_types_rules.specs.Meanings.{place_of}
 use Rattle.wf_types_rules.specs.ExprTypes.{meaning}
 use Rattle.wf_types_rules.specs.Judgements.{at_if, value_of, end_value, target_place, target_meaning, target_value, right_value, not_assigned, no_value_assigned, two_operands, is_suspension_text, block_stops, closing_brace}
 use Rattle.wf_types_rules.specs.Parts.{Part, target, assigned, kept, condition, letter_value, returned, yielded, whole_body, expr_parts, end_parts, target_parts, value_parts, whole_call_parts, condition_parts, clauses_parts, letters_parts}
-use Rattle.wf_types_rules.specs.FirstBreak.{told}
 use Rattle.wf_types_exprs.specs.Judged.{judged}
 use Rattle.wf_types_exprs.proofs.JudgedLaws.{judged-append, judged-last}
 use Rattle.wf_types_exprs.proofs.ListLemmas.{drop-one}

@@ -3,7 +3,7 @@ use Rattle.std.specs.Prelude.{Bool, not, List, Option, option_and_then}
 use Rattle.wf_text.specs.declared.place.Place.{Place}
 use Rattle.wf_text.specs.declared.rules.Refusal.{Refusal}
 use Rattle.wf_text.specs.declared.rules.Rule.TheVariants.{T1, T2, T3, T4, T5, E1, E2, E4, E5}
-use Rattle.wf_text.specs.Precedence.{sooner}
+use Rattle.wf_text.specs.Precedence.{sooner, told}
 use Rattle.wf_ast.specs.declared.operators.Op.{Op}
 use Rattle.wf_ast.specs.TypedTrees.{sort_of}
 use Rattle.wf_named.specs.declared.nodes.NamedCallee.{NamedCallee}
@@ -16,7 +16,6 @@ use Rattle.wf_types_rules.specs.Meanings.{is_status}
 use Rattle.wf_types_rules.specs.Operands.{not_taken, not_fitting}
 use Rattle.wf_types_rules.specs.Judgements.{at_if, fails, no_number, no_flag, not_assigned, is_wrong_return, ends_without_result, outside_coroutine, is_coroutine_called, wrong_target, impure_write}
 use Rattle.wf_types_rules.specs.Parts.{target}
-use Rattle.wf_types_rules.specs.FirstBreak.{told}
 
 -- A target, whatever the index of an element breaks.
 abbrev pub target_found : Setting → NamedTargetTree → Option Refusal → Option Refusal

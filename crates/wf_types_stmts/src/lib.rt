@@ -1,4 +1,4 @@
-// The rules of types and effects on statements: one walk over a body finds the refusal that decides among all that stands
+// The rules of types and effects on statements: one walk over a body finds the first refusal among all that stands
 // in it. Each statement is visited once, and once more for whether the body reaches its end.
 #![tactic(auto)]
 

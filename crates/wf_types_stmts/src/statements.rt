@@ -14,8 +14,9 @@ use wf_ast::parsed::{Arm, Block, LoopClause};
 use wf_ast::{ExprId, StmtId};
 use wf_named::{NamedCall, NamedStmt};
 use wf_text::faults::NoMemory;
+use wf_text::found::Found;
+use wf_types_exprs::Here;
 use wf_types_exprs::whole::judge_whole_call;
-use wf_types_exprs::{Found, Here};
 
 // A call that is a whole statement.
 fn judge_do_call(here: &Here<'_>, found: &mut Found, call: &NamedCall) -> Result<(), NoMemory>

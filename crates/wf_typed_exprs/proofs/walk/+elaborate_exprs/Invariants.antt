@@ -47,5 +47,5 @@ decreases-elaborate_negation l = 16 * l.of.0 + 17
 
 abbrev pub invariant-elaborate_links-loop-link : goal.invariant-elaborate_links-loop-link
 invariant-elaborate_links-loop-link l =
-    Grows l.fn.nodes l.nodes × (LeftToAdd l.around (expr_trees l.named.exprs) l.links (drop l.link-index l.links) l.nodes l.fn.before l.all
-    × EntriesLeft l.around (expr_trees l.named.exprs) l.links (drop l.link-index l.links) l.fn.nodes l.nodes)
+    Grows l.fn.nodes l.nodes × (LeftToAdd l.here.around.now (expr_trees l.here.nodes.now.exprs) l.links (drop l.link-index l.links) l.nodes l.fn.before l.all
+    × EntriesLeft l.here.around.now (expr_trees l.here.nodes.now.exprs) l.links (drop l.link-index l.links) l.fn.nodes l.nodes)

@@ -35,8 +35,8 @@ decreases-elaborate_loop l = 8 * above_block l.it.body.now + 2
 
 abbrev pub invariant-elaborate_block-loop-s : goal.invariant-elaborate_block-loop-s
 invariant-elaborate_block-loop-s l =
-    StmtsMade l.around (known_in (named_package l.named)) l.loops l.named (stmt_trees l.named.texts l.named.exprs l.named.stmts) l.block.close l.block.items l.s-index l.fn.nodes l.nodes l.items
+    StmtsMade l.here.around.now (known_in (named_package l.here.nodes.now)) l.loops l.here.nodes.now (stmt_trees l.here.nodes.now.texts l.here.nodes.now.exprs l.here.nodes.now.stmts) l.block.close l.block.items l.s-index l.fn.nodes l.nodes l.items
 
 abbrev pub invariant-elaborate_arms-loop-arm : goal.invariant-elaborate_arms-loop-arm
 invariant-elaborate_arms-loop-arm l =
-    ArmsMade l.around (known_in (named_package l.named)) l.loops l.named (expr_trees l.named.exprs) (stmt_trees l.named.texts l.named.exprs l.named.stmts) l.arms l.arm-index l.fn.nodes l.nodes l.made
+    ArmsMade l.here.around.now (known_in (named_package l.here.nodes.now)) l.loops l.here.nodes.now (expr_trees l.here.nodes.now.exprs) (stmt_trees l.here.nodes.now.texts l.here.nodes.now.exprs l.here.nodes.now.stmts) l.arms l.arm-index l.fn.nodes l.nodes l.made

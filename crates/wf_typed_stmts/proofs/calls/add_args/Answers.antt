@@ -8,5 +8,5 @@ pub loop-arg-preserved : goal.loop-arg-preserved
 loop-arg-preserved c =
     let l = c.loop-arg in
     rw c.in_ok-push.ensures.ok
-    (args_added c.args.around.now (known_in (named_package c.args.named.now)) c.args.named.now (expr_trees c.args.named.now.exprs) c.args.args.now l.arg-index c.args.nodes.now l.nodes c.add_arg.new.nodes l.made _ c.in_ok-e.e
+    (args_added c.args.here.now.around.now (known_in (named_package c.args.here.now.nodes.now)) c.args.here.now.nodes.now (expr_trees c.args.here.now.nodes.now.exprs) c.args.args.now l.arg-index c.args.nodes.now l.nodes c.add_arg.new.nodes l.made _ c.in_ok-e.e
     c.loop-arg-test.true l.invariant c.in_ok-e.ensures.grows c.in_ok-e.ensures.begun c.in_ok-e.ensures.made c.in_ok-e.ensures.entries)

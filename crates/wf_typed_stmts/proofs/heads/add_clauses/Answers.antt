@@ -8,5 +8,5 @@ pub loop-clause-preserved : goal.loop-clause-preserved
 loop-clause-preserved c =
     let l = c.loop-clause in
     rw c.in_ok-push.ensures.ok
-    (clauses_added c.args.around.now (known_in (named_package c.args.named.now)) c.args.named.now (expr_trees c.args.named.now.exprs) c.args.clauses.now l.clause-index c.args.nodes.now l.nodes c.add_tree.new.nodes l.made _
+    (clauses_added c.args.here.now.around.now (known_in (named_package c.args.here.now.nodes.now)) c.args.here.now.nodes.now (expr_trees c.args.here.now.nodes.now.exprs) c.args.clauses.now l.clause-index c.args.nodes.now l.nodes c.add_tree.new.nodes l.made _
     c.in_ok-e.e c.loop-clause-test.true l.invariant c.in_ok-e.ensures.grows c.in_ok-e.ensures.begun c.in_ok-e.ensures.made c.in_ok-e.ensures.entries)

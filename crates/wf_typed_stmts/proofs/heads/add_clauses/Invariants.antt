@@ -5,4 +5,4 @@ use Rattle.wf_typed_stmts.proofs.ListLemmas.{ClausesMade}
 use Rattle.wf_typed_stmts.proofs.heads.add_clauses.Given as goal
 
 abbrev pub invariant-loop-clause : goal.invariant-loop-clause
-invariant-loop-clause l = ClausesMade l.around (known_in (named_package l.named)) l.named (expr_trees l.named.exprs) l.clauses l.clause-index l.fn.nodes l.nodes l.made
+invariant-loop-clause l = ClausesMade l.here.around.now (known_in (named_package l.here.nodes.now)) l.here.nodes.now (expr_trees l.here.nodes.now.exprs) l.clauses l.clause-index l.fn.nodes l.nodes l.made

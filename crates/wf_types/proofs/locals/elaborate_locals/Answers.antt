@@ -20,10 +20,10 @@ loop-number-preserved c =
       (
         c.in_ok-push_path.ensures.begun,
         (
-          first_more c.args.around.now old new (places_named xs) (length c.args.nodes.now.exprs) n (get_or xs n x).name.at c.in_ok-push_path.field-0.node c.in_ok-push_path.ensures.grows (place_at xs n x c.loop-number-test.true)
+          first_more c.args.here.now.around.now old new (places_named xs) (length c.args.nodes.now.exprs) n (get_or xs n x).name.at c.in_ok-push_path.field-0.node c.in_ok-push_path.ensures.grows (place_at xs n x c.loop-number-test.true)
               (c.in_ok-push_path.ensures.number ∙ made.1.1.1.1) c.in_ok-push_path.ensures.stands made.1.1.0,
           (
-            local_next c.args.around.now c.args.nodes.now old new (places_named xs) n (get_or xs n x).name.at (place_at xs n x c.loop-number-test.true) made.1.1.1.0 c.in_ok-push_path.ensures.entries,
+            local_next c.args.here.now.around.now c.args.nodes.now old new (places_named xs) n (get_or xs n x).name.at (place_at xs n x c.loop-number-test.true) made.1.1.1.0 c.in_ok-push_path.ensures.entries,
             omega (arith, c.in_ok-push_path.ensures.count, made.1.1.1.1),
           ),
         ),
@@ -36,7 +36,7 @@ returns-clause-stand c =
     let P : NamedVar → Place = λ y. y.name.at in
     let long = length-map xs P in
     let past : length (places_named xs) ≤ c.loop-number.number = omega (arith, long, c.loop-number-test.false) in
-    first_all c.args.around.now c.loop-number.nodes (length c.args.nodes.now.exprs) c.loop-number.number (places_named xs) past c.loop-number.invariant.1.1.0
+    first_all c.args.here.now.around.now c.loop-number.nodes (length c.args.nodes.now.exprs) c.loop-number.number (places_named xs) past c.loop-number.invariant.1.1.0
 
 pub returns-clause-entries : goal.returns-clause-entries
 returns-clause-entries c =
@@ -44,4 +44,4 @@ returns-clause-entries c =
     let P : NamedVar → Place = λ y. y.name.at in
     let long = length-map xs P in
     let past : length (places_named xs) ≤ c.loop-number.number = omega (arith, long, c.loop-number-test.false) in
-    locals_end c.args.around.now c.args.nodes.now c.loop-number.nodes (places_named xs) c.loop-number.number past c.loop-number.invariant.1.1.1.0
+    locals_end c.args.here.now.around.now c.args.nodes.now c.loop-number.nodes (places_named xs) c.loop-number.number past c.loop-number.invariant.1.1.1.0

@@ -7,6 +7,6 @@ use Rattle.wf_types.proofs.locals.elaborate_locals.Given as goal
 
 abbrev pub invariant-loop-number : goal.invariant-loop-number
 invariant-loop-number l =
-    GrowsExprs l.fn.nodes l.nodes × (IsBegun l.named l.nodes × (FirstHaveNodes l.around l.nodes (length l.fn.nodes.exprs) l.number (places_named l.locals)
-    × (EntriesTo l.fn.nodes l.nodes (local_entries l.around l.number (drop l.number (places_named l.locals))) (local_entries l.around 0 (places_named l.locals))
+    GrowsExprs l.fn.nodes l.nodes × (IsBegun l.here.nodes.now l.nodes × (FirstHaveNodes l.here.around.now l.nodes (length l.fn.nodes.exprs) l.number (places_named l.locals)
+    × (EntriesTo l.fn.nodes l.nodes (local_entries l.here.around.now l.number (drop l.number (places_named l.locals))) (local_entries l.here.around.now 0 (places_named l.locals))
     × (length l.nodes.exprs ≡ length l.fn.nodes.exprs + l.number))))

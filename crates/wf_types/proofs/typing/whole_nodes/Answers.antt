@@ -9,6 +9,6 @@ elaborate_bodies-requires-clause-declared c = c.new-building.ensures ∙ ap with
 pub returns : goal.returns
 returns c =
     record {
-      whole = whole_at c.args.named.now c.elaborate_bodies.new.nodes c.in_ok-all.all c.with_bodies.result c.in_ok-made.made.bodies c.in_ok-made.made.first_locals
-          c.in_ok-made.ensures.bodies c.in_ok-made.ensures.locals c.in_ok-all.ensures.nodes c.in_ok-all.ensures.exprs c.with_bodies.ensures;
+      whole = whole_at c.args.named.now c.elaborate_bodies.new.nodes c.finish.result c.with_bodies.result c.in_ok-made.made.bodies c.in_ok-made.made.first_locals
+          c.in_ok-made.ensures.bodies c.in_ok-made.ensures.locals c.finish.ensures.nodes c.finish.ensures.exprs c.with_bodies.ensures;
     }

@@ -14,14 +14,14 @@ returns-clause-grows c =
 pub returns-clause-begun : goal.returns-clause-begun
 returns-clause-begun c =
     let begun = rw (← c.self.view_is) at c.requires.begun in
-    step_begun c.self.inside.building c.push_expr.new.self c.self.inside.stmts.items c.in_ok-e.ensures.grows c.args.named.now begun
+    step_begun c.self.inside.building c.push_expr.new.self c.self.inside.stmts.items c.in_ok-e.ensures.grows c.args.here.now.nodes.now begun
 
 pub returns-clause-made : goal.returns-clause-made
 returns-clause-made c =
     let new : TypedNodes = with_stmts c.push_expr.new.self c.self.inside.stmts.items in
-    let P : TypedNodes → Type 0 = λ p. tree_of new c.in_ok-e.e ≡ chain_of c.args.sign (c.args.sign ∷ []) c.args.ty (sort_of c.args.op) (tree_of p c.args.left ∷ tree_of p c.args.right ∷ []) in
+    let P : TypedNodes → Type 0 = λ p. tree_of new c.in_ok-e.e ≡ chain_of c.args.by.sign (c.args.by.sign ∷ []) c.args.by.ty (sort_of c.args.by.op) (tree_of p c.args.left ∷ tree_of p c.args.right ∷ []) in
     subst P c.self.view_is
-    (operator_made c.self.inside.building c.push_expr.new.self c.self.inside.stmts.items c.in_ok-e.e c.args.left c.args.right c.args.op c.args.sign c.args.ty c.in_ok-node.node c.in_ok-node.ensures c.in_ok-e.ensures.made)
+    (operator_made c.self.inside.building c.push_expr.new.self c.self.inside.stmts.items c.in_ok-e.e c.args.left c.args.right c.args.by.op c.args.by.sign c.args.by.ty c.in_ok-node.node c.in_ok-node.ensures c.in_ok-e.ensures.made)
 
 pub returns-clause-entries : goal.returns-clause-entries
 returns-clause-entries c =

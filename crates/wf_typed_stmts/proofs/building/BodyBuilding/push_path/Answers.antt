@@ -15,13 +15,13 @@ returns-clause-grows c =
 pub returns-clause-begun : goal.returns-clause-begun
 returns-clause-begun c =
     let begun = rw (← c.self.view_is) at c.requires.begun in
-    on_so c.elaborate_path.result _ _ (λ g. step_begun c.self.inside.building c.elaborate_path.new.nodes c.self.inside.stmts.items g c.args.named.now begun) c.elaborate_path.ensures.grows
+    on_so c.elaborate_path.result _ _ (λ g. step_begun c.self.inside.building c.elaborate_path.new.nodes c.self.inside.stmts.items g c.args.here.now.nodes.now begun) c.elaborate_path.ensures.grows
 
 pub returns-clause-stands : goal.returns-clause-stands
 returns-clause-stands c =
-    ok_so c.elaborate_path.result _ _ (λ r h. step_stands (path_tree c.args.around.now c.args.path) (variable c.args.around.now c.args.path.of) c.elaborate_path.new.nodes c.self.inside.stmts.items r.node h) c.elaborate_path.ensures.stands
+    ok_so c.elaborate_path.result _ _ (λ r h. step_stands (path_tree c.args.here.now.around.now c.args.path) (variable c.args.here.now.around.now c.args.path.of) c.elaborate_path.new.nodes c.self.inside.stmts.items r.node h) c.elaborate_path.ensures.stands
 
 pub returns-clause-entries : goal.returns-clause-entries
 returns-clause-entries c =
     rw (← c.self.view_is)
-    (on_so c.elaborate_path.result _ _ (λ g. lifted_adds c.self.inside.building c.elaborate_path.new.nodes c.self.inside.stmts.items (path_entry c.args.around.now c.args.path ∷ []) g) c.elaborate_path.ensures.entries)
+    (on_so c.elaborate_path.result _ _ (λ g. lifted_adds c.self.inside.building c.elaborate_path.new.nodes c.self.inside.stmts.items (path_entry c.args.here.now.around.now c.args.path ∷ []) g) c.elaborate_path.ensures.entries)

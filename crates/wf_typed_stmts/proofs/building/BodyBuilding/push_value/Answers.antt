@@ -16,13 +16,13 @@ returns-clause-grows c =
 pub returns-clause-begun : goal.returns-clause-begun
 returns-clause-begun c =
     let begun = rw (← c.self.view_is) at c.requires.begun in
-    on_so c.elaborate_expr.result _ _ (λ g. step_begun c.self.inside.building c.elaborate_expr.new.nodes c.self.inside.stmts.items g c.args.named.now begun) c.elaborate_expr.ensures.grows
+    on_so c.elaborate_expr.result _ _ (λ g. step_begun c.self.inside.building c.elaborate_expr.new.nodes c.self.inside.stmts.items g c.args.here.now.nodes.now begun) c.elaborate_expr.ensures.grows
 
 pub returns-clause-stands : goal.returns-clause-stands
 returns-clause-stands c =
-    ok_so c.elaborate_expr.result _ _ (λ r h. step_stands (expr_tree c.args.around.now (expr_at (exprs_of c.args.named.now) c.args.e)) (meaning c.args.around.now (expr_at (exprs_of c.args.named.now) c.args.e)) c.elaborate_expr.new.nodes c.self.inside.stmts.items r.node h) c.elaborate_expr.ensures.stands
+    ok_so c.elaborate_expr.result _ _ (λ r h. step_stands (expr_tree c.args.here.now.around.now (expr_at (exprs_of c.args.here.now.nodes.now) c.args.e)) (meaning c.args.here.now.around.now (expr_at (exprs_of c.args.here.now.nodes.now) c.args.e)) c.elaborate_expr.new.nodes c.self.inside.stmts.items r.node h) c.elaborate_expr.ensures.stands
 
 pub returns-clause-entries : goal.returns-clause-entries
 returns-clause-entries c =
     rw (← c.self.view_is)
-    (on_so c.elaborate_expr.result _ _ (λ g. lifted_adds c.self.inside.building c.elaborate_expr.new.nodes c.self.inside.stmts.items (expr_entries c.args.around.now (expr_at (exprs_of c.args.named.now) c.args.e)) g) c.elaborate_expr.ensures.entries)
+    (on_so c.elaborate_expr.result _ _ (λ g. lifted_adds c.self.inside.building c.elaborate_expr.new.nodes c.self.inside.stmts.items (expr_entries c.args.here.now.around.now (expr_at (exprs_of c.args.here.now.nodes.now) c.args.e)) g) c.elaborate_expr.ensures.entries)
