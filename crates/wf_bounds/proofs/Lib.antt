@@ -2,6 +2,7 @@ pub mod ComingLemmas
 pub mod MethodLemmas
 pub mod NodeLemmas
 pub mod NumberLemmas
+pub mod RoomLemmas
 pub mod RoundLemmas
 pub mod StandingLemmas
 pub mod StartLemmas

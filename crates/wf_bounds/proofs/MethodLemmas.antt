@@ -8,7 +8,7 @@ use Rattle.wf_text.specs.declared.rules.Refusal.{Refusal}
 use Rattle.wf_text.specs.declared.faults.PhaseFault.{PhaseFault}
 use Rattle.wf_text.specs.declared.faults.PhaseFault.TheVariants.{Refused, Memory}
 use Rattle.wf_ast.specs.declared.numbers.StmtId.{StmtId}
-use Rattle.wf_ast.specs.declared.resolved.Block as resolved
+use Rattle.wf_ast.specs.declared.typed_code.Block as typed_code
 use Rattle.wf_ast.specs.declared.typed_nodes.TypedNodes.{TypedNodes}
 use Rattle.wf_ast.specs.TypedTree.{Block}
 use Rattle.wf_ast.specs.TypedTrees.{block_of}
@@ -58,7 +58,7 @@ lt_word : (s n : ℕ) → s < n → n < 2 ^ 32 → nat_lt s 4294967295 ≡ true
 lt_word s n h l = let k : s < 4294967295 = omega (arith, h, l) in grind (arith, nat_tests, k)
 
 -- A walk through a method's body.
-module _ (nodes : TypedNodes) (m : ℕ) (ready : IsReady nodes m) (b : resolved.Block) (is : slice_get nodes.bodies m ≡ Some b) where
+module _ (nodes : TypedNodes) (m : ℕ) (ready : IsReady nodes m) (b : typed_code.Block) (is : slice_get nodes.bodies m ≡ Some b) where
   method_there : slice_get (package_of nodes).methods m ≡ Some (method_at nodes m)
   unfolding method_at
   method_there =

@@ -7,11 +7,11 @@ use Rattle.std.proofs.lemmas.Option.{slice_get_within}
 use Rattle.wf_text.specs.declared.place.Place.{Place}
 use Rattle.wf_text.specs.declared.rules.Refusal.{Refusal}
 use Rattle.wf_ast.specs.declared.numbers.StmtId.{StmtId}
-use Rattle.wf_ast.specs.declared.resolved.Arm.{Arm}
-use Rattle.wf_ast.specs.declared.resolved.Block as resolved
-use Rattle.wf_ast.specs.declared.resolved.Stmt.{Stmt}
-use Rattle.wf_ast.specs.declared.resolved.Stmt.TheVariants as stmts
-use Rattle.wf_ast.specs.declared.resolved.StmtNode.{StmtNode}
+use Rattle.wf_ast.specs.declared.typed_code.Arm.{Arm}
+use Rattle.wf_ast.specs.declared.typed_code.Block as typed_code
+use Rattle.wf_ast.specs.declared.typed_code.Stmt.{Stmt}
+use Rattle.wf_ast.specs.declared.typed_code.Stmt.TheVariants as stmts
+use Rattle.wf_ast.specs.declared.typed_code.StmtNode.{StmtNode}
 use Rattle.wf_ast.specs.declared.typed_nodes.TypedNodes.{TypedNodes}
 use Rattle.wf_ast.specs.TypedTree.{Simple, Site, Head, Block, end}
 use Rattle.wf_ast.specs.TypedTrees.{no_place, no_statement, tree_of, head_made, block_made, otherwise_made, stmt_made, onto, stmt_makers}
@@ -168,19 +168,19 @@ module _ (nodes : TypedNodes) (typed : IsTyped nodes) where
         known_same (Some gs) f g h = h gs
 
     module _ (k : ℕ) (small : k ≤ length nodes.stmts) (site : Site) where
-      block_listed : (b : resolved.Block) → block_below k b ≡ true → (fs : List Claim) → walked_body (all_round nodes m) sought fs (body_of (block_made (onto (stmt_makers nodes)) b.items)) ≡ walked_listed (walked_at nodes m sought) fs b.items
+      block_listed : (b : typed_code.Block) → block_below k b ≡ true → (fs : List Claim) → walked_body (all_round nodes m) sought fs (body_of (block_made (onto (stmt_makers nodes)) b.items)) ≡ walked_listed (walked_at nodes m sought) fs b.items
       block_listed b h fs = listed b.items (ids_more k (length nodes.stmts) small b.items h) fs
 
-      abbrev others : List Arm → Option resolved.Block → Reading
+      abbrev others : List Arm → Option typed_code.Block → Reading
       others arms otherwise = reading (otherwise_made (tree_of nodes) (onto (stmt_makers nodes)) site arms otherwise)
 
       -- The conditions of an `if`, and where its blocks meet.
-      conditions_are : (arms : List Arm) (otherwise : Option resolved.Block) → optional_block_below k otherwise ≡ true → (others arms otherwise).conditions ≡ conditions_of nodes arms
+      conditions_are : (arms : List Arm) (otherwise : Option typed_code.Block) → optional_block_below k otherwise ≡ true → (others arms otherwise).conditions ≡ conditions_of nodes arms
       conditions_are [] None o = refl
       conditions_are [] (Some b) o = ap (λ (r : Reading). r.conditions) (block_alone b.items (ids_more k (length nodes.stmts) small b.items o))
       conditions_are (arm ∷ arms) otherwise o = ap (λ cs. node_cond nodes arm.cond ∷ cs) (conditions_are arms otherwise o)
 
-      arms_meet : (next : Known → Result (Reached Known) Refusal) (met : Known) (fs : List Claim) (arms : List Arm) (otherwise : Option resolved.Block)
+      arms_meet : (next : Known → Result (Reached Known) Refusal) (met : Known) (fs : List Claim) (arms : List Arm) (otherwise : Option typed_code.Block)
           → list_all (λ a. is_expr nodes a.cond && block_below k a.body) arms ≡ true → optional_block_below k otherwise ≡ true
           → going_on (walked_blocks (all_round nodes m) sought (branch_fronts fs (others arms otherwise).conditions) (others arms otherwise).blocks) (λ ends. next (joined_all met ends))
           ≡ going_on (walked_arms nodes (walked_at nodes m sought) met fs arms otherwise) next
@@ -238,7 +238,7 @@ module _ (nodes : TypedNodes) (typed : IsTyped nodes) (m : ℕ) (sought : Option
       ∙ ap (λ w. if is_sought sought site.number then Ok (found fs) else w) (unless_both (single_refusal a fs site s) (limit_behind site.at (known_behind fs s)) (Ok (passed (known_behind fs s))))
 
   module _ (k : ℕ) (small : k ≤ length nodes.stmts) where
-    if_walk : (fs : List Claim) (site : Site) (arms : List Arm) (otherwise : Option resolved.Block) → list_all (λ a. is_expr nodes a.cond && block_below k a.body) arms ≡ true → optional_block_below k otherwise ≡ true
+    if_walk : (fs : List Claim) (site : Site) (arms : List Arm) (otherwise : Option typed_code.Block) → list_all (λ a. is_expr nodes a.cond && block_below k a.body) arms ≡ true → optional_block_below k otherwise ≡ true
         → walked_body (all_round nodes m) sought fs (statement site (branches (others nodes typed m sought k small site arms otherwise).conditions) (others nodes typed m sought k small site arms otherwise).blocks nothing_more)
         ≡ (if is_sought sought site.number then Ok (found fs) else walked_if nodes (walked_at nodes m sought) fs site arms otherwise)
     if_walk fs site arms otherwise h o =
@@ -252,7 +252,7 @@ module _ (nodes : TypedNodes) (typed : IsTyped nodes) (m : ℕ) (sought : Option
         ∙ ap (λ cs. if is_sought sought site.number then Ok (found fs) else unless (arms_refusal fs site cs) (going_on (walked_arms nodes (walked_at nodes m sought) None fs arms otherwise) next))
         (conditions_are nodes typed m sought k small site arms otherwise o)
 
-    loop_walk : (fs : List Claim) (site : Site) (head : Head) (body : resolved.Block) → block_below k body ≡ true → loop_numbered (all_loops nodes) site.number ≡ Some head
+    loop_walk : (fs : List Claim) (site : Site) (head : Head) (body : typed_code.Block) → block_below k body ≡ true → loop_numbered (all_loops nodes) site.number ≡ Some head
         → walked_body (all_round nodes m) sought fs (statement site (repeated head) (block (body_of (block_made (onto (stmt_makers nodes)) body.items)) no_block) nothing_more)
         ≡ (if is_sought sought site.number then Ok (found fs) else walked_loop (walked_at nodes m sought) fs site.at head body.items)
     loop_walk fs site head body b known =

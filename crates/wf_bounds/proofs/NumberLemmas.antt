@@ -6,11 +6,11 @@ use Rattle.std.proofs.lemmas.Bool.Decides.{nat_tests}
 use Rattle.std.proofs.lemmas.List.{append-nil}
 use Rattle.wf_text.specs.declared.place.Place.{Place}
 use Rattle.wf_ast.specs.declared.numbers.StmtId.{StmtId}
-use Rattle.wf_ast.specs.declared.resolved.Arm.{Arm}
-use Rattle.wf_ast.specs.declared.resolved.Block as resolved
-use Rattle.wf_ast.specs.declared.resolved.Stmt.{Stmt}
-use Rattle.wf_ast.specs.declared.resolved.Stmt.TheVariants as stmts
-use Rattle.wf_ast.specs.declared.resolved.StmtNode.{StmtNode}
+use Rattle.wf_ast.specs.declared.typed_code.Arm.{Arm}
+use Rattle.wf_ast.specs.declared.typed_code.Block as typed_code
+use Rattle.wf_ast.specs.declared.typed_code.Stmt.{Stmt}
+use Rattle.wf_ast.specs.declared.typed_code.Stmt.TheVariants as stmts
+use Rattle.wf_ast.specs.declared.typed_code.StmtNode.{StmtNode}
 use Rattle.wf_ast.specs.declared.typed_nodes.TypedNodes.{TypedNodes}
 use Rattle.wf_ast.specs.TypedTree.{Site, Block}
 use Rattle.wf_ast.specs.TypedTrees.{tree_of, block_made, otherwise_made, stmt_made, onto, stmt_makers}
@@ -139,7 +139,7 @@ module _ (nodes : TypedNodes) (typed : IsTyped nodes) where
     one_block a body blocks h k (fs ∷ lists) = neither_known (front_in_body a s fs body) (front_in_blocks a s lists blocks) (h fs) (k lists)
 
     module _ (k : ℕ) (small : k ≤ length nodes.stmts) (lacks : Lacks k) where
-      arms_lack : (site : Site) (arms : List Arm) (otherwise : Option resolved.Block) → list_all (λ a. is_expr nodes a.cond && block_below k a.body) arms ≡ true → optional_block_below k otherwise ≡ true
+      arms_lack : (site : Site) (arms : List Arm) (otherwise : Option typed_code.Block) → list_all (λ a. is_expr nodes a.cond && block_below k a.body) arms ≡ true → optional_block_below k otherwise ≡ true
           → list_any (nat_eq s) (numbers_in (otherwise_made (tree_of nodes) (onto (stmt_makers nodes)) site arms otherwise)) ≡ false
           → (a : Around) (lists : List (List Claim)) → front_in_blocks a s lists (reading (otherwise_made (tree_of nodes) (onto (stmt_makers nodes)) site arms otherwise)).blocks ≡ None
       arms_lack site [] None h o w a lists = one_block a nothing_more no_block (λ fs. refl) (λ lists. refl) lists
@@ -239,7 +239,7 @@ module _ (nodes : TypedNodes) (typed : IsTyped nodes) where
       ends_on s so_far i ss n count q.count q.left q.all q.back (ends s (nat_le s i.0) ss p.1)
 
   -- The bodies of the methods, one after another.
-  body_for : (bs : List resolved.Block) (m : ℕ) → m < length bs → (b : resolved.Block) × (slice_get bs m ≡ Some b)
+  body_for : (bs : List typed_code.Block) (m : ℕ) → m < length bs → (b : typed_code.Block) × (slice_get bs m ≡ Some b)
   body_for [] m h = absurd (omega (arith, h))
   body_for (b ∷ bs) zero h = (b, refl)
   body_for (b ∷ bs) (suc m) h = body_for bs m (omega (arith, h))
@@ -297,7 +297,7 @@ module _ (nodes : TypedNodes) (typed : IsTyped nodes) where
           (later next)
 
   -- Whether a statement may stand in a method, by its last statement.
-  module _ (m : ℕ) (l : m < length nodes.methods) (s : StmtId) (b : resolved.Block) (body : slice_get nodes.bodies m ≡ Some b) where
+  module _ (m : ℕ) (l : m < length nodes.methods) (s : StmtId) (b : typed_code.Block) (body : slice_get nodes.bodies m ≡ Some b) where
     body_numbers : numbers_in (block_made (onto (stmt_makers nodes)) b.items) ≡ numbers_in (method_at nodes m).body
     body_numbers = ap numbers_in (sym (body_is nodes m (record { typed = typed; known = l }) b body))
 

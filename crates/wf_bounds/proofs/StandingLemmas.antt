@@ -12,12 +12,12 @@ use Rattle.wf_ast.specs.declared.types.Ty.{Ty}
 use Rattle.wf_ast.specs.declared.types.Ty.TheVariants as types
 use Rattle.wf_ast.specs.declared.numbers.StmtId.{StmtId}
 use Rattle.wf_ast.specs.declared.declarations.Method.{Method}
-use Rattle.wf_ast.specs.declared.resolved.Callee.TheVariants as callees
-use Rattle.wf_ast.specs.declared.resolved.Arm.{Arm}
-use Rattle.wf_ast.specs.declared.resolved.Block as resolved
-use Rattle.wf_ast.specs.declared.resolved.Stmt.{Stmt}
-use Rattle.wf_ast.specs.declared.resolved.Stmt.TheVariants as stmts
-use Rattle.wf_ast.specs.declared.resolved.StmtNode.{StmtNode}
+use Rattle.wf_ast.specs.declared.typed_code.Callee.TheVariants as callees
+use Rattle.wf_ast.specs.declared.typed_code.Arm.{Arm}
+use Rattle.wf_ast.specs.declared.typed_code.Block as typed_code
+use Rattle.wf_ast.specs.declared.typed_code.Stmt.{Stmt}
+use Rattle.wf_ast.specs.declared.typed_code.Stmt.TheVariants as stmts
+use Rattle.wf_ast.specs.declared.typed_code.StmtNode.{StmtNode}
 use Rattle.wf_ast.specs.declared.typed_nodes.TypedNodes.{TypedNodes}
 use Rattle.wf_ast.specs.TypedTree.{Simple, assign, await, perform, invoke, break_from, continue_in, give_back, yield, claim, lost, Site, Head, Block, end, plain, choose, loop}
 use Rattle.wf_ast.specs.TypedTrees.{type_of_node, no_statement, cond_in, tree_of, head_made, block_made, otherwise_made, stmt_made, onto, stmt_makers}
@@ -247,7 +247,7 @@ module _ (nodes : TypedNodes) (typed : IsTyped nodes) (m : ℕ) where
         (both_hold (nat_lt s.0 k) _ p.0 (both_hold (nat_lt s.0 (length nodes.stmts)) _ (lt_test s.0 (length nodes.stmts) inside) alone))
         (items_stand ss p.1 q.1)
 
-    otherwise_stands : (site : Site) (arms : List Arm) (otherwise : Option resolved.Block) → list_all (λ a. is_expr nodes a.cond && block_below k a.body) arms ≡ true → optional_block_below k otherwise ≡ true
+    otherwise_stands : (site : Site) (arms : List Arm) (otherwise : Option typed_code.Block) → list_all (λ a. is_expr nodes a.cond && block_below k a.body) arms ≡ true → optional_block_below k otherwise ≡ true
         → well_block context round (otherwise_made (tree_of nodes) (onto (stmt_makers nodes)) site arms otherwise) ≡ true
         → (have_conditions nodes arms ≡ true) × (arms_stand nodes m k arms ≡ true) × (else_stands nodes m k otherwise ≡ true)
     otherwise_stands site [] None h o w = (refl, refl, refl)

@@ -4,7 +4,7 @@ use Rattle.wf_text.specs.declared.place.Place.{Place}
 use Rattle.wf_text.specs.declared.rules.Refusal.{Refusal}
 use Rattle.wf_text.specs.declared.faults.PhaseFault.{PhaseFault}
 use Rattle.wf_text.specs.declared.faults.PhaseFault.TheVariants.{Refused, Memory}
-use Rattle.wf_ast.specs.declared.resolved.Arm.{Arm}
+use Rattle.wf_ast.specs.declared.typed_code.Arm.{Arm}
 use Rattle.wf_ast.specs.declared.typed_nodes.TypedNodes.{TypedNodes}
 use Rattle.wf_ast.specs.TypedTree.{CondTree, Head}
 use Rattle.wf_facts_exprs.specs.Claims.{Claim, claims_in}

@@ -1,23 +1,25 @@
 -- Walks through the statements of a package as its nodes have them, and that these keep the rules of types.
-use Rattle.std.specs.Prelude.{ℕ, suc, Bool, true, false, ◌&&◌, List, [], ◌∷◌, map, Option, None, Some, Result, Ok, if◌then◌else◌, nat_lt, length, unwrap_or, slice_get}
+use Rattle.std.specs.Prelude.{ℕ, suc, Bool, true, false, not, ◌&&◌, List, [], ◌∷◌, map, Option, None, Some, Result, Ok, if◌then◌else◌, nat_lt, length, unwrap_or, slice_get}
 use Rattle.std.specs.List.{list_all}
 use Rattle.wf_text.specs.declared.place.Place.{Place}
 use Rattle.wf_text.specs.declared.rules.Refusal.{Refusal}
 use Rattle.wf_base.specs.declared.marks.Mark.TheVariants.{Pure}
 use Rattle.wf_ast.specs.declared.numbers.StmtId.{StmtId}
-use Rattle.wf_ast.specs.declared.resolved.Arm.{Arm}
-use Rattle.wf_ast.specs.declared.resolved.Block as resolved
-use Rattle.wf_ast.specs.declared.resolved.Stmt.{Stmt}
-use Rattle.wf_ast.specs.declared.resolved.Stmt.TheVariants as stmts
-use Rattle.wf_ast.specs.declared.resolved.StmtNode.{StmtNode}
+use Rattle.wf_ast.specs.declared.typed_code.Arm.{Arm}
+use Rattle.wf_ast.specs.declared.typed_code.Block as typed_code
+use Rattle.wf_ast.specs.declared.typed_code.Expr.{Expr}
+use Rattle.wf_ast.specs.declared.typed_code.Expr.TheVariants as exprs
+use Rattle.wf_ast.specs.declared.typed_code.Stmt.{Stmt}
+use Rattle.wf_ast.specs.declared.typed_code.Stmt.TheVariants as stmts
+use Rattle.wf_ast.specs.declared.typed_code.StmtNode.{StmtNode}
 use Rattle.wf_ast.specs.declared.typed_nodes.TypedNodes.{TypedNodes}
-use Rattle.wf_ast.specs.TypedTree.{CondTree, Simple, Site, Head, end}
-use Rattle.wf_ast.specs.TypedTrees.{onto, stmt_makers}
+use Rattle.wf_ast.specs.TypedTree.{CondTree, junction, negation, Simple, Site, Head, end}
+use Rattle.wf_ast.specs.TypedTrees.{onto, sort_of, stmt_makers}
 use Rattle.wf_ast.specs.TypedPackage.{MethodTree, package_of}
 use Rattle.wf_ast.specs.WellTyped.{well_block}
 use Rattle.wf_facts_exprs.specs.Claims.{Claim, is_condition_at}
 use Rattle.wf_facts_exprs.specs.Demands.{or_else}
-use Rattle.wf_facts_exprs.specs.Operands.{node_cond}
+use Rattle.wf_facts_exprs.specs.Operands.{is_joining, node_cond}
 use Rattle.wf_facts.specs.FactLists.{with_condition}
 use Rattle.wf_loops.specs.LoopRules.{front_refusal, head_list, body_list}
 use Rattle.wf_loops.specs.LoopNodes.{is_loop, head_at, place_at}
@@ -61,12 +63,12 @@ abbrev pub walked_listed : Look → List Claim → List StmtId → Result (Reach
 walked_listed look fs [] = Ok (passed (Some fs))
 walked_listed look fs (s ∷ ss) = going_on (look fs s) (λ known. where_passed known (λ gs. walked_listed look gs ss))
 
-abbrev pub walked_else : Look → List Claim → Option resolved.Block → Result (Reached Known) Refusal
+abbrev pub walked_else : Look → List Claim → Option typed_code.Block → Result (Reached Known) Refusal
 walked_else look fs None = Ok (passed (Some fs))
 walked_else look fs (Some block) = walked_listed look fs block.items
 
 -- `met` is what is known where the blocks of the arms before meet.
-abbrev pub walked_arms : TypedNodes → Look → (met : Known) → List Claim → List Arm → Option resolved.Block → Result (Reached Known) Refusal
+abbrev pub walked_arms : TypedNodes → Look → (met : Known) → List Claim → List Arm → Option typed_code.Block → Result (Reached Known) Refusal
 walked_arms nodes look met fs [] otherwise = going_on (walked_else look fs otherwise) (λ known. Ok (passed (joined met known)))
 walked_arms nodes look met fs (arm ∷ arms) otherwise =
     going_on (walked_listed look (with_condition fs (node_cond nodes arm.cond) true) arm.body.items)
@@ -78,7 +80,7 @@ conditions_of nodes arms = map (λ arm. node_cond nodes arm.cond) arms
 abbrev pub arms_refusal : List Claim → Site → List CondTree → Option Refusal
 arms_refusal fs site cs = or_else (conditions_refusal fs site cs) (limits site.at (branch_fronts fs cs))
 
-abbrev pub walked_if : TypedNodes → Look → List Claim → Site → List Arm → Option resolved.Block → Result (Reached Known) Refusal
+abbrev pub walked_if : TypedNodes → Look → List Claim → Site → List Arm → Option typed_code.Block → Result (Reached Known) Refusal
 walked_if nodes look fs site arms otherwise =
     unless (arms_refusal fs site (conditions_of nodes arms)) (going_on (walked_arms nodes look None fs arms otherwise) (λ known.
     unless (limit_behind site.at known) (Ok (passed known))))
@@ -110,10 +112,10 @@ stands_well nodes m s = well_block (all_round nodes m).context (map (λ l. l.0) 
 abbrev pub stmt_stands : TypedNodes → (m k : ℕ) → StmtId → Bool
 stmt_stands nodes m k s = nat_lt s.0 k && (nat_lt s.0 (length nodes.stmts) && stands_well nodes m s)
 
-abbrev pub block_stands : TypedNodes → (m k : ℕ) → resolved.Block → Bool
+abbrev pub block_stands : TypedNodes → (m k : ℕ) → typed_code.Block → Bool
 block_stands nodes m k block = list_all (stmt_stands nodes m k) block.items
 
-abbrev pub else_stands : TypedNodes → (m k : ℕ) → Option resolved.Block → Bool
+abbrev pub else_stands : TypedNodes → (m k : ℕ) → Option typed_code.Block → Bool
 else_stands nodes m k None = true
 else_stands nodes m k (Some block) = block_stands nodes m k block
 
@@ -129,3 +131,14 @@ parts_stand nodes m s (stmts.If (arm ∷ arms) otherwise) =
     have_conditions nodes (arm ∷ arms) && (arms_stand nodes m s.0 (arm ∷ arms) && else_stands nodes m s.0 otherwise)
 parts_stand nodes m s (stmts.While head body) = is_loop nodes s && block_stands nodes m s.0 body
 parts_stand nodes m s stmt = true
+
+-- A condition that joins no others and negates none, and how its node tells it: such a condition has one fact at most.
+abbrev pub joins_none : CondTree → Bool
+joins_none (junction at both joined a b) = false
+joins_none (negation at a) = false
+joins_none c = true
+
+abbrev pub joins_none_in : Expr → Bool
+joins_none_in (exprs.Chain op parts) = not (is_joining (sort_of op))
+joins_none_in (exprs.Not of) = false
+joins_none_in x = true

@@ -11,13 +11,14 @@ ghost use Rattle.wf_bounds_stmts.specs.FactRules.{Known};
 ghost use Rattle.wf_bounds_stmts.specs.Passing.{site_at};
 ghost use Rattle.wf_bounds.specs.Walks.{Reached, going_on, passed, joined};
 ghost use Rattle.wf_bounds.specs.WalkAnswers.{arms_fit, keeps_limit, known_of, Comes, ChecksArm, MayBeOver, MeetsArm};
-ghost use Rattle.wf_bounds.specs.WalkNodes.{conditions_of, arms_refusal, have_conditions};
+ghost use Rattle.wf_bounds.specs.WalkNodes.{conditions_of, arms_refusal, have_conditions, joins_none_in};
 
 use crate::conditions::check_condition;
 use crate::walks::Walk;
 use crate::ways::Way;
-use wf_ast::{Arm, ExprId, StmtId, Typed};
+use wf_ast::{Arm, Expr, ExprId, StmtId, Typed};
 use wf_facts::Facts;
+use wf_facts_exprs::joins;
 use wf_loops::add;
 use wf_text::{NoMemory, PhaseFault, Place, Refusal, Rule};
 
@@ -78,10 +79,24 @@ fn has_room(walk: &Walk, at: Place, cond: ExprId, known: &Facts) -> Result<bool,
     requires over { IsOver walk.now.t.now known.now }
     ensures { IfOk result (λ fits. fits ≡ keeps_limit (with_condition (claims_in walk.now.t.now known.now.list) (node_cond walk.now.t.now cond) true)) }
 {
+    if known.len() < 512 && joins_none(walk.t.expr(cond)) {
+        return Ok(true);
+    }
     let mut front = known.copy(walk.alloc)?;
     match add(&mut front, walk.t, cond, true, at) {
         Ok(()) => Ok(true),
         Err(_) => Ok(false),
+    }
+}
+
+// Whether a condition joins no others and negates none. Then it has one fact at most.
+fn joins_none(condition: &Expr) -> bool
+    ensures { result ≡ joins_none_in condition.now }
+{
+    match condition {
+        Expr::Chain { op, .. } => !joins(*op),
+        Expr::Not(_) => false,
+        _ => true,
     }
 }
 

@@ -13,9 +13,9 @@ use Rattle.wf_ast.specs.declared.variables.FieldId.{FieldId}
 use Rattle.wf_ast.specs.declared.numbers.ExprId.{ExprId}
 use Rattle.wf_ast.specs.declared.declarations.Var.{Var}
 use Rattle.wf_ast.specs.declared.declarations.Method.{Method}
-use Rattle.wf_ast.specs.declared.resolved.Block as resolved
-use Rattle.wf_ast.specs.declared.resolved.Callee.{Callee}
-use Rattle.wf_ast.specs.declared.resolved.Callee.TheVariants as callees
+use Rattle.wf_ast.specs.declared.typed_code.Block as typed_code
+use Rattle.wf_ast.specs.declared.typed_code.Callee.{Callee}
+use Rattle.wf_ast.specs.declared.typed_code.Callee.TheVariants as callees
 use Rattle.wf_ast.specs.declared.typed_nodes.TypedNodes.{TypedNodes}
 use Rattle.wf_ast.specs.TypedTree.{NumType, ValueTree, Target, Called, own, sub, invoke}
 use Rattle.wf_ast.specs.TypedTrees.{call_made, mark_of, tree_of}
@@ -34,8 +34,8 @@ use Rattle.wf_bounds_stmts.proofs.TypeLemmas.{names_there, answer_there}
 use Rattle.wf_bounds_stmts.proofs.BaseLemmas.{base_there, settled}
 
 -- The tree of a method by its number.
-pub method_tree : (nodes : TypedNodes) (ms : List Method) (bs : List resolved.Block) (n : ℕ) (m : Method) → length bs ≡ length ms → slice_get ms n ≡ Some m
-    → (b : resolved.Block) × (slice_get (methods_of nodes ms bs) n ≡ Some (method_of nodes m b))
+pub method_tree : (nodes : TypedNodes) (ms : List Method) (bs : List typed_code.Block) (n : ℕ) (m : Method) → length bs ≡ length ms → slice_get ms n ≡ Some m
+    → (b : typed_code.Block) × (slice_get (methods_of nodes ms bs) n ≡ Some (method_of nodes m b))
 method_tree nodes [] bs n m e h = absurd (cc (h))
 method_tree nodes (m' ∷ ms) [] n m e h = absurd (omega (arith, e))
 method_tree nodes (m' ∷ ms) (b ∷ bs) zero m e h = (b, ap (λ (it : Option Method). tree it) h)
@@ -46,8 +46,8 @@ method_tree nodes (m' ∷ ms) (b ∷ bs) zero m e h = (b, ap (λ (it : Option Me
 method_tree nodes (m' ∷ ms) (b ∷ bs) (suc n) m e h = method_tree nodes ms bs n m (omega (arith, e)) h
 
 -- And the other way round.
-pub method_declared : (nodes : TypedNodes) (ms : List Method) (bs : List resolved.Block) (n : ℕ) (m : Method) (it : MethodTree) → slice_get ms n ≡ Some m → slice_get (methods_of nodes ms bs) n ≡ Some it
-    → (b : resolved.Block) × (it ≡ method_of nodes m b)
+pub method_declared : (nodes : TypedNodes) (ms : List Method) (bs : List typed_code.Block) (n : ℕ) (m : Method) (it : MethodTree) → slice_get ms n ≡ Some m → slice_get (methods_of nodes ms bs) n ≡ Some it
+    → (b : typed_code.Block) × (it ≡ method_of nodes m b)
 method_declared nodes [] bs n m it h k = absurd (cc (h))
 method_declared nodes (m' ∷ ms) [] n m it h k = absurd (cc (k))
 method_declared nodes (m' ∷ ms) (b ∷ bs) zero m it h k =

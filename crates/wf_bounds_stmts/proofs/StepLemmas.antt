@@ -10,7 +10,7 @@ use Rattle.wf_ast.specs.declared.types.Ty.{Ty}
 use Rattle.wf_ast.specs.declared.typed_nodes.TypedNodes.{TypedNodes}
 use Rattle.wf_ast.specs.TypedTree.{Arith, NumTree, number, read, element, link, convert, length_of, asked, slice, array, cut, status, held, no_status, truth, flag, compare, same_status, junction, negation, closed, has_category, ValueTree, numeric, logical, state, elements, io, lost}
 use Rattle.wf_ast.specs.declared.operators.Op.{Op}
-use Rattle.wf_ast.specs.declared.resolved.Expr.TheVariants as exprs
+use Rattle.wf_ast.specs.declared.typed_code.Expr.TheVariants as exprs
 use Rattle.wf_ast.specs.TypedTrees.{Sort, arithmetic, ordering, joining, sort_of, num_in, num_type, num_chain, chain_of, target_of, type_of_node, constant_of_node}
 use Rattle.wf_ast.specs.TypedInvariant.{chain_fits, node_fits, parts_below, is_expr, is_numeric, is_logical}
 use Rattle.wf_facts_exprs.specs.Claims.{Claim, is_number_at}

@@ -1,6 +1,6 @@
 -- What the nodes of a typed package tell of assertions.
 use Rattle.std.specs.Prelude.{◌≡◌, ◌<◌, true, length, Option, None, Some, All}
-use Rattle.wf_ast.specs.declared.resolved.AxiomRef.{AxiomRef}
+use Rattle.wf_ast.specs.declared.typed_code.AxiomRef.{AxiomRef}
 use Rattle.wf_ast.specs.declared.typed_nodes.TypedNodes.{TypedNodes}
 use Rattle.wf_axioms.specs.Bindings.{is_given_number}
 

@@ -195,36 +195,8 @@ founded =
     (plain (site 0 5 13) (axiom_used 5 4)
     (plain (site 4 6 13) (give_back (Some (numeric (link (on 6 27) (on 6 27) minus 32 false (word_arg 6 20 2) (word_arg 6 29 0))))) end)) end end
 
--- A parser of decimal numbers: where the number is largest, its last digit may be at most `most`, which is 5 in this text.
---
---     pub status "#not a digit"
---     pub status "#too large"
---     pub struct parser?(
---         val : base.u32,
---     )
---     pub func parser.value() base.u32 {
---         return this.val
---     }
---     pub func parser.parse?(src: base.io_reader) {
---         var c : base.u8
---         while true {
---             c = args.src.read_u8?()
---             if c == 0 {
---                 return ok
---             }
---             if (c < 0x30) or (0x39 < c) {
---                 return "#not a digit"
---             }
---             c -= 0x30
---             if this.val < 429_496729 {
---                 this.val = (10 * this.val) + (c as base.u32)
---                 continue
---             } else if (this.val > 429_496729) or (c > 5) {
---                 return "#too large"
---             }
---             this.val = (10 * this.val) + (c as base.u32)
---         } endwhile
---     }
+-- The loop of the package `demo`, a parser of decimal numbers whose text stands in Demo.antt of wf_meaning: where the number is
+-- largest, its last digit may be at most `most`, which is 5 in that text.
 abbrev val : (line col : ℕ) → NumTree
 val line col = read (on line col) word_type (field 0)
 

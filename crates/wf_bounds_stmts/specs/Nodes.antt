@@ -4,8 +4,8 @@ use Rattle.wf_ast.specs.declared.things.Thing.{Thing}
 use Rattle.wf_ast.specs.declared.things.Thing.TheVariants as things
 use Rattle.wf_ast.specs.declared.types.Ty.{Ty}
 use Rattle.wf_ast.specs.declared.types.Ty.TheVariants as types
-use Rattle.wf_ast.specs.declared.resolved.Expr.{Expr}
-use Rattle.wf_ast.specs.declared.resolved.Expr.TheVariants as exprs
+use Rattle.wf_ast.specs.declared.typed_code.Expr.{Expr}
+use Rattle.wf_ast.specs.declared.typed_code.Expr.TheVariants as exprs
 use Rattle.wf_ast.specs.TypedTree.{NumTree, read, ValueTree, numeric}
 use Rattle.wf_ast.specs.TypedTrees.{Sort, arithmetic, num_in, target_of}
 use Rattle.wf_ast.specs.Same.{same_num}

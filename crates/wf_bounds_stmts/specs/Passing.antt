@@ -6,10 +6,10 @@ use Rattle.wf_text.specs.declared.rules.Refusal.{Refusal}
 use Rattle.wf_base.specs.BaseTable.{row_of}
 use Rattle.wf_ast.specs.declared.numbers.StmtId.{StmtId}
 use Rattle.wf_ast.specs.declared.declarations.Method.{Method}
-use Rattle.wf_ast.specs.declared.resolved.Callee.{Callee}
-use Rattle.wf_ast.specs.declared.resolved.Callee.TheVariants as callees
-use Rattle.wf_ast.specs.declared.resolved.Stmt.{Stmt}
-use Rattle.wf_ast.specs.declared.resolved.Stmt.TheVariants as stmts
+use Rattle.wf_ast.specs.declared.typed_code.Callee.{Callee}
+use Rattle.wf_ast.specs.declared.typed_code.Callee.TheVariants as callees
+use Rattle.wf_ast.specs.declared.typed_code.Stmt.{Stmt}
+use Rattle.wf_ast.specs.declared.typed_code.Stmt.TheVariants as stmts
 use Rattle.wf_ast.specs.declared.typed_nodes.TypedNodes.{TypedNodes}
 use Rattle.wf_ast.specs.TypedTree.{Simple, assign, break_from, continue_in, give_back, yield, claim, Site, Head}
 use Rattle.wf_ast.specs.TypedTrees.{no_place, no_statement, cond_in, target_of, optional_target, assigned_by, call_made, axiom_made, tree_of, type_of_node}

@@ -2,7 +2,7 @@
 
 ghost use Rattle.std.specs.Prelude.{◌≡◌, true, Some, slice_get};
 ghost use Rattle.wf_ast.specs.declared.numbers.StmtId.{StmtId};
-ghost use Rattle.wf_ast.specs.declared.resolved.StmtNode.{StmtNode};
+ghost use Rattle.wf_ast.specs.declared.typed_code.StmtNode.{StmtNode};
 ghost use Rattle.wf_ast.specs.declared.typed_nodes.TypedNodes.{TypedNodes};
 ghost use Rattle.wf_ast.specs.TypedTree.{Block, plain};
 ghost use Rattle.wf_ast.specs.TypedTrees.{stmt_made, tree_of};

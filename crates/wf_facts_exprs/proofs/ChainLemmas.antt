@@ -1,5 +1,5 @@
 -- A chain is judged from the left, one operand after the other.
-use Rattle.std.proofs.Common.{◌≡◌, ℕ, zero, suc, ◌+◌, ◌-◌, ◌<◌, ◌≤◌, Bool, true, false, List, [], ◌∷◌, length, map, drop, Option, Some, None, nat_lt, nat_eq, refl, sym, ap, ◌∙◌, arith}
+use Rattle.std.proofs.Common.{◌≡◌, ℕ, zero, suc, ◌+◌, ◌-◌, ◌<◌, ◌≤◌, Bool, true, false, ◌&&◌, List, [], ◌∷◌, length, map, drop, Option, Some, None, nat_lt, nat_eq, refl, sym, ap, ◌∙◌, arith}
 use Rattle.std.specs.Prelude.{slice_index_or, Result, Ok, Err}
 use Rattle.std.specs.List.{list_all}
 use Rattle.std.proofs.Math.Seq.{drop-cons}
@@ -13,12 +13,12 @@ use Rattle.wf_num.specs.Ranges.{fits_width}
 use Rattle.wf_ast.specs.declared.numbers.ExprId.{ExprId}
 use Rattle.wf_ast.specs.declared.types.Ty.{Ty}
 use Rattle.wf_ast.specs.declared.typed_nodes.TypedNodes.{TypedNodes}
-use Rattle.wf_ast.specs.TypedTree.{Arith, NumTree, link}
+use Rattle.wf_ast.specs.TypedTree.{Arith, minus, mod_minus, sat_minus, NumTree, link}
 use Rattle.wf_ast.specs.TypedTrees.{Sort, arithmetic, ordering, joining, num_in, num_chain, chain_of, first_sign, num_type, tree_of}
 use Rattle.wf_facts_exprs.specs.Claims.{Claim}
 use Rattle.wf_facts_exprs.specs.RangeOf.{rule_range, part_range, range_of, is_ordered, operator_range}
 use Rattle.wf_facts_exprs.specs.Demands.{demand, or_else, operand_demand, num_refusal, unless_refused}
-use Rattle.wf_facts_exprs.specs.Operands.{arith_in, is_arithmetic, rule_refusal, ruled, judged, node_number, rest_signs, is_last, part_demand, one_more, and_then_range, chain_on, part_number}
+use Rattle.wf_facts_exprs.specs.Operands.{arith_in, is_arithmetic, is_difference, after, rule_refusal, ruled, judged, node_number, rest_signs, is_last, part_demand, one_more, and_then_range, chain_on, part_number}
 use Rattle.wf_facts_exprs.proofs.PassLemmas.{both_of}
 use Rattle.wf_facts_exprs.proofs.JudgeLemmas.{answer-ok, answer-err, after-or, or-none}
 
@@ -156,6 +156,17 @@ chain-begins fs nodes at signs ty (arithmetic op) [] r a some h = absurd (omega 
 chain-begins fs nodes at signs ty (arithmetic op) (e ∷ []) r a some h = absurd (omega (arith, some))
 chain-begins fs nodes at signs ty (joining both) es r a some h = absurd (cc (a))
 chain-begins fs nodes at signs ty (ordering op) es r a some h = absurd (cc (a))
+
+-- Where an operator isn't a difference, the order of its operands makes nothing.
+order-counts : (op : Arith) (bits : ℕ) (ordered : Bool) (a b : Range) → operator_range op bits (is_difference op && ordered) a b ≡ operator_range op bits ordered a b
+order-counts minus bits ordered a b = refl
+order-counts mod_minus bits ordered a b = refl
+order-counts sat_minus bits ordered a b = refl
+order-counts op bits ordered a b = refl
+
+pub more-unordered : (fs : List Claim) (op : Arith) (bits : ℕ) (sign : Place) (ordered last : Bool) (r : Range) (t : NumTree) → one_more fs op bits sign (is_difference op && ordered) last r t ≡ one_more fs op bits sign ordered last r t
+more-unordered fs op bits sign ordered last r t =
+    ap (λ s. after (num_refusal fs false t) (after (operand_demand op bits sign (range_of fs t)) (unless_refused (part_demand last bits sign s) s))) (order-counts op bits ordered r (range_of fs t))
 
 -- What an item of a list passes that all pass.
 pub item-true : (test : ExprId → Bool) (es : List ExprId) (i : ℕ) (d : ExprId) → list_all test es ≡ true → i < length es → test (slice_index_or es i d) ≡ true

@@ -7,5 +7,6 @@ pub mod JudgeLemmas
 pub mod OperatorLemmas
 pub mod PassLemmas
 pub mod Peeks
+pub mod SelfLemmas
 pub mod ShapeLemmas
 pub mod Soundness

@@ -11,8 +11,8 @@ use Rattle.wf_ast.specs.declared.operators.Op.{Op}
 use Rattle.wf_ast.specs.declared.operators.Op.TheVariants as ops
 use Rattle.wf_ast.specs.declared.types.Ty.{Ty}
 use Rattle.wf_ast.specs.declared.types.Ty.TheVariants as types
-use Rattle.wf_ast.specs.declared.resolved.Expr.{Expr}
-use Rattle.wf_ast.specs.declared.resolved.Expr.TheVariants as exprs
+use Rattle.wf_ast.specs.declared.typed_code.Expr.{Expr}
+use Rattle.wf_ast.specs.declared.typed_code.Expr.TheVariants as exprs
 use Rattle.wf_ast.specs.declared.typed_nodes.TypedNodes.{TypedNodes}
 use Rattle.wf_ast.specs.TypedTree.{Arith, plus, NumTree, number, link, length_of, asked, reader_length, writer_length, SliceTree, ValueTree, state, elements, io, local, field, arg, equal, differs, Order}
 use Rattle.wf_ast.specs.TypedTrees.{Sort, arithmetic, ordering, joining, sort_of, no_place, num_in, slice_in, io_in, named, num_chain, chain_of, comparison, answer_of, made, tree_of, type_of_node, constant_of_node, place_of_node, signs_of_node, num_type}
@@ -114,6 +114,10 @@ made-varies nodes look at signs ty (exprs.Chain op parts) h = sorted-varies node
 made-varies nodes look at signs ty (exprs.Convert of to) h = refl
 made-varies nodes look at signs ty (exprs.Not of) h = refl
 made-varies nodes look at signs ty (exprs.Base on sig) h = answer-varies at sig (look on)
+
+pub varies-apart : (t : NumTree) (p : Place) (n : ℕ) → is_constant t ≡ false → false ≡ same_num t (number p n)
+varies-apart (number at m) p n h = absurd (cc (h))
+varies-apart t p n h = refl
 
 pub varies-number : (t : NumTree) → is_constant t ≡ false → number_of_side (single t) ≡ None
 varies-number (number at n) h = absurd (cc (h))

@@ -19,7 +19,7 @@ use Rattle.wf_facts_exprs.specs.Given.{gives}
 use Rattle.wf_ast.specs.declared.numbers.ExprId.{ExprId}
 use Rattle.wf_ast.specs.declared.operators.Op.{Op}
 use Rattle.wf_ast.specs.declared.typed_nodes.TypedNodes.{TypedNodes}
-use Rattle.wf_ast.specs.TypedTree.{Arith, plus, Order, equal, NumTree, link, SliceTree, EndTree, CondTree, ValueTree}
+use Rattle.wf_ast.specs.TypedTree.{Arith, plus, minus, mod_minus, sat_minus, Order, equal, NumTree, link, SliceTree, EndTree, CondTree, ValueTree}
 use Rattle.wf_ast.specs.TypedTrees.{Sort, arithmetic, ordering, joining, sort_of, first_sign, num_in, slice_in, cond_in, tree_of, type_of_node}
 use Rattle.wf_facts_exprs.specs.Claims.{Claim, is_number_at, is_condition_at}
 use Rattle.wf_facts_exprs.specs.RangeOf.{narrowed, thinned, operator_range, is_ordered, length_range, rule_range, range_of}
@@ -37,6 +37,13 @@ arith_in sort = plus
 
 abbrev pub arith_of : Op → Arith
 arith_of op = arith_in (sort_of op)
+
+-- An operator that takes its right operand from the left one, so that it counts which of them is larger.
+abbrev pub is_difference : Arith → Bool
+is_difference minus = true
+is_difference mod_minus = true
+is_difference sat_minus = true
+is_difference op = false
 
 abbrev pub pass_of : Pass → Order → ℕ → Range → Range
 pass_of Narrow = narrowed

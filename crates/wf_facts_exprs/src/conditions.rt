@@ -38,8 +38,23 @@ pub fn check_value(t: &Typed, facts: &[Fact], e: ExprId) -> Result<(), Refusal>
     }
 }
 
-// The demands of a number.
+// The demands of a number; a constant and a variable have none.
 fn check_number(t: &Typed, facts: &[Fact], e: ExprId) -> Result<(), Refusal>
+    requires known { AreFacts t.now facts.now }
+    requires node { IsTrue (is_number_at t.now e) }
+    ensures { result ≡ unless_refused (num_refusal (claims_in t.now facts.now) false (node_number t.now e)) tt }
+{
+    let expr = t.expr(e);
+    match t.constant(e) {
+        Some(_) => Ok(()),
+        None => match expr {
+            Expr::Local(_) | Expr::Field(_) | Expr::Arg(_) => Ok(()),
+            _ => check_judged(t, facts, e),
+        },
+    }
+}
+
+fn check_judged(t: &Typed, facts: &[Fact], e: ExprId) -> Result<(), Refusal>
     requires known { AreFacts t.now facts.now }
     requires node { IsTrue (is_number_at t.now e) }
     ensures { result ≡ unless_refused (num_refusal (claims_in t.now facts.now) false (node_number t.now e)) tt }

@@ -1,7 +1,7 @@
 // What a list of facts gives of two sides: by a fact that compares them, or by their ranges.
 
-ghost use Rattle.std.specs.Prelude.{◌≡◌, ◌||◌, IsTrue, pos, int_lt, int_le};
-ghost use Rattle.wf_facts_exprs.specs.Claims.{AreFacts, claim_in, claims_in, flip as flipped, is_fact, is_side, order_of, side_in, single};
+ghost use Rattle.std.specs.Prelude.{◌≡◌, ◌&&◌, ◌||◌, IsTrue, pos, int_lt, int_le};
+ghost use Rattle.wf_facts_exprs.specs.Claims.{AreFacts, claim_in, claims_in, flip as flipped, is_fact, is_side, order_of, same_side, side_in, single};
 ghost use Rattle.wf_facts_exprs.specs.RangeOf.{allows_equal as order_allows_equal, allows_greater as order_allows_greater, allows_less as order_allows_less, allows_no_more as order_allows_no_more, claim_gives, first_rule as by_first_rule};
 ghost use Rattle.wf_facts_exprs.specs.Given.{decided as decided_by, second_rule as by_second_rule};
 ghost use Rattle.wf_facts_exprs.specs.Shapes.{shape_fits, shape_tree};
@@ -27,7 +27,7 @@ pub(crate) fn gives_ranged(t: &Typed, facts: &[Fact], left: Ranged, op: Cmp, rig
     ensures { result ≡ by_first_rule (claims_in t.now facts.now) (side_in t.now left.side) (order_of op) (side_in t.now right.side)
         || by_second_rule (order_of op) left.range right.range }
 {
-    first_rule(t, facts, left.side, op, right.side) || second_rule(op, left.range, right.range)
+    second_rule(op, left.range, right.range) || first_rule(t, facts, left.side, op, right.side)
 }
 
 /// Whether a fact compares the same two sides and allows only what the comparison allows.
@@ -66,11 +66,25 @@ fn fact_gives(t: &Typed, fact: Fact, a: Shape, op: Cmp, b: Shape) -> bool
             op: known,
             right,
         } => {
-            (is_side_of(t, left, a) && (is_side_of(t, right, b) && allows_no_more(known, op)))
-                || (is_side_of(t, left, b)
-                    && (is_side_of(t, right, a) && allows_no_more(flip(known), op)))
+            are_sides_of(t, left, a, right, b, allows_no_more(known, op))
+                || are_sides_of(t, left, b, right, a, allows_no_more(flip(known), op))
         }
         Fact::Cond { .. } => false,
+    }
+}
+
+// Whether two sides are what two shapes tell, and what they compare by is allowed: this is asked first, for it costs least.
+fn are_sides_of(t: &Typed, left: Side, a: Shape, right: Side, b: Shape, allowed: bool) -> bool
+    requires left { IsTrue (is_side t.now left) }
+    requires right { IsTrue (is_side t.now right) }
+    requires first { IsTrue (shape_fits t.now a) }
+    requires second { IsTrue (shape_fits t.now b) }
+    ensures { result ≡ (same_side (side_in t.now left) (single (shape_tree t.now a)) && (same_side (side_in t.now right) (single (shape_tree t.now b)) && allowed)) }
+{
+    if allowed {
+        is_side_of(t, left, a) && is_side_of(t, right, b)
+    } else {
+        false
     }
 }
 

@@ -1,7 +1,7 @@
 // The demands and the range of an expression, found together: each node is looked at once, and each fact at each node.
 // The recursion goes as deep as brackets nest; the operands of a chain stand side by side.
 
-ghost use Rattle.std.specs.Prelude.{◌≡◌, ◌≤◌, ◌<◌, ◌||◌, length, map, true, false, nat_eq, nat_lt, ◌+◌, ◌-◌, IsTrue, IfOk, None, Some, drop};
+ghost use Rattle.std.specs.Prelude.{◌≡◌, ◌≤◌, ◌<◌, ◌||◌, ◌&&◌, length, map, true, false, nat_eq, nat_lt, ◌+◌, ◌-◌, IsTrue, IfOk, None, Some, drop};
 ghost use Rattle.std.specs.List.{list_all};
 ghost use Rattle.wf_num.specs.Ranges.{IsSmall, fits_width};
 ghost use Rattle.wf_ast.specs.TypedTree.{absent, asked, at_most, convert, cut, element, elements, length_of, numeric, peek, present};
@@ -13,12 +13,12 @@ ghost use Rattle.wf_facts_exprs.specs.RangeOf.{first_rule as by_first_rule, is_o
 ghost use Rattle.wf_facts_exprs.specs.Given.{second_rule as by_second_rule};
 ghost use Rattle.wf_facts_exprs.specs.Demands.{demand as wanted, unless_refused};
 ghost use Rattle.wf_facts_exprs.specs.Shapes.{is_measured};
-ghost use Rattle.wf_facts_exprs.specs.Operands.{arith_of, end_fits, ends_fit, ends_refusal, gives_number, is_arithmetic, is_operator, judged, judged_slice, node_number, node_slice, one_more, part_number, rule_of_length, ruled, variable_range, width_demand};
+ghost use Rattle.wf_facts_exprs.specs.Operands.{arith_of, end_fits, ends_fit, ends_refusal, gives_number, is_arithmetic, is_difference, is_operator, judged, judged_slice, node_number, node_slice, one_more, part_number, rule_of_length, ruled, variable_range, width_demand};
 
 use crate::facts::{Cmp, Fact, Side};
 use crate::given::{Ranged, first_rule, gives_ranged};
 use crate::meeting::meet_facts;
-use crate::operators::{demand, operand_demand, operator_range};
+use crate::operators::{demand, operand_demand, operator_range, subtracts};
 use crate::shapes::{Measured, Shape, expr_shape, look_at, shape_of};
 use wf_ast::{Expr, ExprId, Op, Ty, Typed};
 use wf_base::{BaseSig, PeekForm, Width};
@@ -566,14 +566,14 @@ fn link_at(t: &Typed, facts: &[Fact], e: ExprId, op: Op, parts: &[ExprId], i: us
     ensures bits { result.bits ≡ (num_type (type_of_node t.now e.0)).bits }
     ensures few { result.bits ≤ 64 }
     ensures sign { result.sign ≡ first_sign (place_of_node t.now e.0) (drop (i - 1) (signs_of_node t.now e.0)) }
-    ensures ordered { result.ordered ≡ is_ordered (claims_in t.now facts.now) (nat_lt 1 i) (part_number t.now parts.now 0) (part_number t.now parts.now i) }
+    ensures ordered { result.ordered ≡ (is_difference (arith_of op) && is_ordered (claims_in t.now facts.now) (nat_lt 1 i) (part_number t.now parts.now 0) (part_number t.now parts.now i)) }
     ensures last { result.last ≡ nat_eq (i + 1) (length parts.now) }
 {
     Link {
         op,
         bits: width_of(t, e),
         sign: sign_of(t, e, i - 1),
-        ordered: is_ordered_by_facts(t, facts, parts, i),
+        ordered: subtracts(op) && is_ordered_by_facts(t, facts, parts, i),
         last: i + 1 == parts.len(),
     }
 }

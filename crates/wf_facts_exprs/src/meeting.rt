@@ -11,7 +11,7 @@ ghost use Rattle.wf_facts_exprs.specs.Operands.{pass_of};
 ghost use Rattle.wf_facts_exprs.specs.Shapes.{shape_fits, shape_tree};
 
 use crate::facts::{Cmp, Fact, Side};
-use crate::shapes::{Shape, same_shapes, shape_of};
+use crate::shapes::{Shape, has_shape, same_shapes, shape_of};
 use wf_ast::{ExprId, Typed};
 use wf_num::Range;
 
@@ -142,12 +142,18 @@ fn no_number(t: &Typed, e: ExprId) -> Option<u128>
     None
 }
 
+/// Whether a side is what a shape tells.
 pub(crate) fn is_side_of(t: &Typed, side: Side, shape: Shape) -> bool
     requires side { IsTrue (is_side t.now side) }
     requires shape { IsTrue (shape_fits t.now shape) }
     ensures { result ≡ same_num (tree_of_side (side_in t.now side)) (shape_tree t.now shape) }
 {
-    same_shapes(t, shape_of(t, side), shape)
+    match side {
+        Side::Expr(e) => has_shape(t, e, shape),
+        Side::Sum(_, _) => same_shapes(t, shape_of(t, side), shape),
+        Side::Length(_) => same_shapes(t, shape_of(t, side), shape),
+        Side::Num(n) => same_shapes(t, Shape::Number(n as u128), shape),
+    }
 }
 
 // What one comparison with a number leaves of a range, in one of the passes.

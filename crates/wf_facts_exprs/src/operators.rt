@@ -5,7 +5,7 @@ ghost use Rattle.wf_num.specs.Ranges.{IsSmall, div_ranges, low, rem_ranges};
 ghost use Rattle.wf_ast.specs.TypedTrees.{sort_of};
 ghost use Rattle.wf_facts_exprs.specs.RangeOf.{cut_off as range_cut_off, difference as range_difference, operator_range as range_by_operator, wrapped as range_wrapped};
 ghost use Rattle.wf_facts_exprs.specs.Demands.{demand as wanted, is_below, is_divisor, operand_demand as wanted_of_operand, unless_refused};
-ghost use Rattle.wf_facts_exprs.specs.Operands.{arith_of, is_arithmetic};
+ghost use Rattle.wf_facts_exprs.specs.Operands.{arith_of, is_arithmetic, is_difference};
 
 use wf_ast::Op;
 use wf_num::Range;
@@ -78,6 +78,13 @@ pub(crate) fn operator_range(op: Op, bits: u32, ordered: bool, a: Range, b: Rang
         Op::And | Op::Or | Op::Same | Op::Differs | Op::Less | Op::LessOrSame => unreachable!(),
         Op::Greater | Op::GreaterOrSame => unreachable!(),
     }
+}
+
+/// Whether an operator takes its right operand from the left one, so that it counts which of them is larger.
+pub(crate) fn subtracts(op: Op) -> bool
+    ensures { result ≡ is_difference (arith_of op) }
+{
+    matches!(op, Op::Sub | Op::ModSub | Op::SatSub)
 }
 
 fn difference(ordered: bool, a: Range, b: Range) -> Range

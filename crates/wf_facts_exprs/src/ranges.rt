@@ -11,7 +11,7 @@ ghost use Rattle.wf_facts_exprs.specs.Demands.{num_refusal, side_refusal, unless
 ghost use Rattle.wf_facts_exprs.specs.Operands.{node_number};
 
 use crate::facts::{Cmp, Fact, Side};
-use crate::given::{Ranged, gives_ranged};
+use crate::given::{first_rule, second_rule};
 use crate::judging::{judge, length_side, number_range};
 use crate::meeting::meet_facts;
 use crate::shapes::Shape;
@@ -53,37 +53,26 @@ pub fn gives_sides(t: &Typed, facts: &[Fact], left: Side, op: Cmp, right: Side) 
     requires right_fine { side_refusal (claims_in t.now facts.now) (side_in t.now right) ≡ None }
     ensures { result ≡ sides_given (claims_in t.now facts.now) (side_in t.now left) (order_of op) (side_in t.now right) }
 {
-    gives_ranged(
-        t,
-        facts,
-        with_range(t, facts, left),
-        op,
-        with_range(t, facts, right),
-    )
+    first_rule(t, facts, left, op, right)
+        || second_rule(
+            op,
+            range_of_side(t, facts, left),
+            range_of_side(t, facts, right),
+        )
 }
 
-// A side with its range.
-fn with_range(t: &Typed, facts: &[Fact], side: Side) -> Ranged
+// The range of a side.
+fn range_of_side(t: &Typed, facts: &[Fact], side: Side) -> Range
     requires known { AreFacts t.now facts.now }
     requires side { IsTrue (is_side t.now side) }
     requires fine { side_refusal (claims_in t.now facts.now) (side_in t.now side) ≡ None }
-    ensures side { result.side ≡ side }
-    ensures range { result.range ≡ side_range (claims_in t.now facts.now) (side_in t.now side) }
+    ensures { result ≡ side_range (claims_in t.now facts.now) (side_in t.now side) }
 {
     match side {
-        Side::Expr(e) => Ranged {
-            side: Side::Expr(e),
-            range: range_of(t, facts, e),
-        },
-        Side::Sum(a, b) => Ranged {
-            side: Side::Sum(a, b),
-            range: sum_range(t, facts, a, b),
-        },
-        Side::Length(on) => length_side(t, facts, on),
-        Side::Num(n) => Ranged {
-            side: Side::Num(n),
-            range: number_range(t, facts, n),
-        },
+        Side::Expr(e) => range_of(t, facts, e),
+        Side::Sum(a, b) => sum_range(t, facts, a, b),
+        Side::Length(on) => length_side(t, facts, on).range,
+        Side::Num(n) => number_range(t, facts, n),
     }
 }
 

@@ -2,7 +2,8 @@
 
 ghost use Rattle.std.specs.Prelude.{◌≡◌, ◌<◌, ◌^◌, length, map, IsTrue, nat_eq, nat_lt};
 ghost use Rattle.std.specs.List.{list_all};
-ghost use Rattle.wf_ast.specs.TypedTrees.{num_in, slice_in, io_in, tree_of, type_of_node, place_of_node, signs_of_node, chain_of, sort_of, answer_of};
+ghost use Rattle.wf_ast.specs.TypedTree.{number};
+ghost use Rattle.wf_ast.specs.TypedTrees.{no_place, num_in, slice_in, io_in, tree_of, type_of_node, place_of_node, signs_of_node, chain_of, sort_of, answer_of};
 ghost use Rattle.wf_ast.specs.TypedInvariant.{is_tree_of, is_expr, is_list, is_io, chain_fits, has_kind};
 ghost use Rattle.wf_ast.specs.Same.{same_num, same_slice};
 ghost use Rattle.wf_base.specs.BaseTable.{row_of};
@@ -142,6 +143,32 @@ fn measured_in(sig: BaseSig) -> Option<Measured>
         BaseSig::WriterLength => Some(Measured::Room),
         BaseSig::SliceLength(_) | BaseSig::ArrayLength(_) => Some(Measured::Elements),
         _ => None,
+    }
+}
+
+/// Whether a numeric expression is what a shape tells.
+pub(crate) fn has_shape(t: &Typed, e: ExprId, shape: Shape) -> bool
+    requires node { IsTrue (is_number_at t.now e) }
+    requires shape { IsTrue (shape_fits t.now shape) }
+    ensures { result ≡ same_num (num_in (tree_of t.now e)) (shape_tree t.now shape) }
+{
+    match shape {
+        Shape::Number(n) => has_number(t, e, n),
+        Shape::Other(other) => same_numbers(t, e, other),
+        Shape::Length(_, _) => same_shapes(t, expr_shape(t, e), shape),
+        Shape::Sum(_, _) => same_shapes(t, expr_shape(t, e), shape),
+    }
+}
+
+// Whether a numeric expression is a constant with this number.
+fn has_number(t: &Typed, e: ExprId, n: u128) -> bool
+    requires { IsTrue (is_number_at t.now e) }
+    ensures { result ≡ same_num (num_in (tree_of t.now e)) (number no_place n) }
+{
+    let _expr = t.expr(e);
+    match t.constant(e) {
+        Some(constant) => constant as u128 == n,
+        None => false,
     }
 }
 

@@ -13,5 +13,21 @@ pub fn same_side(t: &Typed, a: Side, b: Side) -> bool
     requires right { IsTrue (is_side t.now b) }
     ensures { result ≡ same_trees (side_in t.now a) (side_in t.now b) }
 {
-    same_shapes(t, shape_of(t, a), shape_of(t, b))
+    if is_named_alike(a, b) {
+        true
+    } else {
+        same_shapes(t, shape_of(t, a), shape_of(t, b))
+    }
+}
+
+// Whether two sides are named by the same node or number, as those of a fact that has stayed in two lists are.
+fn is_named_alike(a: Side, b: Side) -> bool
+    ensures { IsTrue result → a ≡ b }
+{
+    match (a, b) {
+        (Side::Expr(e), Side::Expr(f)) => e == f,
+        (Side::Length(e), Side::Length(f)) => e == f,
+        (Side::Num(m), Side::Num(n)) => m == n,
+        _ => false,
+    }
 }

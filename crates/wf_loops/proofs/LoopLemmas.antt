@@ -10,13 +10,13 @@ use Rattle.wf_ast.specs.declared.numbers.ExprId.{ExprId}
 use Rattle.wf_ast.specs.declared.numbers.StmtId.{StmtId}
 use Rattle.wf_ast.specs.declared.types.Ty.{Ty}
 use Rattle.wf_ast.specs.declared.types.Ty.TheVariants as types
-use Rattle.wf_ast.specs.declared.resolved.Expr.{Expr}
-use Rattle.wf_ast.specs.declared.resolved.Expr.TheVariants as exprs
-use Rattle.wf_ast.specs.declared.resolved.Stmt.{Stmt}
-use Rattle.wf_ast.specs.declared.resolved.Stmt.TheVariants as stmts
-use Rattle.wf_ast.specs.declared.resolved.StmtNode.{StmtNode}
-use Rattle.wf_ast.specs.declared.resolved.LoopHead.{LoopHead}
-use Rattle.wf_ast.specs.declared.resolved.Block as resolved
+use Rattle.wf_ast.specs.declared.typed_code.Expr.{Expr}
+use Rattle.wf_ast.specs.declared.typed_code.Expr.TheVariants as exprs
+use Rattle.wf_ast.specs.declared.typed_code.Stmt.{Stmt}
+use Rattle.wf_ast.specs.declared.typed_code.Stmt.TheVariants as stmts
+use Rattle.wf_ast.specs.declared.typed_code.StmtNode.{StmtNode}
+use Rattle.wf_ast.specs.declared.typed_code.LoopHead.{LoopHead}
+use Rattle.wf_ast.specs.declared.typed_code.Block as typed_code
 use Rattle.wf_ast.specs.declared.typed_nodes.TypedNodes.{TypedNodes}
 use Rattle.wf_ast.specs.TypedTree.{CondTree, junction, ValueTree, logical, state, Order, equal, differs, Path, local, field, arg, Head}
 use Rattle.wf_ast.specs.TypedTrees.{no_place, Sort, arithmetic, ordering, joining, sort_of, cond_in, cond_chain, chain_of, comparison, answer_of, named, made, made_or_number, tree_of, type_of_node, constant_of_node, place_of_node, signs_of_node}
@@ -47,7 +47,7 @@ loop_stmt nodes w stmt h k = by (slice_get nodes.stmts w.0) h k
 
 pub record IsWhile (stmt : Stmt) : Type 0 where
   pub head : LoopHead
-  pub body : resolved.Block
+  pub body : typed_code.Block
   pub is : stmt ≡ stmts.While head body
 
 pub loop_is : (nodes : TypedNodes) (stmt : Stmt) → is_loop_stmt nodes stmt ≡ true → IsWhile stmt
@@ -79,7 +79,7 @@ pub record HeadSeen (nodes : TypedNodes) (w : StmtId) (head : LoopHead) : Type 0
   pub condition : is_condition_at nodes head.cond ≡ true
   pub conditions : are_conditions nodes head.clauses ≡ true
 
-pub head_seen : (nodes : TypedNodes) (w : StmtId) (head : LoopHead) (body : resolved.Block) → is_loop nodes w ≡ true → option_map (λ node. node.stmt) (slice_get nodes.stmts w.0) ≡ Some (stmts.While head body)
+pub head_seen : (nodes : TypedNodes) (w : StmtId) (head : LoopHead) (body : typed_code.Block) → is_loop nodes w ≡ true → option_map (λ node. node.stmt) (slice_get nodes.stmts w.0) ≡ Some (stmts.While head body)
     → HeadSeen nodes w head
 head_seen nodes w head body h k =
     let it = loop_head nodes w (stmts.While head body) k in

@@ -10,11 +10,11 @@ use Rattle.wf_ast.specs.declared.numbers.ExprId.{ExprId}
 use Rattle.wf_ast.specs.declared.numbers.StmtId.{StmtId}
 use Rattle.wf_ast.specs.declared.types.Ty.{Ty}
 use Rattle.wf_ast.specs.declared.types.Ty.TheVariants as types
-use Rattle.wf_ast.specs.declared.resolved.Block as resolved
-use Rattle.wf_ast.specs.declared.resolved.LoopHead.{LoopHead}
-use Rattle.wf_ast.specs.declared.resolved.Stmt.{Stmt}
-use Rattle.wf_ast.specs.declared.resolved.Stmt.TheVariants as stmts
-use Rattle.wf_ast.specs.declared.resolved.StmtNode.{StmtNode}
+use Rattle.wf_ast.specs.declared.typed_code.Block as typed_code
+use Rattle.wf_ast.specs.declared.typed_code.LoopHead.{LoopHead}
+use Rattle.wf_ast.specs.declared.typed_code.Stmt.{Stmt}
+use Rattle.wf_ast.specs.declared.typed_code.Stmt.TheVariants as stmts
+use Rattle.wf_ast.specs.declared.typed_code.StmtNode.{StmtNode}
 use Rattle.wf_ast.specs.declared.typed_nodes.TypedNodes.{TypedNodes}
 use Rattle.wf_ast.specs.TypedTree.{ValueTree, numeric, state, elements, io}
 use Rattle.wf_ast.specs.TypedTrees.{cond_in, head_made, tree_of, type_of_node}
@@ -55,7 +55,7 @@ module _ (nodes : TypedNodes) (typed : IsTyped nodes) (c : Context) where
       let j = and_parts (well_cond c (node_cond nodes p.1)) _ k in
       both_hold (is_condition_at nodes p.1) _ (condition_found p.1 i.0 j.0) (promises_found ps i.1 j.1)
 
-  stmt_found : (w : StmtId) (head : LoopHead) (body : resolved.Block) (close : Place) → stmt_below nodes w.0 (stmts.While head body) ≡ true → well_head c (head_made (tree_of nodes) close head) ≡ true
+  stmt_found : (w : StmtId) (head : LoopHead) (body : typed_code.Block) (close : Place) → stmt_below nodes w.0 (stmts.While head body) ≡ true → well_head c (head_made (tree_of nodes) close head) ≡ true
       → is_loop_stmt nodes (stmts.While head body) ≡ true
   stmt_found w head body close h k =
       let i = and_parts (is_expr nodes head.cond) _ h in
@@ -63,7 +63,7 @@ module _ (nodes : TypedNodes) (typed : IsTyped nodes) (c : Context) where
       let l = and_parts (well_cond c (node_cond nodes head.cond)) _ k in
       both_hold (is_condition_at nodes head.cond) _ (condition_found head.cond i.0 l.0) (promises_found head.clauses j.0 l.1)
 
-  pub loop_found : (w : StmtId) (node : StmtNode) (head : LoopHead) (body : resolved.Block) → slice_get nodes.stmts w.0 ≡ Some node → node.stmt ≡ stmts.While head body
+  pub loop_found : (w : StmtId) (node : StmtNode) (head : LoopHead) (body : typed_code.Block) → slice_get nodes.stmts w.0 ≡ Some node → node.stmt ≡ stmts.While head body
       → well_head c (head_made (tree_of nodes) node.inner head) ≡ true → is_loop nodes w ≡ true
   unfolding is_loop
   loop_found w node head body h k l =
@@ -72,7 +72,7 @@ module _ (nodes : TypedNodes) (typed : IsTyped nodes) (c : Context) where
       let found = stmt_found w head body node.inner below l in
       rw (h, k) found
 
-pub head_found : (nodes : TypedNodes) (w : StmtId) (node : StmtNode) (head : LoopHead) (body : resolved.Block) → slice_get nodes.stmts w.0 ≡ Some node → node.stmt ≡ stmts.While head body
+pub head_found : (nodes : TypedNodes) (w : StmtId) (node : StmtNode) (head : LoopHead) (body : typed_code.Block) → slice_get nodes.stmts w.0 ≡ Some node → node.stmt ≡ stmts.While head body
     → head_at nodes w ≡ head_made (tree_of nodes) node.inner head
 unfolding head_at
 head_found nodes w node head body h k = rw (h, k) refl

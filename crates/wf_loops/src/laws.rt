@@ -5,10 +5,10 @@ ghost use Rattle.std.specs.Prelude.{◌≡◌, true, List, None, Some, slice_get
 ghost use Rattle.wf_text.specs.declared.place.Place.{Place};
 ghost use Rattle.wf_ast.specs.declared.numbers.ExprId.{ExprId};
 ghost use Rattle.wf_ast.specs.declared.numbers.StmtId.{StmtId};
-ghost use Rattle.wf_ast.specs.declared.resolved.Block.{Block};
-ghost use Rattle.wf_ast.specs.declared.resolved.LoopHead.{LoopHead};
-ghost use Rattle.wf_ast.specs.declared.resolved.Stmt.TheVariants as stmts;
-ghost use Rattle.wf_ast.specs.declared.resolved.StmtNode.{StmtNode};
+ghost use Rattle.wf_ast.specs.declared.typed_code.Block.{Block};
+ghost use Rattle.wf_ast.specs.declared.typed_code.LoopHead.{LoopHead};
+ghost use Rattle.wf_ast.specs.declared.typed_code.Stmt.TheVariants as stmts;
+ghost use Rattle.wf_ast.specs.declared.typed_code.StmtNode.{StmtNode};
 ghost use Rattle.wf_ast.specs.declared.typed_nodes.TypedNodes.{TypedNodes};
 ghost use Rattle.wf_ast.specs.TypedTree.{Head};
 ghost use Rattle.wf_ast.specs.TypedTrees.{head_made, tree_of};

@@ -7,7 +7,7 @@ use Rattle.wf_text.specs.Precedence.{sooner, soonest, Decides}
 use Rattle.wf_text.proofs.PrecedenceLaws.{Decides-map, Decides-sooner}
 use Rattle.wf_ast.specs.declared.typed_nodes.TypedNodes.{TypedNodes}
 use Rattle.wf_ast.specs.declared.declarations.Method.{Method}
-use Rattle.wf_ast.specs.declared.resolved.Block as resolved
+use Rattle.wf_ast.specs.declared.typed_code.Block as typed_code
 use Rattle.wf_ast.specs.TypedTree.{Site, Block}
 use Rattle.wf_ast.specs.TypedPackage.{MethodTree, package_of, method_of, methods_of}
 use Rattle.wf_ast.specs.TypedTrees.{block_of}
@@ -123,19 +123,19 @@ module _ (nodes : TypedNodes) (typed : IsTyped nodes) where
       (decides_over (λ _. ⊥) None (package_of nodes).methods (λ r p. p))
 
 -- The tree of a method, and its points.
-pub method_there : (nodes : TypedNodes) (m : ℕ) (x : Method) (b : resolved.Block) → slice_get nodes.methods m ≡ Some x → slice_get nodes.bodies m ≡ Some b
+pub method_there : (nodes : TypedNodes) (m : ℕ) (x : Method) (b : typed_code.Block) → slice_get nodes.methods m ≡ Some x → slice_get nodes.bodies m ≡ Some b
     → slice_get (package_of nodes).methods m ≡ Some (method_of nodes x b)
 unfolding package_of
 method_there nodes m x b e f = at nodes.methods nodes.bodies m e f
   where
-    at : (xs : List Method) (bs : List resolved.Block) (i : ℕ) → slice_get xs i ≡ Some x → slice_get bs i ≡ Some b → slice_get (methods_of nodes xs bs) i ≡ Some (method_of nodes x b)
+    at : (xs : List Method) (bs : List typed_code.Block) (i : ℕ) → slice_get xs i ≡ Some x → slice_get bs i ≡ Some b → slice_get (methods_of nodes xs bs) i ≡ Some (method_of nodes x b)
     at [] bs i e f = absurd (cc e)
     at (y ∷ xs) [] i e f = absurd (cc f)
     at (y ∷ xs) (c ∷ bs) zero e f = let p : y ≡ x = cc e in let q : c ≡ b = cc f in ap (λ z. Some (method_of nodes z c)) p ∙ ap (λ z. Some (method_of nodes x z)) q
     at (y ∷ xs) (c ∷ bs) (suc i) e f = at xs bs i e f
 
 -- A body for each method.
-body_there : (xs : List Method) (bs : List resolved.Block) (i : ℕ) (x : Method) → length bs ≡ length xs → slice_get xs i ≡ Some x → (b : resolved.Block) × (slice_get bs i ≡ Some b)
+body_there : (xs : List Method) (bs : List typed_code.Block) (i : ℕ) (x : Method) → length bs ≡ length xs → slice_get xs i ≡ Some x → (b : typed_code.Block) × (slice_get bs i ≡ Some b)
 body_there [] bs i x l e = absurd (cc e)
 body_there (y ∷ xs) [] i x l e = absurd (omega (arith, l))
 body_there (y ∷ xs) (b ∷ bs) zero x l e = (b, refl)
@@ -143,13 +143,13 @@ body_there (y ∷ xs) (b ∷ bs) (suc i) x l e = body_there xs bs i x (omega (ar
 
 -- A method that is declared, with a body.
 pub declared_there : (nodes : TypedNodes) → IsTyped nodes → (m : ℕ) (x : Method) → slice_get nodes.methods m ≡ Some x
-    → (b : resolved.Block) × (slice_get (package_of nodes).methods m ≡ Some (method_of nodes x b))
+    → (b : typed_code.Block) × (slice_get (package_of nodes).methods m ≡ Some (method_of nodes x b))
 declared_there nodes typed m x e =
     let b = body_there nodes.methods nodes.bodies m x typed.bodied e in
     (b.0, method_there nodes m x b.0 e b.1)
 
 -- A method with a body that is known.
-pub bodied_there : (nodes : TypedNodes) → IsTyped nodes → (m : ℕ) (b : resolved.Block) → m < length nodes.methods → slice_get nodes.bodies m ≡ Some b
+pub bodied_there : (nodes : TypedNodes) → IsTyped nodes → (m : ℕ) (b : typed_code.Block) → m < length nodes.methods → slice_get nodes.bodies m ≡ Some b
     → (x : Method) × (slice_get (package_of nodes).methods m ≡ Some (method_of nodes x b))
 bodied_there nodes typed m b l e =
     let x = item_there nodes.methods m l in
@@ -164,19 +164,19 @@ pub methods_long : (nodes : TypedNodes) → IsTyped nodes → length (package_of
 unfolding package_of
 methods_long nodes typed = long nodes.methods nodes.bodies typed.bodied
   where
-    long : (xs : List Method) (bs : List resolved.Block) → length bs ≡ length xs → length (methods_of nodes xs bs) ≡ length xs
+    long : (xs : List Method) (bs : List typed_code.Block) → length bs ≡ length xs → length (methods_of nodes xs bs) ≡ length xs
     long [] bs l = refl
     long (x ∷ xs) [] l = absurd (omega (arith, l))
     long (x ∷ xs) (b ∷ bs) l = ap (λ n. suc n) (long xs bs (omega (arith, l)))
 
-pub body_known : (nodes : TypedNodes) → IsTyped nodes → (m : ℕ) (b : resolved.Block) → slice_get nodes.bodies m ≡ Some b → block_below (length nodes.stmts) b ≡ true
+pub body_known : (nodes : TypedNodes) → IsTyped nodes → (m : ℕ) (b : typed_code.Block) → slice_get nodes.bodies m ≡ Some b → block_below (length nodes.stmts) b ≡ true
 body_known nodes typed m b e = at nodes.bodies m typed.bodies_made e
   where
-    at : (bs : List resolved.Block) (i : ℕ) → list_all (λ body. block_below (length nodes.stmts) body) bs ≡ true → slice_get bs i ≡ Some b → block_below (length nodes.stmts) b ≡ true
+    at : (bs : List typed_code.Block) (i : ℕ) → list_all (λ body. block_below (length nodes.stmts) body) bs ≡ true → slice_get bs i ≡ Some b → block_below (length nodes.stmts) b ≡ true
     at [] i h e = absurd (cc e)
     at (c ∷ bs) zero h e =
         let same : c ≡ b = cc e in
-        let P : resolved.Block → Type 0 = λ x. block_below (length nodes.stmts) x ≡ true in
+        let P : typed_code.Block → Type 0 = λ x. block_below (length nodes.stmts) x ≡ true in
         subst P same (both_true (block_below (length nodes.stmts) c) (list_all (λ body. block_below (length nodes.stmts) body) bs) h).0
     at (c ∷ bs) (suc i) h e = at bs i (both_true (block_below (length nodes.stmts) c) (list_all (λ body. block_below (length nodes.stmts) body) bs) h).1 e
 
@@ -190,7 +190,7 @@ tree_there nodes typed m l = there (package_of nodes).methods m (omega (arith, l
     there (x ∷ xs) (suc i) l = there xs i (omega (arith, l))
 
 -- What was found of a method, where its points were.
-pub numbers_method : (nodes : TypedNodes) → IsTyped nodes → (m : ℕ) (b : resolved.Block) → m < length nodes.methods → slice_get nodes.bodies m ≡ Some b
+pub numbers_method : (nodes : TypedNodes) → IsTyped nodes → (m : ℕ) (b : typed_code.Block) → m < length nodes.methods → slice_get nodes.bodies m ≡ Some b
     → (found : List FoundPoint) → found ≡ map found_at (points_in (block_of nodes b)) → (old new : List (Option ℕ)) (refusal : Option Refusal) → refusal ≡ limit_of found
     → (refusal ≡ None → (s : ℕ) → number_at new s ≡ earlier (number_at old s) (numbered_from 1 found s))
     → (method : MethodTree) → slice_get (package_of nodes).methods m ≡ Some method → NumbersMethod old new refusal method

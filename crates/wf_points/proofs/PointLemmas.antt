@@ -10,13 +10,13 @@ use Rattle.wf_base.specs.declared.base_methods.BaseSig.{BaseSig}
 use Rattle.wf_base.specs.declared.base_methods.BaseSig.TheVariants as sigs
 use Rattle.wf_ast.specs.declared.numbers.ExprId.{ExprId}
 use Rattle.wf_ast.specs.declared.numbers.StmtId.{StmtId}
-use Rattle.wf_ast.specs.declared.resolved.Callee.{Callee}
-use Rattle.wf_ast.specs.declared.resolved.Callee.TheVariants as callees
-use Rattle.wf_ast.specs.declared.resolved.Arm.{Arm}
-use Rattle.wf_ast.specs.declared.resolved.Block as resolved
-use Rattle.wf_ast.specs.declared.resolved.Stmt.{Stmt}
-use Rattle.wf_ast.specs.declared.resolved.Stmt.TheVariants as stmts
-use Rattle.wf_ast.specs.declared.resolved.StmtNode.{StmtNode}
+use Rattle.wf_ast.specs.declared.typed_code.Callee.{Callee}
+use Rattle.wf_ast.specs.declared.typed_code.Callee.TheVariants as callees
+use Rattle.wf_ast.specs.declared.typed_code.Arm.{Arm}
+use Rattle.wf_ast.specs.declared.typed_code.Block as typed_code
+use Rattle.wf_ast.specs.declared.typed_code.Stmt.{Stmt}
+use Rattle.wf_ast.specs.declared.typed_code.Stmt.TheVariants as stmts
+use Rattle.wf_ast.specs.declared.typed_code.StmtNode.{StmtNode}
 use Rattle.wf_ast.specs.declared.typed_nodes.TypedNodes.{TypedNodes}
 use Rattle.wf_ast.specs.TypedTree.{ValueTree, Target, Site, Block, end}
 use Rattle.wf_ast.specs.TypedTrees.{no_place, tree_of, optional_target, base_call, call_made, block_made, otherwise_made, if_made, stmt_made, onto, stmt_makers, block_of}
@@ -68,7 +68,7 @@ base_points at target on sigs.IsNote ts = refl
 base_points at target on sigs.IsSuspension ts = refl
 base_points at target on sigs.IsError ts = refl
 
-call_points : (nodes : TypedNodes) (at : Place) (target : Target) (keep : Bool) (callee : Callee) (args : List ExprId)
+pub call_points : (nodes : TypedNodes) (at : Place) (target : Target) (keep : Bool) (callee : Callee) (args : List ExprId)
     → is_point (call_made nodes (tree_of nodes) at target keep callee (map (tree_of nodes) args)) ≡ call_suspends nodes keep callee (length args)
 call_points nodes at target keep (callees.Own m) args = refl
 call_points nodes at target keep (callees.Sub x m) args = refl
@@ -141,10 +141,10 @@ module _ (nodes : TypedNodes) (ordered : each_numbered (λ s node. stmt_below no
       in_front s n.0 (block_made (onto (stmt_makers nodes)) ss) n.1 ∙ ap (λ ps. points_at nodes s ++ ps) (listed ss p.1)
 
   module _ (k : ℕ) (small : k ≤ length nodes.stmts) where
-    block_listed : (b : resolved.Block) → block_below k b ≡ true → points_in (block_made (onto (stmt_makers nodes)) b.items) ≡ points_listed (points_at nodes) b.items
+    block_listed : (b : typed_code.Block) → block_below k b ≡ true → points_in (block_made (onto (stmt_makers nodes)) b.items) ≡ points_listed (points_at nodes) b.items
     block_listed b h = listed b.items (ids_more k (length nodes.stmts) small b.items h)
 
-    otherwise_listed : (look : ExprId → ValueTree) (site : Site) (arms : List Arm) (other : Option resolved.Block) → list_all (λ a. is_expr nodes a.cond && block_below k a.body) arms ≡ true → optional_block_below k other ≡ true
+    otherwise_listed : (look : ExprId → ValueTree) (site : Site) (arms : List Arm) (other : Option typed_code.Block) → list_all (λ a. is_expr nodes a.cond && block_below k a.body) arms ≡ true → optional_block_below k other ≡ true
         → points_in (otherwise_made look (onto (stmt_makers nodes)) site arms other) ≡ points_of_arms (points_at nodes) arms ++ points_of_else (points_at nodes) other
     otherwise_listed look site [] None h o = refl
     otherwise_listed look site [] (Some b) h o = block_listed b o
@@ -155,7 +155,7 @@ module _ (nodes : TypedNodes) (ordered : each_numbered (λ s node. stmt_below no
         (points_in (otherwise_made look (onto (stmt_makers nodes)) site arms other)) (points_of_arms (points_at nodes) arms) (points_of_else (points_at nodes) other)
         (block_listed arm.body q.1) (otherwise_listed look site arms other p.1 o)
 
-    if_listed : (look : ExprId → ValueTree) (site : Site) (arms : List Arm) (other : Option resolved.Block) → list_all (λ a. is_expr nodes a.cond && block_below k a.body) arms ≡ true → optional_block_below k other ≡ true
+    if_listed : (look : ExprId → ValueTree) (site : Site) (arms : List Arm) (other : Option typed_code.Block) → list_all (λ a. is_expr nodes a.cond && block_below k a.body) arms ≡ true → optional_block_below k other ≡ true
         → points_in (if_made look (onto (stmt_makers nodes)) site arms other end) ≡ points_of_if (points_at nodes) arms other
     if_listed look site [] other h o = refl
     if_listed look site (arm ∷ arms) other h o =
@@ -206,5 +206,5 @@ node_points nodes typed s st h e =
     subst A place (subst B same (by_node nodes typed.stmts_ordered s n.0 n.1))
 
 -- The points of a body.
-pub body_points : (nodes : TypedNodes) → IsTyped nodes → (b : resolved.Block) → block_below (length nodes.stmts) b ≡ true → points_in (block_of nodes b) ≡ points_listed (points_at nodes) b.items
+pub body_points : (nodes : TypedNodes) → IsTyped nodes → (b : typed_code.Block) → block_below (length nodes.stmts) b ≡ true → points_in (block_of nodes b) ≡ points_listed (points_at nodes) b.items
 body_points nodes typed b h = listed nodes typed.stmts_ordered b.items h

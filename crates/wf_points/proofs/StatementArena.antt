@@ -6,11 +6,11 @@ use Rattle.std.proofs.lemmas.Bool.Decides.{nat_tests}
 use Rattle.wf_text.specs.declared.place.Place.{Place}
 use Rattle.wf_ast.specs.declared.numbers.ExprId.{ExprId}
 use Rattle.wf_ast.specs.declared.numbers.StmtId.{StmtId}
-use Rattle.wf_ast.specs.declared.resolved.Arm.{Arm}
-use Rattle.wf_ast.specs.declared.resolved.Block as resolved
-use Rattle.wf_ast.specs.declared.resolved.Stmt.{Stmt}
-use Rattle.wf_ast.specs.declared.resolved.Stmt.TheVariants as stmts
-use Rattle.wf_ast.specs.declared.resolved.StmtNode.{StmtNode}
+use Rattle.wf_ast.specs.declared.typed_code.Arm.{Arm}
+use Rattle.wf_ast.specs.declared.typed_code.Block as typed_code
+use Rattle.wf_ast.specs.declared.typed_code.Stmt.{Stmt}
+use Rattle.wf_ast.specs.declared.typed_code.Stmt.TheVariants as stmts
+use Rattle.wf_ast.specs.declared.typed_code.StmtNode.{StmtNode}
 use Rattle.wf_ast.specs.declared.typed_nodes.TypedNodes.{TypedNodes}
 use Rattle.wf_ast.specs.TypedTree.{ValueTree, Site, Block, end, choose, loop}
 use Rattle.wf_ast.specs.TypedTrees.{cond_in, tree_of, head_made, block_made, otherwise_made, if_made, stmt_made, no_stmt, onto, stmts_after, stmt_makers}
@@ -29,7 +29,7 @@ module _ (f g : StmtId → Block → Block) (k : ℕ) (same : (s : StmtId) → s
       same s (below s.0 k p.0) (block_made f ss) ∙ ap (g s) (block_same ss p.1)
 
   module _ (nodes : TypedNodes) (look : ExprId → ValueTree) (site : Site) where
-    otherwise_same : (arms : List Arm) (other : Option resolved.Block) → list_all (λ a. is_expr nodes a.cond && block_below k a.body) arms ≡ true → optional_block_below k other ≡ true
+    otherwise_same : (arms : List Arm) (other : Option typed_code.Block) → list_all (λ a. is_expr nodes a.cond && block_below k a.body) arms ≡ true → optional_block_below k other ≡ true
         → otherwise_made look f site arms other ≡ otherwise_made look g site arms other
     otherwise_same [] None h o = refl
     otherwise_same [] (Some b) h o = block_same b.items o
@@ -39,7 +39,7 @@ module _ (f g : StmtId → Block → Block) (k : ℕ) (same : (s : StmtId) → s
         ap (λ b. choose site true (cond_in (look arm.cond)) b (otherwise_made look f site arms other) end) (block_same arm.body.items q.1)
         ∙ ap (λ b. choose site true (cond_in (look arm.cond)) (block_made g arm.body.items) b end) (otherwise_same arms other p.1 o)
 
-    if_same : (arms : List Arm) (other : Option resolved.Block) (rest : Block) → list_all (λ a. is_expr nodes a.cond && block_below k a.body) arms ≡ true → optional_block_below k other ≡ true
+    if_same : (arms : List Arm) (other : Option typed_code.Block) (rest : Block) → list_all (λ a. is_expr nodes a.cond && block_below k a.body) arms ≡ true → optional_block_below k other ≡ true
         → if_made look f site arms other rest ≡ if_made look g site arms other rest
     if_same [] other rest h o = refl
     if_same (arm ∷ arms) other rest h o =

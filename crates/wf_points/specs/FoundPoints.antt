@@ -7,12 +7,12 @@ use Rattle.wf_text.specs.Precedence.{soonest}
 use Rattle.wf_base.specs.declared.base_methods.BaseSig.{BaseSig}
 use Rattle.wf_base.specs.declared.base_methods.BaseSig.TheVariants as sigs
 use Rattle.wf_ast.specs.declared.numbers.StmtId.{StmtId}
-use Rattle.wf_ast.specs.declared.resolved.Callee.{Callee}
-use Rattle.wf_ast.specs.declared.resolved.Callee.TheVariants as callees
-use Rattle.wf_ast.specs.declared.resolved.Arm.{Arm}
-use Rattle.wf_ast.specs.declared.resolved.Stmt.{Stmt}
-use Rattle.wf_ast.specs.declared.resolved.Stmt.TheVariants as stmts
-use Rattle.wf_ast.specs.declared.resolved.Block as resolved
+use Rattle.wf_ast.specs.declared.typed_code.Callee.{Callee}
+use Rattle.wf_ast.specs.declared.typed_code.Callee.TheVariants as callees
+use Rattle.wf_ast.specs.declared.typed_code.Arm.{Arm}
+use Rattle.wf_ast.specs.declared.typed_code.Stmt.{Stmt}
+use Rattle.wf_ast.specs.declared.typed_code.Stmt.TheVariants as stmts
+use Rattle.wf_ast.specs.declared.typed_code.Block as typed_code
 use Rattle.wf_ast.specs.declared.typed_nodes.TypedNodes.{TypedNodes}
 use Rattle.wf_ast.specs.TypedTree.{Site, end}
 use Rattle.wf_ast.specs.TypedTrees.{no_place, mark_of, onto, stmt_makers}
@@ -42,12 +42,12 @@ abbrev pub points_of_arms : (StmtId → List Site) → List Arm → List Site
 points_of_arms look [] = []
 points_of_arms look (arm ∷ arms) = points_listed look arm.body.items ++ points_of_arms look arms
 
-abbrev pub points_of_else : (StmtId → List Site) → Option resolved.Block → List Site
+abbrev pub points_of_else : (StmtId → List Site) → Option typed_code.Block → List Site
 points_of_else look None = []
 points_of_else look (Some block) = points_listed look block.items
 
 -- The points in an `if`; one without an arm stands for no statement.
-abbrev pub points_of_if : (StmtId → List Site) → List Arm → Option resolved.Block → List Site
+abbrev pub points_of_if : (StmtId → List Site) → List Arm → Option typed_code.Block → List Site
 points_of_if look [] other = []
 points_of_if look (arm ∷ arms) other = points_of_arms look (arm ∷ arms) ++ points_of_else look other
 

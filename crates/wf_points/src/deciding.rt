@@ -38,7 +38,7 @@ pub fn points(alloc: Global, t: &Typed) -> Result<Points, PhaseFault>
     }
 }
 
-// Numbers the points of all methods; where one has too many it answers the refusal that decides.
+// Numbers the points of all methods; where one has too many it answers the first refusal.
 fn number_methods(
     alloc: Global,
     t: &Typed,

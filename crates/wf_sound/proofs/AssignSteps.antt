@@ -216,9 +216,6 @@ module _ (R : (method : ℕ) → Remaining → Type 0) (shape : Shape) (b : Body
   step-of-variable x t change e form h = absurd (cc (e))
 
   -- The facts after an assignment are true.
-  abbrev UsualFor : Target → Option Arith → ValueTree → Type 0
-  UsualFor target op v = assigned fs target op v ≡ unwritten target fs
-
   usual-true : (target : Target) (after : State) → AgreeButFor (written_by target) s after → AllTrue after (unwritten target fs)
   usual-true target after agree = without_some-true (written_by target) s after fs agree known
 

@@ -11,7 +11,7 @@ use Rattle.turns.specs.Run.{Go}
 use Rattle.wf_text.specs.declared.place.Place.{Place}
 use Rattle.wf_text.specs.declared.rules.Rule.TheVariants.{B8}
 use Rattle.wf_base.specs.declared.widths.Width.{Width}
-use Rattle.wf_base.specs.declared.widths.Width.TheVariants.{W8, W16, W32, W64}
+use Rattle.wf_base.specs.declared.widths.Width.TheVariants.{W8, W32}
 use Rattle.wf_base.specs.declared.base_methods.ReadForm.{ReadForm}
 use Rattle.wf_base.specs.declared.base_methods.ReadForm.TheVariants.{ReadU8, ReadU16Be, ReadU16Le, ReadU32Be, ReadU32Le, ReadU64Be, ReadU64Le}
 use Rattle.wf_base.specs.BaseTable.{bits_of, bytes_of, read_width, read_value, lacking, gathered, is_whole}
@@ -28,7 +28,7 @@ use Rattle.wf_facts.specs.FactLists.{without}
 use Rattle.wf_meaning.specs.SourceState.{Behind, Remaining, Done, untouched, has_bytes, to_skip, to_write, has_yielded}
 use Rattle.wf_meaning.specs.Entry.{short_read, short_write}
 use Rattle.wf_meaning.specs.World.{World, Body, Vars, put_value}
-use Rattle.wf_meaning.specs.SourceStep.{Ending, Steps, state_of, at_block, with_some, either, change_buffer, io_of, bytes_so_far, kept_count, kept_byte, below, read_on, skip_on, write_on, suspending}
+use Rattle.wf_meaning.specs.SourceStep.{Steps, state_of, at_block, with_some, change_buffer, io_of, bytes_so_far, kept_count, kept_byte, below, skip_on, write_on, suspending}
 use Rattle.wf_meaning.specs.SourceStep as steps
 use Rattle.wf_bounds_stmts.specs.Requirements.{all_handed}
 use Rattle.wf_bounds_stmts.specs.Calls.{interrupted, all_of, handed_to_awaited, await_refusal, awaited}
@@ -63,12 +63,6 @@ little-small (suc n) (x ∷ xs) h all =
 
 big-small : (n : ℕ) (xs : List ℕ) → length xs ≤ n → All (λ cell. cell < 2 ^ 8) xs → big_endian xs < 2 ^ (8 * n)
 big-small n xs h all = little-small n (reverse xs) (omega (arith, h, length-reverse xs)) (All-reverse (λ cell. cell < 2 ^ 8) xs all)
-
-width-bits : (width : Width) → 8 * bytes_of width ≡ bits_of width
-width-bits W8 = refl
-width-bits W16 = refl
-width-bits W32 = refl
-width-bits W64 = refl
 
 read-small : (form : ReadForm) (xs : List ℕ) → length xs ≤ bytes_of (read_width form) → AreBytes xs → read_value form xs < 2 ^ bits_of (read_width form)
 read-small ReadU8 xs h all = little-small 1 xs h all

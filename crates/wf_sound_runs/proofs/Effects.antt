@@ -1,8 +1,7 @@
 -- Each step keeps to the mark of its method.
 use Rattle.std.proofs.Common.{◌≡◌, ℕ, zero, suc, Bool, true, false, not, List, Option, Some, None, refl, sym, ap, ◌∙◌, subst}
-use Rattle.std.specs.Prelude.{slice_get, option_and_then, option_map, nat_lt, if◌then◌else◌}
-use Rattle.turns.specs.Run.{Go, Turn, End, Out, Fail, Outcome, Got, More, Lost, onward, holding}
-use Rattle.turns.specs.Steps.{NextKeeps}
+use Rattle.std.specs.Prelude.{slice_get, option_and_then, option_map}
+use Rattle.turns.specs.Run.{Go}
 use Rattle.wf_base.specs.declared.marks.Mark.{Mark}
 use Rattle.wf_base.specs.declared.marks.Mark.TheVariants.{Pure, Impure, Coroutine}
 use Rattle.wf_base.specs.BaseOps.{Buffer}
@@ -12,9 +11,10 @@ use Rattle.wf_ast.specs.WellTyped.{is_pure, is_coroutine, may_write}
 use Rattle.wf_ast.specs.Value.{Value, num, truth_value, status_number, span, buffer, Store, nowhere, host_array, field_array, value, span_of, only_if}
 use Rattle.wf_meaning.specs.SourceState.{Behind, Done}
 use Rattle.wf_meaning.specs.World.{World, Body, Vars, set_path, set_element, put_value, with_cells, with_buffer, as_buffer, view}
-use Rattle.wf_meaning.specs.SourceStep.{At, Ending, Steps, state_of, at_block, with_some, where_true, either, taking_turn, suspending, change_buffer, io_of, io_number, buffer_of, with_target, skipped_fast, written_fast, copied_to_writer, copied_to_slice, elements_of, are_bytes, takes_all, performed, awaited, skip_on}
+use Rattle.wf_meaning.specs.SourceStep.{state_of, at_block, with_some, suspending, change_buffer, io_of, io_number, buffer_of, with_target, skipped_fast, written_fast, copied_to_writer, copied_to_slice, elements_of, are_bytes, takes_all, performed, awaited, skip_on}
 use Rattle.wf_meaning.proofs.Lists2.{and_then_made, map_made, only_if_made, two_made, some_same}
 use Rattle.wf_meaning.proofs.Lists.{updated-other}
+use Rattle.wf_meaning.proofs.WorldSteps.{Kept, kept-some, kept-either, go}
 use Rattle.wf_sound.specs.Callees.{LeavesOthers, KeepsTo}
 
 -- Worlds that a mark allows, one after the other.
@@ -94,56 +94,8 @@ module _ (b : Body) where
       to-world _ after vars.world (some-is _ _ after t.gives) (same-buffers b.method.mark b.args vars.world _ (not-pure b.method.mark h) (cells-buffers t.x.store _ vars.world))
   put-eff target v vars after h e = absurd (cc (e))
 
-  -- A step that keeps to the mark.
-  pub record Kept (w : World) (x : Steps) : Type 0 where
-    pub fact : NextKeeps (λ (y : At). Eff w y.vars.world) (λ (e : Ending × World). Eff w e.1) x
-
-  pub kept-some : {X : Type 0} (w : World) (o : Option X) (go : X → Steps) → ((x : X) → o ≡ Some x → Kept w (go x)) → Kept w (with_some o go)
-  unfolding with_some
-  kept-some w None go h = record { fact = tt }
-  kept-some w (Some x) go h = h x refl
-
-  pub kept-true : (w : World) (test : Bool) (x : Steps) → Kept w x → Kept w (where_true test x)
-  unfolding where_true
-  kept-true w true x h = h
-  kept-true w false x h = record { fact = tt }
-
-  pub kept-either : (w : World) (test : Bool) (x y : Steps) → (test ≡ true → Kept w x) → (test ≡ false → Kept w y) → Kept w (either test x y)
-  unfolding either
-  kept-either w true x y h k = h refl
-  kept-either w false x y h k = k refl
-
-  pub kept-turn : (w : World) (n : ℕ) (x : Steps) → Kept w x → Kept w (taking_turn n x)
-  unfolding taking_turn
-  kept-turn w zero x h = record { fact = tt }
-  kept-turn w (suc left) (Go x) h = record { fact = h.fact }
-  kept-turn w (suc left) (Turn m x) h = h
-  kept-turn w (suc left) (End m a) h = h
-  kept-turn w (suc left) Out h = h
-  kept-turn w (suc left) Fail h = h
-
-  pub kept-onward : (w : World) (n left : ℕ) (x : At) → Eff w x.vars.world → Kept w (onward n left x)
-  unfolding onward
-  kept-onward w n left x h = by (nat_lt left n)
-    where
-      by : (t : Bool) → Kept w (if t then Turn left x else Go x)
-      by true = record { fact = h }
-      by false = record { fact = h }
-
-  pub kept-holding : {B : Type 0} (w : World) (o : Outcome B) (on : ℕ → B → Steps) → ((left : ℕ) (a : B) → o ≡ Got left a → Kept w (on left a)) → Kept w (holding o on)
-  unfolding holding
-  kept-holding w (Got left a) on k = k left a refl
-  kept-holding w More on k = record { fact = tt }
-  kept-holding w Lost on k = record { fact = tt }
-
-  pub go : (w : World) (x : At) → Eff w x.vars.world → Kept w (Go x)
-  go w x h = record { fact = h }
-
-  pub stays : (w : World) (block : Block) (behind : Behind) (locals : List Value) → Kept w (Go (at_block block behind (record { locals = locals; world = w })))
-  stays w block behind locals = record { fact = keeps-itself b.method.mark b.args w }
-
-  pub ends-in : (w : World) (n : ℕ) (e : Ending) (u : World) → Eff w u → Kept w (End n (e, u))
-  ends-in w n e u h = record { fact = h }
+  pub stays : (w : World) (block : Block) (behind : Behind) (locals : List Value) → Kept Eff w (Go (at_block block behind (record { locals = locals; world = w })))
+  stays w block behind locals = go Eff w _ (keeps-itself b.method.mark b.args w)
 
   -- A buffer of an argument is changed.
   io-named : (a : ℕ) (vars : Vars) (io : ℕ × Buffer) → io_of b a vars ≡ Some io → slice_get b.args a ≡ Some (buffer io.0)
@@ -173,26 +125,26 @@ module _ (b : Body) where
 
   -- Base calls.
   module _ (n : ℕ) (here rest : Block) (behind : Behind) where
-    suspends-kept : (w : World) (left status : ℕ) (done : Done) (vars : Vars) → Eff w vars.world → Kept w (suspending left status done here behind vars)
+    suspends-kept : (w : World) (left status : ℕ) (done : Done) (vars : Vars) → Eff w vars.world → Kept Eff w (suspending left status done here behind vars)
     suspends-kept w left status done vars h = record { fact = h }
 
     pub await-kept : (target : Target) (a : ℕ) (call : Awaited) (done : Done) (vars : Vars) → is_coroutine b.method.mark ≡ true → writes_as b.method.mark target ≡ true
-        → Kept vars.world (with_some (io_of b a vars) (λ io. awaited b n target io.0 io.1 call done here rest behind vars))
-    await-kept target a call done vars co wr = kept-some vars.world (io_of b a vars) _ (λ io e. by call io (io-named a vars io e))
+        → Kept Eff vars.world (with_some (io_of b a vars) (λ io. awaited b n target io.0 io.1 call done here rest behind vars))
+    await-kept target a call done vars co wr = kept-some Eff vars.world (io_of b a vars) _ (λ io e. by call io (io-named a vars io e))
       where
         p : is_pure b.method.mark ≡ false
         p = coroutine-marked b.method.mark co
 
-        skips : (k : ℕ) (left count : ℕ) → slice_get b.args a ≡ Some (buffer k) → Kept vars.world (skip_on n left here rest behind (change_buffer k (ops.skipped count) vars))
-        skips k zero count e = go vars.world _ (buffer-eff a k (ops.skipped count) vars p e)
+        skips : (k : ℕ) (left count : ℕ) → slice_get b.args a ≡ Some (buffer k) → Kept Eff vars.world (skip_on n left here rest behind (change_buffer k (ops.skipped count) vars))
+        skips k zero count e = go Eff vars.world _ (buffer-eff a k (ops.skipped count) vars p e)
         skips k (suc left) count e = suspends-kept vars.world n _ _ (change_buffer k (ops.skipped count) vars) (buffer-eff a k (ops.skipped count) vars p e)
 
-        by : (call : Awaited) (io : ℕ × Buffer) → slice_get b.args a ≡ Some (buffer io.0) → Kept vars.world (awaited b n target io.0 io.1 call done here rest behind vars)
+        by : (call : Awaited) (io : ℕ × Buffer) → slice_get b.args a ≡ Some (buffer io.0) → Kept Eff vars.world (awaited b n target io.0 io.1 call done here rest behind vars)
         by (take_number form) io e =
             let f = buffer-eff a io.0 _ vars p e in
-            kept-either vars.world _ _ _ (λ i. kept-some vars.world _ _ (λ after j. go vars.world _ (on-from vars.world _ after.world f (put-eff target _ _ after wr j)))) (λ i. suspends-kept vars.world n _ _ _ f)
-        by (skip count) io e = kept-some vars.world _ _ (λ left i. skips io.0 _ _ e)
-        by (write byte) io e = kept-some vars.world _ _ (λ it i. kept-either vars.world _ _ _ (λ j. go vars.world _ (buffer-eff a io.0 _ vars p e)) (λ j. suspends-kept vars.world n _ _ vars (keeps-itself b.method.mark b.args vars.world)))
+            kept-either Eff vars.world _ _ _ (λ i. kept-some Eff vars.world _ _ (λ after j. go Eff vars.world _ (on-from vars.world _ after.world f (put-eff target _ _ after wr j)))) (λ i. suspends-kept vars.world n _ _ _ f)
+        by (skip count) io e = kept-some Eff vars.world _ _ (λ left i. skips io.0 _ _ e)
+        by (write byte) io e = kept-some Eff vars.world _ _ (λ it i. kept-either Eff vars.world _ _ _ (λ j. go Eff vars.world _ (buffer-eff a io.0 _ vars p e)) (λ j. suspends-kept vars.world n _ _ vars (keeps-itself b.method.mark b.args vars.world)))
 
   pub perform-eff : (target : Target) (call : Written) (vars after : Vars) → is_pure b.method.mark ≡ false → writes_as b.method.mark target ≡ true → performed b target call vars ≡ Some after → Eff vars.world after.world
   perform-eff target (skip_fast a actual worst_case) vars after p wr e =

@@ -24,7 +24,7 @@ use Rattle.wf_bounds_stmts.specs.FactRules.{Known, known_behind, behind_loop}
 use Rattle.wf_sound.specs.Worlds.{Shape, HaveTypes, context_of, IsLawfulBody, AreApart}
 use Rattle.wf_sound.specs.Positions.{loops_round, hands_on_well}
 use Rattle.wf_sound.specs.Callees.{CalleesRun}
-use Rattle.wf_sound.specs.OneStep.{IsStarted, IsReached, afresh, ComesTo, StandsBefore, StandsKnowing, IsLeftAt, Ends, NeverLeft, LeadsTo, Tests, IsWellTyped, IsRunning, AreFactsOf}
+use Rattle.wf_sound.specs.OneStep.{IsStarted, IsReached, afresh, ComesTo, StandsBefore, StandsKnowing, IsLeftAt, Ends, LeadsTo, Tests, IsWellTyped, IsRunning, AreFactsOf}
 use Rattle.wf_sound.proofs.Views.{lawful-view}
 use Rattle.wf_sound.proofs.AssignSteps.{goes-with}
 use Rattle.wf_sound.proofs.ControlSteps.{loop-step, back-step}
@@ -131,10 +131,6 @@ module _ (R : (method : ℕ) → Remaining → Type 0) (shape : Shape) (b : Body
   -- The end of a run.
   abbrev pub EndsSo : Ending × World → Type 0
   EndsSo e = Ends R shape b (Resumable b.within b.method) e
-
-  ends-never : (e : Ending × World) → Ends R shape b (NeverLeft R shape b) e → EndsSo e
-  ends-never (gives v, w) h = h
-  ends-never (suspends status left, w) h = absurd h.1.1
 
   -- The loop of a marker.
   marker-accepted : (w : ℕ) (behind : Behind) (mk : Marker) → marker_of w behind ≡ Some mk → Loops b.within b.method behind → Loops b.within b.method (again mk.site mk.head mk.body mk.rest mk.behind)

@@ -1,5 +1,5 @@
 -- Each step of an accepted body keeps to the mark of its method.
-use Rattle.std.proofs.Common.{◌≡◌, ℕ, zero, suc, Bool, true, false, not, ◌&&◌, List, map, Option, Some, None, refl, sym, ap, ◌∙◌, subst}
+use Rattle.std.proofs.Common.{◌≡◌, ℕ, zero, suc, Bool, true, false, not, List, map, Option, Some, None, refl, sym, ap, ◌∙◌, subst}
 use Rattle.std.specs.Prelude.{slice_get, option_and_then}
 use Rattle.std.specs.List.{list_all}
 use Rattle.std.proofs.lemmas.Bool.{and_parts}
@@ -27,6 +27,7 @@ use Rattle.wf_meaning.proofs.Lists2.{some_same, Made, and_then_made}
 use Rattle.wf_bounds_stmts.specs.Requirements.{all_handed}
 use Rattle.wf_bounds_stmts.specs.Targets.{answer_refusal}
 use Rattle.wf_bounds_stmts.specs.Calls.{handed_to_method, known_to_call, left_by_call, answered_by}
+use Rattle.wf_meaning.proofs.WorldSteps.{Kept, kept-some, kept-true, kept-either, kept-turn, kept-onward, kept-holding, go, ends-in}
 use Rattle.wf_sound.specs.Worlds.{Shape, HaveTypes, context_of, AreApart}
 use Rattle.wf_sound.specs.Positions.{loops_round, hands_on_well, is_slice_value}
 use Rattle.wf_sound.specs.Callees.{KeepsTo, EndsWell, RunsWell, MethodRuns, CalleesRun}
@@ -37,7 +38,7 @@ use Rattle.wf_sound.proofs.InvokeSteps.{mark-same, known-well, call-known}
 use Rattle.wf_sound.proofs.StatementLaw.{declared, results-fit}
 use Rattle.wf_sound_runs.proofs.Placed.{Parts, parts}
 use Rattle.wf_sound_runs.proofs.Running.{Stands, NextCalls}
-use Rattle.wf_sound_runs.proofs.Effects.{keeps-itself, keeps-on, Eff, writes_as, put-eff, Kept, kept-some, kept-true, kept-either, kept-turn, kept-onward, kept-holding, go, stays, ends-in, await-kept, perform-eff}
+use Rattle.wf_sound_runs.proofs.Effects.{keeps-itself, keeps-on, Eff, writes_as, put-eff, stays, await-kept, perform-eff}
 
 -- The target of a statement that keeps the rules of types is one that its method may write.
 module _ (b : Body) where
@@ -117,22 +118,22 @@ module _ (b : Body) where
   on-from u v w h k = keeps-on b.method.mark b.args u v w h k
 
   after-kept : (n : ℕ) (keep : Bool) (m : Mark) (target : Target) (here rest : Block) (behind : Behind) (w : World) (locals : List Value) (left : ℕ) (answer : Answered) (after : World) → writes_as b b.method.mark target ≡ true → Eff b w after
-      → Kept b w (after_call b n keep m target here rest behind locals left (answer, after))
+      → Kept (Eff b) w (after_call b n keep m target here rest behind locals left (answer, after))
   after-kept n keep m target here rest behind w locals left answer after wr h =
-      kept-either b w (hands_on keep m) _ _ (λ i. handed answer)
-      (λ i. kept-either b w keep _ _ (λ j. kept-some b w _ _ (λ next e. kept-onward b w n left _ (on-from w after next.world h (answer-eff target _ vars next wr e))))
-      (λ j. kept-some b w _ _ (λ v e. kept-some b w _ _ (λ next k. kept-onward b w n left _ (on-from w after next.world h (answer-eff target v vars next wr k))))))
+      kept-either (Eff b) w (hands_on keep m) _ _ (λ i. handed answer)
+      (λ i. kept-either (Eff b) w keep _ _ (λ j. kept-some (Eff b) w _ _ (λ next e. kept-onward (Eff b) w n left _ (on-from w after next.world h (answer-eff target _ vars next wr e))))
+      (λ j. kept-some (Eff b) w _ _ (λ v e. kept-some (Eff b) w _ _ (λ next k. kept-onward (Eff b) w n left _ (on-from w after next.world h (answer-eff target v vars next wr k))))))
     where
       vars : Vars
       vars = record { locals = locals; world = after }
 
-      handed : (answer : Answered) → Kept b w (handed_on b n left answer here rest behind (record { locals = locals; world = after }))
-      handed (suspended status) = ends-in b w left _ after h
+      handed : (answer : Answered) → Kept (Eff b) w (handed_on b n left answer here rest behind (record { locals = locals; world = after }))
+      handed (suspended status) = ends-in (Eff b) w left _ after h
       handed (returned None) = record { fact = tt }
       handed (returned (Some (num v))) = record { fact = tt }
       handed (returned (Some (truth_value v))) = record { fact = tt }
-      handed (returned (Some (status_number zero))) = kept-onward b w n left _ h
-      handed (returned (Some (status_number (suc status)))) = ends-in b w left _ after h
+      handed (returned (Some (status_number zero))) = kept-onward (Eff b) w n left _ h
+      handed (returned (Some (status_number (suc status)))) = ends-in (Eff b) w left _ after h
       handed (returned (Some (span v))) = record { fact = tt }
       handed (returned (Some (buffer v))) = record { fact = tt }
 
@@ -144,14 +145,14 @@ module _ (R : (method : ℕ) → Remaining → Type 0) (shape : Shape) (b : Body
   invoke-kept : (site : Site) (at : _) (target : Target) (keep : Bool) (m : Mark) (called : Called) (vs : List ValueTree) (rest : Block) (done : Done) (behind : Behind) (vars : Vars)
       → (x : Stands R shape b typed sole (record { done = done; block = plain site (invoke at target keep m called vs) rest; behind = behind; vars = vars }))
       → well_invoked (context_of b) target keep m called vs (slice_get b.within.methods (number_of called)) ≡ true → list_all is_slice_value vs ≡ true → MethodRuns calls b.within R shape (number_of called) turns vars.world
-      → Kept b vars.world (invoked b calls turns keep m target called vs (plain site (invoke at target keep m called vs) rest) rest behind vars)
+      → Kept (Eff b) vars.world (invoked b calls turns keep m target called vs (plain site (invoke at target keep m called vs) rest) rest behind vars)
   invoke-kept site at target keep m called vs rest done behind vars x wi whole runs =
-      kept-some b vars.world (slice_get b.within.methods (number_of called)) _ (λ callee e1. kept-some b vars.world (values_of (state_of b vars) callee.args vs) _ (λ values e2. kept-some b vars.world (receiver_of b called vars) _ (λ object e3.
-      kept-holding b vars.world (through b.within calls callee called (record { object = object; method = number_of called; args = values }) turns vars.world) _ (λ left finished e4. by callee values object left finished e1 e2 e3 e4))))
+      kept-some (Eff b) vars.world (slice_get b.within.methods (number_of called)) _ (λ callee e1. kept-some (Eff b) vars.world (values_of (state_of b vars) callee.args vs) _ (λ values e2. kept-some (Eff b) vars.world (receiver_of b called vars) _ (λ object e3.
+      kept-holding (Eff b) vars.world (through b.within calls callee called (record { object = object; method = number_of called; args = values }) turns vars.world) _ (λ left finished e4. by callee values object left finished e1 e2 e3 e4))))
     where
       by : (callee : MethodTree) (values : List Value) (object left : ℕ) (finished : Answered × World) → slice_get b.within.methods (number_of called) ≡ Some callee → values_of (state_of b vars) callee.args vs ≡ Some values → receiver_of b called vars ≡ Some object
           → through b.within calls callee called (record { object = object; method = number_of called; args = values }) turns vars.world ≡ Got left finished
-          → Kept b vars.world (after_call b turns keep m target (plain site (invoke at target keep m called vs) rest) rest behind vars.locals left finished)
+          → Kept (Eff b) vars.world (after_call b turns keep m target (plain site (invoke at target keep m called vs) rest) rest behind vars.locals left finished)
       by callee values object left finished e1 e2 e3 e4 =
           let P : Option MethodTree → Type 0 = λ o. well_invoked (context_of b) target keep m called vs o ≡ true in
           let w = subst P e1 wi in
@@ -185,36 +186,36 @@ module _ (R : (method : ℕ) → Remaining → Type 0) (shape : Shape) (b : Body
           (callee-eff b b.method.mark callee.mark values vars.world finished.1 al (λ i k e. let h : HandedOn R shape b vars x.lawful (known_to_call keep m x.list) kw kn vs i k = handed-on R shape b vars x.lawful (known_to_call keep m x.list) kw kn callee.args vs values i k e2 e in (h.a, h.buffer_is)) ends.keeps)
 
   -- Values that are returned.
-  given-kept : (n : ℕ) (w : World) (v : Value) → Kept b w (given_back b n w v)
-  given-kept n w (num m) = kept-true b w _ _ (ends-in b w n _ w (keeps-itself b.method.mark b.args w))
-  given-kept n w (truth_value m) = kept-true b w _ _ (ends-in b w n _ w (keeps-itself b.method.mark b.args w))
-  given-kept n w (status_number m) = kept-either b w _ _ _ (λ i. ends-in b w n _ w (keeps-itself b.method.mark b.args w)) (λ i. kept-true b w _ _ (ends-in b w n _ w (keeps-itself b.method.mark b.args w)))
-  given-kept n w (span m) = kept-true b w _ _ (ends-in b w n _ w (keeps-itself b.method.mark b.args w))
-  given-kept n w (buffer m) = kept-true b w _ _ (ends-in b w n _ w (keeps-itself b.method.mark b.args w))
+  given-kept : (n : ℕ) (w : World) (v : Value) → Kept (Eff b) w (given_back b n w v)
+  given-kept n w (num m) = kept-true (Eff b) w _ _ (ends-in (Eff b) w n _ w (keeps-itself b.method.mark b.args w))
+  given-kept n w (truth_value m) = kept-true (Eff b) w _ _ (ends-in (Eff b) w n _ w (keeps-itself b.method.mark b.args w))
+  given-kept n w (status_number m) = kept-either (Eff b) w _ _ _ (λ i. ends-in (Eff b) w n _ w (keeps-itself b.method.mark b.args w)) (λ i. kept-true (Eff b) w _ _ (ends-in (Eff b) w n _ w (keeps-itself b.method.mark b.args w)))
+  given-kept n w (span m) = kept-true (Eff b) w _ _ (ends-in (Eff b) w n _ w (keeps-itself b.method.mark b.args w))
+  given-kept n w (buffer m) = kept-true (Eff b) w _ _ (ends-in (Eff b) w n _ w (keeps-itself b.method.mark b.args w))
 
-  marked-kept : (vars : Vars) (o : Option Marker) → Kept b vars.world (continued o vars)
+  marked-kept : (vars : Vars) (o : Option Marker) → Kept (Eff b) vars.world (continued o vars)
   marked-kept vars None = record { fact = tt }
   marked-kept vars (Some m) = stays b vars.world _ _ vars.locals
 
-  broken-kept : (vars : Vars) (o : Option Marker) → Kept b vars.world (broken b o vars)
+  broken-kept : (vars : Vars) (o : Option Marker) → Kept (Eff b) vars.world (broken b o vars)
   broken-kept vars None = record { fact = tt }
-  broken-kept vars (Some m) = kept-true b vars.world _ _ (stays b vars.world _ _ vars.locals)
+  broken-kept vars (Some m) = kept-true (Eff b) vars.world _ _ (stays b vars.world _ _ vars.locals)
 
-  yield-kept : (n status : ℕ) (done : Done) (here rest : Block) (behind : Behind) (vars : Vars) → Kept b vars.world (yielded n status done here rest behind vars)
+  yield-kept : (n status : ℕ) (done : Done) (here rest : Block) (behind : Behind) (vars : Vars) → Kept (Eff b) vars.world (yielded n status done here rest behind vars)
   yield-kept n status has_yielded here rest behind vars = stays b vars.world rest behind vars.locals
-  yield-kept n status untouched here rest behind vars = ends-in b vars.world n _ vars.world (keeps-itself b.method.mark b.args vars.world)
-  yield-kept n status (has_bytes bytes) here rest behind vars = ends-in b vars.world n _ vars.world (keeps-itself b.method.mark b.args vars.world)
-  yield-kept n status (to_skip left) here rest behind vars = ends-in b vars.world n _ vars.world (keeps-itself b.method.mark b.args vars.world)
-  yield-kept n status (to_write it) here rest behind vars = ends-in b vars.world n _ vars.world (keeps-itself b.method.mark b.args vars.world)
+  yield-kept n status untouched here rest behind vars = ends-in (Eff b) vars.world n _ vars.world (keeps-itself b.method.mark b.args vars.world)
+  yield-kept n status (has_bytes bytes) here rest behind vars = ends-in (Eff b) vars.world n _ vars.world (keeps-itself b.method.mark b.args vars.world)
+  yield-kept n status (to_skip left) here rest behind vars = ends-in (Eff b) vars.world n _ vars.world (keeps-itself b.method.mark b.args vars.world)
+  yield-kept n status (to_write it) here rest behind vars = ends-in (Eff b) vars.world n _ vars.world (keeps-itself b.method.mark b.args vars.world)
 
   assigned-well : (target : Target) (op : Option Arith) (v : ValueTree) (loops : List ℕ) → well_simple (context_of b) loops (assign target op v) ≡ true → well_assigned (context_of b) target v ≡ true
   assigned-well target None v loops h = h
   assigned-well target (Some op) v loops h = (and_parts (well_assigned (context_of b) target v) _ h).0
 
   simple-kept : (site : Site) (s : Simple) (rest : Block) (done : Done) (behind : Behind) (vars : Vars) → (x : Stands R shape b typed sole (record { done = done; block = plain site s rest; behind = behind; vars = vars }))
-      → well_simple (context_of b) (map (λ l. l.0) (loops_round behind)) s ≡ true → hands_on_well s ≡ true → CalleesRun calls b.within R shape s turns vars.world → Kept b vars.world (simple_step b calls turns done site s rest behind vars)
+      → well_simple (context_of b) (map (λ l. l.0) (loops_round behind)) s ≡ true → hands_on_well s ≡ true → CalleesRun calls b.within R shape s turns vars.world → Kept (Eff b) vars.world (simple_step b calls turns done site s rest behind vars)
   simple-kept site (assign target op v) rest done behind vars x w on runs =
-      kept-some b vars.world _ _ (λ after e. go b vars.world _ (by after e))
+      kept-some (Eff b) vars.world _ _ (λ after e. go (Eff b) vars.world _ (by after e))
     where
       by : (after : Vars) → option_and_then (λ v. put_value b target v vars) (value_of (state_of b vars) v) ≡ Some after → Eff b vars.world after.world
       by after e =
@@ -225,7 +226,7 @@ module _ (R : (method : ℕ) → Remaining → Type 0) (shape : Shape) (b : Body
       await-kept b turns (plain site (await at target a call) rest) rest behind target a call done vars p.0 (writes-awaited b target a call p.1)
   simple-kept site (perform at target call) rest done behind vars x w on runs =
       let p = and_parts (not (is_pure b.method.mark)) _ w in
-      kept-some b vars.world _ _ (λ after e. go b vars.world _ (perform-eff b target call vars after (not-pure b.method.mark p.0) (writes-written b target call p.1) e))
+      kept-some (Eff b) vars.world _ _ (λ after e. go (Eff b) vars.world _ (perform-eff b target call vars after (not-pure b.method.mark p.0) (writes-written b target call p.1) e))
     where
       not-pure : (m : Mark) → not (is_pure m) ≡ true → is_pure m ≡ false
       not-pure Pure h = absurd (cc (h))
@@ -234,35 +235,35 @@ module _ (R : (method : ℕ) → Remaining → Type 0) (shape : Shape) (b : Body
   simple-kept site (invoke at target keep m called vs) rest done behind vars x w on runs = invoke-kept site at target keep m called vs rest done behind vars x w on runs
   simple-kept site (break_from n) rest done behind vars x w on runs = broken-kept vars (marker_of n behind)
   simple-kept site (continue_in n) rest done behind vars x w on runs = marked-kept vars (marker_of n behind)
-  simple-kept site (give_back None) rest done behind vars x w on runs = kept-true b vars.world _ _ (ends-in b vars.world turns _ vars.world (keeps-itself b.method.mark b.args vars.world))
-  simple-kept site (give_back (Some v)) rest done behind vars x w on runs = kept-some b vars.world _ _ (λ u e. given-kept turns vars.world u)
+  simple-kept site (give_back None) rest done behind vars x w on runs = kept-true (Eff b) vars.world _ _ (ends-in (Eff b) vars.world turns _ vars.world (keeps-itself b.method.mark b.args vars.world))
+  simple-kept site (give_back (Some v)) rest done behind vars x w on runs = kept-some (Eff b) vars.world _ _ (λ u e. given-kept turns vars.world u)
   simple-kept site (yield status) rest done behind vars x w on runs = yield-kept turns status done _ rest behind vars
-  simple-kept site (claim goal by) rest done behind vars x w on runs = kept-true b vars.world _ _ (stays b vars.world rest behind vars.locals)
+  simple-kept site (claim goal by) rest done behind vars x w on runs = kept-true (Eff b) vars.world _ _ (stays b vars.world rest behind vars.locals)
 
-  tested-kept : (site : Site) (head : Head) (body rest : Block) (behind : Behind) (vars : Vars) (o : Option Bool) → Kept b vars.world (tested b site head body rest behind vars o)
+  tested-kept : (site : Site) (head : Head) (body rest : Block) (behind : Behind) (vars : Vars) (o : Option Bool) → Kept (Eff b) vars.world (tested b site head body rest behind vars o)
   tested-kept site head body rest behind vars None = record { fact = tt }
   tested-kept site head body rest behind vars (Some true) = stays b vars.world _ _ vars.locals
-  tested-kept site head body rest behind vars (Some false) = kept-true b vars.world _ _ (stays b vars.world rest behind vars.locals)
+  tested-kept site head body rest behind vars (Some false) = kept-true (Eff b) vars.world _ _ (stays b vars.world rest behind vars.locals)
 
-  end-kept : (behind : Behind) (vars : Vars) → Kept b vars.world (end_step b turns behind vars)
-  end-kept stop vars = ends-in b vars.world turns _ vars.world (keeps-itself b.method.mark b.args vars.world)
+  end-kept : (behind : Behind) (vars : Vars) → Kept (Eff b) vars.world (end_step b turns behind vars)
+  end-kept stop vars = ends-in (Eff b) vars.world turns _ vars.world (keeps-itself b.method.mark b.args vars.world)
   end-kept (behind_if rest behind) vars = stays b vars.world rest behind vars.locals
-  end-kept (again site head body rest behind) vars = kept-true b vars.world _ _ (kept-turn b vars.world turns _ (tested-kept site head body rest behind vars _))
+  end-kept (again site head body rest behind) vars = kept-true (Eff b) vars.world _ _ (kept-turn (Eff b) vars.world turns _ (tested-kept site head body rest behind vars _))
 
   -- Every step.
   pub step-eff : (x : At) → Stands R shape b typed sole x → NextCalls R shape b typed sole calls turns x.block x.vars.world → NextKeeps (λ (y : At). Eff b x.vars.world y.vars.world) (λ (e : Ending × World). Eff b x.vars.world e.1) (step b calls turns x)
   unfolding step
   step-eff x h runs = (by x.done x.block x.behind x.vars h runs).fact
     where
-      by : (done : Done) (block : Block) (behind : Behind) (vars : Vars) → Stands R shape b typed sole (record { done = done; block = block; behind = behind; vars = vars }) → NextCalls R shape b typed sole calls turns block vars.world → Kept b vars.world (block_step b calls turns done block behind vars)
+      by : (done : Done) (block : Block) (behind : Behind) (vars : Vars) → Stands R shape b typed sole (record { done = done; block = block; behind = behind; vars = vars }) → NextCalls R shape b typed sole calls turns block vars.world → Kept (Eff b) vars.world (block_step b calls turns done block behind vars)
       by done end behind vars h runs = end-kept behind vars
       by done (plain site s rest) behind vars h runs =
           let p : Parts (context_of b) (plain site s rest) behind = parts (context_of b) (plain site s rest) behind h.placed.well in
           let q = and_parts (well_simple (context_of b) (map (λ l. l.0) (loops_round behind)) s) _ p.block_well in
           simple-kept site s rest done behind vars h q.0 (and_parts (hands_on_well s) _ h.placed.made).0 runs
-      by done (choose site chained t x y rest) behind vars h runs = kept-some b vars.world _ _ (λ answer e. arm answer)
+      by done (choose site chained t x y rest) behind vars h runs = kept-some (Eff b) vars.world _ _ (λ answer e. arm answer)
         where
-          arm : (answer : Bool) → Kept b vars.world (chosen x y rest behind vars answer)
+          arm : (answer : Bool) → Kept (Eff b) vars.world (chosen x y rest behind vars answer)
           arm true = stays b vars.world _ _ vars.locals
           arm false = stays b vars.world _ _ vars.locals
-      by done (loop site head body rest) behind vars h runs = kept-true b vars.world _ _ (tested-kept site head body rest behind vars _)
+      by done (loop site head body rest) behind vars h runs = kept-true (Eff b) vars.world _ _ (tested-kept site head body rest behind vars _)

@@ -1,5 +1,5 @@
 use Rattle.std.proofs.Common.{map, refl, sym, subst}
-use Rattle.wf_ast.specs.declared.resolved.Callee.{Callee}
+use Rattle.wf_ast.specs.declared.typed_code.Callee.{Callee}
 use Rattle.wf_ast.specs.TypedTree.{own, sub}
 use Rattle.wf_ast.specs.TypedTrees.{call_made, optional_target, tree_of}
 use Rattle.wf_facts_exprs.specs.Claims.{claims_in}

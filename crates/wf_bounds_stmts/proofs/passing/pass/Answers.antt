@@ -1,6 +1,6 @@
 use Rattle.std.proofs.Common.{◌≡◌, true, map, None, Some, refl, ap, sym, ◌∙◌}
 use Rattle.std.specs.Prelude.{option_map}
-use Rattle.wf_ast.specs.declared.resolved.Stmt.TheVariants as stmts
+use Rattle.wf_ast.specs.declared.typed_code.Stmt.TheVariants as stmts
 use Rattle.wf_ast.specs.TypedTree.{assign, break_from, continue_in, give_back, yield, claim}
 use Rattle.std.proofs.lemmas.Bool.{and_parts}
 use Rattle.wf_ast.specs.TypedInvariant.{axiom_exists, is_expr}

@@ -1,4 +1,4 @@
-use Rattle.std.proofs.Common.{◌≡◌, ◌∙◌, sym, ap, subst, refl, length, map, true, false, ◌||◌, ◌<◌, ◌≤◌, ◌+◌, nat_lt, nat_eq, arith, rules}
+use Rattle.std.proofs.Common.{◌≡◌, ◌∙◌, sym, ap, subst, refl, length, map, true, false, ◌||◌, ◌<◌, ◌≤◌, ◌+◌, nat_lt, nat_eq, arith, rules, drop, ◌-◌}
 use Rattle.std.specs.List.{list_all}
 use Rattle.std.proofs.lemmas.Bool.Decides.{nat_tests}
 use Rattle.wf_num.specs.Ranges.{fits_width}
@@ -8,16 +8,16 @@ use Rattle.std.specs.Prelude.{Ok, Err}
 use Rattle.std.proofs.lemmas.Result.{err_from_is_err_and}
 use Rattle.wf_text.specs.declared.rules.Rule.TheVariants.{B2}
 use Rattle.wf_ast.specs.TypedTree.{ValueTree, less, at_most, number}
-use Rattle.wf_ast.specs.TypedTrees.{chain_of, num_in, num_type, sort_of, tree_of, type_of_node, place_of_node, signs_of_node, no_place}
+use Rattle.wf_ast.specs.TypedTrees.{chain_of, first_sign, num_in, num_type, sort_of, tree_of, type_of_node, place_of_node, signs_of_node, no_place}
 use Rattle.wf_ast.specs.TypedInvariant.{chain_fits, is_expr}
 use Rattle.wf_facts_exprs.specs.Claims.{claims_in, is_number_at, side_in, single}
-use Rattle.wf_facts_exprs.specs.RangeOf.{first_rule}
+use Rattle.wf_facts_exprs.specs.RangeOf.{first_rule, is_ordered}
 use Rattle.wf_facts_exprs.specs.Given.{second_rule}
 use Rattle.wf_facts_exprs.specs.Shapes.{shape_tree}
 use Rattle.wf_facts_exprs.specs.Operands.{arith_of, is_arithmetic, is_operator, judged, one_more, ruled, node_number, node_slice, part_number}
 use Rattle.wf_facts_exprs.proofs.PassLemmas.{both_of, lt_from}
 use Rattle.wf_facts_exprs.proofs.ShapeLemmas.{number-below}
-use Rattle.wf_facts_exprs.proofs.ChainLemmas.{item-true, next_at, chain-stops, chain-goes-on, chain-ends, first-refused, chain-begins}
+use Rattle.wf_facts_exprs.proofs.ChainLemmas.{item-true, more-unordered, next_at, chain-stops, chain-goes-on, chain-ends, first-refused, chain-begins}
 use Rattle.wf_facts_exprs.proofs.JudgeLemmas.{judged-ok, judged-range, length-given, numbers-given, zero-given, element-ok, element-err, from-answer, up-to-answer, up-to-refused, between-answer, between-refused, next-refused, next-ok, next-err, next-small, is-arith, is-operator}
 use Rattle.wf_facts_exprs.proofs.judging.+judging.Goals as goal
 
@@ -139,7 +139,8 @@ judge_chain-returns-in_err-r-2 t c =
     let link = c.link_at.ensures in
     let same : one_more (claims_in c.args.t.now c.args.facts.now) (arith_of c.link_at.result.op) c.link_at.result.bits c.link_at.result.sign c.link_at.result.ordered c.link_at.result.last c.loop-i.r (part_number c.args.t.now c.args.parts.now c.loop-i.i)
     ≡ next_at (claims_in c.args.t.now c.args.facts.now) c.args.t.now (place_of_node c.args.t.now c.args.e.0) (arith_of c.args.op) (num_type (type_of_node c.args.t.now c.args.e.0)).bits (part_number c.args.t.now c.args.parts.now 0) c.loop-i.i c.args.parts.now (signs_of_node c.args.t.now c.args.e.0) c.loop-i.r =
-    λ n. one_more (claims_in c.args.t.now c.args.facts.now) (arith_of (link.op n)) (link.bits n) (link.sign n) (link.ordered n) (link.last n) c.loop-i.r (part_number c.args.t.now c.args.parts.now c.loop-i.i) in
+    (λ n. one_more (claims_in c.args.t.now c.args.facts.now) (arith_of (link.op n)) (link.bits n) (link.sign n) (link.ordered n) (link.last n) c.loop-i.r (part_number c.args.t.now c.args.parts.now c.loop-i.i))
+    ∙ more-unordered (claims_in c.args.t.now c.args.facts.now) (arith_of c.args.op) (num_type (type_of_node c.args.t.now c.args.e.0)).bits (first_sign (place_of_node c.args.t.now c.args.e.0) (drop (c.loop-i.i - 1) (signs_of_node c.args.t.now c.args.e.0))) (is_ordered (claims_in c.args.t.now c.args.facts.now) (nat_lt 1 c.loop-i.i) (part_number c.args.t.now c.args.parts.now 0) (part_number c.args.t.now c.args.parts.now c.loop-i.i)) (nat_eq (c.loop-i.i + 1) (length c.args.parts.now)) c.loop-i.r (part_number c.args.t.now c.args.parts.now c.loop-i.i) in
     rw (r.1, r.2) (record {
       answer = chain-stops (claims_in c.args.t.now c.args.facts.now) c.args.t.now (place_of_node c.args.t.now c.args.e.0) (arith_of c.args.op) (num_type (type_of_node c.args.t.now c.args.e.0)).bits (part_number c.args.t.now c.args.parts.now 0) c.loop-i.i c.args.parts.now (signs_of_node c.args.t.now c.args.e.0) c.loop-i.r c.in_err-r-2.field-0.0 (ruled (claims_in c.args.t.now c.args.facts.now) (node_number c.args.t.now c.args.e)) c.loop-i.invariant.from within (sym c.in_err-r-2.was ∙ c.judge_next.ensures.answer ∙ same) c.loop-i.invariant.left;
     })
@@ -150,7 +151,8 @@ judge_chain-loop-i-preserved t c =
     let link = c.link_at.ensures in
     let same : one_more (claims_in c.args.t.now c.args.facts.now) (arith_of c.link_at.result.op) c.link_at.result.bits c.link_at.result.sign c.link_at.result.ordered c.link_at.result.last c.loop-i.r (part_number c.args.t.now c.args.parts.now c.loop-i.i)
     ≡ next_at (claims_in c.args.t.now c.args.facts.now) c.args.t.now (place_of_node c.args.t.now c.args.e.0) (arith_of c.args.op) (num_type (type_of_node c.args.t.now c.args.e.0)).bits (part_number c.args.t.now c.args.parts.now 0) c.loop-i.i c.args.parts.now (signs_of_node c.args.t.now c.args.e.0) c.loop-i.r =
-    λ n. one_more (claims_in c.args.t.now c.args.facts.now) (arith_of (link.op n)) (link.bits n) (link.sign n) (link.ordered n) (link.last n) c.loop-i.r (part_number c.args.t.now c.args.parts.now c.loop-i.i) in
+    (λ n. one_more (claims_in c.args.t.now c.args.facts.now) (arith_of (link.op n)) (link.bits n) (link.sign n) (link.ordered n) (link.last n) c.loop-i.r (part_number c.args.t.now c.args.parts.now c.loop-i.i))
+    ∙ more-unordered (claims_in c.args.t.now c.args.facts.now) (arith_of c.args.op) (num_type (type_of_node c.args.t.now c.args.e.0)).bits (first_sign (place_of_node c.args.t.now c.args.e.0) (drop (c.loop-i.i - 1) (signs_of_node c.args.t.now c.args.e.0))) (is_ordered (claims_in c.args.t.now c.args.facts.now) (nat_lt 1 c.loop-i.i) (part_number c.args.t.now c.args.parts.now 0) (part_number c.args.t.now c.args.parts.now c.loop-i.i)) (nat_eq (c.loop-i.i + 1) (length c.args.parts.now)) c.loop-i.r (part_number c.args.t.now c.args.parts.now c.loop-i.i) in
     record {
       from = omega arith;
       left = chain-goes-on (claims_in c.args.t.now c.args.facts.now) c.args.t.now (place_of_node c.args.t.now c.args.e.0) (arith_of c.args.op) (num_type (type_of_node c.args.t.now c.args.e.0)).bits (part_number c.args.t.now c.args.parts.now 0) c.loop-i.i c.args.parts.now (signs_of_node c.args.t.now c.args.e.0) c.loop-i.r c.in_ok-r-2.r (ruled (claims_in c.args.t.now c.args.facts.now) (node_number c.args.t.now c.args.e)) c.loop-i.invariant.from within (sym c.in_ok-r-2.was ∙ c.judge_next.ensures.answer ∙ same) c.loop-i.invariant.left;

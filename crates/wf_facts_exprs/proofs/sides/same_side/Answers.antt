@@ -1,5 +1,14 @@
-use Rattle.std.proofs.Common.{◌∙◌}
+use Rattle.std.proofs.Common.{◌≡◌, true, ◌∙◌, subst}
+use Rattle.wf_facts_exprs.specs.declared.facts.Side.{Side}
+use Rattle.wf_facts_exprs.specs.Claims.{same_side, side_in}
+use Rattle.wf_facts_exprs.proofs.SelfLemmas.{side-self}
 use Rattle.wf_facts_exprs.proofs.sides.same_side.Goals as goal
 
-pub returns : goal.returns
-returns c = c.same_shapes.ensures ∙ c.shape_of.ensures.alike.left _ ∙ c.shape_of-2.ensures.alike.right _
+pub returns-then-is_named_alike : goal.returns-then-is_named_alike
+returns-then-is_named_alike c =
+    let one = side_in c.args.t.now c.args.a in
+    let P : Side → Type 0 = λ s. true ≡ same_side one (side_in c.args.t.now s) in
+    subst P (c.is_named_alike.ensures c.if-is_named_alike.true) (side-self one)
+
+pub returns-else-is_named_alike : goal.returns-else-is_named_alike
+returns-else-is_named_alike c = c.same_shapes.ensures ∙ c.shape_of.ensures.alike.left _ ∙ c.shape_of-else-is_named_alike.ensures.alike.right _
