@@ -84,9 +84,6 @@ filled None false slots h = refl
 filled (Some values) false slots h = absurd h
 filled None true slots h = absurd h
 
-pub fits-if-filled : (o : Option (List Value)) (t : Bool) (slots : List Value) → Fills t o slots → t ≡ is_some o
-fits-if-filled o t slots h = filled o t slots h
-
 filled-with : (o : Option (List Value)) (t : Bool) (slots : List Value) → Fills t o slots → t ≡ true → slots ≡ unwrap_or o []
 filled-with (Some values) true slots h e = h
 filled-with None true slots h e = absurd h
@@ -101,9 +98,6 @@ holds-filled nodes frames level m at old new o t count there frame same h e = λ
     let P : ℕ → Type 0 = λ k. args_in (slice_set frames at new) k ≡ unwrap_or o [] in
     subst P (sym is) (ap (λ x. unwrap_or (option_map (λ (frame : Frame). map slot_seen frame.args.items) x) []) (set-get frames at new old there) ∙ filled-with o t (map slot_seen new.args.items) h e)
 
-pub holds-none : (nodes : TypedNodes) (frames : List Frame) (m : ℕ) (args : List Value) → frame_of nodes (length frames) m ≡ None → HoldArgs nodes frames m args
-holds-none nodes frames m args none = λ at f. absurd (cc (none, f))
-
 -- The methods before all frames are all methods.
 take-all : {X : Type 0} (xs : List X) (n : ℕ) → n ≡ length xs → take n xs ≡ xs
 take-all xs n e = take_all n xs (omega (arith, e))
@@ -114,9 +108,6 @@ frames-count nodes frames are = sym (map-long sizes_of frames) ∙ ap length are
     map-long : {X A : Type 0} (f : X → A) (xs : List X) → length (map f xs) ≡ length xs
     map-long f [] = refl
     map-long f (x ∷ xs) = ap suc (map-long f xs)
-
-pub frames-ready : (nodes : TypedNodes) (frames : List Frame) → AreFrames nodes frames → map sizes_of frames ≡ map (sizes_for nodes) (take (length frames) nodes.order)
-frames-ready nodes frames are = are ∙ ap (map (sizes_for nodes)) (sym (take-all nodes.order (length frames) (frames-count nodes frames are)))
 
 pub frames-again : (nodes : TypedNodes) (frames : List Frame) (new : List Frame) → AreFrames nodes frames → map sizes_of new ≡ map sizes_of frames → AreFrames nodes new
 frames-again nodes frames new are same = same ∙ are

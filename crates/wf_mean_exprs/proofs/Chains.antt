@@ -1,5 +1,5 @@
 -- The value of a chain, one operand after the other.
-use Rattle.std.proofs.Common.{◌≡◌, ℕ, zero, suc, ◌+◌, ◌<◌, ◌≤◌, Bool, true, false, List, [], ◌∷◌, length, map, drop, get_or, Option, nat_lt, refl, sym, ap, ◌∙◌, subst, arith}
+use Rattle.std.proofs.Common.{◌≡◌, ℕ, ◌+◌, ◌<◌, ◌≤◌, Bool, true, false, List, [], ◌∷◌, length, map, drop, get_or, Option, nat_lt, refl, sym, ap, ◌∙◌, subst, arith}
 use Rattle.std.specs.Prelude.{option_and_then}
 use Rattle.std.specs.List.{list_all}
 use Rattle.std.proofs.Math.ListN.{drop_of_length-le}
@@ -8,13 +8,14 @@ use Rattle.std.proofs.lemmas.Bool.Decides.{nat_tests}
 use Rattle.wf_text.specs.declared.place.Place.{Place}
 use Rattle.wf_ast.specs.declared.numbers.ExprId.{ExprId}
 use Rattle.wf_ast.specs.declared.types.Ty.{Ty}
-use Rattle.wf_ast.specs.declared.types.Ty.TheVariants as types
 use Rattle.wf_ast.specs.declared.typed_nodes.TypedNodes.{TypedNodes}
 use Rattle.wf_ast.specs.TypedTree.{Arith, NumTree, ValueTree, link}
 use Rattle.wf_ast.specs.TypedTrees.{Sort, arithmetic, ordering, joining, num_in, num_chain, chain_of, num_type, tree_of, type_of_node}
-use Rattle.wf_ast.specs.TypedInvariant.{is_expr, is_numeric, is_logical, is_list, all_numeric, chain_fits}
+use Rattle.wf_ast.specs.TypedInvariant.{is_expr, is_numeric, chain_fits}
 use Rattle.wf_ast.specs.Value.{State, applied, value}
 use Rattle.wf_ast.proofs.Arena.{both_true}
+use Rattle.wf_ast.proofs.ChainKinds.{junction_gives_condition, comparison_gives_condition, numeric_operands}
+use Rattle.wf_ast.proofs.TypeKinds.{number_no_condition}
 use Rattle.wf_mean_exprs.specs.Operands.{node_number, is_number_at, is_arithmetic, arith_in, chain_value}
 
 -- A chain that gives a number is arithmetic, and its operands are numbers that stand before it.
@@ -23,48 +24,13 @@ pub record IsOfNumbers (nodes : TypedNodes) (sort : Sort) (es : List ExprId) : T
   pub numbers : list_all (is_number_at nodes) es ≡ true
   pub some : 0 < length es
 
-pub lt_more : (k m n : ℕ) → m < n → nat_lt k m ≡ true → nat_lt k n ≡ true
-lt_more k m n l h = grind (arith, nat_tests, l, h)
-
-numbers_below : (nodes : TypedNodes) (n : ℕ) (es : List ExprId) → n < length nodes.exprs → all_numeric nodes es ≡ true → list_all (λ p. nat_lt p.0 n) es ≡ true → list_all (is_number_at nodes) es ≡ true
-numbers_below nodes n [] l h b = refl
-numbers_below nodes n (e ∷ es) l h b =
-    let p = both_true (is_numeric (type_of_node nodes e.0)) (all_numeric nodes es) h in
-    let q = both_true (nat_lt e.0 n) (list_all (λ p. nat_lt p.0 n) es) b in
-    rw (lt_more e.0 n (length nodes.exprs) l q.0, p.0, numbers_below nodes n es l p.1 q.1) refl
-
-pub not_both : (ty : Ty) → is_numeric ty ≡ true → is_logical ty ≡ true → ⊥
-not_both (types.Num width lo hi) h k = cc k
-not_both types.Flag h k = cc h
-not_both types.Status h k = cc h
-not_both types.Reader h k = cc h
-not_both types.Writer h k = cc h
-not_both (types.Slice width) h k = cc h
-not_both (types.Array width lo hi count) h k = cc h
-not_both (types.Part s) h k = cc h
-
 pub of_numbers : (nodes : TypedNodes) (n : ℕ) (ty : Ty) (sort : Sort) (es : List ExprId) → n < length nodes.exprs → is_numeric ty ≡ true → chain_fits nodes sort es ty ≡ true
     → list_all (λ p. nat_lt p.0 n) es ≡ true → IsOfNumbers nodes sort es
-of_numbers nodes n ty (arithmetic op) [] l h f b = absurd (cc f)
-of_numbers nodes n ty (arithmetic op) (e ∷ []) l h f b = absurd (cc f)
-of_numbers nodes n ty (arithmetic op) (e ∷ g ∷ es) l h f b =
-    let p = both_true (is_numeric ty) (all_numeric nodes (e ∷ g ∷ es)) f in
-    record { arithmetic_sort = refl; numbers = numbers_below nodes n (e ∷ g ∷ es) l p.1 b; some = omega arith }
-of_numbers nodes n ty (joining both) [] l h f b = absurd (cc f)
-of_numbers nodes n ty (joining both) (e ∷ []) l h f b = absurd (cc f)
-of_numbers nodes n ty (joining both) (e ∷ g ∷ es) l h f b = absurd (not_both ty h (both_true (is_logical ty) _ f).0)
-of_numbers nodes n ty (ordering op) [] l h f b = absurd (cc f)
-of_numbers nodes n ty (ordering op) (e ∷ []) l h f b = absurd (cc f)
-of_numbers nodes n ty (ordering op) (e ∷ g ∷ []) l h f b = absurd (not_both ty h (both_true (is_logical ty) _ f).0)
-of_numbers nodes n ty (ordering op) (e ∷ g ∷ i ∷ es) l h f b = absurd (cc f)
-
-pub item_true : (test : ExprId → Bool) (es : List ExprId) (i : ℕ) (d : ExprId) → list_all test es ≡ true → i < length es → test (get_or es i d) ≡ true
-item_true test [] i d h l = absurd (omega (arith, l))
-item_true test (e ∷ es) zero d h l = (both_true (test e) (list_all test es) h).0
-item_true test (e ∷ es) (suc i) d h l = item_true test es i d (both_true (test e) (list_all test es) h).1 (omega (arith, l))
-
-pub item_below : (n : ℕ) (es : List ExprId) (i : ℕ) (d : ExprId) → list_all (λ p. nat_lt p.0 n) es ≡ true → i < length es → (get_or es i d).0 < n
-item_below n es i d h l = let t = item_true (λ p. nat_lt p.0 n) es i d h l in grind (arith, nat_tests, t)
+of_numbers nodes n ty (arithmetic op) es l h f b =
+    let operands = numeric_operands nodes n ty op es l f b in
+    record { arithmetic_sort = refl; numbers = operands.0; some = omega (arith, operands.1) }
+of_numbers nodes n ty (joining both) es l h f b = absurd (number_no_condition ty h (junction_gives_condition nodes both es ty f))
+of_numbers nodes n ty (ordering op) es l h f b = absurd (number_no_condition ty h (comparison_gives_condition nodes op es ty f))
 
 module _ (s : State) where
   num_chain_value : (at : Place) (op : Arith) (bits : ℕ) (joined : Bool) (so_far : NumTree) (ts : List ValueTree) (signs : List Place)
@@ -105,36 +71,3 @@ module _ (s : State) where
 
 pub number_below : (nodes : TypedNodes) (e : ExprId) → is_number_at nodes e ≡ true → e.0 < length nodes.exprs
 number_below nodes e h = let p = (both_true (is_expr nodes e) (is_numeric (type_of_node nodes e.0)) h).0 in grind (arith, nat_tests, p)
-
-not_list : (ty : Ty) → is_list ty ≡ true → is_logical ty ≡ true → ⊥
-not_list (types.Num width lo hi) h k = cc h
-not_list types.Flag h k = cc h
-not_list types.Status h k = cc h
-not_list types.Reader h k = cc h
-not_list types.Writer h k = cc h
-not_list (types.Slice width) h k = cc k
-not_list (types.Array width lo hi count) h k = cc k
-not_list (types.Part s) h k = cc h
-
-no_number : (ty : Ty) → is_list ty ≡ true → is_numeric ty ≡ true → ⊥
-no_number (types.Num width lo hi) h k = cc h
-no_number types.Flag h k = cc h
-no_number types.Status h k = cc h
-no_number types.Reader h k = cc h
-no_number types.Writer h k = cc h
-no_number (types.Slice width) h k = cc k
-no_number (types.Array width lo hi count) h k = cc k
-no_number (types.Part s) h k = cc h
-
--- A chain gives no slice.
-pub no_chain : (nodes : TypedNodes) (ty : Ty) (sort : Sort) (es : List ExprId) → is_list ty ≡ true → chain_fits nodes sort es ty ≡ true → ⊥
-no_chain nodes ty (arithmetic op) [] h f = cc f
-no_chain nodes ty (arithmetic op) (e ∷ []) h f = cc f
-no_chain nodes ty (arithmetic op) (e ∷ g ∷ es) h f = no_number ty h (both_true (is_numeric ty) (all_numeric nodes (e ∷ g ∷ es)) f).0
-no_chain nodes ty (joining both) [] h f = cc f
-no_chain nodes ty (joining both) (e ∷ []) h f = cc f
-no_chain nodes ty (joining both) (e ∷ g ∷ es) h f = not_list ty h (both_true (is_logical ty) _ f).0
-no_chain nodes ty (ordering op) [] h f = cc f
-no_chain nodes ty (ordering op) (e ∷ []) h f = cc f
-no_chain nodes ty (ordering op) (e ∷ g ∷ []) h f = not_list ty h (both_true (is_logical ty) _ f).0
-no_chain nodes ty (ordering op) (e ∷ g ∷ i ∷ es) h f = cc f

@@ -120,10 +120,6 @@ pub local_status : (scene : Scene) (x : ℕ) → (seen_from scene).status_at (lo
 unfolding sight
 local_status scene x = ap (option_and_then as_status) (get_map slot_seen scene.frame.now.locals.items x)
 
-pub arg_status : (scene : Scene) (x : ℕ) → (seen_from scene).status_at (arg x) ≡ option_and_then as_status (option_map slot_seen (slice_get scene.frame.now.args.items x))
-unfolding sight
-arg_status scene x = ap (option_and_then as_status) (get_map slot_seen scene.frame.now.args.items x)
-
 pub field_status : (scene : Scene) (x : ℕ) → (seen_from scene).status_at (field x)
     ≡ option_and_then as_status (option_map slot_seen (slot_in_field scene.frame.now.object x (option_and_then (λ (o : ObjectState). slice_get o.fields.items x) (slice_get scene.objects.now scene.frame.now.object))))
 unfolding sight

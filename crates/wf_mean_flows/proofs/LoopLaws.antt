@@ -5,7 +5,7 @@ use Rattle.turns.specs.Run.{Go, Outcome, More, Lost}
 use Rattle.wf_text.specs.declared.place.Place.{Place}
 use Rattle.wf_ast.specs.declared.numbers.StmtId.{StmtId}
 use Rattle.wf_ast.specs.declared.typed_nodes.TypedNodes.{TypedNodes}
-use Rattle.wf_ast.specs.TypedTree.{CondTree, truth, flag, compare, same_status, junction, negation, closed, has_category, Site, Head, Block, end, loop}
+use Rattle.wf_ast.specs.TypedTree.{CondTree, truth, flag, compare, same_status, junction, negation, closed, has_category, Site, Head, Block, end}
 use Rattle.wf_ast.specs.Value.{State, truth_of}
 use Rattle.wf_ast.specs.WellTyped.{is_word_true}
 use Rattle.wf_meaning.specs.SourceState.{Behind, again, untouched}
@@ -45,14 +45,6 @@ module _ (nodes : TypedNodes) (level : ℕ) (stage : Stage) (site : Site) (head 
       → went (body_on nodes stage) (calls_below nodes level) stage.turns (tested (body_on nodes stage) site head body rest behind (vars_on nodes stage) (truth_of (sight_on nodes stage) head.cond)) ≡ turned_on nodes level stage site head body rest behind (past_if hold)
   unfolding sight
   left_loop hold e h = rw (sym e, no_word _ head.cond (sym e), sym h) (past hold)
-
-  pub test_stuck : None ≡ truth_of (sight_on nodes stage) head.cond
-      → went (body_on nodes stage) (calls_below nodes level) stage.turns (tested (body_on nodes stage) site head body rest behind (vars_on nodes stage) (truth_of (sight_on nodes stage) head.cond)) ≡ turned_on nodes level stage site head body rest behind Stuck
-  test_stuck e = rw (sym e) refl
-
-  pub test_into : Some true ≡ truth_of (sight_on nodes stage) head.cond
-      → went (body_on nodes stage) (calls_below nodes level) stage.turns (tested (body_on nodes stage) site head body rest behind (vars_on nodes stage) (truth_of (sight_on nodes stage) head.cond)) ≡ turned_on nodes level stage site head body rest behind Into
-  test_into e = rw (sym e) refl
 
   -- A loop is entered.
   pub enters : (o : Outcome (Ending × World)) → true ≡ all_hold (sight_on nodes stage) at_head head.clauses
@@ -134,12 +126,6 @@ module _ (nodes : TypedNodes) (level : ℕ) (s : StmtId) (at : Place) (head : He
       by_bool : (t : Bool) → nat_eq s.0 w.0 ≡ t → t ≡ false
       by_bool true e = absurd (n (grind (arith, nat_tests, e)))
       by_bool false e = refl
-
-  pub passes_break : (w : StmtId) → (w.0 ≡ s.0 → ⊥) → Flows nodes level body end (again here head body rest behind) (flows.Breaks w) old o → Flows nodes level (loop here head body rest) rest behind (flows.Breaks w) old o
-  passes_break w n h = h ∙ rw (other_number w n) refl
-
-  pub passes_continue : (w : StmtId) → (w.0 ≡ s.0 → ⊥) → Flows nodes level body end (again here head body rest behind) (flows.Continues w) old o → Flows nodes level (loop here head body rest) rest behind (flows.Continues w) old o
-  passes_continue w n h = h ∙ rw (other_number w n) refl
 
 pub never_into : (hold : Bool) → past_if hold ≡ Into → ⊥
 never_into true e = cc e

@@ -3,7 +3,7 @@ use Rattle.std.proofs.Common.{◌≡◌, ℕ, zero, suc, ◌≤◌, Bool, true, 
 use Rattle.std.specs.Prelude.{slice_get, unwrap_or}
 use Rattle.turns.specs.Run.{Go, End, Fail}
 use Rattle.wf_ast.specs.declared.declarations.Method.{Method}
-use Rattle.wf_ast.specs.declared.resolved.Block as resolved
+use Rattle.wf_ast.specs.declared.typed_code.Block as typed_code
 use Rattle.wf_ast.specs.declared.numbers.StmtId.{StmtId}
 use Rattle.wf_ast.specs.declared.typed_nodes.TypedNodes.{TypedNodes}
 use Rattle.wf_ast.specs.TypedTree.{Arith, Axiom, Block, CondTree, Simple, Site, Target, ValueTree, assign, claim, give_back, plain}
@@ -94,20 +94,20 @@ module _ (nodes : TypedNodes) (old : Stage) (calls : Callees) (n : ℕ) (site : 
   returned_none false flow e f = rw (sym e, f) refl
 
 -- The method of a body.
-method_at : (nodes : TypedNodes) (ms : List Method) (bodies : List resolved.Block) (i : ℕ) (m : Method) → length bodies ≡ length ms → slice_get ms i ≡ Some m → (b : resolved.Block) × (slice_get (methods_of nodes ms bodies) i ≡ Some (method_of nodes m b))
+method_at : (nodes : TypedNodes) (ms : List Method) (bodies : List typed_code.Block) (i : ℕ) (m : Method) → length bodies ≡ length ms → slice_get ms i ≡ Some m → (b : typed_code.Block) × (slice_get (methods_of nodes ms bodies) i ≡ Some (method_of nodes m b))
 method_at nodes [] bodies i m l e = absurd (cc (e))
 method_at nodes (x ∷ ms) [] i m l e = absurd (omega (arith, l))
 method_at nodes (x ∷ ms) (b ∷ bodies) zero m l e = let q : x ≡ m = cc in (b, ap (λ y. Some (method_of nodes y b)) q)
 method_at nodes (x ∷ ms) (b ∷ bodies) (suc i) m l e = method_at nodes ms bodies i m (omega (arith, l)) e
 
-none_past : (nodes : TypedNodes) (ms : List Method) (bodies : List resolved.Block) (i : ℕ) → length ms ≤ i → slice_get (methods_of nodes ms bodies) i ≡ None
+none_past : (nodes : TypedNodes) (ms : List Method) (bodies : List typed_code.Block) (i : ℕ) → length ms ≤ i → slice_get (methods_of nodes ms bodies) i ≡ None
 none_past nodes [] bodies i l = refl
 none_past nodes (x ∷ ms) [] i l = refl
 none_past nodes (x ∷ ms) (b ∷ bodies) zero l = absurd (omega (arith, l))
 none_past nodes (x ∷ ms) (b ∷ bodies) (suc i) l = none_past nodes ms bodies i (omega (arith, l))
 
 module _ (nodes : TypedNodes) (typed : IsTyped nodes) (i : ℕ) where
-  pub own_method : (m : Method) → slice_get nodes.methods i ≡ Some m → (b : resolved.Block) × (unwrap_or (slice_get (package_of nodes).methods i) no_method ≡ method_of nodes m b)
+  pub own_method : (m : Method) → slice_get nodes.methods i ≡ Some m → (b : typed_code.Block) × (unwrap_or (slice_get (package_of nodes).methods i) no_method ≡ method_of nodes m b)
   unfolding package_of
   own_method m e = let it = method_at nodes nodes.methods nodes.bodies i m typed.bodied e in (it.0, ap (λ o. unwrap_or o no_method) it.1)
 

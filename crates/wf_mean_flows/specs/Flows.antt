@@ -6,9 +6,9 @@ use Rattle.turns.specs.Run as runs
 use Rattle.wf_text.specs.declared.place.Place.{Place}
 use Rattle.wf_ast.specs.declared.numbers.StmtId.{StmtId}
 use Rattle.wf_ast.specs.declared.typed_nodes.TypedNodes.{TypedNodes}
-use Rattle.wf_ast.specs.declared.resolved.Arm.{Arm}
-use Rattle.wf_ast.specs.declared.resolved.Block as resolved
-use Rattle.wf_ast.specs.declared.resolved.StmtNode.{StmtNode}
+use Rattle.wf_ast.specs.declared.typed_code.Arm.{Arm}
+use Rattle.wf_ast.specs.declared.typed_code.Block as typed_code
+use Rattle.wf_ast.specs.declared.typed_code.StmtNode.{StmtNode}
 use Rattle.wf_ast.specs.TypedTree.{Simple, Site, Head, Block, end, plain, choose, loop}
 use Rattle.wf_ast.specs.TypedTrees.{no_place, cond_in, onto, otherwise_made, stmt_makers, block_made, tree_of}
 use Rattle.wf_ast.specs.TypedPackage.{package_of}
@@ -124,7 +124,7 @@ RunsRounds nodes level site head body old new flow =
     (rest : Block) (behind : Behind) → Flows nodes level (loop site head body rest) rest behind flow new (run_on nodes level old untouched body (again site head body rest behind))
 
 -- The arms of an `if` from one on, `chained` to those before them.
-abbrev pub chain_of_arms : TypedNodes → Site → (chained : Bool) → List Arm → Option resolved.Block → Block → Block
+abbrev pub chain_of_arms : TypedNodes → Site → (chained : Bool) → List Arm → Option typed_code.Block → Block → Block
 chain_of_arms nodes site chained [] other rest = rest
 chain_of_arms nodes site chained (arm ∷ arms) other rest =
     choose site chained (cond_in (tree_of nodes arm.cond)) (block_made_of nodes arm.body.items) (otherwise_made (tree_of nodes) (onto (stmt_makers nodes)) site arms other) rest

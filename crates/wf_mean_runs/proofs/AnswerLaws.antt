@@ -8,25 +8,25 @@ use Rattle.wf_text.specs.declared.place.Place.{Place}
 use Rattle.wf_ast.specs.declared.numbers.ExprId.{ExprId}
 use Rattle.wf_ast.specs.declared.numbers.StmtId.{StmtId}
 use Rattle.wf_ast.specs.declared.typed_nodes.TypedNodes.{TypedNodes}
-use Rattle.wf_ast.specs.TypedTree.{Block, Target, to_nothing, to_number, to_element, to_flag, to_status, to_slice, invoke, plain}
+use Rattle.wf_ast.specs.TypedTree.{Block, Target, invoke, plain}
 use Rattle.wf_ast.specs.TypedTrees.{optional_target, tree_of}
 use Rattle.wf_ast.specs.Value.{Value}
 use Rattle.wf_ast.specs.WellTyped.{is_coroutine}
 use Rattle.wf_meaning.specs.SourceState.{Behind}
 use Rattle.wf_meaning.specs.Entry.{Answered, returned, suspended}
-use Rattle.wf_meaning.specs.World.{Body, Vars, put_value}
+use Rattle.wf_meaning.specs.World.{Body, Vars}
 use Rattle.wf_meaning.specs.SourceStep.{At, Callees, at_block, either, kept_status, put_answer, with_some}
 use Rattle.wf_mean_exprs.specs.declared.objects.Progress.TheVariants as progress
 use Rattle.wf_mean_exprs.specs.declared.values.Slot.{Slot}
 use Rattle.wf_mean_exprs.specs.declared.values.Slot.TheVariants as slots
 use Rattle.wf_mean_exprs.specs.MachineState.{slot_seen}
 use Rattle.wf_mean_stmts.specs.declared.stage.Stage.{Stage}
-use Rattle.wf_mean_stmts.specs.Stages.{Comes, body_on, shape, vars_on}
+use Rattle.wf_mean_stmts.specs.Stages.{body_on, shape, vars_on}
 use Rattle.wf_mean_stmts.proofs.BodyLemmas.{same_body}
 use Rattle.wf_mean_flows.specs.declared.flows.Flow.{Flow}
 use Rattle.wf_mean_flows.specs.declared.flows.Flow.TheVariants as flows
 use Rattle.wf_mean_flows.specs.Flows.{Flows, calls_below, goes, site_of, went}
-use Rattle.wf_mean_runs.specs.Answers.{Closes, TakesValue, handed, value_or_buffer}
+use Rattle.wf_mean_runs.specs.Answers.{Closes, TakesValue, handed}
 use Rattle.wf_mean_runs.specs.Calls.{world_on}
 
 -- A step that leaves fewer turns goes on with those.
@@ -37,29 +37,6 @@ went_onward b calls n left x h = by_test (nat_lt left n) refl
     by_test : (t : Bool) → nat_lt left n ≡ t → went b calls n (if t then Turn left x else Go x) ≡ goes b calls left x
     by_test true e = refl
     by_test false e = let same : n ≡ left = grind (arith, nat_tests, e, h) in ap (λ k. goes b calls k x) same
-
--- No target takes a buffer.
-pub put_buffer : (b : Body) (target : Target) (v : Option Slot) (vars : Vars) → put_answer b target (option_map slot_seen v) vars ≡ put_value b target (slot_seen (value_or_buffer v)) vars
-put_buffer b to_nothing None vars = refl
-put_buffer b to_nothing (Some v) vars = refl
-put_buffer b (to_number at of path) None vars = refl
-put_buffer b (to_number at of path) (Some v) vars = refl
-put_buffer b (to_element at of cells index) None vars = refl
-put_buffer b (to_element at of cells index) (Some v) vars = refl
-put_buffer b (to_flag at path) None vars = refl
-put_buffer b (to_flag at path) (Some v) vars = refl
-put_buffer b (to_status at path) None vars = refl
-put_buffer b (to_status at path) (Some v) vars = refl
-put_buffer b (to_slice at bits path) None vars = refl
-put_buffer b (to_slice at bits path) (Some v) vars = refl
-
-pub took : (o : Option Vars) (vars : Vars) → Comes true o vars → TakesValue flows.Falls o vars
-took (Some left) vars h = h
-took None vars h = h
-
-pub took_not : (o : Option Vars) (vars : Vars) → Comes false o vars → TakesValue flows.Stuck o vars
-took_not (Some left) vars h = h
-took_not None vars h = h
 
 module _ (nodes : TypedNodes) (s : StmtId) (target : Option ExprId) (old new : Stage) where
   abbrev to : Target

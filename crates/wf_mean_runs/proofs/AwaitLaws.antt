@@ -5,7 +5,7 @@ use Rattle.turns.specs.Run.{Go}
 use Rattle.wf_text.specs.declared.place.Place.{Place}
 use Rattle.wf_base.specs.declared.base_methods.BaseSig.{BaseSig}
 use Rattle.wf_base.specs.declared.base_methods.BaseSig.TheVariants as sigs
-use Rattle.wf_ast.specs.declared.resolved.StmtNode.{StmtNode}
+use Rattle.wf_ast.specs.declared.typed_code.StmtNode.{StmtNode}
 use Rattle.wf_ast.specs.TypedTree.{Block, Simple, Site, Target, ValueTree, Written, copy_to_slice, copy_to_writer, perform, skip_fast, write_fast}
 use Rattle.wf_ast.specs.TypedTrees.{base_call, io_in, no_place, no_statement, num_in, slice_in}
 use Rattle.wf_meaning.specs.SourceState.{Behind, Done}

@@ -5,7 +5,7 @@ use Rattle.turns.specs.Run.{Outcome, Got, More}
 use Rattle.wf_text.specs.declared.place.Place.{Place}
 use Rattle.wf_ast.specs.declared.declarations.Method.{Method}
 use Rattle.wf_ast.specs.declared.declarations.Var.{Var}
-use Rattle.wf_ast.specs.declared.resolved.Block as resolved
+use Rattle.wf_ast.specs.declared.typed_code.Block as typed_code
 use Rattle.wf_ast.specs.declared.typed_nodes.TypedNodes.{TypedNodes}
 use Rattle.wf_ast.specs.TypedTree.{Block, end}
 use Rattle.wf_ast.specs.TypedTrees.{block_of}
@@ -36,7 +36,7 @@ use Rattle.wf_mean_runs.specs.Seeking.{SoughtBlock}
 use Rattle.wf_mean_runs.proofs.PointLaws.{found_there}
 
 -- The method with a number, by its declaration and its body.
-both_at : (nodes : TypedNodes) (ms : List Method) (bodies : List resolved.Block) (i : ℕ) (m : Method) (b : resolved.Block) → slice_get ms i ≡ Some m → slice_get bodies i ≡ Some b → slice_get (methods_of nodes ms bodies) i ≡ Some (method_of nodes m b)
+both_at : (nodes : TypedNodes) (ms : List Method) (bodies : List typed_code.Block) (i : ℕ) (m : Method) (b : typed_code.Block) → slice_get ms i ≡ Some m → slice_get bodies i ≡ Some b → slice_get (methods_of nodes ms bodies) i ≡ Some (method_of nodes m b)
 both_at nodes [] bodies i m b e f = absurd (cc (e))
 both_at nodes (x ∷ ms) [] i m b e f = absurd (cc (f))
 both_at nodes (x ∷ ms) (y ∷ bodies) zero m b e f =
@@ -45,18 +45,18 @@ both_at nodes (x ∷ ms) (y ∷ bodies) zero m b e f =
     ap (λ z. Some (method_of nodes z y)) p ∙ ap (λ z. Some (method_of nodes m z)) q
 both_at nodes (x ∷ ms) (y ∷ bodies) (suc i) m b e f = both_at nodes ms bodies i m b e f
 
-pub method_is : (nodes : TypedNodes) (i : ℕ) (m : Method) (b : resolved.Block) → slice_get nodes.methods i ≡ Some m → slice_get nodes.bodies i ≡ Some b → slice_get (package_of nodes).methods i ≡ Some (method_of nodes m b)
+pub method_is : (nodes : TypedNodes) (i : ℕ) (m : Method) (b : typed_code.Block) → slice_get nodes.methods i ≡ Some m → slice_get nodes.bodies i ≡ Some b → slice_get (package_of nodes).methods i ≡ Some (method_of nodes m b)
 unfolding package_of
 method_is nodes i m b e f = both_at nodes nodes.methods nodes.bodies i m b e f
 
-method_made : (nodes : TypedNodes) (ms : List Method) (bodies : List resolved.Block) (i : ℕ) (m : Method) → length bodies ≡ length ms → slice_get ms i ≡ Some m → (b : resolved.Block) × (slice_get (methods_of nodes ms bodies) i ≡ Some (method_of nodes m b))
+method_made : (nodes : TypedNodes) (ms : List Method) (bodies : List typed_code.Block) (i : ℕ) (m : Method) → length bodies ≡ length ms → slice_get ms i ≡ Some m → (b : typed_code.Block) × (slice_get (methods_of nodes ms bodies) i ≡ Some (method_of nodes m b))
 method_made nodes [] bodies i m l e = absurd (cc (e))
 method_made nodes (x ∷ ms) [] i m l e = absurd (omega (arith, l))
 method_made nodes (x ∷ ms) (y ∷ bodies) zero m l e = let p : x ≡ m = cc (e) in (y, ap (λ z. Some (method_of nodes z y)) p)
 method_made nodes (x ∷ ms) (y ∷ bodies) (suc i) m l e = method_made nodes ms bodies i m (omega (arith, l)) e
 
 -- By its declaration alone.
-pub method_by : (nodes : TypedNodes) → IsTyped nodes → (i : ℕ) (m : Method) → slice_get nodes.methods i ≡ Some m → (b : resolved.Block) × (slice_get (package_of nodes).methods i ≡ Some (method_of nodes m b))
+pub method_by : (nodes : TypedNodes) → IsTyped nodes → (i : ℕ) (m : Method) → slice_get nodes.methods i ≡ Some m → (b : typed_code.Block) × (slice_get (package_of nodes).methods i ≡ Some (method_of nodes m b))
 unfolding package_of
 method_by nodes typed i m e = method_made nodes nodes.methods nodes.bodies i m typed.bodied e
 
@@ -92,7 +92,7 @@ gives_is nodes typed i tree m h e =
     ap (λ (t : MethodTree). t.gives) (sym same)
 
 -- The body on a stage.
-pub body_is : (nodes : TypedNodes) (i : ℕ) (m : Method) (b : resolved.Block) → slice_get nodes.methods i ≡ Some m → slice_get nodes.bodies i ≡ Some b → (unwrap_or (slice_get (package_of nodes).methods i) no_method).body ≡ block_of nodes b
+pub body_is : (nodes : TypedNodes) (i : ℕ) (m : Method) (b : typed_code.Block) → slice_get nodes.methods i ≡ Some m → slice_get nodes.bodies i ≡ Some b → (unwrap_or (slice_get (package_of nodes).methods i) no_method).body ≡ block_of nodes b
 body_is nodes i m b e f = ap (λ (o : Option MethodTree). (unwrap_or o no_method).body) (method_is nodes i m b e f)
 
 fresh_map : (nodes : TypedNodes) (vs : List Var) → map (λ (x : Variable). fresh_local x.ty) (map (variable_of nodes) vs) ≡ map (λ (x : Var). fresh_local x.ty) vs

@@ -6,8 +6,8 @@ use Rattle.wf_base.specs.declared.marks.Mark.{Mark}
 use Rattle.wf_text.specs.declared.place.Place.{Place}
 use Rattle.wf_text.specs.declared.numbers.MethodId.{MethodId}
 use Rattle.wf_ast.specs.declared.numbers.StmtId.{StmtId}
-use Rattle.wf_ast.specs.declared.resolved.Callee.{Callee}
-use Rattle.wf_ast.specs.declared.resolved.Callee.TheVariants as callees
+use Rattle.wf_ast.specs.declared.typed_code.Callee.{Callee}
+use Rattle.wf_ast.specs.declared.typed_code.Callee.TheVariants as callees
 use Rattle.wf_ast.specs.declared.typed_nodes.TypedNodes.{TypedNodes}
 use Rattle.wf_ast.specs.TypedTree.{Block, Called, Target, ValueTree, invoke, plain}
 use Rattle.wf_ast.specs.TypedTrees.{call_made, mark_of, tree_of}

@@ -4,8 +4,8 @@ use Rattle.std.specs.Prelude.{◌==◌, option_map}
 use Rattle.std.proofs.lemmas.Bool.Decides.{nat_tests}
 use Rattle.turns.specs.Run.{Outcome}
 use Rattle.wf_ast.specs.declared.numbers.StmtId.{StmtId}
-use Rattle.wf_ast.specs.declared.resolved.Arm.{Arm}
-use Rattle.wf_ast.specs.declared.resolved.Block as resolved
+use Rattle.wf_ast.specs.declared.typed_code.Arm.{Arm}
+use Rattle.wf_ast.specs.declared.typed_code.Block as typed_code
 use Rattle.wf_ast.specs.declared.typed_nodes.TypedNodes.{TypedNodes}
 use Rattle.wf_ast.specs.TypedTree.{CondTree, Site, Head, Block, end, choose, loop}
 use Rattle.wf_ast.specs.TypedTrees.{cond_in, if_made, no_statement, onto, otherwise_made, stmt_makers, tree_of}
@@ -54,7 +54,7 @@ counted : (o : Option ℕ) (i : ℕ) → Some i ≡ option_map (λ i. suc i) o �
 counted None i h = absurd (cc (h))
 counted (Some j) i h = (j, cc (h), refl)
 
-module _ (nodes : TypedNodes) (level : ℕ) (site : Site) (other : Option resolved.Block) (old new : Stage) (flow : Flow) where
+module _ (nodes : TypedNodes) (level : ℕ) (site : Site) (other : Option typed_code.Block) (old new : Stage) (flow : Flow) where
   abbrev Chain : (chained : Bool) → List Arm → Type 0
   Chain chained arms = Runs nodes level (chain_of_arms nodes site chained arms other) untouched old new flow
 
@@ -64,7 +64,7 @@ module _ (nodes : TypedNodes) (level : ℕ) (site : Site) (other : Option resolv
   abbrev Taken : List Arm → ℕ → Type 0
   Taken arms i = RunsBlock nodes level (block_picked nodes arms other i) old new flow
 
-  tail_alone : (other' : Option resolved.Block) → RunsBlock nodes level (else_block nodes other') old new flow → RunsBlock nodes level (otherwise_made (tree_of nodes) (onto (stmt_makers nodes)) site [] other') old new flow
+  tail_alone : (other' : Option typed_code.Block) → RunsBlock nodes level (else_block nodes other') old new flow → RunsBlock nodes level (otherwise_made (tree_of nodes) (onto (stmt_makers nodes)) site [] other') old new flow
   tail_alone None h = h
   tail_alone (Some b) h = h
 
@@ -84,16 +84,13 @@ module _ (nodes : TypedNodes) (level : ℕ) (site : Site) (other : Option resolv
       by_test arm (next ∷ more) chained i (truth_of (sight_on nodes old) (cond_in (tree_of nodes arm.cond))) refl e h
       (λ j k taken. λ behind. runs_from more next true j k taken end behind)
 
-  if_is_chain : (arm : Arm) (more : List Arm) (rest : Block) → if_made (tree_of nodes) (onto (stmt_makers nodes)) site (arm ∷ more) other rest ≡ chain_of_arms nodes site false (arm ∷ more) other rest
-  if_is_chain arm more rest = refl
-
   -- A whole `if`.
   pub if_runs : (arms : List Arm) (i : ℕ) (part : Block → Block) → 0 < length arms → ((rest : Block) → part rest ≡ if_made (tree_of nodes) (onto (stmt_makers nodes)) site arms other rest)
       → Some i ≡ picked nodes old arms → Taken arms i → Runs nodes level part untouched old new flow
   if_runs [] i part some made e h = absurd (omega (arith, some))
   if_runs (arm ∷ more) i part some made e h = runs_like nodes level part (chain_of_arms nodes site false (arm ∷ more) other) old new flow made (runs_from more arm false i e h)
 
-module _ (nodes : TypedNodes) (level : ℕ) (site : Site) (other : Option resolved.Block) (old : Stage) where
+module _ (nodes : TypedNodes) (level : ℕ) (site : Site) (other : Option typed_code.Block) (old : Stage) where
   stuck_test : (arm : Arm) (more : List Arm) (chained : Bool) (t : Option Bool) → t ≡ truth_of (sight_on nodes old) (cond_in (tree_of nodes arm.cond)) → None ≡ by_truth t (picked nodes old more)
       → (None ≡ picked nodes old more → RunsBlock nodes level (otherwise_made (tree_of nodes) (onto (stmt_makers nodes)) site more other) old old Stuck) → Runs nodes level (chain_of_arms nodes site chained (arm ∷ more) other) untouched old old Stuck
   stuck_test arm more chained None t e tail = runs_neither nodes level site chained (cond_in (tree_of nodes arm.cond)) (block_made_of nodes arm.body.items) (otherwise_made (tree_of nodes) (onto (stmt_makers nodes)) site more other) old old Stuck t
@@ -115,7 +112,7 @@ module _ (nodes : TypedNodes) (level : ℕ) (site : Site) (other : Option resolv
   if_stuck (arm ∷ more) part made e = runs_like nodes level part (chain_of_arms nodes site false (arm ∷ more) other) old old Stuck made (stuck_from more arm false e)
 
 -- One that has no arm stands for no statement.
-pub if_none : (nodes : TypedNodes) (level : ℕ) (s : StmtId) (arms : List Arm) (other : Option resolved.Block) (stage : Stage) (none : Bool) → none ≡ (length arms == 0) → none ≡ true
+pub if_none : (nodes : TypedNodes) (level : ℕ) (s : StmtId) (arms : List Arm) (other : Option typed_code.Block) (stage : Stage) (none : Bool) → none ≡ (length arms == 0) → none ≡ true
     → ((rest : Block) → made_of nodes s rest ≡ if_made (tree_of nodes) (onto (stmt_makers nodes)) (site_of nodes s) arms other rest) → Runs nodes level (made_of nodes s) untouched stage stage Stuck
 unfolding with_some
 if_none nodes level s [] other stage none e t made = still_runs nodes level s no_statement untouched stage Stuck made tt (λ rest behind. refl)
@@ -125,12 +122,12 @@ pub some_there : (arms : List Arm) (none : Bool) → none ≡ (length arms == 0)
 some_there arms none e f = grind (arith, nat_tests, e, f)
 
 -- The block that was picked.
-pub picked_arm : (nodes : TypedNodes) (arms : List Arm) (other : Option resolved.Block) (i : ℕ) (d : Arm) → i < length arms → block_picked nodes arms other i ≡ block_made_of nodes (get_or arms i d).body.items
+pub picked_arm : (nodes : TypedNodes) (arms : List Arm) (other : Option typed_code.Block) (i : ℕ) (d : Arm) → i < length arms → block_picked nodes arms other i ≡ block_made_of nodes (get_or arms i d).body.items
 picked_arm nodes [] other i d h = absurd (omega (arith, h))
 picked_arm nodes (arm ∷ arms) other zero d h = refl
 picked_arm nodes (arm ∷ arms) other (suc i) d h = picked_arm nodes arms other i d (omega (arith, h))
 
-pub picked_else : (nodes : TypedNodes) (arms : List Arm) (other : Option resolved.Block) (i : ℕ) → length arms ≤ i → block_picked nodes arms other i ≡ else_block nodes other
+pub picked_else : (nodes : TypedNodes) (arms : List Arm) (other : Option typed_code.Block) (i : ℕ) → length arms ≤ i → block_picked nodes arms other i ≡ else_block nodes other
 picked_else nodes [] other i h = refl
 picked_else nodes (arm ∷ arms) other zero h = absurd (omega (arith, h))
 picked_else nodes (arm ∷ arms) other (suc i) h = picked_else nodes arms other i (omega (arith, h))

@@ -7,9 +7,6 @@ use Rattle.wf_mean_stmts.specs.declared.stage.Stage.{Stage}
 use Rattle.wf_mean_stmts.specs.Stages.{Shape, shape, kept_lengths}
 use Rattle.wf_mean_runs.specs.Frames.{AreReady, Stays, local_counts, sizes_for, sizes_of}
 
-pub stays_still : (below : List Frame) (stage : Stage) → Stays below below stage stage
-stays_still below stage = record { count = refl; frames = refl; shape = refl; fewer = omega arith }
-
 -- Where a stage alone changes.
 pub stays_shaped : (below : List Frame) (old new : Stage) → shape new ≡ shape old → new.turns ≤ old.turns → Stays below below old new
 stays_shaped below old new same fewer = record { count = refl; frames = refl; shape = same; fewer = fewer }

@@ -1,22 +1,18 @@
 -- What is kept of methods between calls.
 use Rattle.std.proofs.Common.{◌≡◌, ℕ, zero, suc, ◌+◌, ◌<◌, ◌≤◌, List, [], ◌∷◌, length, map, set, get_or, Option, Some, None, refl, sym, ap, ◌∙◌, subst, arith}
 use Rattle.std.specs.Prelude.{slice_get, option_map, option_and_then, unwrap_or, All}
-use Rattle.wf_text.specs.declared.place.Place.{Place}
 use Rattle.wf_ast.specs.declared.declarations.Method.{Method}
 use Rattle.wf_ast.specs.declared.typed_nodes.TypedNodes.{TypedNodes}
 use Rattle.wf_ast.specs.TypedPackage.{MethodTree, PackageTree}
-use Rattle.wf_ast.specs.Value.{Value}
-use Rattle.wf_meaning.specs.SourceState.{Object, Remaining, stop}
-use Rattle.wf_meaning.specs.Remaining.{Items}
+use Rattle.wf_meaning.specs.SourceState.{Object, Remaining}
 use Rattle.wf_meaning.specs.World.{updated}
 use Rattle.wf_meaning.specs.SourceCall.{set_remaining}
 use Rattle.wf_mean_exprs.specs.declared.objects.KeptBody.{KeptBody}
 use Rattle.wf_mean_exprs.specs.declared.objects.ObjectState.{ObjectState}
-use Rattle.wf_mean_exprs.specs.declared.objects.Progress.{Progress}
-use Rattle.wf_mean_exprs.specs.MachineState.{all_remaining, done_seen, object_seen, remaining_in, remaining_seen, slot_seen, standing_at}
+use Rattle.wf_mean_exprs.specs.MachineState.{all_remaining, object_seen, remaining_in, remaining_seen}
 use Rattle.wf_mean_stmts.specs.Stages.{kept_lengths}
 use Rattle.wf_mean_stmts.proofs.StoringLemmas.{set_same}
-use Rattle.wf_mean_runs.specs.Bodies.{HasRoom, kept_in, remaining_at}
+use Rattle.wf_mean_runs.specs.Bodies.{HasRoom, kept_in}
 use Rattle.wf_mean_runs.specs.Frames.{local_counts, locals_of}
 
 -- One of the lists of what remains.
@@ -78,14 +74,6 @@ none_kept p m k e = by_method (slice_get p.methods m)
     by_method : (o : Option MethodTree) → option_and_then (λ (method : MethodTree). remaining_in method.body k) o ≡ None
     by_method None = refl
     by_method (Some method) = rw e refl
-
-pub point_kept : (p : PackageTree) (m : ℕ) (k : KeptBody) (at : Place) (done : Progress) (locals : List Value) → k.point ≡ Some at → k.done ≡ done → map slot_seen k.locals.items ≡ locals → remaining_seen p m k ≡ remaining_at p m at done locals
-point_kept p m k at done locals e f g = by_method (slice_get p.methods m)
-  where
-    by_method : (o : Option MethodTree) → option_and_then (λ (method : MethodTree). remaining_in method.body k) o
-        ≡ option_and_then (λ (method : MethodTree). option_map (λ (items : Items). record { done = done_seen done; block = items.block; behind = items.behind; locals = locals }) (standing_at at method.body stop)) o
-    by_method None = refl
-    by_method (Some method) = rw (e, f, g) refl
 
 -- What remains of a called method is what is kept of it.
 pub kept_remains : (p : PackageTree) (objects : List ObjectState) (object m : ℕ)

@@ -4,7 +4,6 @@ pub mod AwaitLaws
 pub mod BlockLaws
 pub mod BodyLaws
 pub mod CallLaws
-pub mod CallPoints
 pub mod ChoiceLaws
 pub mod FrameLaws
 pub mod KeepLaws

@@ -11,8 +11,8 @@ use Rattle.wf_text.specs.declared.numbers.MethodId.{MethodId}
 use Rattle.wf_ast.specs.declared.declarations.Method.{Method}
 use Rattle.wf_ast.specs.declared.numbers.ExprId.{ExprId}
 use Rattle.wf_ast.specs.declared.numbers.StmtId.{StmtId}
-use Rattle.wf_ast.specs.declared.resolved.Block as resolved
-use Rattle.wf_ast.specs.declared.resolved.Callee.{Callee}
+use Rattle.wf_ast.specs.declared.typed_code.Block as typed_code
+use Rattle.wf_ast.specs.declared.typed_code.Callee.{Callee}
 use Rattle.wf_ast.specs.declared.typed_nodes.TypedNodes.{TypedNodes}
 use Rattle.wf_ast.specs.TypedTree.{Block, Target, ValueTree, end, invoke, plain}
 use Rattle.wf_ast.specs.TypedTrees.{call_made, mark_of, optional_target, tree_of}
@@ -108,13 +108,13 @@ all_at p [] i x h e = absurd (cc (e))
 all_at p (y ∷ ys) zero x h e = let q : y ≡ x = cc (e) in ap p (sym q) ∙ (both (p y) (list_all p ys) h).0
 all_at p (y ∷ ys) (suc i) x h e = all_at p ys i x (both (p y) (list_all p ys) h).1 e
 
-pub body_known : (nodes : TypedNodes) → IsTyped nodes → (i : ℕ) (b : resolved.Block) (read : List StmtId) (top : ℕ) → slice_get nodes.bodies i ≡ Some b → read ≡ b.items
+pub body_known : (nodes : TypedNodes) → IsTyped nodes → (i : ℕ) (b : typed_code.Block) (read : List StmtId) (top : ℕ) → slice_get nodes.bodies i ≡ Some b → read ≡ b.items
     → ((n : ℕ) → list_all (λ (s : StmtId). nat_lt s.0 n) read ≡ true → top ≤ n) → top ≤ length nodes.stmts
 body_known nodes typed i b read top e same least =
     let P : List StmtId → Type 0 = λ xs. list_all (λ (s : StmtId). nat_lt s.0 (length nodes.stmts)) xs ≡ true in
-    least (length nodes.stmts) (subst P (sym same) (all_at (λ (body : resolved.Block). block_below (length nodes.stmts) body) nodes.bodies i b typed.bodies_made e))
+    least (length nodes.stmts) (subst P (sym same) (all_at (λ (body : typed_code.Block). block_below (length nodes.stmts) body) nodes.bodies i b typed.bodies_made e))
 
-pub body_inside : (b : resolved.Block) (read : List StmtId) (top : ℕ) → read ≡ b.items → list_all (λ (s : StmtId). nat_lt s.0 top) read ≡ true → IsTrue (block_below top b)
+pub body_inside : (b : typed_code.Block) (read : List StmtId) (top : ℕ) → read ≡ b.items → list_all (λ (s : StmtId). nat_lt s.0 top) read ≡ true → IsTrue (block_below top b)
 body_inside b read top same above = let P : List StmtId → Type 0 = λ xs. list_all (λ (s : StmtId). nat_lt s.0 top) xs ≡ true in subst P same above
 
 -- The measures of a search and of a run, and of a body on fewer frames, lie below those of what needs them.
@@ -206,7 +206,7 @@ body_ran nodes typed level x y z last flow ran n known turns runs same leaves le
     ∙ leaves level (whole_run nodes level x) (subst P own runs)
     ∙ ran_same nodes ran z last left world
 
-module _ (nodes : TypedNodes) (level : ℕ) (old : Stage) (b : resolved.Block) (known : old.frame.method.0 < length nodes.methods) (body : slice_get nodes.bodies old.frame.method.0 ≡ Some b) where
+module _ (nodes : TypedNodes) (level : ℕ) (old : Stage) (b : typed_code.Block) (known : old.frame.method.0 < length nodes.methods) (body : slice_get nodes.bodies old.frame.method.0 ≡ Some b) where
   body_part : (body_on nodes old).method.body ≡ block_made_of nodes b.items
   body_part = let it = item_there nodes.methods old.frame.method.0 known in body_is nodes old.frame.method.0 it.0 b it.1 body
 

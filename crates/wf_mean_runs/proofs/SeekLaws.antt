@@ -1,17 +1,16 @@
 -- The search for the point at a place.
 use Rattle.std.proofs.Common.{◌≡◌, ℕ, zero, suc, ◌+◌, ◌<◌, Bool, true, false, ◌&&◌, List, [], ◌∷◌, drop, get_or, length, Option, Some, None, inl, inr, refl, sym, ap, ◌∙◌, subst, arith}
-use Rattle.std.specs.Prelude.{◌==◌, nat_eq, if◌then◌else◌}
-use Rattle.std.proofs.lemmas.Bool.Decides.{nat_tests}
+use Rattle.std.specs.Prelude.{nat_eq, if◌then◌else◌}
 use Rattle.turns.specs.Run.{Outcome}
 use Rattle.wf_text.specs.declared.place.Place.{Place}
 use Rattle.wf_ast.specs.declared.numbers.StmtId.{StmtId}
-use Rattle.wf_ast.specs.declared.resolved.Arm.{Arm}
-use Rattle.wf_ast.specs.declared.resolved.Block as resolved
-use Rattle.wf_ast.specs.declared.resolved.Stmt.{Stmt}
-use Rattle.wf_ast.specs.declared.resolved.Stmt.TheVariants as stmts
+use Rattle.wf_ast.specs.declared.typed_code.Arm.{Arm}
+use Rattle.wf_ast.specs.declared.typed_code.Block as typed_code
+use Rattle.wf_ast.specs.declared.typed_code.Stmt.{Stmt}
+use Rattle.wf_ast.specs.declared.typed_code.Stmt.TheVariants as stmts
 use Rattle.wf_ast.specs.declared.typed_nodes.TypedNodes.{TypedNodes}
-use Rattle.wf_ast.specs.TypedTree.{CondTree, Simple, Site, Head, Block, assign, break_from, claim, continue_in, end, give_back, plain, choose, loop}
-use Rattle.wf_ast.specs.TypedTrees.{assigned_by, axiom_made, cond_in, if_made, no_statement, onto, otherwise_made, stmt_made, stmt_makers, target_of, tree_of}
+use Rattle.wf_ast.specs.TypedTree.{CondTree, Simple, Site, Head, Block, end, plain, choose, loop}
+use Rattle.wf_ast.specs.TypedTrees.{cond_in, if_made, onto, otherwise_made, stmt_makers, tree_of}
 use Rattle.wf_meaning.specs.SourceState.{Behind, behind_if, again, stop, Done}
 use Rattle.wf_meaning.specs.Remaining.{Items, first, is_point}
 use Rattle.wf_meaning.specs.World.{World}
@@ -22,11 +21,10 @@ use Rattle.wf_mean_flows.specs.declared.flows.Flow.{Flow}
 use Rattle.wf_mean_flows.specs.declared.flows.Flow.TheVariants.{Falls, Breaks, Continues, Returns, Suspends, Out, Stuck}
 use Rattle.wf_mean_flows.specs.declared.looping.Round.{Round}
 use Rattle.wf_mean_flows.specs.declared.looping.Round.TheVariants.{Again, Ends}
-use Rattle.wf_mean_flows.specs.Flows.{Flows, Runs, RunsBlock, RunsRounds, Sought, StandsIn, block_made_of, inner_of, made_of, place_of, run_on, site_of}
+use Rattle.wf_mean_flows.specs.Flows.{Flows, Runs, RunsBlock, RunsRounds, Sought, StandsIn, block_made_of, made_of, place_of, run_on, site_of}
 use Rattle.wf_mean_flows.specs.Loops.{Rounds}
 use Rattle.wf_mean_flows.proofs.RunLaws.{out_of_if}
 use Rattle.wf_mean_runs.specs.Frames.{is_falls}
-use Rattle.wf_mean_runs.specs.Picking.{else_block}
 use Rattle.wf_mean_runs.specs.Seeking.{SoughtBlock, SoughtIn}
 use Rattle.wf_mean_runs.proofs.BlockLaws.{falls_is, passes}
 
@@ -173,20 +171,6 @@ and_false true = refl
 and_false false = refl
 
 module _ (nodes : TypedNodes) (level : ℕ) (at : Place) (done : Done) (old : Stage) (s : StmtId) where
-  pub quiet : (st : Stmt) → is_quiet st ≡ true
-      → ((rest : Block) → made_of nodes s rest ≡ stmt_made nodes (tree_of nodes) (onto (stmt_makers nodes)) s.0 (record { stmt = st; at = place_of nodes s.0; inner = inner_of nodes s.0 }) rest)
-      → SoughtIn nodes level at done (made_of nodes s) old None old
-  quiet (stmts.Assign target op value) q made = not_here nodes level at done old (made_of nodes s) (site_of nodes s) (assign (target_of (tree_of nodes target)) (assigned_by op) (tree_of nodes value)) made refl
-  quiet (stmts.Call target keep callee args) q made = absurd (cc (q))
-  quiet (stmts.If arms otherwise) q made = absurd (cc (q))
-  quiet (stmts.While head body) q made = absurd (cc (q))
-  quiet (stmts.Break w) q made = not_here nodes level at done old (made_of nodes s) (site_of nodes s) (break_from w.0) made refl
-  quiet (stmts.Continue w) q made = not_here nodes level at done old (made_of nodes s) (site_of nodes s) (continue_in w.0) made refl
-  quiet (stmts.Return None) q made = not_here nodes level at done old (made_of nodes s) (site_of nodes s) (give_back None) made refl
-  quiet (stmts.Return (Some e)) q made = not_here nodes level at done old (made_of nodes s) (site_of nodes s) (give_back (Some (tree_of nodes e))) made refl
-  quiet (stmts.Yield n) q made = absurd (cc (q))
-  quiet (stmts.Assert goal axiom_ref) q made = not_here nodes level at done old (made_of nodes s) (site_of nodes s) (claim (cond_in (tree_of nodes goal)) (axiom_made nodes (tree_of nodes) axiom_ref)) made refl
-
   -- A statement by itself that may be a point.
   module _ (st : Simple) (made : (rest : Block) → made_of nodes s rest ≡ plain (site_of nodes s) st rest) where
     pub no_point : (p : Bool) → false ≡ p → is_point st ≡ p → SoughtIn nodes level at done (made_of nodes s) old None old
@@ -195,19 +179,13 @@ module _ (nodes : TypedNodes) (level : ℕ) (at : Place) (done : Done) (old : St
     pub elsewhere : false ≡ same_place (place_of nodes s.0) at → SoughtIn nodes level at done (made_of nodes s) old None old
     elsewhere f = not_here nodes level at done old (made_of nodes s) (site_of nodes s) st made (ap (λ b. is_point st && b) (sym f) ∙ and_false (is_point st))
 
-  -- An `if` without an arm stands for no statement.
-  pub none_in_if : (arms : List Arm) (other : Option resolved.Block) (none : Bool) → none ≡ (length arms == 0) → none ≡ true
-      → ((rest : Block) → made_of nodes s rest ≡ if_made (tree_of nodes) (onto (stmt_makers nodes)) (site_of nodes s) arms other rest) → SoughtIn nodes level at done (made_of nodes s) old None old
-  none_in_if [] other none e t made = not_here nodes level at done old (made_of nodes s) (site_of nodes s) no_statement made refl
-  none_in_if (arm ∷ arms) other none e t made = let z : length (arm ∷ arms) ≡ 0 = grind (arith, nat_tests, e, t) in absurd (omega (arith, z))
-
 -- The arms of an `if`, the first one and those from a number on.
-pub if_first : (nodes : TypedNodes) (site : Site) (arms : List Arm) (d : Arm) (other : Option resolved.Block) (rest : Block) → 0 < length arms
+pub if_first : (nodes : TypedNodes) (site : Site) (arms : List Arm) (d : Arm) (other : Option typed_code.Block) (rest : Block) → 0 < length arms
     → if_made (tree_of nodes) (onto (stmt_makers nodes)) site arms other rest ≡ choose site false (cond_in (tree_of nodes (get_or arms 0 d).cond)) (block_made_of nodes (get_or arms 0 d).body.items) (otherwise_made (tree_of nodes) (onto (stmt_makers nodes)) site (drop 1 arms) other) rest
 if_first nodes site [] d other rest h = absurd (omega (arith, h))
 if_first nodes site (arm ∷ arms) d other rest h = refl
 
-pub arms_first : (nodes : TypedNodes) (site : Site) (arms : List Arm) (i : ℕ) (d : Arm) (other : Option resolved.Block) → i < length arms
+pub arms_first : (nodes : TypedNodes) (site : Site) (arms : List Arm) (i : ℕ) (d : Arm) (other : Option typed_code.Block) → i < length arms
     → otherwise_made (tree_of nodes) (onto (stmt_makers nodes)) site (drop i arms) other ≡ choose site true (cond_in (tree_of nodes (get_or arms i d).cond)) (block_made_of nodes (get_or arms i d).body.items) (otherwise_made (tree_of nodes) (onto (stmt_makers nodes)) site (drop (i + 1) arms) other) end
 arms_first nodes site [] i d other h = absurd (omega (arith, h))
 arms_first nodes site (arm ∷ arms) zero d other h = refl
@@ -215,13 +193,6 @@ arms_first nodes site (arm ∷ arms) (suc i) d other h =
     let e : suc i + 1 ≡ suc (i + 1) = omega arith in
     let one = get_or arms i d in
     arms_first nodes site arms i d other (omega (arith, h)) ∙ ap (λ j. choose site true (cond_in (tree_of nodes one.cond)) (block_made_of nodes one.body.items) (otherwise_made (tree_of nodes) (onto (stmt_makers nodes)) site (drop j (arm ∷ arms)) other) end) (sym e)
-
-pub arms_over : (nodes : TypedNodes) (site : Site) (arms : List Arm) (i : ℕ) (other : Option resolved.Block) → i ≡ length arms → otherwise_made (tree_of nodes) (onto (stmt_makers nodes)) site (drop i arms) other ≡ else_block nodes other
-arms_over nodes site [] zero None h = refl
-arms_over nodes site [] zero (Some b) h = refl
-arms_over nodes site [] (suc i) other h = absurd (omega (arith, h))
-arms_over nodes site (arm ∷ arms) zero other h = absurd (omega (arith, h))
-arms_over nodes site (arm ∷ arms) (suc i) other h = arms_over nodes site arms i other (omega (arith, h))
 
 -- What follows an arm that holds no such point.
 pub in_rest : (nodes : TypedNodes) (level level' : ℕ) (at : Place) (done : Done) (old mid new : Stage) (site : Site) (chained : Bool) (cond : CondTree) (a c : Block) (found : Option Flow) → level' ≡ level

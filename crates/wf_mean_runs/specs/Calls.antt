@@ -2,8 +2,8 @@
 use Rattle.std.specs.Prelude.{◌≡◌, ℕ, zero, suc, Bool, true, false, List, [], length, map, Option, None, Some, nat_eq, slice_get, option_map, unwrap_or, if◌then◌else◌}
 use Rattle.turns.specs.Run.{Outcome, Got, More, Lost}
 use Rattle.wf_text.specs.declared.numbers.MethodId.{MethodId}
-use Rattle.wf_ast.specs.declared.resolved.Callee.{Callee}
-use Rattle.wf_ast.specs.declared.resolved.Callee.TheVariants as callees
+use Rattle.wf_ast.specs.declared.typed_code.Callee.{Callee}
+use Rattle.wf_ast.specs.declared.typed_code.Callee.TheVariants as callees
 use Rattle.wf_ast.specs.declared.typed_nodes.TypedNodes.{TypedNodes}
 use Rattle.wf_ast.specs.TypedTree.{Called as CalledTree, own, sub}
 use Rattle.wf_ast.specs.TypedPackage.{MethodTree, package_of}

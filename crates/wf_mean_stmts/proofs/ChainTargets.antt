@@ -4,8 +4,8 @@ use Rattle.wf_text.specs.declared.place.Place.{Place}
 use Rattle.wf_ast.specs.declared.numbers.ExprId.{ExprId}
 use Rattle.wf_ast.specs.declared.operators.Op.{Op}
 use Rattle.wf_ast.specs.declared.types.Ty.{Ty}
-use Rattle.wf_ast.specs.declared.resolved.Expr.{Expr}
-use Rattle.wf_ast.specs.declared.resolved.Expr.TheVariants as exprs
+use Rattle.wf_ast.specs.declared.typed_code.Expr.{Expr}
+use Rattle.wf_ast.specs.declared.typed_code.Expr.TheVariants as exprs
 use Rattle.wf_ast.specs.declared.typed_nodes.TypedNodes.{TypedNodes}
 use Rattle.wf_ast.specs.TypedTree.{Arith, Order, less, at_most, equal, differs, at_least, greater, NumTree, link, CondTree, junction, ValueTree, numeric, logical, state, elements, io, lost, to_nothing}
 use Rattle.wf_ast.specs.TypedTrees.{Sort, arithmetic, ordering, joining, chain_of, comparison, cond_chain, made_or_number, num_chain, sort_of, target_of}

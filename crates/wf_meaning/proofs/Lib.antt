@@ -15,3 +15,4 @@ pub mod Rests
 pub mod Stays
 pub mod Unnamed
 pub mod Weights
+pub mod WorldSteps

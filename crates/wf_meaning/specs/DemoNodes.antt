@@ -11,13 +11,13 @@ use Rattle.wf_ast.specs.declared.numbers.TextId.{TextId}
 use Rattle.wf_ast.specs.declared.operators.Op.TheVariants as ops
 use Rattle.wf_ast.specs.declared.types.Ty.{Ty}
 use Rattle.wf_ast.specs.declared.types.Ty.TheVariants as types
-use Rattle.wf_ast.specs.declared.resolved.Expr.{Expr}
-use Rattle.wf_ast.specs.declared.resolved.Expr.TheVariants as exprs
-use Rattle.wf_ast.specs.declared.resolved.ExprNode.{ExprNode}
-use Rattle.wf_ast.specs.declared.resolved.Callee.TheVariants as callees
-use Rattle.wf_ast.specs.declared.resolved.Stmt.{Stmt}
-use Rattle.wf_ast.specs.declared.resolved.Stmt.TheVariants as stmts
-use Rattle.wf_ast.specs.declared.resolved.StmtNode.{StmtNode}
+use Rattle.wf_ast.specs.declared.typed_code.Expr.{Expr}
+use Rattle.wf_ast.specs.declared.typed_code.Expr.TheVariants as exprs
+use Rattle.wf_ast.specs.declared.typed_code.ExprNode.{ExprNode}
+use Rattle.wf_ast.specs.declared.typed_code.Callee.TheVariants as callees
+use Rattle.wf_ast.specs.declared.typed_code.Stmt.{Stmt}
+use Rattle.wf_ast.specs.declared.typed_code.Stmt.TheVariants as stmts
+use Rattle.wf_ast.specs.declared.typed_code.StmtNode.{StmtNode}
 use Rattle.wf_ast.specs.declared.declarations.Var.{Var}
 use Rattle.wf_ast.specs.declared.typed_nodes.TypedNodes.{TypedNodes}
 use Rattle.wf_ast.specs.BaseStatuses.{base_statuses}

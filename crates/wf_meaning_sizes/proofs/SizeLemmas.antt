@@ -1,20 +1,20 @@
 -- Writes keep the sizes of buffers and byte arrays.
-use Rattle.std.proofs.Common.{◌≡◌, ℕ, zero, suc, ◌+◌, ◌-◌, ◌^◌, ◌≤◌, Bool, true, false, ◌&&◌, List, [], ◌∷◌, ◌++◌, length, map, take, drop, Option, Some, None, refl, sym, ap, ◌∙◌, subst, arith, length-append, length-drop, length-take}
-use Rattle.std.specs.Prelude.{slice_get, slice_set, option_and_then, option_map, unwrap_or, nat_lt, nat_le, min, if◌then◌else◌}
+use Rattle.std.proofs.Common.{◌≡◌, ℕ, zero, suc, ◌+◌, ◌-◌, ◌^◌, ◌≤◌, Bool, true, false, List, [], ◌∷◌, ◌++◌, length, map, take, drop, Option, Some, refl, sym, ap, ◌∙◌, subst, arith, length-append, length-drop, length-take}
+use Rattle.std.specs.Prelude.{slice_get, slice_set, option_and_then, option_map, unwrap_or, nat_lt, nat_le, if◌then◌else◌}
 use Rattle.std.specs.List.{list_all}
 use Rattle.std.proofs.lemmas.Bool.{and_parts}
 use Rattle.std.proofs.lemmas.Bool.Decides.{nat_tests}
-use Rattle.turns.specs.Run.{Go, Turn, End, Out, Fail, Outcome, Got, More, Lost, onward, holding}
-use Rattle.turns.specs.Steps.{NextKeeps}
+use Rattle.turns.specs.Run.{Go}
 use Rattle.wf_base.specs.BaseOps.{Buffer, capacity}
 use Rattle.wf_base.specs.BaseOps as ops
 use Rattle.wf_base.specs.BaseTable.{lacking}
 use Rattle.wf_ast.specs.TypedTree.{Path, local, field, arg, Target, to_number, to_element, to_flag, to_status, to_slice, to_nothing, Awaited, take_number, skip, write, Written, skip_fast, write_fast, copy_to_writer, copy_to_slice, Block}
-use Rattle.wf_ast.specs.Value.{Span, Value, num, truth_value, status_number, span, buffer, Store, nowhere, host_array, field_array, value, span_of, only_if}
+use Rattle.wf_ast.specs.Value.{Value, num, truth_value, status_number, span, Store, nowhere, host_array, field_array, value, span_of, only_if}
 use Rattle.wf_meaning.specs.SourceState.{Object, Behind, Done}
 use Rattle.wf_meaning.specs.World.{World, Body, Vars, updated, set_path, set_element, put_value, with_cells, with_buffer, with_object, cells_at, fits_store, view}
-use Rattle.wf_meaning.specs.SourceStep.{At, Ending, Steps, state_of, at_block, with_some, where_true, either, taking_turn, suspending, change_buffer, io_of, io_number, buffer_of, with_target, skipped_fast, written_fast, copied_to_writer, copied_to_slice, elements_of, are_bytes, takes_all, performed, awaited, skip_on, bytes_so_far}
+use Rattle.wf_meaning.specs.SourceStep.{state_of, at_block, with_some, suspending, change_buffer, io_of, io_number, buffer_of, with_target, skipped_fast, written_fast, copied_to_writer, copied_to_slice, elements_of, are_bytes, takes_all, performed, awaited, skip_on, bytes_so_far}
 use Rattle.wf_meaning.proofs.Lists2.{and_then_made, map_made, only_if_made, two_made, some_same}
+use Rattle.wf_meaning.proofs.WorldSteps.{Kept, kept-some, kept-either, go}
 use Rattle.wf_meaning_sizes.specs.Sizes.{sizes}
 
 -- A list of which one item is changed that keeps what is told of it.
@@ -97,56 +97,8 @@ module _ (b : Body) where
       to-world _ after vars.world (some-is _ _ after t.gives) (cells-same t.x.store _ vars.world (length-set (cells_at vars.world t.x.store) (t.x.from + t.y) n))
   put-same target v vars after e = absurd (cc (e))
 
-  -- A step that keeps the sizes.
-  pub record Kept (w : World) (x : Steps) : Type 0 where
-    pub fact : NextKeeps (λ (y : At). Same w y.vars.world) (λ (e : Ending × World). Same w e.1) x
-
-  pub kept-some : {X : Type 0} (w : World) (o : Option X) (go : X → Steps) → ((x : X) → o ≡ Some x → Kept w (go x)) → Kept w (with_some o go)
-  unfolding with_some
-  kept-some w None go h = record { fact = tt }
-  kept-some w (Some x) go h = h x refl
-
-  pub kept-true : (w : World) (test : Bool) (x : Steps) → Kept w x → Kept w (where_true test x)
-  unfolding where_true
-  kept-true w true x h = h
-  kept-true w false x h = record { fact = tt }
-
-  pub kept-either : (w : World) (test : Bool) (x y : Steps) → (test ≡ true → Kept w x) → (test ≡ false → Kept w y) → Kept w (either test x y)
-  unfolding either
-  kept-either w true x y h k = h refl
-  kept-either w false x y h k = k refl
-
-  pub kept-turn : (w : World) (n : ℕ) (x : Steps) → Kept w x → Kept w (taking_turn n x)
-  unfolding taking_turn
-  kept-turn w zero x h = record { fact = tt }
-  kept-turn w (suc left) (Go x) h = record { fact = h.fact }
-  kept-turn w (suc left) (Turn m x) h = h
-  kept-turn w (suc left) (End m a) h = h
-  kept-turn w (suc left) Out h = h
-  kept-turn w (suc left) Fail h = h
-
-  pub kept-onward : (w : World) (n left : ℕ) (x : At) → Same w x.vars.world → Kept w (onward n left x)
-  unfolding onward
-  kept-onward w n left x h = by (nat_lt left n)
-    where
-      by : (t : Bool) → Kept w (if t then Turn left x else Go x)
-      by true = record { fact = h }
-      by false = record { fact = h }
-
-  pub kept-holding : {B : Type 0} (w : World) (o : Outcome B) (on : ℕ → B → Steps) → ((left : ℕ) (a : B) → o ≡ Got left a → Kept w (on left a)) → Kept w (holding o on)
-  unfolding holding
-  kept-holding w (Got left a) on k = k left a refl
-  kept-holding w More on k = record { fact = tt }
-  kept-holding w Lost on k = record { fact = tt }
-
-  pub go : (w : World) (x : At) → Same w x.vars.world → Kept w (Go x)
-  go w x h = record { fact = h }
-
-  pub stays : (w : World) (block : Block) (behind : Behind) (locals : List Value) → Kept w (Go (at_block block behind (record { locals = locals; world = w })))
-  stays w block behind locals = record { fact = refl }
-
-  pub ends-in : (w : World) (n : ℕ) (e : Ending) (u : World) → Same w u → Kept w (End n (e, u))
-  ends-in w n e u h = record { fact = h }
+  pub stays : (w : World) (block : Block) (behind : Behind) (locals : List Value) → Kept Same w (Go (at_block block behind (record { locals = locals; world = w })))
+  stays w block behind locals = go Same w _ refl
 
   -- The buffer of an argument is the one with its number.
   io-there : (a : ℕ) (vars : Vars) (io : ℕ × Buffer) → io_of b a vars ≡ Some io → slice_get vars.world.host.buffers io.0 ≡ Some io.1
@@ -167,23 +119,23 @@ module _ (b : Body) where
 
   -- Base calls.
   module _ (n : ℕ) (here rest : Block) (behind : Behind) where
-    suspends-kept : (w : World) (left status : ℕ) (done : Done) (vars : Vars) → Same w vars.world → Kept w (suspending left status done here behind vars)
+    suspends-kept : (w : World) (left status : ℕ) (done : Done) (vars : Vars) → Same w vars.world → Kept Same w (suspending left status done here behind vars)
     suspends-kept w left status done vars h = record { fact = h }
 
-    pub await-kept : (target : Target) (a : ℕ) (call : Awaited) (done : Done) (vars : Vars) → Kept vars.world (with_some (io_of b a vars) (λ io. awaited b n target io.0 io.1 call done here rest behind vars))
-    await-kept target a call done vars = kept-some vars.world (io_of b a vars) _ (λ io e. by call io (io-there a vars io e))
+    pub await-kept : (target : Target) (a : ℕ) (call : Awaited) (done : Done) (vars : Vars) → Kept Same vars.world (with_some (io_of b a vars) (λ io. awaited b n target io.0 io.1 call done here rest behind vars))
+    await-kept target a call done vars = kept-some Same vars.world (io_of b a vars) _ (λ io e. by call io (io-there a vars io e))
       where
-        skips : (k left count : ℕ) → Kept vars.world (skip_on n left here rest behind (change_buffer k (ops.skipped count) vars))
-        skips k zero count = go vars.world _ (skipped-same k count vars)
+        skips : (k left count : ℕ) → Kept Same vars.world (skip_on n left here rest behind (change_buffer k (ops.skipped count) vars))
+        skips k zero count = go Same vars.world _ (skipped-same k count vars)
         skips k (suc left) count = suspends-kept vars.world n _ _ (change_buffer k (ops.skipped count) vars) (skipped-same k count vars)
 
-        by : (call : Awaited) (io : ℕ × Buffer) → slice_get vars.world.host.buffers io.0 ≡ Some io.1 → Kept vars.world (awaited b n target io.0 io.1 call done here rest behind vars)
+        by : (call : Awaited) (io : ℕ × Buffer) → slice_get vars.world.host.buffers io.0 ≡ Some io.1 → Kept Same vars.world (awaited b n target io.0 io.1 call done here rest behind vars)
         by (take_number form) io e =
             let skipped : Vars = change_buffer io.0 (ops.skipped (lacking form (bytes_so_far done))) vars in
             let f : Same vars.world skipped.world = skipped-same io.0 (lacking form (bytes_so_far done)) vars in
-            kept-either vars.world _ _ _ (λ i. kept-some vars.world _ _ (λ after j. go vars.world _ (same-on vars.world skipped.world after.world f (put-same target _ skipped after j)))) (λ i. suspends-kept vars.world n _ _ skipped f)
-        by (skip count) io e = kept-some vars.world _ _ (λ left i. skips io.0 _ _)
-        by (write byte) io e = kept-some vars.world _ _ (λ it i. kept-either vars.world _ _ _ (λ j. go vars.world _ (appended-same io.0 it io.1 vars e j)) (λ j. suspends-kept vars.world n _ _ vars refl))
+            kept-either Same vars.world _ _ _ (λ i. kept-some Same vars.world _ _ (λ after j. go Same vars.world _ (same-on vars.world skipped.world after.world f (put-same target _ skipped after j)))) (λ i. suspends-kept vars.world n _ _ skipped f)
+        by (skip count) io e = kept-some Same vars.world _ _ (λ left i. skips io.0 _ _)
+        by (write byte) io e = kept-some Same vars.world _ _ (λ it i. kept-either Same vars.world _ _ _ (λ j. go Same vars.world _ (appended-same io.0 it io.1 vars e j)) (λ j. suspends-kept vars.world n _ _ vars refl))
 
   pub perform-same : (target : Target) (call : Written) (vars after : Vars) → performed b target call vars ≡ Some after → Same vars.world after.world
   perform-same target (skip_fast a actual worst_case) vars after e =

@@ -1,6 +1,5 @@
 -- How driving ends, from what a pen has written.
 use Rattle.std.proofs.Common.{◌≡◌, ℕ, ◌∙◌, List, [], Bool, true, refl, ap, subst, Option, None, Some, Result, Ok, Err}
-use Rattle.std.specs.Io.KnownBytes.{Appends}
 use Rattle.wf_outside.specs.declared.sinks.SinkFault.{SinkFault}
 use Rattle.wf_outside.specs.Sinks.{FitsRoom}
 use Rattle.pens.specs.Pens.{PenState, WroteFrom, Wrote, Prints, failed_at}
@@ -16,12 +15,6 @@ stays_lost a b r u wrote answer ok lost =
     let failed : b.failed ≡ true = ap (λ (s : PenState). s.failed) same ∙ lost in
     let e : r ≡ failed_at true b.sent = subst (λ (f : Bool). r ≡ failed_at f b.sent) failed answer in
     absurd (cc (e, ok))
-
-pub whole_report : (before now : Option (List ℕ)) (end : DriveEnd) (report : Report) (lost : Bool) → EndsAs end report.end lost → (lost ≡ true → ⊥) → Appends before now report.text → Drives before now end report
-whole_report before now Done report lost is fine h = (h, is)
-whole_report before now (Turns line) report lost is fine h = (h, is)
-whole_report before now (Undefined line) report lost is fine h = (h, is)
-whole_report before now OutFailed report lost is fine h = absurd (fine is)
 
 pub count_kept : (before now : ℕ) (end : DriveEnd) (report : Report) (lost : Bool) → EndsAs end report.end lost → (lost ≡ true → ⊥) → now ≡ before → CountsDrive before now end
 count_kept before now Done report lost is fine h = h

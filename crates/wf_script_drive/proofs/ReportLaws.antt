@@ -88,12 +88,6 @@ reach_on Writes whole left after start now next text joined so_far is wrote = re
 }
 
 -- all is written
-pub reach_text : {S : Type 0} (Writes : S → S → List ℕ → Type 0) (whole left : Report) (start now next : S) → ((a b c : S) (x y : List ℕ) → Writes a b x → Writes b c y → Writes a c (x ++ y)) → Reaches Writes whole left start now → Writes now next left.text → Writes start next whole.text
-reach_text Writes whole left start now next joined so_far wrote = subst (λ (t : List ℕ). Writes start next t) (ap (λ (r : Report). r.text) (sym so_far.is)) (joined start now next so_far.front left.text so_far.wrote wrote)
-
-pub reach_end : {S : Type 0} (Writes : S → S → List ℕ → Type 0) (whole left : Report) (start now : S) → Reaches Writes whole left start now → whole.end ≡ left.end
-reach_end Writes whole left start now so_far = ap (λ (r : Report). r.end) so_far.is
-
 pub nothing_left : {State : Type 0} (steps : Steps State) (surface : Surface) (declared : Declared) (state : State) (host : Host) (commands : List Numbered) → commands ≡ [] → report_at steps surface declared state host commands ≡ record { text = []; end = finished }
 unfolding report_from
 nothing_left steps surface declared state host commands e = ap (λ (l : List Numbered). report_at steps surface declared state host l) e

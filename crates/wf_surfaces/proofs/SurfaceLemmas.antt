@@ -5,7 +5,7 @@ use Rattle.std.proofs.lemmas.Option.{slice_get-map}
 use Rattle.wf_text.specs.Surface.{PublicMethod, PublicStruct}
 use Rattle.wf_ast.specs.declared.declarations.Method.{Method}
 use Rattle.wf_ast.specs.declared.declarations.Struct.{Struct}
-use Rattle.wf_ast.specs.declared.resolved.Block.{Block}
+use Rattle.wf_ast.specs.declared.typed_code.Block.{Block}
 use Rattle.wf_ast.specs.declared.typed_nodes.TypedNodes.{TypedNodes}
 use Rattle.wf_ast.specs.TypedInvariant.{IsTyped}
 use Rattle.wf_ast.specs.TypedTrees.{text_of}

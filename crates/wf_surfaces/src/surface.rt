@@ -2,7 +2,7 @@
 
 ghost use Rattle.std.specs.Prelude.{◌≡◌, ◌<◌, ◌&&◌, map, nat_eq, slice_get, length, IfOk, All};
 ghost use Rattle.wf_ast.specs.TypedTrees.{text_of};
-ghost use Rattle.wf_ast.specs.declared.resolved.Block.{Block};
+ghost use Rattle.wf_ast.specs.declared.typed_code.Block.{Block};
 ghost use Rattle.wf_ast.specs.TypedInvariant.{IsTyped};
 ghost use Rattle.wf_ast.specs.TypedPackage.{kind_of, method_of, methods_of, package_of, public_method, public_methods, public_structs, struct_of, surface_of, variable_of};
 ghost use Rattle.wf_surfaces.specs.Names.{AreNamed, HasNames, IsNamed};

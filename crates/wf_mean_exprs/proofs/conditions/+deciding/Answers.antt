@@ -6,7 +6,8 @@ use Rattle.wf_ast.specs.Value.{truth_of}
 use Rattle.wf_ast.proofs.Arena.{both_true}
 use Rattle.wf_mean_exprs.specs.MachineState.{seen_from}
 use Rattle.wf_mean_exprs.specs.Conditions.{chain_truth, joins_both, node_cond}
-use Rattle.wf_mean_exprs.proofs.Junctions.{of_conditions, of_comparison, condition_below, all_there, junction_begins}
+use Rattle.wf_ast.proofs.ChainKinds.{all_there}
+use Rattle.wf_mean_exprs.proofs.Junctions.{of_conditions, of_comparison, condition_below, junction_begins}
 use Rattle.wf_mean_exprs.proofs.conditions.+deciding.Goals as goal
 
 pub truth_of_chain-truth_of_junction-requires : goal.truth_of_chain-truth_of_junction-requires

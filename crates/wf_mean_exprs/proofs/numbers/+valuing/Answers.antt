@@ -9,7 +9,8 @@ use Rattle.wf_ast.specs.Value.{value, applied}
 use Rattle.wf_ast.proofs.Arena.{both_true}
 use Rattle.wf_mean_exprs.specs.MachineState.{seen_from}
 use Rattle.wf_mean_exprs.specs.Operands.{arith_in, chain_value, node_number}
-use Rattle.wf_mean_exprs.proofs.Chains.{of_numbers, chain_begins, chain_next, chain_ends, number_below, no_chain}
+use Rattle.wf_ast.proofs.ChainKinds.{no_slice_chain}
+use Rattle.wf_mean_exprs.proofs.Chains.{of_numbers, chain_begins, chain_next, chain_ends, number_below}
 use Rattle.wf_mean_exprs.proofs.numbers.+valuing.Goals as goal
 
 pub number-number_of_chain-requires : goal.number-number_of_chain-requires
@@ -60,4 +61,4 @@ slice-unreachable-requires-in-Chain t c =
     let nodes = c.args.scene.now.package.now in
     let ty = type_of_node nodes c.args.e.0 in
     let f : chain_fits nodes (sort_of c.in-Chain.op) c.in-Chain.parts ty ≡ true = search rules in
-    no_chain nodes ty (sort_of c.in-Chain.op) c.in-Chain.parts (both_true (is_expr nodes c.args.e) (is_list ty) c.requires).1 f
+    no_slice_chain nodes ty (sort_of c.in-Chain.op) c.in-Chain.parts (both_true (is_expr nodes c.args.e) (is_list ty) c.requires).1 f

@@ -18,7 +18,7 @@ use Rattle.wf_mean_exprs.specs.MachineState.{done_seen, slot_seen}
 use Rattle.wf_mean_stmts.specs.declared.stage.Stage.{Stage}
 use Rattle.wf_mean_runs.specs.Seeking.{SoughtBlock}
 use Rattle.wf_mean_runs.proofs.SeekLaws.{arms_first, goes_on_there, if_first, in_rest, in_then, inside_again, inside_ends, leaves_there, moved, not_in_one, not_inside, rounds_moved, run_moved, sought_like, is_here, no_point}
-use Rattle.wf_mean_runs.proofs.CallPoints.{call_points}
+use Rattle.wf_points.proofs.PointLemmas.{call_points}
 use Rattle.wf_mean_runs.specs.Calls.{ran_seen, world_on}
 use Rattle.wf_mean_runs.specs.Frames.{Sizes, locals_of}
 use Rattle.wf_mean_runs.proofs.BodyLaws.{method_there, none_left}
