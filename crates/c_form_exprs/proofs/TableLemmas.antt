@@ -12,7 +12,7 @@ use Rattle.std.proofs.lemmas.Bool.{cases_Bool, eqb-true, eq-eqb}
 use Rattle.std.proofs.lemmas.List.{length-map, map-append}
 use Rattle.std.proofs.lemmas.Option.{slice_get_within, slice_get-map}
 use Rattle.std.proofs.lemmas.Slice.Eq.{bytes_eq-Decides}
-use Rattle.c_text.specs.CNames.{digest}
+use Rattle.interner.specs.Interning.{digest}
 use Rattle.c_text.proofs.Arena.{slice_get-front, slice_get-seam, slice_get-some}
 use Rattle.c_form_exprs.specs.Tables.{named, name_at, found, FindsPlaces}
 use Rattle.c_form_exprs.proofs.FrontLemmas.{bytes_eq-swap}

@@ -3,7 +3,7 @@ use Rattle.std.specs.Prelude.{◌≡◌, ◌<◌, ℕ, List, [], Option, None, S
 use Rattle.std.specs.Option.{option_map}
 use Rattle.std.specs.Str.{bytes_eq}
 use Rattle.std.specs.Map.{lookup}
-use Rattle.c_text.specs.CNames.{digest}
+use Rattle.interner.specs.Interning.{digest}
 
 -- What a name declares.
 abbrev pub named : {V : Type 0} → List (List ℕ × V) → List ℕ → Option V

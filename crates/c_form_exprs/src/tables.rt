@@ -6,7 +6,7 @@ ghost use Rattle.std.specs.Prelude.{◌≡◌, ◌++◌, [], ◌∷◌, if◌the
 ghost use Rattle.std.specs.Str.{bytes_eq};
 ghost use Rattle.c_form_exprs.specs.Tables.{named};
 
-use c_text::name_digest;
+use interner::digest;
 use std::alloc::Global;
 use std::collections::BTreeMap;
 use std::marker::Model;
@@ -72,7 +72,7 @@ impl<'u, V: Copy + Drop> NameTable<'u, V> {
     pub fn place(&self, name: &[u8]) -> Option<usize>
         ensures { result ≡ position (λ entry. bytes_eq entry.0 name.now) self.now }
     {
-        let first = self.firsts.get(&name_digest(name)).copied();
+        let first = self.firsts.get(&digest(name)).copied();
         match first {
             Some(place) => {
                 if self.entries[place].0 == name {
@@ -92,7 +92,7 @@ impl<'u, V: Copy + Drop> NameTable<'u, V> {
         ensures err { OnErr result (self.new ≡ self.old) }
     {
         let place = self.entries.len();
-        let made = name_digest(name);
+        let made = digest(name);
         self.entries.reserve(1)?;
         let first = self.firsts.get(&made).copied();
         match first {

@@ -16,27 +16,27 @@ use Rattle.c_form_laws.specs.NameRules.{IsVariable, IsInlined, AreDeclared, Oper
 use Rattle.c_form_laws.proofs.Places.{each-decides}
 use Rattle.c_form_laws.proofs.TypeLaws.{numeric-decides}
 
-both_true : (a b : Bool) → (a && b) ≡ true → (a ≡ true) × (b ≡ true)
+pub both_true : (a b : Bool) → (a && b) ≡ true → (a ≡ true) × (b ≡ true)
 both_true true b h = (refl, h)
 both_true false b h = absurd (cc h)
 
 -- What a part had to be.
-abbrev Is : {A : Type 0} → Option A → Type 0
+abbrev pub Is : {A : Type 0} → Option A → Type 0
 Is {A} o = (x : A) × (o ≡ Some x)
 
-then_is : {A B : Type 0} (f : A → Option B) (o : Option A) (b : B) → option_and_then f o ≡ Some b → (a : A) × (o ≡ Some a) × (f a ≡ Some b)
+pub then_is : {A B : Type 0} (f : A → Option B) (o : Option A) (b : B) → option_and_then f o ≡ Some b → (a : A) × (o ≡ Some a) × (f a ≡ Some b)
 then_is f None b h = absurd (cc h)
 then_is f (Some a) b h = (a, refl, h)
 
-map_is : {A B : Type 0} (f : A → B) (o : Option A) (b : B) → option_map f o ≡ Some b → Is o
+pub map_is : {A B : Type 0} (f : A → B) (o : Option A) (b : B) → option_map f o ≡ Some b → Is o
 map_is f None b h = absurd (cc h)
 map_is f (Some a) b h = (a, refl)
 
-abbrev AllTyped : List (Option ExprType) → Type 0
+abbrev pub AllTyped : List (Option ExprType) → Type 0
 AllTyped [] = Unit {0}
 AllTyped (o ∷ os) = Is o × AllTyped os
 
-operands_typed : (op : COp) (first : Option ExprType) (os : List (Option ExprType)) (t : ExprType) → operations_type op first os ≡ Some t → Is first × AllTyped os
+pub operands_typed : (op : COp) (first : Option ExprType) (os : List (Option ExprType)) (t : ExprType) → operations_type op first os ≡ Some t → Is first × AllTyped os
 operands_typed op first [] t h = ((t, h), tt)
 operands_typed op first (next ∷ others) t h =
     let more = operands_typed op (option_and_then (λ a. option_and_then (operation_type op a) next) first) others t h in
@@ -44,22 +44,22 @@ operands_typed op first (next ∷ others) t h =
     let two = then_is (operation_type op one_step.0) next more.0.0 one_step.2 in
     ((one_step.0, one_step.1), ((two.0, two.1), more.1))
 
-passed_typed : (ps : List ParamTree) (os : List (Option ExprType)) → passable ps os ≡ true → AllTyped os
+pub passed_typed : (ps : List ParamTree) (os : List (Option ExprType)) → passable ps os ≡ true → AllTyped os
 passed_typed [] [] h = tt
 passed_typed [] (o ∷ os) h = absurd (cc h)
 passed_typed (p ∷ ps) [] h = absurd (cc h)
 passed_typed (p ∷ ps) (None ∷ os) h = absurd (cc h)
 passed_typed (p ∷ ps) (Some t ∷ os) h = ((t, refl), passed_typed ps os (both_true _ (passable ps os) h).1)
 
-member_is : (scope : Scope) (field : List ℕ) (o : Option ExprType) (h : Held) → member_held scope field o ≡ Some h → Is o
+pub member_is : (scope : Scope) (field : List ℕ) (o : Option ExprType) (h : Held) → member_held scope field o ≡ Some h → Is o
 member_is scope field None h e = absurd (cc e)
 member_is scope field (Some t) h e = (t, refl)
 
-pointed_is : (o : Option ExprType) (h : Held) → pointed_held o ≡ Some h → Is o
+pub pointed_is : (o : Option ExprType) (h : Held) → pointed_held o ≡ Some h → Is o
 pointed_is None h e = absurd (cc e)
 pointed_is (Some t) h e = (t, refl)
 
-element_is : (pointer index : Option ExprType) (h : Held) → element_held pointer index ≡ Some h → Is pointer × Is index
+pub element_is : (pointer index : Option ExprType) (h : Held) → element_held pointer index ≡ Some h → Is pointer × Is index
 element_is pointer index h e =
     let number_is = then_is (λ n. pointed_held pointer) (option_and_then as_number index) h e in
     let index_is = then_is as_number index number_is.0 number_is.1 in
@@ -193,12 +193,12 @@ unary_is Not o held t h = inl (map_is _ o t h)
 unary_is Complement o held t h = inl (let n = map_is numbers (option_and_then as_number o) t h in let k = then_is as_number o n.0 n.1 in (k.0, k.1))
 unary_is Address o held t h = inr (let k = then_is address_type held t h in (k.0, k.1))
 
-choice_is : (test met unmet : Option ExprType) (t : ExprType) → option_and_then (λ _. choice_type met unmet) test ≡ Some t → Is test × (Is met × Is unmet)
+pub choice_is : (test met unmet : Option ExprType) (t : ExprType) → option_and_then (λ _. choice_type met unmet) test ≡ Some t → Is test × (Is met × (Is unmet × (choice_type met unmet ≡ Some t)))
 choice_is test met unmet t h =
     let a = then_is (λ _. choice_type met unmet) test t h in
     let b = then_is (λ left. option_and_then (one_type true left) unmet) met t a.2 in
     let d = then_is (one_type true b.0) unmet t b.2 in
-    ((a.0, a.1), ((b.0, b.1), (d.0, d.1)))
+    ((a.0, a.1), ((b.0, b.1), ((d.0, d.1), a.2)))
 
 module _ (before : List ItemTree) (names : List ParamTree) where
   abbrev scope : Scope
@@ -231,7 +231,7 @@ module _ (before : List ItemTree) (names : List ParamTree) where
     typed_declared (cast to of) t h = let k = then_is (cast_from scope.structs to) (type_of scope of) t h in typed_declared of k.0 k.1
     typed_declared (choice test met unmet) t h =
         let k = choice_is (type_of scope test) (type_of scope met) (type_of scope unmet) t h in
-        (typed_declared test k.0.0 k.0.1, typed_declared met k.1.0.0 k.1.0.1, typed_declared unmet k.1.1.0 k.1.1.1)
+        (typed_declared test k.0.0 k.0.1, typed_declared met k.1.0.0 k.1.0.1, typed_declared unmet k.1.1.0.0 k.1.1.0.1)
     typed_declared (called function given) t h =
         let k = call_declared before function (arg_types scope given) t h in
         (k.0, args_declared given k.1)

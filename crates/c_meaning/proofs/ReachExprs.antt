@@ -83,11 +83,6 @@ module _ (inside : ℕ → Bool) where
   pub cell_at_in : (memory : Memory) → IsClosed inside memory → (p : Pointer) → inside p.object ≡ true → CelIn (cell_at memory p)
   cell_at_in memory closed p h = cell_of_cells (cells_at memory p.object p.field) p.index (cells_at_in memory closed p.object p.field h)
 
-  part_of_field : (found : Option Field) → FldIn found → PointerIn (option_map (λ k. to_object k) (option_and_then part_of found))
-  part_of_field None h = tt
-  part_of_field (Some (cells type them)) h = tt
-  part_of_field (Some (part object)) h = h
-
   -- Values and cells stand for each other.
   pub value_of_in : (type : CellType) (cell : Cell) → CellIn inside cell → OptIn (value_of type cell)
   value_of_in u8 (num n) h = tt

@@ -63,11 +63,6 @@ set_bytes [] false e = refl
 set_bytes (x ∷ xs) false e = absurd (cc (e))
 
 -- One of them is written.
-length_set : {A : Type 0} (xs : List A) (i : ℕ) (x : A) → length (slice_set xs i x) ≡ length xs
-length_set [] i x = refl
-length_set (y ∷ ys) zero x = refl
-length_set (y ∷ ys) (suc i) x = ap suc (length_set ys i x)
-
 length_cells : (xs : List ℕ) (set : Bool) → length (byte_cells xs set) ≡ length xs
 length_cells [] set = refl
 length_cells (x ∷ xs) set = ap suc (length_cells xs set)

@@ -4,3 +4,4 @@ pub mod Fitting
 pub mod Moved
 pub mod Passing
 pub mod Stored
+pub mod UnsetCells

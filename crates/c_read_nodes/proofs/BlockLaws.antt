@@ -1,15 +1,12 @@
 -- Blocks of statements and whole `if`s.
-use Rattle.std.proofs.Common.{◌≡◌, ◌<◌, Bool, true, false, ◌&&◌, if◌then◌else◌, List, [], ◌∷◌, length, refl, sym, ◌∙◌, ap, subst}
+use Rattle.std.proofs.Common.{◌≡◌, ◌<◌, false, List, [], ◌∷◌, length, refl, sym, ◌∙◌, ap, subst}
 use Rattle.c_text.specs.declared.ids.CStmtId.{CStmtId}
 use Rattle.c_text.specs.declared.ids.CNameId.{CNameId}
-use Rattle.c_text.specs.declared.kinds.Otherwise.{Otherwise}
 use Rattle.c_text.specs.declared.kinds.Otherwise.TheVariants as else_is
-use Rattle.c_text.specs.CGrammar.{is_finish}
 use Rattle.c_text.specs.CNodes.{Nodes, bytes_at, expr_of, code_of}
 use Rattle.c_text.specs.CTree.{Code, finish, branch, variable}
-use Rattle.c_read_grammar.specs.Values.{Val, an_expr, a_code, a_statement, collect, chain, last_arm, make_if, in_front, perform_expr}
+use Rattle.c_read_grammar.specs.Values.{Val, an_expr, chain, last_arm, make_if, perform_expr}
 use Rattle.c_read_grammar.specs.declared.actions.ExprAction.TheVariants.{MakeVariableBelow}
-use Rattle.c_read_grammar.specs.Values as tree
 use Rattle.c_read_nodes.specs.declared.shapes.Shape.TheVariants as shapes
 use Rattle.c_read_nodes.specs.declared.statements.Branch.{Branch}
 use Rattle.c_read_nodes.specs.declared.statements.Statement.{Statement}
@@ -20,7 +17,7 @@ use Rattle.c_read_nodes.specs.declared.values.Value.TheVariants as vals
 use Rattle.c_read_nodes.specs.Makers.{Grew}
 use Rattle.c_read_nodes.specs.Seen.{seen_value, seen_values, ValueFits, ValuesFit}
 use Rattle.c_read_nodes.specs.Shapes.{fits}
-use Rattle.c_read_nodes.specs.Statements.{is_label, code_with, StatementFits}
+use Rattle.c_read_nodes.specs.Statements.{code_with, StatementFits}
 use Rattle.c_read_nodes.proofs.Kept.{expr_same, code_same, more_exprs, more_stmts, statement_same, statement_fits, value_same, value_fits}
 
 pub grew_statement : (old new : Nodes) (s : Statement) → Grew old new → StatementFits old s → StatementFits new s
@@ -42,94 +39,10 @@ chain_next nodes new later next arm vs ws whole is step same all =
     let here : chain later (seen_values nodes (vals.Arm arm ∷ ws)) ≡ whole = ap (λ x. chain later (seen_values nodes x)) (sym is) ∙ all in
     ap (λ x. chain x (seen_values new ws)) step ∙ ap (chain (branch (expr_of nodes arm.test.0) (code_of nodes arm.body.0) else_is.If later finish)) same ∙ here
 
-pub chain_end : (nodes : Nodes) (later : Code) (vs : List Value) → fits (shapes.Arm ∷ []) vs ≡ false → a_statement later ∷ seen_values nodes vs ≡ chain later (seen_values nodes vs)
-chain_end nodes later [] h = refl
-chain_end nodes later (vals.Arm a ∷ vs) h = absurd (cc h)
-chain_end nodes later (v ∷ vs) h = refl
-
-pub arms_none : (nodes : Nodes) (otherwise : Otherwise) (other : Code) (vs : List Value) → fits (shapes.Arm ∷ []) vs ≡ false → [] ≡ last_arm otherwise other (seen_values nodes vs)
-arms_none nodes otherwise other [] h = refl
-arms_none nodes otherwise other (vals.Arm a ∷ vs) h = absurd (cc h)
-arms_none nodes otherwise other (v ∷ vs) h = refl
-
 pub else_none : (nodes : Nodes) (vs : List Value) → fits (shapes.Code ∷ []) vs ≡ false → make_if (seen_values nodes vs) ≡ last_arm else_is.Nothing finish (seen_values nodes vs)
 else_none nodes [] h = refl
 else_none nodes (vals.Code c ∷ vs) h = absurd (cc h)
 else_none nodes (v ∷ vs) h = refl
-
--- Statements.
-label_seen : (nodes : Nodes) (s : Statement) (rest : Code) → tree.is_label (code_with nodes s rest) ≡ is_label s
-label_seen nodes (says.Nested inner) rest = refl
-label_seen nodes says.Empty rest = refl
-label_seen nodes (says.Assign target value) rest = refl
-label_seen nodes (says.Call target c) rest = refl
-label_seen nodes (says.Goto label) rest = refl
-label_seen nodes (says.If b) rest = refl
-label_seen nodes (says.While test body) rest = refl
-label_seen nodes (says.Switch on body) rest = refl
-label_seen nodes (says.Return value) rest = refl
-label_seen nodes (says.Case number) rest = refl
-label_seen nodes says.Default rest = refl
-label_seen nodes (says.Label name) rest = refl
-
-front_seen : (nodes : Nodes) (s : Statement) (rest : Code) → in_front (code_with nodes s finish) rest ≡ code_with nodes s rest
-front_seen nodes (says.Nested inner) rest = refl
-front_seen nodes says.Empty rest = refl
-front_seen nodes (says.Assign target value) rest = refl
-front_seen nodes (says.Call target c) rest = refl
-front_seen nodes (says.Goto label) rest = refl
-front_seen nodes (says.If b) rest = refl
-front_seen nodes (says.While test body) rest = refl
-front_seen nodes (says.Switch on body) rest = refl
-front_seen nodes (says.Return value) rest = refl
-front_seen nodes (says.Case number) rest = refl
-front_seen nodes says.Default rest = refl
-front_seen nodes (says.Label name) rest = refl
-
-not_finish : (nodes : Nodes) (s : Statement) (rest : Code) → is_finish (code_with nodes s rest) ≡ false
-not_finish nodes (says.Nested inner) rest = refl
-not_finish nodes says.Empty rest = refl
-not_finish nodes (says.Assign target value) rest = refl
-not_finish nodes (says.Call target c) rest = refl
-not_finish nodes (says.Goto label) rest = refl
-not_finish nodes (says.If b) rest = refl
-not_finish nodes (says.While test body) rest = refl
-not_finish nodes (says.Switch on body) rest = refl
-not_finish nodes (says.Return value) rest = refl
-not_finish nodes (says.Case number) rest = refl
-not_finish nodes says.Default rest = refl
-not_finish nodes (says.Label name) rest = refl
-
-collect_at : (nodes : Nodes) (s : Statement) (code : Code) (vs : List Val) (b : Bool) → (is_label s && is_finish code) ≡ b → collect code (a_statement (code_with nodes s finish) ∷ vs) ≡ (if b then [] else collect (code_with nodes s code) vs)
-collect_at nodes s code vs b h =
-    let t : (tree.is_label (code_with nodes s finish) && is_finish code) ≡ b = ap (λ x. x && is_finish code) (label_seen nodes s finish) ∙ h in
-    ap (λ x. if x then [] else collect (in_front (code_with nodes s finish) code) vs) t ∙ ap (λ x. if b then [] else collect x vs) (front_seen nodes s code)
-
-pub collect_next : (nodes new : Nodes) (s : Statement) (code next : Code) (vs ws : List Value) (whole : List Val) → vs ≡ vals.Statement s ∷ ws → (is_label s && is_finish code) ≡ false → next ≡ code_with nodes s code
-    → seen_values new ws ≡ seen_values nodes ws → collect code (seen_values nodes vs) ≡ whole → collect next (seen_values new ws) ≡ whole
-collect_next nodes new s code next vs ws whole is lawful step same all =
-    let here : collect code (seen_values nodes (vals.Statement s ∷ ws)) ≡ whole = ap (λ x. collect code (seen_values nodes x)) (sym is) ∙ all in
-    ap (λ x. collect x (seen_values new ws)) step ∙ ap (collect (code_with nodes s code)) same ∙ sym (collect_at nodes s code (seen_values nodes ws) false lawful) ∙ here
-
-pub collect_stops : (nodes : Nodes) (s : Statement) (code : Code) (vs ws : List Value) (whole : List Val) → vs ≡ vals.Statement s ∷ ws → (is_label s && is_finish code) ≡ true
-    → collect code (seen_values nodes vs) ≡ whole → [] ≡ whole
-collect_stops nodes s code vs ws whole is bare all =
-    sym (collect_at nodes s code (seen_values nodes ws) true bare) ∙ ap (λ x. collect code (seen_values nodes x)) (sym is) ∙ all
-
-pub later_finish : (nodes : Nodes) (s : Statement) (code next : Code) → next ≡ code_with nodes s code → false ≡ is_finish next
-later_finish nodes s code next is = sym (ap is_finish is ∙ not_finish nodes s code)
-
-pub collect_locals : (nodes : Nodes) (code : Code) (vs : List Value) → fits (shapes.Locals ∷ []) vs ≡ true → a_code code ∷ seen_values nodes vs ≡ collect code (seen_values nodes vs)
-collect_locals nodes code [] h = absurd (cc h)
-collect_locals nodes code (vals.Locals ls ∷ vs) h = refl
-collect_locals nodes code (v ∷ vs) h = absurd (cc h)
-
-pub collect_other : (nodes : Nodes) (code : Code) (vs : List Value) → fits (shapes.Statement ∷ []) vs ≡ false → fits (shapes.Block ∷ []) vs ≡ false → fits (shapes.Locals ∷ []) vs ≡ false → [] ≡ collect code (seen_values nodes vs)
-collect_other nodes code [] f g h = refl
-collect_other nodes code (vals.Statement s ∷ vs) f g h = absurd (cc f)
-collect_other nodes code (vals.Block ∷ vs) f g h = absurd (cc g)
-collect_other nodes code (vals.Locals ls ∷ vs) f g h = absurd (cc h)
-collect_other nodes code (v ∷ vs) f g h = refl
 
 -- A value above others than before.
 pub above : (nodes : Nodes) (n : CNameId) (ws ms : List Value) (v : Value) → ValueFits nodes (vals.Name n ∷ ws) v → ValueFits nodes ms v

@@ -10,7 +10,7 @@ use stacks::ShapeOf;
 
 /// The shape of a value: its variant, with what an action asks of it.
 #[derive(Clone, Copy, PartialEq, Eq)]
-pub enum Shape {
+pub(crate) enum Shape {
     Name,
     Number,
     Text,

@@ -34,7 +34,7 @@ impl Move {
     }
 
     /// The token is read, and nothing is wanted in place of the top.
-    pub fn done() -> Move
+    pub(crate) fn done() -> Move
         ensures { seen result ≡ machine.Take [] }
     {
         Move::Take(Wants::of(&[], After::of(&[], &[])))

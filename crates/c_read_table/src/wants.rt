@@ -47,7 +47,7 @@ impl After {
     }
 
     /// What tells what the token says, and then two lists of the table.
-    pub fn led(told: Want, then: &'static [Want], last: &'static [Want]) -> Self
+    pub(crate) fn led(told: Want, then: &'static [Want], last: &'static [Want]) -> Self
         ensures { result ≡ told ∷ (then.now ++ last.now) }
     {
         After {
@@ -97,7 +97,7 @@ impl Wants {
     }
 
     /// The same, with a list of the table before it.
-    pub fn led(lead: &'static [Want], first: &'static [Want], after: After) -> Self
+    pub(crate) fn led(lead: &'static [Want], first: &'static [Want], after: After) -> Self
         ensures { result ≡ lead.now ++ (first.now ++ after) }
     {
         Wants { lead, first, after }

@@ -1,14 +1,12 @@
 -- Arguments are taken from the stack one by one, the last one first.
 use Rattle.std.proofs.Common.{◌⊎◌, inl, inr, IfSome, ◌≡◌, ℕ, zero, suc, ◌+◌, ◌<◌, ◌≤◌, List, [], ◌∷◌, ◌++◌, length, Option, Some, None, refl, sym, ap, ◌∙◌, subst, arith, take, drop}
-use Rattle.std.specs.Prelude.{map, ◌-◌, option_map, option_and_then, slice_get, slice_set}
+use Rattle.std.specs.Prelude.{◌-◌, option_map, option_and_then, slice_get, slice_set}
 use Rattle.std.proofs.lemmas.List.{append_assoc, append-nil, reverse-append, take-append-drop}
 use Rattle.c_meaning.specs.declared.cells.Cell.{Cell}
 use Rattle.c_meaning.specs.declared.cells.CellType.{CellType}
-use Rattle.c_meaning.specs.declared.cells.CellType.TheVariants.{U8 as u8, U16 as u16, U32 as u32, U64 as u64, Flag as flag, Pointer as pointer}
 use Rattle.c_meaning.specs.declared.values.Value.{Value}
 use Rattle.c_meaning.specs.CMemory.{Field, cells, part, Object, cell_of}
-use Rattle.c_meaning.specs.declared.cells.Cell.TheVariants.{Unset as unset}
-use Rattle.c_mem.specs.FieldParts.{stored_in, stored_at_field, unset_field, IsSmall, AreSmall, Fits, FitsField, FitsObject}
+use Rattle.c_mem.specs.FieldParts.{stored_in, stored_at_field, Fits, FitsField, FitsObject}
 use Rattle.c_mem.proofs.Fitting.{converted_fits}
 use Rattle.c_mem.specs.Leaving.{Leaves}
 use Rattle.c_meaning.specs.Typed.{of_cells, field_shape, object_shape}
@@ -197,47 +195,6 @@ pub drop_unset : (ts us : List CellType) → drop (length ts) (unset_cells (ts +
 drop_unset [] us = refl
 drop_unset (t ∷ ts) us = drop_unset ts us
 
--- What has the shape of unset cells is these once it is unset.
-one_unset : (t : CellType) (f : Field) → field_shape f ≡ of_cells t 1 → unset_field f ≡ one_cell t unset
-one_unset t (cells type []) e = absurd (cc (e))
-one_unset t (cells type (c ∷ [])) e = let s : type ≡ t = cc (e) in ap (λ (u : CellType). one_cell u unset) s
-one_unset t (cells type (c ∷ d ∷ others)) e = absurd (too_many (cc (e)))
-  where
-    too_many : suc (suc (length others)) ≡ 1 → ⊥
-    too_many h = absurd (omega (arith, h))
-one_unset t (part object) e = absurd (cc (e))
-
--- It has no field of more than one byte.
-one_small : (t : CellType) (f : Field) → field_shape f ≡ of_cells t 1 → IsSmall f
-one_small t (cells type []) e = absurd (cc (e))
-one_small t (cells type (c ∷ [])) e = by_type type
-  where
-    by_type : (type : CellType) → IsSmall (cells type (c ∷ []))
-    by_type u8 = omega arith
-    by_type u16 = tt
-    by_type u32 = tt
-    by_type u64 = tt
-    by_type flag = tt
-    by_type pointer = tt
-one_small t (cells type (c ∷ d ∷ others)) e = absurd (too_many (cc (e)))
-  where
-    too_many : suc (suc (length others)) ≡ 1 → ⊥
-    too_many h = absurd (omega (arith, h))
-one_small t (part object) e = tt
-
-pub small_again : (ts : List CellType) (object : Object) → object_shape object ≡ object_shape (unset_cells ts) → AreSmall object
-small_again [] [] e = λ k d h. absurd (omega (arith, h))
-small_again [] (f ∷ fs) e = absurd (cc (e))
-small_again (t ∷ ts) [] e = absurd (cc (e))
-small_again (t ∷ ts) (f ∷ fs) e =
-    let h : field_shape f ≡ of_cells t 1 = cc (e) in
-    let k : object_shape fs ≡ object_shape (unset_cells ts) = cc (e) in
-    at_index (one_small t f h) (small_again ts fs k)
-  where
-    at_index : IsSmall f → AreSmall fs → AreSmall (f ∷ fs)
-    at_index h k zero d l = h
-    at_index h k (suc j) d l = k j d (omega (arith, l))
-
 -- An argument fits its field.
 pub passes_fit : (ts : List CellType) (fs : Object) (i : ℕ) (t : CellType) (v : Value) (cell : Cell) → StartsWith ts fs → slice_get ts i ≡ Some t → Some cell ≡ cell_of t v → FitsObject fs i cell
 passes_fit [] fs i t v cell h e f = absurd (cc (e))
@@ -250,15 +207,6 @@ passes_fit (u ∷ ts) (g ∷ fs) zero t v cell h e f = let s : u ≡ t = cc (e) 
     one_fits (cells type (c ∷ d ∷ others)) h k = absurd h
     one_fits (part object) h k = absurd h
 passes_fit (u ∷ ts) (g ∷ fs) (suc i) t v cell h e f = passes_fit ts fs i t v cell h.1 e f
-
-pub unset_again : (ts : List CellType) (object : Object) → object_shape object ≡ object_shape (unset_cells ts) → map unset_field object ≡ unset_cells ts
-unset_again [] [] e = refl
-unset_again [] (f ∷ fs) e = absurd (cc (e))
-unset_again (t ∷ ts) [] e = absurd (cc (e))
-unset_again (t ∷ ts) (f ∷ fs) e =
-    let h : field_shape f ≡ of_cells t 1 = cc (e) in
-    let k : object_shape fs ≡ object_shape (unset_cells ts) = cc (e) in
-    ap (λ x. x ∷ map unset_field fs) (one_unset t f h) ∙ ap (λ xs. one_cell t unset ∷ xs) (unset_again ts fs k)
 
 -- The last of a list.
 pub last_one : {A : Type 0} (xs ys : List A) (x y : A) → xs ++ x ∷ [] ≡ ys ++ y ∷ [] → (xs ≡ ys) × (x ≡ y)

@@ -19,7 +19,8 @@ use Rattle.c_step_text.specs.Emitted.{StandAt, span_of, cases_of, arms_of, targe
 use Rattle.c_step_cells.specs.Chains.{cells_at, code_cells, optional_cells, stmt_cells, body_cells}
 use Rattle.c_step_laws.specs.Callees.{expr_callees, arg_callees, optional_callees, called_name, code_callees}
 use Rattle.c_step_laws.proofs.Lists.{greatest, greatest_append, at_left, at_right, at_range}
-use Rattle.c_step_laws.proofs.ExprCells.{Is, AllTyped, passed_typed, numbered, value_cells, place_cells, args_cells}
+use Rattle.c_form_laws.proofs.NameLaws.{Is, AllTyped, passed_typed}
+use Rattle.c_step_laws.proofs.ExprCells.{numbered, value_cells, place_cells, args_cells}
 
 pub has_left : {A : Type 0} (xs ys : List A) (x : A) → Has xs x → Has (xs ++ ys) x
 has_left [] ys x h = absurd (let e = h.1 in cc e)

@@ -1,12 +1,13 @@
 -- What the instructions of an expression call is what its tree calls, where it has a type or is an lvalue.
 use Rattle.std.proofs.Common.{◌≡◌, ℕ, Bool, true, false, ◌&&◌, List, [], ◌∷◌, ◌++◌, length, max, Option, Some, None, refl, ◌∙◌, arith}
-use Rattle.std.specs.Prelude.{if◌then◌else◌, option_map, option_and_then}
+use Rattle.std.specs.Prelude.{if◌then◌else◌, option_and_then}
 use Rattle.std.specs.Option.{option_map_or}
 use Rattle.c_text.specs.declared.kinds.COp.{COp}
 use Rattle.c_text.specs.declared.kinds.CUnary.TheVariants.{Not, Complement, Address}
-use Rattle.c_text.specs.CTree.{ExprTree, number, variable, member, element, pointed, operation, unary, cast, choice, called, Operands, no_operand, operand, Args, no_arg, expr_arg, sizeof_arg, ParamTree}
-use Rattle.c_meaning.specs.CTypes.{Function, Scope, ExprType, numbers, points_to, zero_literal, Held, one, fixed, many, inner, character, characters, held_type, as_number, operation_type, operations_type, address_type, cast_from, one_type, choice_type, passable, is_expression, result_of, called_type, function_named, variable_held, member_held, pointed_held, element_held, type_of, held_of, operand_types, arg_types}
+use Rattle.c_text.specs.CTree.{ExprTree, number, variable, member, element, pointed, operation, unary, cast, choice, called, Operands, no_operand, operand, Args, no_arg, expr_arg, sizeof_arg}
+use Rattle.c_meaning.specs.CTypes.{Function, Scope, ExprType, numbers, points_to, zero_literal, Held, one, fixed, many, inner, character, characters, held_type, as_number, address_type, cast_from, choice_type, passable, is_expression, result_of, called_type, function_named, variable_held, member_held, pointed_held, element_held, type_of, held_of, operand_types, arg_types}
 use Rattle.c_meaning.specs.CExprs.{field_number, is_object_pointer, Combination, conjunction, disjunction, addition, other, combination_of}
+use Rattle.c_form_laws.proofs.NameLaws.{both_true, then_is, map_is, AllTyped, operands_typed, passed_typed, member_is, pointed_is, element_is, choice_is}
 use Rattle.c_step_exprs.specs.declared.instrs.Instr.{Instr}
 use Rattle.c_step_exprs.specs.declared.instrs.Instr.TheVariants as does
 use Rattle.c_step_exprs.specs.declared.instrs.Turn.TheVariants as turn
@@ -16,55 +17,6 @@ use Rattle.c_step_cells.specs.Chains.{cells_at, code_cells}
 use Rattle.c_step_laws.specs.Callees.{expr_callees, operand_callees, arg_callees}
 use Rattle.c_step_laws.proofs.Lists.{greatest, greatest_append}
 
--- What is there.
-abbrev pub Is : {A : Type 0} → Option A → Type 0
-Is {A} o = (x : A) × (o ≡ Some x)
-
-pub both_true : (a b : Bool) → (a && b) ≡ true → (a ≡ true) × (b ≡ true)
-both_true true b h = (refl, h)
-both_true false b h = absurd (cc h)
-
-then_is : {A B : Type 0} (f : A → Option B) (o : Option A) (b : B) → option_and_then f o ≡ Some b → (a : A) × (o ≡ Some a) × (f a ≡ Some b)
-then_is f None b h = absurd (cc h)
-then_is f (Some a) b h = (a, refl, h)
-
-map_is : {A B : Type 0} (f : A → B) (o : Option A) (b : B) → option_map f o ≡ Some b → Is o
-map_is f None b h = absurd (cc h)
-map_is f (Some a) b h = (a, refl)
-
-abbrev pub AllTyped : List (Option ExprType) → Type 0
-AllTyped [] = Unit {0}
-AllTyped (o ∷ os) = Is o × AllTyped os
-
-operands_typed : (op : COp) (first : Option ExprType) (os : List (Option ExprType)) (t : ExprType) → operations_type op first os ≡ Some t → Is first × AllTyped os
-operands_typed op first [] t h = ((t, h), tt)
-operands_typed op first (next ∷ others) t h =
-    let more = operands_typed op (option_and_then (λ a. option_and_then (operation_type op a) next) first) others t h in
-    let one_step = then_is (λ a. option_and_then (operation_type op a) next) first more.0.0 more.0.1 in
-    let two = then_is (operation_type op one_step.0) next more.0.0 one_step.2 in
-    ((one_step.0, one_step.1), ((two.0, two.1), more.1))
-
-pub passed_typed : (ps : List ParamTree) (os : List (Option ExprType)) → passable ps os ≡ true → AllTyped os
-passed_typed [] [] h = tt
-passed_typed [] (o ∷ os) h = absurd (cc h)
-passed_typed (p ∷ ps) [] h = absurd (cc h)
-passed_typed (p ∷ ps) (None ∷ os) h = absurd (cc h)
-passed_typed (p ∷ ps) (Some t ∷ os) h = ((t, refl), passed_typed ps os (both_true _ (passable ps os) h).1)
-
-member_is : (scope : Scope) (field : List ℕ) (o : Option ExprType) (h : Held) → member_held scope field o ≡ Some h → Is o
-member_is scope field None h e = absurd (cc e)
-member_is scope field (Some t) h e = (t, refl)
-
-pointed_is : (o : Option ExprType) (h : Held) → pointed_held o ≡ Some h → Is o
-pointed_is None h e = absurd (cc e)
-pointed_is (Some t) h e = (t, refl)
-
-element_is : (pointer index : Option ExprType) (h : Held) → element_held pointer index ≡ Some h → Is pointer × Is index
-element_is pointer index h e =
-    let number_is = then_is (λ n. pointed_held pointer) (option_and_then as_number index) h e in
-    let index_is = then_is as_number index number_is.0 number_is.1 in
-    (pointed_is pointer h number_is.2, (index_is.0, index_is.1))
-
 args_typed : (o : Option Function) (given : List (Option ExprType)) (t : ExprType) → called_type o given ≡ Some t → AllTyped given
 args_typed None given t e = absurd (cc e)
 args_typed (Some f) given t e = fits (is_expression f && passable f.params given) refl e
@@ -72,13 +24,6 @@ args_typed (Some f) given t e = fits (is_expression f && passable f.params given
     fits : (b : Bool) → (is_expression f && passable f.params given) ≡ b → (if b then result_of f else None) ≡ Some t → AllTyped given
     fits false q r = absurd (cc r)
     fits true q r = passed_typed f.params given (both_true (is_expression f) (passable f.params given) q).1
-
-choice_is : (test met unmet : Option ExprType) (t : ExprType) → option_and_then (λ _. choice_type met unmet) test ≡ Some t → Is test × (Is met × (Is unmet × (choice_type met unmet ≡ Some t)))
-choice_is test met unmet t h =
-    let a = then_is (λ _. choice_type met unmet) test t h in
-    let b = then_is (λ left. option_and_then (one_type true left) unmet) met t a.2 in
-    let d = then_is (one_type true b.0) unmet t b.2 in
-    ((a.0, a.1), ((b.0, b.1), ((d.0, d.1), a.2)))
 
 module _ (table : List ℕ) where
   abbrev pub cells : List Instr → ℕ

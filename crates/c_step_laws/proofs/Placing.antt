@@ -11,7 +11,7 @@ use Rattle.c_meaning.specs.UnitForm.{item_name, HasUnitForm, checked}
 use Rattle.c_form_laws.specs.Places.{At, Has, Each}
 use Rattle.c_form_laws.specs.StatementRules.{statements}
 use Rattle.c_form_laws.specs.UnitRules.{MayBegin, KeepsLocal, KeepsFunction, KeepsOwn, own_names}
-use Rattle.c_form_laws.proofs.NameLaws.{find_is}
+use Rattle.c_form_laws.proofs.NameLaws.{Is, find_is}
 use Rattle.c_form_laws.proofs.BreakLaws.{form_is_kept}
 use Rattle.c_step_exprs.specs.Resolving.{function_number}
 use Rattle.c_step_text.specs.Acting.{names_of as names_in}
@@ -22,7 +22,7 @@ use Rattle.c_step_program.proofs.Scopes.{alike_items}
 use Rattle.c_step_cells.specs.Chains.{cells_at, called_cells}
 use Rattle.c_step_laws.specs.Callees.{callees}
 use Rattle.c_step_laws.proofs.Lists.{greatest, get_at}
-use Rattle.c_step_laws.proofs.ExprCells.{Is, numbered}
+use Rattle.c_step_laws.proofs.ExprCells.{numbered}
 use Rattle.c_step_laws.proofs.CodeCells.{AreNumbered}
 use Rattle.c_step_laws.proofs.FunctionCells.{HasInitial, HaveInitials, part_of, function_is}
 use Rattle.c_step_laws.proofs.Rising.{Up, Extends, rises}

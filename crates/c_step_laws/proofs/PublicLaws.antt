@@ -13,7 +13,7 @@ use Rattle.c_form_laws.proofs.BreakLaws.{form_is_kept}
 use Rattle.c_step_program.specs.Programs.{no_code}
 use Rattle.c_step_laws.specs.Callees.{IsIn, Placed, placed, last_named}
 use Rattle.c_step_laws.specs.CallChains.{PublicAreExternal}
-use Rattle.c_step_laws.proofs.ExprCells.{Is}
+use Rattle.c_form_laws.proofs.NameLaws.{Is}
 use Rattle.c_step_laws.proofs.Placing.{item_of, is_item, number_of_named}
 use Rattle.c_step_laws.proofs.ChainLaws.{found, not_found}
 

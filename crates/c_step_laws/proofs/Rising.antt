@@ -6,7 +6,7 @@ use Rattle.c_text.specs.declared.kinds.COp.{COp}
 use Rattle.c_text.specs.declared.kinds.CUnary.TheVariants.{Not, Complement, Address}
 use Rattle.c_text.specs.CTree.{TypeTree, uint, size, boolean, uint_pointer, struct_pointer, text, ExprTree, number, variable, member, element, pointed, operation, unary, cast, choice, called, Operands, no_operand, operand, Args, no_arg, expr_arg, sizeof_arg, ParamTree}
 use Rattle.c_meaning.specs.CTypes.{StructDecl, Function, Scope, ExprType, numbers, points_to, zero_literal, cell, object, byte, held_type, as_number, operation_type, operations_type, address_type, is_known, value_type, cast_from, one_type, choice_type, assignable, passable, is_expression, result_of, called_type, struct_named, function_named, field_named, field_of, field_held, variable_held, member_held, pointed_held, element_held, type_of, held_of, operand_types, arg_types}
-use Rattle.c_step_laws.proofs.ExprCells.{AllTyped, both_true}
+use Rattle.c_form_laws.proofs.NameLaws.{AllTyped, both_true}
 use Rattle.c_step_laws.proofs.CodeCells.{Rises}
 
 -- What is there stays there.

@@ -7,7 +7,7 @@ use Rattle.std.specs.Cmp.Lexicographic.{slice_cmp, texts_ties}
 use Rattle.std.specs.BTreeMap.{BTreeMap, get_by, UpdatesBy}
 use Rattle.std.proofs.lemmas.Bool.{cases_Bool}
 use Rattle.c_text.proofs.Names.{bytes_eq-true}
-use Rattle.c_text.proofs.NameTable.{other_names}
+use Rattle.interner.proofs.TableLemmas.{other_texts}
 use Rattle.c_form_exprs.specs.Tables.{named}
 use Rattle.c_form_exprs.proofs.TableLemmas.{seen}
 use Rattle.c_step_objects.specs.Shapes.{number_in}
@@ -25,5 +25,5 @@ pub number_put : (old new : BTreeMap (Bor (List ℕ)) ℕ) (name : List ℕ) (v 
 number_put old new name v updates q = elim (cases_Bool (bytes_eq name q)) [
   | inl y ↦ (let here : get_by (λ key. slice_cmp nat_cmp q key.now) new ≡ Some v = subst (λ (n : List ℕ). get_by (λ key. slice_cmp nat_cmp n key.now) new ≡ Some v) (bytes_eq-true name q y) updates.1 in
       rw y (number_seen new.entries q ∙ ap (λ (o : Option ℕ). unwrap_or o 0) here))
-  | inr f ↦ rw f (number_seen new.entries q ∙ (ap (λ (o : Option ℕ). unwrap_or o 0) (other_names (λ key. key.now) name old new (Some v) updates q f) ∙ sym (number_seen old.entries q)))
+  | inr f ↦ rw f (number_seen new.entries q ∙ (ap (λ (o : Option ℕ). unwrap_or o 0) (other_texts (λ key. key.now) name old new (Some v) updates q f) ∙ sym (number_seen old.entries q)))
 ]

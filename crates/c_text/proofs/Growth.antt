@@ -7,7 +7,7 @@ use Rattle.c_text.specs.declared.nodes.CStmt.{CStmt}
 use Rattle.c_text.specs.declared.nodes.CItem.{CItem}
 use Rattle.c_text.specs.CNodes.{Nodes, no_nodes, made_expr, expr_of, made_code, code_of, made_item, unit_tree}
 use Rattle.c_text.specs.CFits.{FitsExpr, FitsStmt, FitsItem}
-use Rattle.c_text.specs.CUnit.{IsSound, Extends}
+use Rattle.c_text.specs.CUnit.{IsSound, Extends, SharesExpr, SharesStmt}
 use Rattle.c_text.specs.CSpelling.{is_name, is_string}
 use Rattle.c_text.proofs.Arena.{slice_get-seam}
 use Rattle.c_text.proofs.Trees.{append_nil, expr_fits, stmt_fits, item_fits, expr_of-is, expr_of-kept, made_expr-agrees, code_of-is, code_of-kept, made_code-same}
@@ -143,3 +143,18 @@ added_item old x = map_made-kept old (old.items ++ x ∷ []) (old.items ++ x ∷
 pub unit_tree-at : (nodes : Nodes) (i : ℕ) (x : CItem) → slice_get nodes.items i ≡ Some x → slice_get (unit_tree nodes) i ≡ Some (made_item nodes x)
 unfolding unit_tree
 unit_tree-at nodes i x is = slice_get-map (made_item nodes) nodes.items i ∙ ap (λ (o : Option CItem). elim o [ None ↦ None | Some y ↦ Some (made_item nodes y) ]) is
+
+-- An expression that the unit has serves again.
+pub shared_expr : (old : Nodes) (x : CExpr) (e : ℕ) → IsSound old → slice_get old.exprs e ≡ Some x → SharesExpr old old x e
+shared_expr old x e sound stands = record {
+  grown = inl refl;
+  there = slice_get_within old.exprs e x stands;
+  is = expr_of-is old e x stands (sound.exprs e x stands);
+}
+
+pub shared_stmt : (old : Nodes) (x : CStmt) (s : ℕ) → IsSound old → slice_get old.stmts s ≡ Some x → SharesStmt old old x s
+shared_stmt old x s sound stands = record {
+  grown = inl refl;
+  there = slice_get_within old.stmts s x stands;
+  is = code_of-is old s x stands (sound.stmts s x stands);
+}

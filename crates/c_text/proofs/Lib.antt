@@ -5,7 +5,6 @@ pub mod Items
 pub mod Lawful
 pub mod Lines
 pub mod Links
-pub mod NameTable
 pub mod Names
 pub mod Parts
 pub mod Spelled

@@ -5,7 +5,7 @@ use Rattle.std.specs.Str.{bytes_eq}
 use Rattle.std.proofs.lemmas.Bool.{cases_Bool, eqb-true, eq-eqb}
 use Rattle.std.proofs.lemmas.Option.{slice_get_within}
 use Rattle.std.proofs.lemmas.Slice.Eq.{bytes_eq-Decides}
-use Rattle.c_text.specs.CNames.{Adds, AreDistinct}
+use Rattle.interner.specs.Interning.{AreDistinct, Interns}
 use Rattle.c_text.specs.CNodes.{Nodes, bytes_at}
 use Rattle.c_text.specs.CSpelling.{is_name}
 use Rattle.c_text.specs.CUnit.{AddsName, IsSound}
@@ -40,11 +40,11 @@ same_names names distinct i j within_i within_j =
     ])
 
 -- What the table of names did, in the unit.
-pub adds_name : (old : Nodes) (after : List (List ℕ)) (name : List ℕ) (n : ℕ) → Adds old.names after name n → AddsName old (record old { names = after }) name n
-adds_name old after name n adds =
-    let known : n < length after = slice_get_within after n name adds.stands in
-    let spelt : bytes_at after n ≡ name = bytes_at-is after n name adds.stands in
-    elim adds.grown [
+pub adds_name : (old : Nodes) (after : List (List ℕ)) (name : List ℕ) (n : ℕ) → Interns old.names after name n → AddsName old (record old { names = after }) name n
+adds_name old after name n interns =
+    let known : n < length after = slice_get_within after n name interns.stands in
+    let spelt : bytes_at after n ≡ name = bytes_at-is after n name interns.stands in
+    elim interns.joins [
       | inl same ↦ record {
         added = [];
         grown = ap (λ (names : List (List ℕ)). record old { names = names }) (same ∙ sym (append_nil old.names));
@@ -59,8 +59,12 @@ adds_name old after name n adds =
       }
     ]
 
-pub sound_names : (old : Nodes) (after : List (List ℕ)) (name : List ℕ) (n : ℕ) → Adds old.names after name n → IsSound old → IsTrue (is_name name) → IsSound (record old { names = after })
-sound_names old after name n adds sound fits = elim adds.grown [
+pub sound_names : (old : Nodes) (after : List (List ℕ)) (name : List ℕ) (n : ℕ) → Interns old.names after name n → IsSound old → IsTrue (is_name name) → IsSound (record old { names = after })
+sound_names old after name n interns sound fits = elim interns.joins [
   | inl same ↦ subst (λ (names : List (List ℕ)). IsSound (record old { names = names })) (sym same) sound
   | inr joined ↦ subst (λ (names : List (List ℕ)). IsSound (record old { names = names })) (sym joined) (sound_name old name sound fits)
 ]
+
+-- A name that the unit has keeps its number.
+pub known_name : (old : Nodes) (name : List ℕ) (n : ℕ) → slice_get old.names n ≡ Some name → AddsName old old name n
+known_name old name n stands = adds_name old old.names name n (record { joins = inl refl; stands = stands })

@@ -1,9 +1,10 @@
 -- What holds of every unit, and how a unit grows.
-use Rattle.std.specs.Prelude.{◌≡◌, ◌<◌, ℕ, List, ◌++◌, length, slice_get, Some, IsTrue}
+use Rattle.std.specs.Prelude.{◌≡◌, ◌<◌, ℕ, List, [], ◌∷◌, ◌++◌, ◌⊎◌, length, slice_get, Some, IsTrue}
+pub use Rattle.interner.specs.Interning.{AreDistinct}
 use Rattle.c_text.specs.declared.nodes.CExpr.{CExpr}
 use Rattle.c_text.specs.declared.nodes.CStmt.{CStmt}
 use Rattle.c_text.specs.declared.nodes.CItem.{CItem}
-use Rattle.c_text.specs.CNodes.{Nodes, bytes_at}
+use Rattle.c_text.specs.CNodes.{Nodes, bytes_at, expr_of, made_expr, code_of, made_code}
 use Rattle.c_text.specs.CFits.{FitsExpr, FitsStmt, FitsItem}
 use Rattle.c_text.specs.CSpelling.{is_name, is_string}
 
@@ -30,3 +31,15 @@ pub record AddsName (old new : Nodes) (name : List ℕ) (n : ℕ) : Type 0 where
   pub grown : new ≡ record old { names = old.names ++ added }
   pub known : n < length new.names
   pub spelt : bytes_at new.names n ≡ name
+
+-- The expression has this number now, whether it is new or not.
+pub record SharesExpr (old new : Nodes) (x : CExpr) (e : ℕ) : Type 0 where
+  pub grown : (new ≡ old) ⊎ (new ≡ record old { exprs = old.exprs ++ x ∷ [] })
+  pub there : e < length new.exprs
+  pub is : expr_of new e ≡ made_expr old.names (expr_of old) x
+
+-- Likewise a statement.
+pub record SharesStmt (old new : Nodes) (x : CStmt) (s : ℕ) : Type 0 where
+  pub grown : (new ≡ old) ⊎ (new ≡ record old { stmts = old.stmts ++ x ∷ [] })
+  pub there : s < length new.stmts
+  pub is : code_of new s ≡ made_code old.names (expr_of old) (code_of old) x

@@ -4,7 +4,6 @@ pub mod CGrammar
 pub mod CLayout
 pub mod CLines
 pub mod CLinks
-pub mod CNames
 pub mod CNodes
 pub mod CSpelling
 pub mod CTree

@@ -1,30 +1,39 @@
 // A unit: the arena of a C text's nodes. A part has a smaller number than its whole, so each number stands for
 // a tree, and it keeps that tree while the unit grows.
 
-ghost use Rattle.std.specs.Prelude.{◌≡◌, ◌<◌, ◌++◌, ◌∷◌, [], length, Some, slice_get, IsTrue, IfOk, OnErr};
+ghost use Rattle.std.specs.Prelude.{◌≡◌, ◌<◌, ◌++◌, ◌∷◌, [], true, length, Some, slice_get, IsTrue, IfOk, IfSome, OnErr};
 ghost use Rattle.std.specs.Str.{bytes_eq};
-ghost use Rattle.c_text.specs.CNames.{AreDistinct};
 ghost use Rattle.c_text.specs.CNodes.{no_nodes, bytes_at, expr_of, code_of, unit_tree, made_expr, made_code, made_item};
 ghost use Rattle.c_text.specs.CFits.{FitsExpr, FitsStmt, FitsItem};
 ghost use Rattle.c_text.specs.CGrammar.{IsName, IsUnit};
 ghost use Rattle.c_text.specs.CSpelling.{is_string};
-ghost use Rattle.c_text.specs.CUnit.{AddsName, IsSound};
+ghost use Rattle.c_text.specs.CUnit.{AddsName, AreDistinct, IsSound, SharesExpr, SharesStmt};
+ghost use Rattle.c_text.specs.declared.nodes.CStmt.TheVariants as stmt;
 
 use crate::ids::{CExprId, CItemId, CNameId, CStmtId, CStringId};
 use crate::lists::CList;
-use crate::name_table::Names;
 use crate::nodes::{CExpr, CItem, CStmt};
+use crate::recent::Recent;
+use crate::sharing;
+use crate::words::{is_spelt, join, place_of};
+use interner::Interner;
 use std::alloc::Global;
 use std::marker::Model;
-use wf_text::NoMemory;
+use wf_text::{NoMemory, add_last};
 
 /// A C text as a tree. Its items stand in the text in the order in which they were added.
 pub struct Unit {
-    names: Names,
+    names: Interner,
     strings: Vec<CList<u8>>,
     exprs: Vec<CExpr>,
     stmts: Vec<CStmt>,
     items: Vec<CItem>,
+    recent_names: Recent,
+    recent_exprs: Recent,
+    /// The words of the last name that wasn't found, together.
+    spelling: Vec<u8>,
+    /// Where the end of a block stands, once one was asked for.
+    end: usize,
     alloc: Global,
 }
 
@@ -36,6 +45,10 @@ impl Drop for Unit {
             exprs: _,
             stmts: _,
             items: _,
+            recent_names: _,
+            recent_exprs: _,
+            spelling: _,
+            end: _,
             alloc: _,
         } = self;
     }
@@ -58,11 +71,15 @@ impl Unit {
         ensures { result ≡ no_nodes }
     {
         Unit {
-            names: Names::new(alloc),
+            names: Interner::new(alloc),
             strings: Vec::new(alloc),
             exprs: Vec::new(alloc),
             stmts: Vec::new(alloc),
             items: Vec::new(alloc),
+            recent_names: Recent::new(alloc),
+            recent_exprs: Recent::new(alloc),
+            spelling: Vec::new(alloc),
+            end: 0,
             alloc,
         }
     }
@@ -115,7 +132,7 @@ impl Unit {
         requires { n.0 < length self.now.names }
         ensures { result.now ≡ bytes_at self.now.names n.0 }
     {
-        self.names.name(n.0)
+        self.names.text(n.0)
     }
 
     /// The bytes of a string.
@@ -170,7 +187,49 @@ impl Unit {
         ensures ok { IfOk result (λ n. AddsName self.old self.new name.now n.0) }
         ensures err { OnErr result (self.new ≡ self.old) }
     {
-        let n = self.names.add(name)?;
+        let n = self.names.intern(name)?;
+        Ok(CNameId(n))
+    }
+
+    /// Whether the name with this number, if there is one, is these words.
+    fn is_spelt_at(
+        &self,
+        n: usize,
+        first: &[u8],
+        second: &[u8],
+        third: &[u8],
+        fourth: &[u8],
+    ) -> bool
+        ensures { result ≡ true → slice_get self.now.names n ≡ Some (first.now ++ (second.now ++ (third.now ++ fourth.now))) }
+    {
+        if n >= self.names.len() {
+            return false;
+        }
+        is_spelt(self.names.text(n), first, second, third, fourth)
+    }
+
+    /// The number of the name that is these words, one after the other; a word may be empty. It is added where the unit
+    /// doesn't have it yet. After `NoMemory` the unit is as before.
+    pub fn add_words(
+        &mut self,
+        first: &[u8],
+        second: &[u8],
+        third: &[u8],
+        fourth: &[u8],
+    ) -> Result<CNameId, NoMemory>
+        requires { IsName (first.now ++ (second.now ++ (third.now ++ fourth.now))) }
+        ensures ok { IfOk result (λ n. AddsName self.old self.new (first.now ++ (second.now ++ (third.now ++ fourth.now))) n.0) }
+        ensures err { OnErr result (self.new ≡ self.old) }
+    {
+        let place = place_of(first, second, third, fourth);
+        let guess = self.recent_names.guess(place);
+        if self.is_spelt_at(guess, first, second, third, fourth) {
+            return Ok(CNameId(guess));
+        }
+        self.recent_names.widen()?;
+        join(&mut self.spelling, first, second, third, fourth)?;
+        let n = self.names.intern(self.spelling.as_slice())?;
+        self.recent_names.put(place, n);
         Ok(CNameId(n))
     }
 
@@ -193,8 +252,56 @@ impl Unit {
         ensures err { OnErr result (self.new ≡ self.old) }
     {
         let id = self.exprs.len();
-        self.exprs.push(e)?;
+        add_last(&mut self.exprs, e)?;
         Ok(CExprId(id))
+    }
+
+    /// An expression that was added not long ago and is the same.
+    fn known(&self, place: usize, e: &CExpr) -> Option<CExprId>
+        ensures { IfSome result (λ id. slice_get self.now.exprs id.0 ≡ Some e.now) }
+    {
+        let guess = self.recent_exprs.guess(place);
+        match self.exprs.get(guess) {
+            Some(known) => {
+                if sharing::is_same(known, e) {
+                    Some(CExprId(guess))
+                } else {
+                    None
+                }
+            }
+            None => None,
+        }
+    }
+
+    /// Adds an expression, unless one that was added not long ago is the same.
+    fn share_at(&mut self, place: usize, e: CExpr) -> Result<CExprId, NoMemory>
+        requires { FitsExpr self.old (length self.old.exprs) e }
+        ensures ok { IfOk result (λ id. SharesExpr self.old self.new e id.0) }
+        ensures err { OnErr result (self.new ≡ self.old) }
+    {
+        if let Some(id) = self.known(place, &e) {
+            return Ok(id);
+        }
+        self.recent_exprs.widen()?;
+        let id = self.add_expr(e)?;
+        self.recent_exprs.put(place, id.0);
+        Ok(id)
+    }
+
+    /// An expression whose parts this unit has made. A number, a name or a member that was added not long ago serves
+    /// again; else it is added. After `NoMemory` the unit is as before.
+    pub fn share_expr(&mut self, e: CExpr) -> Result<CExprId, NoMemory>
+        requires { FitsExpr self.old (length self.old.exprs) e }
+        ensures ok { IfOk result (λ id. SharesExpr self.old self.new e id.0) }
+        ensures err { OnErr result (self.new ≡ self.old) }
+    {
+        match sharing::place_of(&e) {
+            Some(place) => self.share_at(place, e),
+            None => {
+                let id = self.add_expr(e)?;
+                Ok(id)
+            }
+        }
     }
 
     /// Adds a statement whose parts this unit has made. After `NoMemory` the unit is as before.
@@ -204,8 +311,32 @@ impl Unit {
         ensures err { OnErr result (self.new ≡ self.old) }
     {
         let id = self.stmts.len();
-        self.stmts.push(s)?;
+        add_last(&mut self.stmts, s)?;
         Ok(CStmtId(id))
+    }
+
+    /// The end of a block that was asked for before.
+    fn known_end(&self) -> Option<CStmtId>
+        ensures { IfSome result (λ id. slice_get self.now.stmts id.0 ≡ Some stmt.End) }
+    {
+        match self.stmts.get(self.end) {
+            Some(CStmt::End) => Some(CStmtId(self.end)),
+            _ => None,
+        }
+    }
+
+    /// The end of a block, one for all blocks. After `NoMemory` the unit is as before.
+    pub fn share_end(&mut self) -> Result<CStmtId, NoMemory>
+        ensures ok { IfOk result (λ id. SharesStmt self.old self.new stmt.End id.0) }
+        ensures err { OnErr result (self.new ≡ self.old) }
+    {
+        self.is_sound();
+        if let Some(id) = self.known_end() {
+            return Ok(id);
+        }
+        let id = self.add_stmt(CStmt::End)?;
+        self.end = id.0;
+        Ok(id)
     }
 
     /// Adds an item at the end of the text, whose parts this unit has made. After `NoMemory` the unit is as
@@ -216,7 +347,7 @@ impl Unit {
         ensures err { OnErr result (self.new ≡ self.old) }
     {
         let id = self.items.len();
-        self.items.push(i)?;
+        add_last(&mut self.items, i)?;
         Ok(CItemId(id))
     }
 }

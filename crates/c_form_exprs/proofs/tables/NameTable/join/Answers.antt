@@ -3,8 +3,8 @@ use Rattle.std.specs.Ordering.{nat_cmp}
 use Rattle.std.specs.Cmp.Lexicographic.{slice_cmp}
 use Rattle.std.specs.BTreeMap.{get_by}
 use Rattle.std.proofs.lemmas.List.{length-map}
-use Rattle.c_text.specs.CNames.{digest}
-use Rattle.c_text.proofs.NameTable.{other_names}
+use Rattle.interner.specs.Interning.{digest}
+use Rattle.interner.proofs.TableLemmas.{other_texts}
 use Rattle.c_form_exprs.proofs.TableLemmas.{seen, first_joined, other_joined, entries_joined, other_numbers}
 use Rattle.c_form_exprs.proofs.tables.NameTable.join.Goals as goal
 
@@ -14,11 +14,11 @@ invariant_of-self-in-Some g c =
     let joined : c.push.new.self.items ≡ c.self.inside.entries.items ++ (c.args.name, c.args.value) ∷ [] = c.in-Ok.ensures.items ∙ ap (λ entries. entries ++ (c.args.name, c.args.value) ∷ []) c.reserve.ensures.items in
     let number : c.len-place.result ≡ length (map seen c.self.inside.entries.items) = c.len-place.ensures ∙ c.self.inside.entries.ok.0 ∙ sym (length-map c.self.inside.entries.items seen) in
     let has : get_by (nat_cmp (digest c.args.name.now)) c.self.inside.firsts ≡ Some c.in-Some.field-0 =
-    sym (sym c.in-Some.is ∙ c.copied-first.ensures ∙ c.get.ensures.value ∙ ap (λ (made : ℕ). get_by (nat_cmp made) c.self.inside.firsts) c.name_digest-made.ensures) in
+    sym (sym c.in-Some.is ∙ c.copied-first.ensures ∙ c.get.ensures.value ∙ ap (λ (made : ℕ). get_by (nat_cmp made) c.self.inside.firsts) c.digest-made.ensures) in
     other_joined (λ made. get_by (nat_cmp made) c.self.inside.firsts) (λ q. get_by (λ key. slice_cmp nat_cmp q key.now) c.self.inside.others) (λ q. get_by (λ key. slice_cmp nat_cmp q key.now) c.insert.new.self)
     (map seen c.self.inside.entries.items) _ c.args.name.now c.args.value c.in-Some.field-0
     c.self.invariant (rw (← c.self.view_is) at c.requires) has (c.in_ok-insert-in-Some.ensures.updates.1 ∙ ap Some number)
-    (λ q f. other_names (λ key. key.now) c.args.name.now c.self.inside.others c.insert.new.self _ c.in_ok-insert-in-Some.ensures.updates q f)
+    (λ q f. other_texts (λ key. key.now) c.args.name.now c.self.inside.others c.insert.new.self _ c.in_ok-insert-in-Some.ensures.updates q f)
     (entries_joined c.self.inside.entries.items c.push.new.self.items c.args.name c.args.value joined)
 
 -- No other name has this digest.
@@ -27,11 +27,11 @@ invariant_of-self-in-None g c =
     let joined : c.push-in-None.new.self.items ≡ c.self.inside.entries.items ++ (c.args.name, c.args.value) ∷ [] = c.in-Ok-push.ensures.items ∙ ap (λ entries. entries ++ (c.args.name, c.args.value) ∷ []) c.reserve.ensures.items in
     let number : c.len-place.result ≡ length (map seen c.self.inside.entries.items) = c.len-place.ensures ∙ c.self.inside.entries.ok.0 ∙ sym (length-map c.self.inside.entries.items seen) in
     let none : get_by (nat_cmp (digest c.args.name.now)) c.self.inside.firsts ≡ None =
-    sym (sym c.in-None.is ∙ c.copied-first.ensures ∙ c.get.ensures.value ∙ ap (λ (made : ℕ). get_by (nat_cmp made) c.self.inside.firsts) c.name_digest-made.ensures) in
+    sym (sym c.in-None.is ∙ c.copied-first.ensures ∙ c.get.ensures.value ∙ ap (λ (made : ℕ). get_by (nat_cmp made) c.self.inside.firsts) c.digest-made.ensures) in
     let here : get_by (nat_cmp (digest c.args.name.now)) c.insert-in-None.new.self ≡ Some (length (map seen c.self.inside.entries.items)) =
-    ap (λ (made : ℕ). get_by (nat_cmp made) c.insert-in-None.new.self) (sym c.name_digest-made.ensures) ∙ c.in_ok-insert-in-None.ensures.updates.1 ∙ ap Some number in
+    ap (λ (made : ℕ). get_by (nat_cmp made) c.insert-in-None.new.self) (sym c.digest-made.ensures) ∙ c.in_ok-insert-in-None.ensures.updates.1 ∙ ap Some number in
     first_joined (λ made. get_by (nat_cmp made) c.self.inside.firsts) (λ made. get_by (nat_cmp made) c.insert-in-None.new.self) (λ q. get_by (λ key. slice_cmp nat_cmp q key.now) c.self.inside.others)
     (map seen c.self.inside.entries.items) _ c.args.name.now c.args.value
     c.self.invariant (rw (← c.self.view_is) at c.requires) none here
-    (other_numbers c.self.inside.firsts c.insert-in-None.new.self c.name_digest-made.result (digest c.args.name.now) _ c.name_digest-made.ensures c.in_ok-insert-in-None.ensures.updates)
+    (other_numbers c.self.inside.firsts c.insert-in-None.new.self c.digest-made.result (digest c.args.name.now) _ c.digest-made.ensures c.in_ok-insert-in-None.ensures.updates)
     (entries_joined c.self.inside.entries.items c.push-in-None.new.self.items c.args.name c.args.value joined)

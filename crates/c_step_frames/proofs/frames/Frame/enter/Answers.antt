@@ -3,7 +3,8 @@ use Rattle.c_meaning.specs.declared.cells.CellType.{CellType}
 use Rattle.c_meaning.specs.CMemory.{Object}
 use Rattle.c_meaning.specs.Typed.{object_shape}
 use Rattle.c_step_frames.specs.Frames.{StartsWith, unset_cells}
-use Rattle.c_step_frames.proofs.Arguments.{kept_is, small_again, unset_starts, unset_again}
+use Rattle.c_mem.proofs.UnsetCells.{small_again, unset_again}
+use Rattle.c_step_frames.proofs.Arguments.{kept_is, unset_starts}
 use Rattle.c_step_frames.proofs.frames.Frame.enter.Goals as goal
 
 pub pass-requires : goal.pass-requires

@@ -2,7 +2,8 @@ use Rattle.std.proofs.Common.{ap, refl, sym, ◌++◌, ◌∙◌}
 use Rattle.c_meaning.specs.Typed.{object_shape}
 use Rattle.c_mem.specs.MemoryViews.{memory}
 use Rattle.c_step_frames.specs.Frames.{FrameView, types_of, unset_cells}
-use Rattle.c_step_frames.proofs.Arguments.{last_one, not_empty, small_again, unset_again}
+use Rattle.c_mem.proofs.UnsetCells.{small_again, unset_again}
+use Rattle.c_step_frames.proofs.Arguments.{last_one, not_empty}
 use Rattle.c_step_frames.proofs.frames.Frame.leave.Goals as goal
 
 pub rested-requires : goal.rested-requires

@@ -3,9 +3,9 @@ use Rattle.c_text.proofs.Growth.{sound_expr, added_expr}
 use Rattle.c_text.proofs.unit.Unit.add_expr.Goals as goal
 
 pub invariant_of-self-2 : goal.invariant_of-self-2
-invariant_of-self-2 c = rw c.in_ok-push.ensures.items (sound_expr _ c.args.e c.self.invariant (rw (← c.self.view_is) at c.requires))
+invariant_of-self-2 c = rw c.in_ok-add_last.ensures.items (sound_expr _ c.args.e c.self.invariant (rw (← c.self.view_is) at c.requires))
 
 pub returns-clause-ok : goal.returns-clause-ok
 returns-clause-ok c =
     let place : c.len-id.result ≡ length c.self.inside.exprs.items = search rules in
-    rw (← c.self.view_is, c.in_ok-push.ensures.items, place) (refl, refl, added_expr _ c.args.e c.self.invariant (rw (← c.self.view_is) at c.requires))
+    rw (← c.self.view_is, c.in_ok-add_last.ensures.items, place) (refl, refl, added_expr _ c.args.e c.self.invariant (rw (← c.self.view_is) at c.requires))
