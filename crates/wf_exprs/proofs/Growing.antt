@@ -1,12 +1,12 @@
 -- Units that grow.
-use Rattle.std.proofs.Common.{◌≡◌, ◌<◌, ℕ, Result, Ok, Err, IfOk, OnErr, List, [], ◌∷◌, ◌++◌, length, refl, sym, ◌∙◌, ap, subst, arith, length-append}
+use Rattle.std.proofs.Common.{◌≡◌, ◌<◌, ℕ, Result, Ok, Err, IfOk, OnErr, List, [], ◌∷◌, ◌++◌, length, refl, sym, ◌∙◌, ap, subst, arith, length-append, inl, inr}
 use Rattle.wf_text.specs.declared.faults.NoMemory.{NoMemory}
 use Rattle.c_text.specs.declared.ids.CExprId.{CExprId}
 use Rattle.c_text.specs.declared.ids.CNameId.{CNameId}
 use Rattle.c_text.specs.declared.nodes.CExpr.{CExpr}
 use Rattle.c_text.specs.declared.nodes.CStmt.{CStmt}
-use Rattle.c_text.specs.CNodes.{Nodes, no_nodes, bytes_at, expr_of}
-use Rattle.c_text.specs.CUnit.{IsSound, Extends, AddsName}
+use Rattle.c_text.specs.CNodes.{Nodes, no_nodes, bytes_at, expr_of, made_expr}
+use Rattle.c_text.specs.CUnit.{IsSound, Extends, AddsName, SharesExpr}
 use Rattle.c_text.specs.CTree.{ExprTree}
 use Rattle.c_text.proofs.Growth.{with_expr, with_stmt}
 use Rattle.c_text.proofs.Trees.{append_nil, bytes_at-front, expr_of-kept, code_of-kept}
@@ -54,13 +54,6 @@ with_names old added = record { more = record no_nodes { names = added }; names 
 pub grown_name : (old new : Nodes) (name : List ℕ) (n : ℕ) → IsSound old → AddsName old new name n → Grows old new
 grown_name old new name n sound adds = let there : Grows old (record old { names = old.names ++ adds.added }) = grown old (record old { names = old.names ++ adds.added }) sound (with_names old adds.added) refl refl in subst (λ (m : Nodes). Grows old m) (sym adds.grown) there
 
--- The last expression of a unit has this tree.
-pub last_expr : (old new : Nodes) (x : CExpr) (e : ℕ) (tree : ExprTree) → e ≡ length old.exprs → new ≡ record old { exprs = old.exprs ++ x ∷ [] } → expr_of new e ≡ tree → HasExpr new e tree
-last_expr old new x e tree place is tree_is =
-    let l = length-append old.exprs (x ∷ []) in
-    let longer : e < length (old.exprs ++ x ∷ []) = omega (arith, l, place) in
-    record { there = subst (λ (n : Nodes). e < length n.exprs) (sym is) longer; is = tree_is }
-
 -- What a unit has stays there while it grows.
 pub kept_expr : {a b : Nodes} (e : ℕ) (tree : ExprTree) → Grows a b → HasExpr a e tree → HasExpr b e tree
 kept_expr e tree g h = record { there = g.more_exprs e h.there; is = g.exprs e h.there ∙ h.is }
@@ -71,17 +64,14 @@ kept_name n name g h = record { there = g.more_names n h.there; is = g.names n h
 pub retold : {a : Nodes} {e : ℕ} {tree other : ExprTree} → HasExpr a e tree → tree ≡ other → HasExpr a e other
 retold h same = record { there = h.there; is = h.is ∙ same }
 
--- What becomes of the three ways in which a unit grows, by their answers.
-abbrev pub AddsExpr : (old new : Nodes) → CExpr → ExprTree → CExprId → Type 0
-AddsExpr old new x tree id = (id.0 ≡ length old.exprs) × (new ≡ record old { exprs = old.exprs ++ x ∷ [] }) × (expr_of new id.0 ≡ tree)
+-- What becomes of the ways in which a unit grows, by their answers.
+pub put_grows : (old new : Nodes) (x : CExpr) (r : Result CExprId NoMemory) → IsSound old → IfOk r (λ id. SharesExpr old new x id.0) → OnErr r (new ≡ old) → Grows old new
+put_grows old new x (Ok id) sound ok err = elim ok.grown [ inl same ↦ unchanged old new same | inr more ↦ grown_expr old new x sound more ]
+put_grows old new x (Err refused) sound ok err = unchanged old new err
 
-pub put_grows : (old new : Nodes) (x : CExpr) (tree : ExprTree) (r : Result CExprId NoMemory) → IsSound old → IfOk r (AddsExpr old new x tree) → OnErr r (new ≡ old) → Grows old new
-put_grows old new x tree (Ok id) sound ok err = grown_expr old new x sound ok.1
-put_grows old new x tree (Err refused) sound ok err = unchanged old new err
-
-pub put_made : (old new : Nodes) (x : CExpr) (tree : ExprTree) (r : Result CExprId NoMemory) → IfOk r (AddsExpr old new x tree) → IfOk r (λ id. HasExpr new id.0 tree)
-put_made old new x tree (Ok id) ok = last_expr old new x id.0 tree ok.0 ok.1 ok.2
-put_made old new x tree (Err refused) ok = ok
+pub put_made : (old new : Nodes) (x : CExpr) (r : Result CExprId NoMemory) → IfOk r (λ id. SharesExpr old new x id.0) → IfOk r (λ id. HasExpr new id.0 (made_expr old.names (expr_of old) x))
+put_made old new x (Ok id) ok = record { there = ok.there; is = ok.is }
+put_made old new x (Err refused) ok = ok
 
 pub name_grows : (old new : Nodes) (name : List ℕ) (r : Result CNameId NoMemory) → IsSound old → IfOk r (λ n. AddsName old new name n.0) → OnErr r (new ≡ old) → Grows old new
 name_grows old new name (Ok n) sound ok err = grown_name old new name n.0 sound ok

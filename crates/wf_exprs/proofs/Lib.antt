@@ -1,4 +1,3 @@
 pub mod Growing
 pub mod Prefixes
 pub mod RatedLaws
-pub mod SpeltLaws

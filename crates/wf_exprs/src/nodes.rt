@@ -47,14 +47,14 @@ pub fn uint_of(width: Width) -> CUint
     }
 }
 
-/// Adds an expression whose parts the unit has.
+/// The number of an expression whose parts the unit has. What is without operands may be there already.
 pub fn put(u: &mut Unit, x: CExpr) -> Result<CExprId, NoMemory>
     requires { FitsExpr u.old (length u.old.exprs) x }
     ensures grows { Grows u.old u.new }
     ensures made { IfOk result (λ it. HasExpr u.new it.0 ((made_expr u.old.names (expr_of u.old) x))) }
 {
     u.is_sound();
-    u.add_expr(x)
+    u.share_expr(x)
 }
 
 /// A number.
@@ -76,17 +76,12 @@ pub fn variable(u: &mut Unit, name: &[u8]) -> Result<CExprId, NoMemory>
 }
 
 /// A variable with a name of two parts.
-pub fn spelt_variable(
-    alloc: Global,
-    u: &mut Unit,
-    begin: &[u8],
-    end: &[u8],
-) -> Result<CExprId, NoMemory>
+pub fn spelt_variable(u: &mut Unit, begin: &[u8], end: &[u8]) -> Result<CExprId, NoMemory>
     requires { IsName (begin.now ++ end.now) }
     ensures grows { Grows u.old u.new }
     ensures made { IfOk result (λ it. HasExpr u.new it.0 ((c.variable (begin.now ++ end.now)))) }
 {
-    let name = put_spelt(alloc, u, begin, end)?;
+    let name = put_spelt(u, begin, end)?;
     put(u, CExpr::Name(name))
 }
 

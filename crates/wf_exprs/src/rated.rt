@@ -174,19 +174,14 @@ fn bits_in(width: Width) -> u64
 }
 
 /// The name of the function of a saturating operator.
-pub fn saturating_name(
-    alloc: Global,
-    u: &mut Unit,
-    is_sum: bool,
-    width: Width,
-) -> Result<CNameId, NoMemory>
+pub fn saturating_name(u: &mut Unit, is_sum: bool, width: Width) -> Result<CNameId, NoMemory>
     ensures grows { Grows u.old u.new }
     ensures made { IfOk result (λ it. HasNamed u.new it.0 (name_of_saturating is_sum (bits_of width))) }
 {
     if is_sum {
-        put_numbered(alloc, u, b"sat_plus_u", bits_in(width))
+        put_numbered(u, b"sat_plus_u", bits_in(width))
     } else {
-        put_numbered(alloc, u, b"sat_minus_u", bits_in(width))
+        put_numbered(u, b"sat_minus_u", bits_in(width))
     }
 }
 
@@ -204,7 +199,7 @@ pub fn saturated(
     ensures grows { Grows u.old u.new }
     ensures made { IfOk result (λ it. HasExpr u.new it.0 (saturated_code is_sum (bits_of width) (expr_of u.old a.0) (expr_of u.old b.0))) }
 {
-    let function = saturating_name(alloc, u, is_sum, width)?;
+    let function = saturating_name(u, is_sum, width)?;
     called(alloc, u, function, a, b)
 }
 

@@ -102,7 +102,7 @@ impl<'a> Scope<'a> {
         ensures grows { Grows u.old u.new }
         ensures made { IfOk result (λ it. HasExpr u.new it.0 (c.variable (name_of_local self.now.names n))) }
     {
-        spelt_variable(self.alloc, u, b"v_", named(self.t, self.locals, n))
+        spelt_variable(u, b"v_", named(self.t, self.locals, n))
     }
 
     /// The pointer of a local slice.
@@ -110,7 +110,7 @@ impl<'a> Scope<'a> {
         ensures grows { Grows u.old u.new }
         ensures made { IfOk result (λ it. HasExpr u.new it.0 (c.variable (local_pointer self.now.names n))) }
     {
-        spelt_variable(self.alloc, u, b"vp_", named(self.t, self.locals, n))
+        spelt_variable(u, b"vp_", named(self.t, self.locals, n))
     }
 
     /// The length of a local slice.
@@ -118,7 +118,7 @@ impl<'a> Scope<'a> {
         ensures grows { Grows u.old u.new }
         ensures made { IfOk result (λ it. HasExpr u.new it.0 (c.variable (local_length self.now.names n))) }
     {
-        spelt_variable(self.alloc, u, b"vl_", named(self.t, self.locals, n))
+        spelt_variable(u, b"vl_", named(self.t, self.locals, n))
     }
 
     /// An argument that is no slice: of a reader or a writer the buffer.
@@ -126,7 +126,7 @@ impl<'a> Scope<'a> {
         ensures grows { Grows u.old u.new }
         ensures made { IfOk result (λ it. HasExpr u.new it.0 (c.variable (arg_name self.now.names n))) }
     {
-        spelt_variable(self.alloc, u, b"a_", named(self.t, self.args, n))
+        spelt_variable(u, b"a_", named(self.t, self.args, n))
     }
 
     /// The pointer of a slice that is an argument.
@@ -134,7 +134,7 @@ impl<'a> Scope<'a> {
         ensures grows { Grows u.old u.new }
         ensures made { IfOk result (λ it. HasExpr u.new it.0 (c.variable (arg_pointer self.now.names n))) }
     {
-        spelt_variable(self.alloc, u, b"ap_", named(self.t, self.args, n))
+        spelt_variable(u, b"ap_", named(self.t, self.args, n))
     }
 
     /// The length of a slice that is an argument.
@@ -142,7 +142,7 @@ impl<'a> Scope<'a> {
         ensures grows { Grows u.old u.new }
         ensures made { IfOk result (λ it. HasExpr u.new it.0 (c.variable (arg_length self.now.names n))) }
     {
-        spelt_variable(self.alloc, u, b"al_", named(self.t, self.args, n))
+        spelt_variable(u, b"al_", named(self.t, self.args, n))
     }
 
     /// The place in a reader or a writer.
@@ -150,7 +150,7 @@ impl<'a> Scope<'a> {
         ensures grows { Grows u.old u.new }
         ensures made { IfOk result (λ it. HasExpr u.new it.0 (place_code self.now.names n)) }
     {
-        spelt_variable(self.alloc, u, b"p_", named(self.t, self.args, n))
+        spelt_variable(u, b"p_", named(self.t, self.args, n))
     }
 
     /// The end of a reader's bytes or of a writer's room.
@@ -158,7 +158,7 @@ impl<'a> Scope<'a> {
         ensures grows { Grows u.old u.new }
         ensures made { IfOk result (λ it. HasExpr u.new it.0 (end_code self.now.names n)) }
     {
-        spelt_variable(self.alloc, u, b"e_", named(self.t, self.args, n))
+        spelt_variable(u, b"e_", named(self.t, self.args, n))
     }
 
     /// The pointer to a reader's or a writer's bytes.
@@ -166,7 +166,7 @@ impl<'a> Scope<'a> {
         ensures grows { Grows u.old u.new }
         ensures made { IfOk result (λ it. HasExpr u.new it.0 (bytes_code self.now.names n)) }
     {
-        spelt_variable(self.alloc, u, b"b_", named(self.t, self.args, n))
+        spelt_variable(u, b"b_", named(self.t, self.args, n))
     }
 
     /// The name in C of a field of the source.
@@ -174,7 +174,7 @@ impl<'a> Scope<'a> {
         ensures grows { Grows u.old u.new }
         ensures made { IfOk result (λ name. HasNamed u.new name.0 (name_of_field self.now.names n)) }
     {
-        put_spelt(self.alloc, u, b"f_", named(self.t, self.fields, n))
+        put_spelt(u, b"f_", named(self.t, self.fields, n))
     }
 
     /// A field of the receiver.

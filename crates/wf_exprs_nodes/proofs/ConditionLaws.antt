@@ -5,10 +5,11 @@ use Rattle.wf_ast.specs.declared.numbers.ExprId.{ExprId}
 use Rattle.wf_ast.specs.declared.types.Ty.{Ty}
 use Rattle.wf_ast.specs.declared.types.Ty.TheVariants as types
 use Rattle.wf_ast.specs.declared.typed_nodes.TypedNodes.{TypedNodes}
-use Rattle.wf_ast.specs.TypedTree.{Order, less, at_most, equal, differs, at_least, greater, CondTree, junction, ValueTree, numeric, logical, state, elements, io, lost}
+use Rattle.wf_ast.specs.TypedTree.{less, at_most, equal, differs, at_least, greater, CondTree, junction, ValueTree}
 use Rattle.wf_ast.specs.TypedTrees.{Sort, arithmetic, ordering, joining, num_in, cond_in, status_in, cond_chain, chain_of, comparison, first_sign, tree_of, type_of_node}
-use Rattle.wf_ast.specs.TypedInvariant.{is_expr, is_numeric, is_logical, is_state, chain_fits, compares_kinds, is_tree_of}
+use Rattle.wf_ast.specs.TypedInvariant.{is_expr, is_numeric, is_state, chain_fits, compares_kinds, is_tree_of}
 use Rattle.wf_ast.proofs.Arena.{both_true}
+use Rattle.wf_ast.proofs.ChainKinds.{operand_kinds, compares_numbers, compares_statuses}
 use Rattle.c_text.specs.CTree.{ExprTree, operation, Operands, no_operand}
 use Rattle.wf_exprs.specs.Names.{Names}
 use Rattle.wf_exprs.specs.Exprs.{with_operand, chained, compared, statuses_compared, lowered_cond, lowered_expr}
@@ -79,80 +80,24 @@ module _ (names : Names) where
       ∙ one_junction nodes at signs ty sort es d j l
 
   -- Numbers.
-  numbers_of : (at sign : Place) (op : Order) (a t : ValueTree) (ty : Ty) → is_state ty ≡ false → is_tree_of ty a ≡ true
-      → compared op (lowered_expr names (num_in a)) (lowered_expr names (num_in t)) ≡ lowered_cond names (cond_in (comparison at sign op a t))
-  numbers_of at sign equal (state x) t types.Status h k = absurd (cc h)
-  numbers_of at sign differs (state x) t types.Status h k = absurd (cc h)
-  numbers_of at sign equal (numeric x) t ty h k = refl
-  numbers_of at sign equal (logical x) t ty h k = refl
-  numbers_of at sign equal (elements x) t ty h k = refl
-  numbers_of at sign equal (io p x) t ty h k = refl
-  numbers_of at sign equal lost t ty h k = refl
-  numbers_of at sign differs (numeric x) t ty h k = refl
-  numbers_of at sign differs (logical x) t ty h k = refl
-  numbers_of at sign differs (elements x) t ty h k = refl
-  numbers_of at sign differs (io p x) t ty h k = refl
-  numbers_of at sign differs lost t ty h k = refl
-  numbers_of at sign less a t ty h k = refl
-  numbers_of at sign at_most a t ty h k = refl
-  numbers_of at sign at_least a t ty h k = refl
-  numbers_of at sign greater a t ty h k = refl
-  numbers_of at sign equal (state x) t (types.Num width lo hi) h k = absurd (cc k)
-  numbers_of at sign equal (state x) t types.Flag h k = absurd (cc k)
-  numbers_of at sign equal (state x) t types.Reader h k = absurd (cc k)
-  numbers_of at sign equal (state x) t types.Writer h k = absurd (cc k)
-  numbers_of at sign equal (state x) t (types.Slice width) h k = absurd (cc k)
-  numbers_of at sign equal (state x) t (types.Array width lo hi count) h k = absurd (cc k)
-  numbers_of at sign equal (state x) t (types.Part p) h k = absurd (cc k)
-  numbers_of at sign differs (state x) t (types.Num width lo hi) h k = absurd (cc k)
-  numbers_of at sign differs (state x) t types.Flag h k = absurd (cc k)
-  numbers_of at sign differs (state x) t types.Reader h k = absurd (cc k)
-  numbers_of at sign differs (state x) t types.Writer h k = absurd (cc k)
-  numbers_of at sign differs (state x) t (types.Slice width) h k = absurd (cc k)
-  numbers_of at sign differs (state x) t (types.Array width lo hi count) h k = absurd (cc k)
-  numbers_of at sign differs (state x) t (types.Part p) h k = absurd (cc k)
-
   pub numbers_compared : (at : Place) (signs : List Place) (ty tya : Ty) (sort : Sort) (a b : ValueTree) → is_ordering sort ≡ true → is_state tya ≡ false → is_tree_of tya a ≡ true
       → compared (order_in sort) (lowered_expr names (num_in a)) (lowered_expr names (num_in b)) ≡ lowered_cond names (cond_in (chain_of at signs ty sort (a ∷ b ∷ [])))
-  numbers_compared at signs ty tya (ordering op) a b o h k = numbers_of at (first_sign at signs) op a b tya h k
+  numbers_compared at signs ty tya (ordering op) a b o h k = ap (λ t. lowered_cond names (cond_in t)) (sym (compares_numbers at (first_sign at signs) op a b tya h k))
   numbers_compared at signs ty tya (joining both) a b o h k = absurd (cc o)
   numbers_compared at signs ty tya (arithmetic op) a b o h k = absurd (cc o)
 
   -- Statuses.
-  statuses_of : (at sign : Place) (op : Order) (a t : ValueTree) (tyb : Ty) → is_tree_of types.Status a ≡ true → compares_kinds (ordering op) types.Status tyb ≡ true
-      → statuses_compared (is_equal op) names (status_in a) (status_in t) ≡ lowered_cond names (cond_in (comparison at sign op a t))
-  statuses_of at sign equal (state x) t tyb k c = refl
-  statuses_of at sign differs (state x) t tyb k c = refl
-  statuses_of at sign less (state x) t tyb k c = absurd (cc c)
-  statuses_of at sign at_most (state x) t tyb k c = absurd (cc c)
-  statuses_of at sign at_least (state x) t tyb k c = absurd (cc c)
-  statuses_of at sign greater (state x) t tyb k c = absurd (cc c)
-  statuses_of at sign op (numeric x) t tyb k c = absurd (cc k)
-  statuses_of at sign op (logical x) t tyb k c = absurd (cc k)
-  statuses_of at sign op (elements x) t tyb k c = absurd (cc k)
-  statuses_of at sign op (io p x) t tyb k c = absurd (cc k)
-  statuses_of at sign op lost t tyb k c = absurd (cc k)
-
   pub statuses_as_one : (at : Place) (signs : List Place) (ty tya tyb : Ty) (sort : Sort) (a b : ValueTree) → is_ordering sort ≡ true → is_state tya ≡ true → is_tree_of tya a ≡ true → compares_kinds sort tya tyb ≡ true
       → statuses_compared (is_equal (order_in sort)) names (status_in a) (status_in b) ≡ lowered_cond names (cond_in (chain_of at signs ty sort (a ∷ b ∷ [])))
-  statuses_as_one at signs ty types.Status tyb (ordering op) a b o h k c = statuses_of at (first_sign at signs) op a b tyb k c
-  statuses_as_one at signs ty types.Status tyb (joining both) a b o h k c = absurd (cc o)
-  statuses_as_one at signs ty types.Status tyb (arithmetic op) a b o h k c = absurd (cc o)
-  statuses_as_one at signs ty (types.Num width lo hi) tyb sort a b o h k c = absurd (cc h)
-  statuses_as_one at signs ty types.Flag tyb sort a b o h k c = absurd (cc h)
-  statuses_as_one at signs ty types.Reader tyb sort a b o h k c = absurd (cc h)
-  statuses_as_one at signs ty types.Writer tyb sort a b o h k c = absurd (cc h)
-  statuses_as_one at signs ty (types.Slice width) tyb sort a b o h k c = absurd (cc h)
-  statuses_as_one at signs ty (types.Array width lo hi count) tyb sort a b o h k c = absurd (cc h)
-  statuses_as_one at signs ty (types.Part p) tyb sort a b o h k c = absurd (cc h)
+  statuses_as_one at signs ty tya tyb (ordering op) a b o h k c =
+      compares_statuses (λ op a. statuses_compared (is_equal op) names (status_in a) (status_in b) ≡ lowered_cond names (cond_in (comparison at (first_sign at signs) op a b))) (λ x. refl) (λ x. refl) op a tya tyb h k c
+  statuses_as_one at signs ty tya tyb (joining both) a b o h k c = absurd (cc o)
+  statuses_as_one at signs ty tya tyb (arithmetic op) a b o h k c = absurd (cc o)
 
 -- What is compared is of kinds that compare.
 pub compared_kinds : (nodes : TypedNodes) (ty : Ty) (sort : Sort) (es : List ExprId) (d : ExprId) → is_ordering sort ≡ true → chain_fits nodes sort es ty ≡ true
     → compares_kinds sort (type_of_node nodes (get_or es 0 d).0) (type_of_node nodes (get_or es 1 d).0) ≡ true
-compared_kinds nodes ty (ordering op) [] d o f = absurd (cc f)
-compared_kinds nodes ty (ordering op) (e ∷ []) d o f = absurd (cc f)
-compared_kinds nodes ty (ordering op) (e ∷ g ∷ []) d o f = (both_true (is_logical ty) (compares_kinds (ordering op) (type_of_node nodes e.0) (type_of_node nodes g.0)) f).1
-compared_kinds nodes ty (ordering op) (e ∷ g ∷ i ∷ es) d o f = absurd (cc f)
+compared_kinds nodes ty (ordering op) es d o f = operand_kinds nodes ty op es d f
 compared_kinds nodes ty (joining both) es d o f = absurd (cc o)
 compared_kinds nodes ty (arithmetic op) es d o f = absurd (cc o)
 

@@ -1,5 +1,5 @@
 -- The items of a unit while it grows.
-use Rattle.std.proofs.Common.{◌≡◌, ◌<◌, ℕ, suc, Result, Ok, Err, IfOk, OnErr, Option, None, Some, List, [], ◌∷◌, ◌++◌, length, map, refl, sym, ◌∙◌, ap, subst, arith, length-append}
+use Rattle.std.proofs.Common.{◌≡◌, ◌<◌, ℕ, suc, Result, Ok, Err, IfOk, OnErr, Option, None, Some, List, [], ◌∷◌, ◌++◌, length, map, refl, sym, ◌∙◌, ap, subst, arith, length-append, inl, inr}
 use Rattle.std.specs.Prelude.{slice_get, IfSome, option_map}
 use Rattle.wf_text.specs.declared.faults.NoMemory.{NoMemory}
 use Rattle.c_text.specs.declared.ids.CExprId.{CExprId}
@@ -16,8 +16,8 @@ use Rattle.c_text.specs.declared.nodes.CStmt.{CStmt}
 use Rattle.c_text.specs.declared.nodes.CItem.{CItem}
 use Rattle.c_text.specs.declared.nodes.CItem.TheVariants as item
 use Rattle.c_text.specs.CFits.{HasType, HasFieldType, HasFields, HasParams, HasLocals, FitsItem}
-use Rattle.c_text.specs.CNodes.{Nodes, bytes_at, type_in, expr_of, code_of, value_in, field_kind, field_tree, param_tree, local_tree, made_item, unit_tree}
-use Rattle.c_text.specs.CUnit.{IsSound}
+use Rattle.c_text.specs.CNodes.{Nodes, bytes_at, type_in, expr_of, code_of, made_code, value_in, field_kind, field_tree, param_tree, local_tree, made_item, unit_tree}
+use Rattle.c_text.specs.CUnit.{IsSound, SharesStmt}
 use Rattle.c_text.specs.CTree.{TypeTree, struct_pointer, ExprTree, Code, FieldKind, plain, inside, FieldTree, ParamTree, LocalTree, ItemTree, struct_item, text_item, function_item}
 use Rattle.wf_exprs.specs.Grown.{Grows, HasCode}
 use Rattle.wf_exprs.proofs.Growing.{grown_stmt, unchanged}
@@ -138,6 +138,15 @@ last_stmt old new x s code place is code_is =
 pub stmt_made : (old new : Nodes) (x : CStmt) (code : Code) (r : Result CStmtId NoMemory) → IfOk r (AddsStmt old new x code) → IfOk r (λ id. HasCode new id.0 code)
 stmt_made old new x code (Ok id) ok = last_stmt old new x id.0 code ok.0 ok.1 ok.2
 stmt_made old new x code (Err refused) ok = ok
+
+-- Likewise where the statement may have been there.
+pub shared_grows : (old new : Nodes) (x : CStmt) (r : Result CStmtId NoMemory) → IsSound old → IfOk r (λ id. SharesStmt old new x id.0) → OnErr r (new ≡ old) → Grows old new
+shared_grows old new x (Ok id) sound ok err = elim ok.grown [ inl same ↦ unchanged old new same | inr more ↦ grown_stmt old new x sound more ]
+shared_grows old new x (Err refused) sound ok err = unchanged old new err
+
+pub shared_made : (old new : Nodes) (x : CStmt) (r : Result CStmtId NoMemory) → IfOk r (λ id. SharesStmt old new x id.0) → IfOk r (λ id. HasCode new id.0 (made_code old.names (expr_of old) (code_of old) x))
+shared_made old new x (Ok id) ok = record { there = ok.there; is = ok.is }
+shared_made old new x (Err refused) ok = ok
 
 pub code_as : (a : Nodes) (code other : Code) (r : Result CStmtId NoMemory) → code ≡ other → IfOk r (λ s. HasCode a s.0 code) → IfOk r (λ s. HasCode a s.0 other)
 code_as a code other (Ok s) same h = record { there = h.there; is = h.is ∙ same }

@@ -1,13 +1,13 @@
 -- The kinds of what stands inside a node.
-use Rattle.std.proofs.Common.{◌≡◌, ℕ, zero, suc, ◌<◌, Bool, ◌||◌, true, false, List, [], ◌∷◌, length, get_or, nat_lt, refl, arith}
+use Rattle.std.proofs.Common.{◌≡◌, ℕ, ◌<◌, Bool, ◌||◌, true, false, List, length, nat_lt, refl, arith}
 use Rattle.std.specs.List.{list_all}
 use Rattle.std.proofs.lemmas.Bool.Decides.{nat_tests}
 use Rattle.wf_ast.specs.declared.numbers.ExprId.{ExprId}
 use Rattle.wf_ast.specs.declared.types.Ty.{Ty}
 use Rattle.wf_ast.specs.declared.types.Ty.TheVariants as types
 use Rattle.wf_ast.specs.declared.typed_nodes.TypedNodes.{TypedNodes}
-use Rattle.wf_ast.specs.declared.resolved.Expr.{Expr}
-use Rattle.wf_ast.specs.declared.resolved.Expr.TheVariants as exprs
+use Rattle.wf_ast.specs.declared.typed_code.Expr.{Expr}
+use Rattle.wf_ast.specs.declared.typed_code.Expr.TheVariants as exprs
 use Rattle.wf_base.specs.declared.base_methods.Gives.{Gives}
 use Rattle.wf_base.specs.declared.base_methods.Gives.TheVariants as gives
 use Rattle.wf_base.specs.declared.marks.Mark.TheVariants.{Pure}
@@ -15,8 +15,10 @@ use Rattle.wf_base.specs.declared.base_methods.BaseSig.{BaseSig}
 use Rattle.wf_base.specs.BaseTable.{row_of}
 use Rattle.wf_ast.specs.WellTyped.{same_mark}
 use Rattle.wf_ast.specs.TypedTrees.{Sort, arithmetic, ordering, joining, sort_of, type_of_node}
-use Rattle.wf_ast.specs.TypedInvariant.{is_expr, is_numeric, is_logical, is_state, is_list, is_io, is_given, has_kind, all_numeric, chain_fits, kind_fits}
+use Rattle.wf_ast.specs.TypedInvariant.{is_expr, is_numeric, is_logical, is_state, is_list, is_io, is_given, has_kind, chain_fits, kind_fits}
 use Rattle.wf_ast.proofs.Arena.{both_true}
+use Rattle.wf_ast.proofs.ChainKinds.{gives_number, junction_gives_condition, comparison_gives_condition, no_slice_chain, no_status_chain, numeric_operands, logical_operands}
+use Rattle.wf_ast.proofs.TypeKinds.{number_no_condition, list_no_condition, list_no_number, list_no_state, state_no_condition, state_no_number}
 use Rattle.wf_exprs.specs.Making.{is_number_at, is_condition_at}
 use Rattle.wf_exprs_nodes.specs.Trees.{answers_number, answers_truth, gives_flag, is_arithmetic, is_joining, is_num, is_ordering}
 
@@ -31,161 +33,32 @@ pub record IsOfConditions (nodes : TypedNodes) (es : List ExprId) : Type 0 where
   pub conditions : list_all (is_condition_at nodes) es ≡ true
   pub some : 1 < length es
 
-pub lt_more : (k m n : ℕ) → m < n → nat_lt k m ≡ true → nat_lt k n ≡ true
-lt_more k m n l h = grind (arith, nat_tests, l, h)
-
-numbers_below : (nodes : TypedNodes) (n : ℕ) (es : List ExprId) → n < length nodes.exprs → all_numeric nodes es ≡ true → list_all (λ p. nat_lt p.0 n) es ≡ true → list_all (is_number_at nodes) es ≡ true
-numbers_below nodes n [] l h b = refl
-numbers_below nodes n (e ∷ es) l h b =
-    let p = both_true (is_numeric (type_of_node nodes e.0)) (all_numeric nodes es) h in
-    let q = both_true (nat_lt e.0 n) (list_all (λ p. nat_lt p.0 n) es) b in
-    rw (lt_more e.0 n (length nodes.exprs) l q.0, p.0, numbers_below nodes n es l p.1 q.1) refl
-
-conditions_below : (nodes : TypedNodes) (n : ℕ) (es : List ExprId) → n < length nodes.exprs → list_all (λ part. is_logical (type_of_node nodes part.0)) es ≡ true → list_all (λ p. nat_lt p.0 n) es ≡ true
-    → list_all (is_condition_at nodes) es ≡ true
-conditions_below nodes n [] l h b = refl
-conditions_below nodes n (e ∷ es) l h b =
-    let p = both_true (is_logical (type_of_node nodes e.0)) (list_all (λ part. is_logical (type_of_node nodes part.0)) es) h in
-    let q = both_true (nat_lt e.0 n) (list_all (λ p. nat_lt p.0 n) es) b in
-    rw (lt_more e.0 n (length nodes.exprs) l q.0, p.0, conditions_below nodes n es l p.1 q.1) refl
-
-pub all_there : (nodes : TypedNodes) (n : ℕ) (es : List ExprId) → n < length nodes.exprs → list_all (λ p. nat_lt p.0 n) es ≡ true → list_all (is_expr nodes) es ≡ true
-all_there nodes n [] l b = refl
-all_there nodes n (e ∷ es) l b =
-    let q = both_true (nat_lt e.0 n) (list_all (λ p. nat_lt p.0 n) es) b in
-    rw (lt_more e.0 n (length nodes.exprs) l q.0, all_there nodes n es l q.1) refl
-
--- No type has two kinds.
-number_no_condition : (ty : Ty) → is_numeric ty ≡ true → is_logical ty ≡ true → ⊥
-number_no_condition (types.Num width lo hi) h k = cc k
-number_no_condition types.Flag h k = cc h
-number_no_condition types.Status h k = cc h
-number_no_condition types.Reader h k = cc h
-number_no_condition types.Writer h k = cc h
-number_no_condition (types.Slice width) h k = cc h
-number_no_condition (types.Array width lo hi count) h k = cc h
-number_no_condition (types.Part s) h k = cc h
-
-list_no_condition : (ty : Ty) → is_list ty ≡ true → is_logical ty ≡ true → ⊥
-list_no_condition (types.Num width lo hi) h k = cc h
-list_no_condition types.Flag h k = cc h
-list_no_condition types.Status h k = cc h
-list_no_condition types.Reader h k = cc h
-list_no_condition types.Writer h k = cc h
-list_no_condition (types.Slice width) h k = cc k
-list_no_condition (types.Array width lo hi count) h k = cc k
-list_no_condition (types.Part s) h k = cc h
-
-list_no_number : (ty : Ty) → is_list ty ≡ true → is_numeric ty ≡ true → ⊥
-list_no_number (types.Num width lo hi) h k = cc h
-list_no_number types.Flag h k = cc h
-list_no_number types.Status h k = cc h
-list_no_number types.Reader h k = cc h
-list_no_number types.Writer h k = cc h
-list_no_number (types.Slice width) h k = cc k
-list_no_number (types.Array width lo hi count) h k = cc k
-list_no_number (types.Part s) h k = cc h
-
-list_no_state : (ty : Ty) → is_list ty ≡ true → is_state ty ≡ true → ⊥
-list_no_state (types.Num width lo hi) h k = cc h
-list_no_state types.Flag h k = cc h
-list_no_state types.Status h k = cc h
-list_no_state types.Reader h k = cc h
-list_no_state types.Writer h k = cc h
-list_no_state (types.Slice width) h k = cc k
-list_no_state (types.Array width lo hi count) h k = cc k
-list_no_state (types.Part s) h k = cc h
-
-state_no_condition : (ty : Ty) → is_state ty ≡ true → is_logical ty ≡ true → ⊥
-state_no_condition (types.Num width lo hi) h k = cc h
-state_no_condition types.Flag h k = cc h
-state_no_condition types.Status h k = cc k
-state_no_condition types.Reader h k = cc h
-state_no_condition types.Writer h k = cc h
-state_no_condition (types.Slice width) h k = cc h
-state_no_condition (types.Array width lo hi count) h k = cc h
-state_no_condition (types.Part s) h k = cc h
-
-state_no_number : (ty : Ty) → is_state ty ≡ true → is_numeric ty ≡ true → ⊥
-state_no_number (types.Num width lo hi) h k = cc h
-state_no_number types.Flag h k = cc h
-state_no_number types.Status h k = cc k
-state_no_number types.Reader h k = cc h
-state_no_number types.Writer h k = cc h
-state_no_number (types.Slice width) h k = cc h
-state_no_number (types.Array width lo hi count) h k = cc h
-state_no_number (types.Part s) h k = cc h
-
 pub of_numbers : (nodes : TypedNodes) (n : ℕ) (ty : Ty) (sort : Sort) (es : List ExprId) → n < length nodes.exprs → is_numeric ty ≡ true → chain_fits nodes sort es ty ≡ true
     → list_all (λ p. nat_lt p.0 n) es ≡ true → IsOfNumbers nodes sort es
-of_numbers nodes n ty (arithmetic op) [] l h f b = absurd (cc f)
-of_numbers nodes n ty (arithmetic op) (e ∷ []) l h f b = absurd (cc f)
-of_numbers nodes n ty (arithmetic op) (e ∷ g ∷ es) l h f b =
-    let p = both_true (is_numeric ty) (all_numeric nodes (e ∷ g ∷ es)) f in
-    record { arithmetic_sort = refl; numbers = numbers_below nodes n (e ∷ g ∷ es) l p.1 b; some = omega arith }
-of_numbers nodes n ty (joining both) [] l h f b = absurd (cc f)
-of_numbers nodes n ty (joining both) (e ∷ []) l h f b = absurd (cc f)
-of_numbers nodes n ty (joining both) (e ∷ g ∷ es) l h f b = absurd (number_no_condition ty h (both_true (is_logical ty) _ f).0)
-of_numbers nodes n ty (ordering op) [] l h f b = absurd (cc f)
-of_numbers nodes n ty (ordering op) (e ∷ []) l h f b = absurd (cc f)
-of_numbers nodes n ty (ordering op) (e ∷ g ∷ []) l h f b = absurd (number_no_condition ty h (both_true (is_logical ty) _ f).0)
-of_numbers nodes n ty (ordering op) (e ∷ g ∷ i ∷ es) l h f b = absurd (cc f)
+of_numbers nodes n ty (arithmetic op) es l h f b =
+    let operands = numeric_operands nodes n ty op es l f b in
+    record { arithmetic_sort = refl; numbers = operands.0; some = operands.1 }
+of_numbers nodes n ty (joining both) es l h f b = absurd (number_no_condition ty h (junction_gives_condition nodes both es ty f))
+of_numbers nodes n ty (ordering op) es l h f b = absurd (number_no_condition ty h (comparison_gives_condition nodes op es ty f))
 
 pub of_conditions : (nodes : TypedNodes) (n : ℕ) (ty : Ty) (sort : Sort) (es : List ExprId) → n < length nodes.exprs → is_joining sort ≡ true → chain_fits nodes sort es ty ≡ true
     → list_all (λ p. nat_lt p.0 n) es ≡ true → IsOfConditions nodes es
-of_conditions nodes n ty (joining both) [] l j f b = absurd (cc f)
-of_conditions nodes n ty (joining both) (e ∷ []) l j f b = absurd (cc f)
-of_conditions nodes n ty (joining both) (e ∷ g ∷ es) l j f b =
-    let p = both_true (is_logical ty) (list_all (λ part. is_logical (type_of_node nodes part.0)) (e ∷ g ∷ es)) f in
-    record { conditions = conditions_below nodes n (e ∷ g ∷ es) l p.1 b; some = omega arith }
+of_conditions nodes n ty (joining both) es l j f b =
+    let operands = logical_operands nodes n ty both es l f b in
+    record { conditions = operands.0; some = operands.1 }
 of_conditions nodes n ty (arithmetic op) es l j f b = absurd (cc j)
 of_conditions nodes n ty (ordering op) es l j f b = absurd (cc j)
 
 pub of_comparison : (nodes : TypedNodes) (ty : Ty) (sort : Sort) (es : List ExprId) → is_logical ty ≡ true → is_joining sort ≡ false → chain_fits nodes sort es ty ≡ true → is_ordering sort ≡ true
 of_comparison nodes ty (ordering op) es h j f = refl
 of_comparison nodes ty (joining both) es h j f = absurd (cc j)
-of_comparison nodes ty (arithmetic op) [] h j f = absurd (cc f)
-of_comparison nodes ty (arithmetic op) (e ∷ []) h j f = absurd (cc f)
-of_comparison nodes ty (arithmetic op) (e ∷ g ∷ es) h j f = absurd (number_no_condition ty (both_true (is_numeric ty) (all_numeric nodes (e ∷ g ∷ es)) f).0 h)
+of_comparison nodes ty (arithmetic op) es h j f = absurd (number_no_condition ty (gives_number nodes op es ty f) h)
 
 pub number_below : (nodes : TypedNodes) (e : ExprId) → is_number_at nodes e ≡ true → e.0 < length nodes.exprs
 number_below nodes e h = let p = (both_true (is_expr nodes e) (is_numeric (type_of_node nodes e.0)) h).0 in grind (arith, nat_tests, p)
 
 pub condition_below : (nodes : TypedNodes) (e : ExprId) → is_condition_at nodes e ≡ true → e.0 < length nodes.exprs
 condition_below nodes e h = let p = (both_true (is_expr nodes e) (is_logical (type_of_node nodes e.0)) h).0 in grind (arith, nat_tests, p)
-
--- No chain gives a slice or a status.
-pub no_slice_chain : (nodes : TypedNodes) (ty : Ty) (sort : Sort) (es : List ExprId) → is_list ty ≡ true → chain_fits nodes sort es ty ≡ true → ⊥
-no_slice_chain nodes ty (arithmetic op) [] h f = cc f
-no_slice_chain nodes ty (arithmetic op) (e ∷ []) h f = cc f
-no_slice_chain nodes ty (arithmetic op) (e ∷ g ∷ es) h f = list_no_number ty h (both_true (is_numeric ty) (all_numeric nodes (e ∷ g ∷ es)) f).0
-no_slice_chain nodes ty (joining both) [] h f = cc f
-no_slice_chain nodes ty (joining both) (e ∷ []) h f = cc f
-no_slice_chain nodes ty (joining both) (e ∷ g ∷ es) h f = list_no_condition ty h (both_true (is_logical ty) _ f).0
-no_slice_chain nodes ty (ordering op) [] h f = cc f
-no_slice_chain nodes ty (ordering op) (e ∷ []) h f = cc f
-no_slice_chain nodes ty (ordering op) (e ∷ g ∷ []) h f = list_no_condition ty h (both_true (is_logical ty) _ f).0
-no_slice_chain nodes ty (ordering op) (e ∷ g ∷ i ∷ es) h f = cc f
-
-pub no_status_chain : (nodes : TypedNodes) (ty : Ty) (sort : Sort) (es : List ExprId) → is_state ty ≡ true → chain_fits nodes sort es ty ≡ true → ⊥
-no_status_chain nodes ty (arithmetic op) [] h f = cc f
-no_status_chain nodes ty (arithmetic op) (e ∷ []) h f = cc f
-no_status_chain nodes ty (arithmetic op) (e ∷ g ∷ es) h f = state_no_number ty h (both_true (is_numeric ty) (all_numeric nodes (e ∷ g ∷ es)) f).0
-no_status_chain nodes ty (joining both) [] h f = cc f
-no_status_chain nodes ty (joining both) (e ∷ []) h f = cc f
-no_status_chain nodes ty (joining both) (e ∷ g ∷ es) h f = state_no_condition ty h (both_true (is_logical ty) _ f).0
-no_status_chain nodes ty (ordering op) [] h f = cc f
-no_status_chain nodes ty (ordering op) (e ∷ []) h f = cc f
-no_status_chain nodes ty (ordering op) (e ∷ g ∷ []) h f = state_no_condition ty h (both_true (is_logical ty) _ f).0
-no_status_chain nodes ty (ordering op) (e ∷ g ∷ i ∷ es) h f = cc f
-
-pub item_true : (test : ExprId → Bool) (es : List ExprId) (i : ℕ) (d : ExprId) → list_all test es ≡ true → i < length es → test (get_or es i d) ≡ true
-item_true test [] i d h l = absurd (omega (arith, l))
-item_true test (e ∷ es) zero d h l = (both_true (test e) (list_all test es) h).0
-item_true test (e ∷ es) (suc i) d h l = item_true test es i d (both_true (test e) (list_all test es) h).1 (omega (arith, l))
-
-pub item_below : (n : ℕ) (es : List ExprId) (i : ℕ) (d : ExprId) → list_all (λ p. nat_lt p.0 n) es ≡ true → i < length es → (get_or es i d).0 < n
-item_below n es i d h l = let t = item_true (λ p. nat_lt p.0 n) es i d h l in grind (arith, nat_tests, t)
 
 -- What a base method gives is of the kind of its node's type.
 pub given_number : (g : Gives) (ty : Ty) → is_given g ty ≡ true → is_numeric ty ≡ true → is_num g ≡ true

@@ -2,7 +2,7 @@
 use Rattle.std.proofs.Common.{◌≡◌, ◌∙◌, ◌+◌, ◌<◌, ◌≤◌, ap, sym, arith, unwrap_or, ℕ, zero, suc, Bool, true, false, ◌&&◌, ◌||◌, nat_eq, List, [], ◌∷◌, length, replicate, refl, bytes_eq, inl, inr}
 use Rattle.std.specs.List.{slice_get, slice_set}
 use Rattle.std.proofs.lemmas.Bool.{cases_Bool, eqb-true}
-use Rattle.c_text.specs.CNames.{AreDistinct}
+use Rattle.c_text.specs.CUnit.{AreDistinct}
 use Rattle.c_text.specs.CNodes.{Nodes, bytes_at, code_of}
 use Rattle.c_text.proofs.Names.{bytes_eq-refl, same_names}
 use Rattle.wf_exprs.specs.Reads.{code_reads}

@@ -100,7 +100,7 @@ fn returned(u: &mut Unit, value: CExprId) -> Result<CStmtId, NoMemory>
     ensures grows { Grows u.old u.new }
     ensures made { IfOk result (λ it. HasCode u.new it.0 (leave (Some (expr_of u.old value.0)) finish)) }
 {
-    let rest = put_stmt(u, CStmt::End)?;
+    let rest = put_end(u)?;
     put_stmt(
         u,
         CStmt::Return {
@@ -108,6 +108,15 @@ fn returned(u: &mut Unit, value: CExprId) -> Result<CStmtId, NoMemory>
             rest,
         },
     )
+}
+
+/// The end of a block.
+pub fn put_end(u: &mut Unit) -> Result<CStmtId, NoMemory>
+    ensures grows { Grows u.old u.new }
+    ensures made { IfOk result (λ it. HasCode u.new it.0 finish) }
+{
+    u.is_sound();
+    u.share_end()
 }
 
 /// Adds a statement whose parts the unit has.
@@ -142,7 +151,7 @@ pub fn put_saturating(
     ensures { IfOk result (λ _. GrowsBy (saturating_item is_sum (bits_of width) ∷ []) u.old u.new) }
 {
     u.is_sound();
-    let name = saturating_name(alloc, u, is_sum, width)?;
+    let name = saturating_name(u, is_sum, width)?;
     let body = body(alloc, u, is_sum, width)?;
     let params = parameters(alloc, u, width)?;
     put_function(alloc, u, width, name, params, body)

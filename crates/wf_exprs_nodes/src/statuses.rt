@@ -23,14 +23,14 @@ use wf_exprs::{Path, Scope};
 use wf_text::{Category, NoMemory};
 
 /// The status with this number: ok is null, every other one its text.
-pub fn status_constant(alloc: Global, u: &mut Unit, n: u32) -> Result<CExprId, NoMemory>
+pub fn status_constant(u: &mut Unit, n: u32) -> Result<CExprId, NoMemory>
     ensures grows { Grows u.old u.new }
     ensures made { IfOk result (λ it. HasExpr u.new it.0 (constant_code n)) }
 {
     if n == 0 {
         return number(u, 0);
     }
-    let name = put_numbered(alloc, u, b"status_", n as u64)?;
+    let name = put_numbered(u, b"status_", n as u64)?;
     put(u, CExpr::Name(name))
 }
 
@@ -45,7 +45,7 @@ pub fn status(scope: &Scope, u: &mut Unit, e: ExprId) -> Result<CExprId, NoMemor
     match t.constant(e) {
         Some(_) => unreachable!(),
         None => match expr {
-            Expr::Status(s) => status_constant(scope.alloc(), u, s.0),
+            Expr::Status(s) => status_constant(u, s.0),
             Expr::Local(x) => held_status(scope, u, e, Path::Local(x.0)),
             Expr::Field(x) => held_status(scope, u, e, Path::Field(x.0)),
             Expr::Arg(_) => unreachable!(),

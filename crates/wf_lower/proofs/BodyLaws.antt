@@ -2,7 +2,7 @@
 use Rattle.std.proofs.Common.{◌≡◌, ◌+◌, ◌<◌, ◌≤◌, ℕ, zero, suc, Bool, true, false, if◌then◌else◌, Some, Result, Ok, Err, IfOk, List, [], ◌∷◌, ◌++◌, drop, get_or, length, map, refl, sym, ◌∙◌, ap, subst, arith}
 use Rattle.std.specs.Prelude.{slice_get, unwrap_or, ⊤}
 use Rattle.wf_text.specs.declared.faults.NoMemory.{NoMemory}
-use Rattle.wf_ast.specs.declared.resolved.Block as resolved
+use Rattle.wf_ast.specs.declared.typed_code.Block as typed_code
 use Rattle.wf_ast.specs.TypedInvariant.{IsTyped}
 use Rattle.wf_ast.specs.TypedTree.{Simple, Site, Block, end, plain, choose, loop}
 use Rattle.wf_meaning.specs.Remaining.{is_point, points_in, number_of}
@@ -70,14 +70,14 @@ module _ (f : Form) (p q : Site → ℕ) where
       ∙ ap (λ x. repeat (lowered_cond f.names head.cond) (lower f q body (again_here site body)) (behind_here site body x)) second
 
 -- The table has for each point of the body its number there.
-table_number : (b : BodyTree) (body : resolved.Block) → IsTyped b.nodes → IsBodyOf b body → (i : ℕ) (site : Site) → slice_get (points_in (form_in b).method.body) i ≡ Some site
+table_number : (b : BodyTree) (body : typed_code.Block) → IsTyped b.nodes → IsBodyOf b body → (i : ℕ) (site : Site) → slice_get (points_in (form_in b).method.body) i ≡ Some site
     → points_by b.numbers site ≡ number_of (form_in b).method.body site
 table_number b body typed of i site e =
     let m = (form_in b).method in
     let there = of.numbers site.number ∙ each_point b.nodes of.number i m site typed of.known e in
     ap (λ n. unwrap_or n 0) there ∙ sym (in_order b.nodes typed of.number m of.known i site e)
 
-pub numbered_lower : (b : BodyTree) (body : resolved.Block) → IsTyped b.nodes → IsBodyOf b body → (t : Code)
+pub numbered_lower : (b : BodyTree) (body : typed_code.Block) → IsTyped b.nodes → IsBodyOf b body → (t : Code)
     → lower (form_in b) (points_by b.numbers) (form_in b).method.body t ≡ lower (form_in b) (number_of (form_in b).method.body) (form_in b).method.body t
 numbered_lower b body typed of t =
     let m = (form_in b).method in

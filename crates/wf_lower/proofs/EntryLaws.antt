@@ -9,7 +9,7 @@ use Rattle.wf_text.specs.Surface as surface
 use Rattle.wf_base.specs.BaseTable.{bits_of}
 use Rattle.wf_ast.specs.declared.declarations.Method.{Method}
 use Rattle.wf_ast.specs.declared.declarations.Var.{Var}
-use Rattle.wf_ast.specs.declared.resolved.Block as resolved
+use Rattle.wf_ast.specs.declared.typed_code.Block as typed_code
 use Rattle.wf_ast.specs.declared.types.Ty.{Ty}
 use Rattle.wf_ast.specs.declared.types.Ty.TheVariants as types
 use Rattle.wf_ast.specs.declared.typed_nodes.TypedNodes.{TypedNodes}
@@ -278,8 +278,8 @@ pub call_as : {v w : Option ExprTree} {f g : List ℕ} {xs ys : Args} {r s : Cod
 call_as {w = w} {f = f} {g = g} {xs = xs} {ys = ys} {r = r} a b d e = ap (λ x. c.call x f xs r) a ∙ ap (λ x. c.call w x xs r) b ∙ ap (λ x. c.call w g x r) d ∙ ap (c.call w g ys) e
 
 -- The entry of a method asks nothing of its body.
-method_at : (nodes : TypedNodes) (ms : List Method) (bodies : List resolved.Block) (n : ℕ) (m : Method) → slice_get ms n ≡ Some m
-    → IfSome (slice_get (methods_of nodes ms bodies) n) (λ it. (body : resolved.Block) × (it ≡ method_of nodes m body))
+method_at : (nodes : TypedNodes) (ms : List Method) (bodies : List typed_code.Block) (n : ℕ) (m : Method) → slice_get ms n ≡ Some m
+    → IfSome (slice_get (methods_of nodes ms bodies) n) (λ it. (body : typed_code.Block) × (it ≡ method_of nodes m body))
 method_at nodes [] bodies n m h = absurd (cc h)
 method_at nodes (x ∷ xs) [] n m h = tt
 method_at nodes (x ∷ xs) (b ∷ bs) zero m h = (b, ap (λ y. method_of nodes y b) (let same : x ≡ m = cc h in same))
@@ -299,5 +299,5 @@ entry_told nodes n e u r nodes_are method_is number_is h =
     let B : ℕ → Type 0 = λ k. T nodes k in
     let C : MethodTree → Type 0 = λ x. IfOk r (λ item. HasItemTree u item (entry_function (package_of nodes) n x)) in
     let base = subst B number_is (subst A nodes_are h) in
-    if_some (λ it. (body : resolved.Block) × (it ≡ method_of nodes e.method body)) C (slice_get (methods_of nodes nodes.methods nodes.bodies) n) (λ it known. subst C (sym known.1) base)
+    if_some (λ it. (body : typed_code.Block) × (it ≡ method_of nodes e.method body)) C (slice_get (methods_of nodes nodes.methods nodes.bodies) n) (λ it known. subst C (sym known.1) base)
     (method_at nodes nodes.methods nodes.bodies n e.method method_is)

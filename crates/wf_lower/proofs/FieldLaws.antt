@@ -6,7 +6,7 @@ use Rattle.std.proofs.lemmas.Option.{same_Some, slice_get_within}
 use Rattle.wf_text.specs.declared.faults.NoMemory.{NoMemory}
 use Rattle.wf_ast.specs.declared.declarations.Method.{Method}
 use Rattle.wf_ast.specs.declared.declarations.Var.{Var}
-use Rattle.wf_ast.specs.declared.resolved.Block.{Block}
+use Rattle.wf_ast.specs.declared.typed_code.Block.{Block}
 use Rattle.wf_ast.specs.declared.typed_nodes.TypedNodes.{TypedNodes}
 use Rattle.wf_ast.specs.declared.types.Ty.{Ty}
 use Rattle.wf_ast.specs.declared.types.Ty.TheVariants as types

@@ -2,7 +2,7 @@
 use Rattle.std.specs.Prelude.{◌≡◌, ◌<◌, ◌++◌, ℕ, Bool, true, not, List, [], ◌∷◌, length, map, Option, Some, slice_get, if◌then◌else◌}
 use Rattle.wf_text.specs.Surface.{AnswerKind}
 use Rattle.wf_ast.specs.declared.declarations.Method.{Method}
-use Rattle.wf_ast.specs.declared.resolved.Block as resolved
+use Rattle.wf_ast.specs.declared.typed_code.Block as typed_code
 use Rattle.wf_ast.specs.declared.typed_nodes.TypedNodes.{TypedNodes}
 use Rattle.wf_ast.specs.TypedInvariant.{block_below}
 use Rattle.wf_ast.specs.TypedPackage.{MethodTree, package_of, method_of, answers_of}
@@ -82,7 +82,7 @@ body_call e params = call (answer_in (answers_in e)) (body_name (package_of e.no
 
 -- The block is the body of the method that is lowered, which is one of its package's, and the table has the numbers of the
 -- package's points.
-pub record IsBodyOf (b : BodyTree) (body : resolved.Block) : Type 0 where
+pub record IsBodyOf (b : BodyTree) (body : typed_code.Block) : Type 0 where
   pub number : ℕ
   pub known : slice_get (package_of b.nodes).methods number ≡ Some (form_in b).method
   pub below : block_below (length b.nodes.stmts) body ≡ true

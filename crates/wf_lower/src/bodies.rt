@@ -219,7 +219,7 @@ fn name_of_body(b: &Body, u: &mut Unit) -> Result<CNameId, NoMemory>
     ensures made { IfOk result (λ n. HasNamed u.new n.0 (named_body (form_in b.now).within (form_in b.now).method)) }
 {
     b.is_sound();
-    body_name(b.alloc(), b.typed(), u, b.method())
+    body_name(b.typed(), u, b.method())
 }
 
 /// Its parameters.

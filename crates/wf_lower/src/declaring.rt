@@ -28,36 +28,25 @@ use wf_surfaces::answer_kind;
 use wf_text::NoMemory;
 
 /// A parameter whose name ends with the source's.
-fn param(
-    alloc: Global,
-    u: &mut Unit,
-    kind: CType,
-    begin: &[u8],
-    end: &[u8],
-) -> Result<CParam, NoMemory>
+fn param(u: &mut Unit, kind: CType, begin: &[u8], end: &[u8]) -> Result<CParam, NoMemory>
     requires kind { HasType u.old kind }
     requires name { IsName (begin.now ++ end.now) }
     ensures grows { Grows u.old u.new }
     ensures made { IfOk result (λ it. HasParamTree u.new it (record { kind = type_in u.old.names kind; name = begin.now ++ end.now })) }
 {
-    let name = put_spelt(alloc, u, begin, end)?;
+    let name = put_spelt(u, begin, end)?;
     Ok(CParam { kind, name })
 }
 
 /// The pointer to the receiver.
 #[tactic(auto, using(wf_exprs::proofs::Growing::grows_on), unfolding(c_text::specs::CSpelling::is_reserved))]
-pub(crate) fn self_param(
-    alloc: Global,
-    t: &Typed,
-    u: &mut Unit,
-    s: StructId,
-) -> Result<CParam, NoMemory>
+pub(crate) fn self_param(t: &Typed, u: &mut Unit, s: StructId) -> Result<CParam, NoMemory>
     requires known { s.0 < length t.now.structs }
     requires words { HasWords t.now }
     ensures grows { Grows u.old u.new }
     ensures made { IfOk result (λ it. HasParamTree u.new it (receiver_param (package_of t.now) s.0)) }
 {
-    let of = struct_type(alloc, t, u, s)?;
+    let of = struct_type(t, u, s)?;
     let name = put_name(u, b"self")?;
     Ok(CParam {
         kind: CType::StructPointer(of),
@@ -77,7 +66,6 @@ fn buffer(u: &mut Unit) -> Result<CType, NoMemory>
 
 /// Adds a parameter whose name ends with the source's.
 fn add_param(
-    alloc: Global,
     u: &mut Unit,
     kind: CType,
     begin: &[u8],
@@ -89,28 +77,22 @@ fn add_param(
     ensures grows { Grows u.old u.new }
     ensures made { OnOk result (AddsParams u.old u.new params.old params.new (record { kind = type_in u.old.names kind; name = begin.now ++ end.now } ∷ [])) }
 {
-    let param = param(alloc, u, kind, begin, end)?;
+    let param = param(u, kind, begin, end)?;
     params.push(param)
 }
 
 /// The pointer to a buffer that is an argument.
-fn add_buffer(
-    alloc: Global,
-    u: &mut Unit,
-    name: &[u8],
-    params: &mut CList<CParam>,
-) -> Result<(), NoMemory>
+fn add_buffer(u: &mut Unit, name: &[u8], params: &mut CList<CParam>) -> Result<(), NoMemory>
     requires { list_all is_word_byte name.now ≡ true }
     ensures grows { Grows u.old u.new }
     ensures made { OnOk result (AddsParams u.old u.new params.old params.new (record { kind = struct_pointer (codes "wuffs_base__io_buffer"); name = codes "a_" ++ name.now } ∷ [])) }
 {
     let kind = buffer(u)?;
-    add_param(alloc, u, kind, b"a_", name, params)
+    add_param(u, kind, b"a_", name, params)
 }
 
 /// The pointer and the length of a slice that is an argument.
 fn add_slice(
-    alloc: Global,
     u: &mut Unit,
     cells: CUint,
     name: &[u8],
@@ -120,54 +102,39 @@ fn add_slice(
     ensures grows { Grows u.old u.new }
     ensures made { OnOk result (AddsParams u.old u.new params.old params.new (record { kind = uint_pointer cells; name = codes "ap_" ++ name.now } ∷ record { kind = size; name = codes "al_" ++ name.now } ∷ [])) }
 {
-    add_param(alloc, u, CType::UintPointer(cells), b"ap_", name, params)?;
-    add_param(alloc, u, CType::Size, b"al_", name, params)
+    add_param(u, CType::UintPointer(cells), b"ap_", name, params)?;
+    add_param(u, CType::Size, b"al_", name, params)
 }
 
 /// The parameters of one argument.
-fn add_params(
-    alloc: Global,
-    u: &mut Unit,
-    name: &[u8],
-    ty: Ty,
-    params: &mut CList<CParam>,
-) -> Result<(), NoMemory>
+fn add_params(u: &mut Unit, name: &[u8], ty: Ty, params: &mut CList<CParam>) -> Result<(), NoMemory>
     requires { list_all is_word_byte name.now ≡ true }
     ensures grows { Grows u.old u.new }
     ensures made { OnOk result (AddsParams u.old u.new params.old params.new (arg_params (record { name = name.now; kind = kind_of ty }))) }
 {
     match ty {
-        Ty::Num { width, .. } => {
-            add_param(alloc, u, CType::Uint(uint_of(width)), b"a_", name, params)
-        }
-        Ty::Reader => add_buffer(alloc, u, name, params),
-        Ty::Writer => add_buffer(alloc, u, name, params),
-        Ty::Slice(width) => add_slice(alloc, u, uint_of(width), name, params),
-        Ty::Flag => add_param(alloc, u, CType::Bool, b"a_", name, params),
-        Ty::Status => add_param(alloc, u, CType::Bool, b"a_", name, params),
-        Ty::Array { .. } => add_param(alloc, u, CType::Bool, b"a_", name, params),
-        Ty::Part(_) => add_param(alloc, u, CType::Bool, b"a_", name, params),
+        Ty::Num { width, .. } => { add_param(u, CType::Uint(uint_of(width)), b"a_", name, params) }
+        Ty::Reader => add_buffer(u, name, params),
+        Ty::Writer => add_buffer(u, name, params),
+        Ty::Slice(width) => add_slice(u, uint_of(width), name, params),
+        Ty::Flag => add_param(u, CType::Bool, b"a_", name, params),
+        Ty::Status => add_param(u, CType::Bool, b"a_", name, params),
+        Ty::Array { .. } => add_param(u, CType::Bool, b"a_", name, params),
+        Ty::Part(_) => add_param(u, CType::Bool, b"a_", name, params),
     }
 }
 
 /// The parameters of an argument as the source declares it.
-fn add_arg(
-    alloc: Global,
-    t: &Typed,
-    u: &mut Unit,
-    x: Var,
-    params: &mut CList<CParam>,
-) -> Result<(), NoMemory>
+fn add_arg(t: &Typed, u: &mut Unit, x: Var, params: &mut CList<CParam>) -> Result<(), NoMemory>
     requires { is_named t.now x ≡ true }
     ensures grows { Grows u.old u.new }
     ensures made { OnOk result (AddsParams u.old u.new params.old params.new (args_params (public_args (variable_of t.now x ∷ [])))) }
 {
-    add_params(alloc, u, t.text(x.name), x.ty, params)
+    add_params(u, t.text(x.name), x.ty, params)
 }
 
 /// The parameters of these arguments.
 fn add_args(
-    alloc: Global,
     t: &Typed,
     u: &mut Unit,
     args: &[Var],
@@ -178,7 +145,7 @@ fn add_args(
     ensures made { OnOk result (AddsParams u.old u.new params.old params.new (args_params (public_args (map (variable_of t.now) args.now)))) }
 {
     for i in 0..args.len() {
-        add_arg(alloc, t, u, args[i], params)?;
+        add_arg(t, u, args[i], params)?;
     }
     Ok(())
 }
@@ -195,10 +162,10 @@ pub(crate) fn params_of(
     ensures grows { Grows u.old u.new }
     ensures made { IfOk result (λ list. HasParamTrees u.new list (params_in t.now m.now)) }
 {
-    let receiver = self_param(alloc, t, u, m.of)?;
+    let receiver = self_param(t, u, m.of)?;
     let mut params = CList::new(alloc);
     params.push(receiver)?;
-    add_args(alloc, t, u, m.args.as_slice(), &mut params)?;
+    add_args(t, u, m.args.as_slice(), &mut params)?;
     Ok(params)
 }
 
@@ -250,7 +217,6 @@ pub(crate) fn zero_local(u: &mut Unit, kind: CType, name: &[u8]) -> Result<CLoca
 
 /// The same, with a name that ends with the source's.
 pub(crate) fn zero_spelt(
-    alloc: Global,
     u: &mut Unit,
     kind: CType,
     begin: &[u8],
@@ -262,7 +228,7 @@ pub(crate) fn zero_spelt(
     ensures made { IfOk result (λ it. HasLocalTree u.new it (declared (type_in u.old.names kind) (begin.now ++ end.now) (num 0))) }
 {
     let zero = number(u, 0)?;
-    let name = put_spelt(alloc, u, begin, end)?;
+    let name = put_spelt(u, begin, end)?;
     Ok(CLocal {
         kind,
         name,

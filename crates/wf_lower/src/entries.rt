@@ -158,18 +158,13 @@ impl<'a> Entry<'a> {
 }
 
 /// What a refused call answers.
-fn refused_with(
-    alloc: Global,
-    u: &mut Unit,
-    answers: AnswerKind,
-    status: u32,
-) -> Result<Option<CExprId>, NoMemory>
+fn refused_with(u: &mut Unit, answers: AnswerKind, status: u32) -> Result<Option<CExprId>, NoMemory>
     ensures grows { Grows u.old u.new }
     ensures made { IfOk result (λ value. HasValue u.new value (refused_with_code (answer_kind_of answers) status)) }
 {
     match answers {
         AnswerKind::Status => {
-            let value = status_constant(alloc, u, status)?;
+            let value = status_constant(u, status)?;
             Ok(Some(value))
         }
         AnswerKind::Number(_) | AnswerKind::Flag => {
@@ -186,7 +181,7 @@ fn refuse(e: &Entry, u: &mut Unit, status: u32) -> Result<CStmtId, NoMemory>
     ensures made { IfOk result (λ code. HasCode u.new code.0 (refuse_code (method_in e.now) status)) }
 {
     let rest = finish(u)?;
-    let value = refused_with(e.alloc(), u, e.answers(), status)?;
+    let value = refused_with(u, e.answers(), status)?;
     leave(u, value, rest)
 }
 
@@ -243,33 +238,28 @@ fn bounded(alloc: Global, u: &mut Unit, name: &[u8], op: COp, n: u64) -> Result<
     ensures grows { Grows u.old u.new }
     ensures made { IfOk result (λ it. HasExpr u.new it.0 (two_codes op (c.variable (codes "a_" ++ name.now)) (num n))) }
 {
-    let value = spelt_variable(alloc, u, b"a_", name)?;
+    let value = spelt_variable(u, b"a_", name)?;
     let n = number(u, n)?;
     two(alloc, u, op, value, n)
 }
 
 /// `(!a_n)`
-fn missing(alloc: Global, u: &mut Unit, name: &[u8]) -> Result<CExprId, NoMemory>
+fn missing(u: &mut Unit, name: &[u8]) -> Result<CExprId, NoMemory>
     requires { list_all is_word_byte name.now ≡ true }
     ensures grows { Grows u.old u.new }
     ensures made { IfOk result (λ it. HasExpr u.new it.0 (unary Not (c.variable (codes "a_" ++ name.now)))) }
 {
-    let value = spelt_variable(alloc, u, b"a_", name)?;
+    let value = spelt_variable(u, b"a_", name)?;
     negated(u, value)
 }
 
 /// One more test: a null buffer.
-fn add_missing(
-    alloc: Global,
-    u: &mut Unit,
-    name: &[u8],
-    tests: &mut CList<CExprId>,
-) -> Result<(), NoMemory>
+fn add_missing(u: &mut Unit, name: &[u8], tests: &mut CList<CExprId>) -> Result<(), NoMemory>
     requires { list_all is_word_byte name.now ≡ true }
     ensures grows { Grows u.old u.new }
     ensures made { OnOk result (AddsTests u.old u.new tests.old tests.new (unary Not (c.variable (codes "a_" ++ name.now)) ∷ [])) }
 {
-    let test = missing(alloc, u, name)?;
+    let test = missing(u, name)?;
     tests.push(test)
 }
 
@@ -345,8 +335,8 @@ fn add_wrong(
             add_least(alloc, u, name, lo, tests)?;
             add_greatest(alloc, u, name, width, hi, tests)
         }
-        Ty::Reader => add_missing(alloc, u, name, tests),
-        Ty::Writer => add_missing(alloc, u, name, tests),
+        Ty::Reader => add_missing(u, name, tests),
+        Ty::Writer => add_missing(u, name, tests),
         Ty::Flag | Ty::Status | Ty::Slice(_) | Ty::Array { .. } | Ty::Part(_) => Ok(()),
     }
 }
@@ -736,7 +726,7 @@ fn name_of_body(e: &Entry, u: &mut Unit) -> Result<CNameId, NoMemory>
     ensures grows { Grows u.old u.new }
     ensures made { IfOk result (λ n. HasNamed u.new n.0 (named_body (package_of e.now.nodes) (method_in e.now))) }
 {
-    body_name(e.alloc(), e.typed(), u, e.method())
+    body_name(e.typed(), u, e.method())
 }
 
 /// The name of the entry.

@@ -35,12 +35,12 @@ use wf_text::NoMemory;
 const BAD_RECEIVER: u32 = 4;
 
 /// The address of a field of the receiver.
-fn part_address(alloc: Global, u: &mut Unit, field: &[u8]) -> Result<CExprId, NoMemory>
+fn part_address(u: &mut Unit, field: &[u8]) -> Result<CExprId, NoMemory>
     requires { list_all is_word_byte field.now ≡ true }
     ensures grows { Grows u.old u.new }
     ensures made { IfOk result (λ it. HasExpr u.new it.0 (unary Address (of_self_tree (codes "f_" ++ field.now)))) }
 {
-    let field = put_spelt(alloc, u, b"f_", field)?;
+    let field = put_spelt(u, b"f_", field)?;
     let part = member_of_self(u, field)?;
     address(u, part)
 }
@@ -61,7 +61,7 @@ fn initialize_part(
     ensures grows { Grows u.old u.new }
     ensures made { IfOk result (λ it. HasCode u.new it.0 (c.call None (name_of_initialize (package_of t.now) s.0) (args_of (unary Address (of_self_tree (codes "f_" ++ field.now)) ∷ [])) (code_of u.old rest.0))) }
 {
-    let part = part_address(alloc, u, field)?;
+    let part = part_address(u, field)?;
     let function = initialize_name(alloc, t, u, s)?;
     let args = CList::from_slice(alloc, &[CArg::Expr(part)])?;
     call(u, None, CCall { function, args }, rest)
@@ -163,23 +163,23 @@ fn answer_ok(u: &mut Unit) -> Result<CStmtId, NoMemory>
 }
 
 /// The answer to a null receiver.
-fn answer_null(alloc: Global, u: &mut Unit) -> Result<CStmtId, NoMemory>
+fn answer_null(u: &mut Unit) -> Result<CStmtId, NoMemory>
     ensures grows { Grows u.old u.new }
     ensures made { IfOk result (λ it. HasCode u.new it.0 (c.leave (Some (constant_code bad_receiver)) c.finish)) }
 {
     let end = finish(u)?;
-    let status = status_constant(alloc, u, BAD_RECEIVER)?;
+    let status = status_constant(u, BAD_RECEIVER)?;
     leave(u, Some(status), end)
 }
 
 /// A null receiver is refused.
 #[tactic(auto, using(wf_exprs::proofs::Growing::grows_on), unfolding(c_text::specs::CSpelling::is_reserved))]
-fn when_null(alloc: Global, u: &mut Unit, rest: CStmtId) -> Result<CStmtId, NoMemory>
+fn when_null(u: &mut Unit, rest: CStmtId) -> Result<CStmtId, NoMemory>
     requires { rest.0 < length u.old.stmts }
     ensures grows { Grows u.old u.new }
     ensures made { IfOk result (λ it. HasCode u.new it.0 (when_code (unary Not self) (c.leave (Some (constant_code bad_receiver)) c.finish) (code_of u.old rest.0))) }
 {
-    let body = answer_null(alloc, u)?;
+    let body = answer_null(u)?;
     let receiver = variable(u, b"self")?;
     let test = negated(u, receiver)?;
     when(u, test, body, rest)
@@ -193,7 +193,7 @@ fn ready(alloc: Global, u: &mut Unit, rest: CStmtId) -> Result<CStmtId, NoMemory
 {
     let rest = make_ready(u, rest)?;
     let rest = clear(alloc, u, rest)?;
-    when_null(alloc, u, rest)
+    when_null(u, rest)
 }
 
 fn initialize_code(alloc: Global, t: &Typed, u: &mut Unit, s: StructId) -> Result<CStmtId, NoMemory>
@@ -215,7 +215,7 @@ fn params(alloc: Global, t: &Typed, u: &mut Unit, s: StructId) -> Result<CList<C
     ensures grows { Grows u.old u.new }
     ensures made { IfOk result (λ list. HasParamTrees u.new list (receiver_param (package_of t.now) s.0 ∷ [])) }
 {
-    let receiver = self_param(alloc, t, u, s)?;
+    let receiver = self_param(t, u, s)?;
     CList::from_slice(alloc, &[receiver])
 }
 

@@ -45,7 +45,7 @@ fn size_local(
     ensures grows { Grows u.old u.new }
     ensures made { IfOk result (λ it. HasLocalTree u.new it (declared size (begin.now ++ end.now) (expr_of u.old initial.0))) }
 {
-    let name = put_spelt(b.alloc(), u, begin, end)?;
+    let name = put_spelt(u, begin, end)?;
     Ok(CLocal {
         kind: CType::Size,
         name,
@@ -133,7 +133,7 @@ fn add_zero(
     ensures grows { Grows u.old u.new }
     ensures made { OnOk result (AddsLocals u.old u.new locals.old locals.new (declared (type_in u.old.names kind) (begin.now ++ end.now) (num 0) ∷ [])) }
 {
-    let local = zero_spelt(b.alloc(), u, kind, begin, end)?;
+    let local = zero_spelt(u, kind, begin, end)?;
     locals.push(local)
 }
 
@@ -250,7 +250,7 @@ fn bytes_local(b: &Body, u: &mut Unit, n: usize) -> Result<CLocal, NoMemory>
 {
     let own = argument_name(b, n);
     let initial = b.scope().buffer_member(u, n as u32, b"ptr")?;
-    let name = put_spelt(b.alloc(), u, b"b_", own)?;
+    let name = put_spelt(u, b"b_", own)?;
     Ok(CLocal {
         kind: CType::UintPointer(CUint::U8),
         name,

@@ -239,7 +239,7 @@ fn add_text(p: &Source, u: &mut Unit, n: u32, read: &ReadNames) -> Result<(), No
     ensures { OnOk result ((functions : List ItemTree) → AreRead functions u.old.names read.now → (text : List ℕ) → slice_get p.now.t.now.statuses n ≡ Some text → GrowsBy (used_texts functions n (text ∷ [])) u.old u.new) }
 {
     u.is_sound();
-    let name = put_numbered(p.alloc, u, b"status_", n as u64)?;
+    let name = put_numbered(u, b"status_", n as u64)?;
     if read.has(u, name) {
         put_text(u, name, p.t.status_text(StatusId(n)))
     } else {
@@ -268,7 +268,7 @@ fn add_helper(
     ensures { OnOk result ((functions : List ItemTree) → AreRead functions u.old.names read.now → GrowsBy (used_helpers functions (saturating is_sum (bits_of width) ∷ [])) u.old u.new) }
 {
     u.is_sound();
-    let name = saturating_name(p.alloc, u, is_sum, width)?;
+    let name = saturating_name(u, is_sum, width)?;
     if read.has(u, name) {
         put_saturating(p.alloc, u, is_sum, width)
     } else {

@@ -129,20 +129,14 @@ pub fn io_buffer(alloc: Global, u: &mut Unit) -> Result<CItem, NoMemory>
 }
 
 /// A field that holds an object of a struct.
-fn part_field(
-    alloc: Global,
-    t: &Typed,
-    u: &mut Unit,
-    s: StructId,
-    name: CNameId,
-) -> Result<CField, NoMemory>
+fn part_field(t: &Typed, u: &mut Unit, s: StructId, name: CNameId) -> Result<CField, NoMemory>
     requires known { s.0 < length t.now.structs }
     requires words { HasWords t.now }
     requires name { name.0 < length u.old.names }
     ensures grows { Grows u.old u.new }
     ensures made { IfOk result (λ it. HasFieldTree u.new it (record { kind = inside (type_name (package_of t.now) s.0); name = bytes_at u.old.names name.0; count = None })) }
 {
-    let of = struct_type(alloc, t, u, s)?;
+    let of = struct_type(t, u, s)?;
     Ok(CField {
         kind: CFieldType::Struct(of),
         name,
@@ -151,13 +145,7 @@ fn part_field(
 }
 
 /// A field of the source with its name in C.
-fn typed_field(
-    alloc: Global,
-    t: &Typed,
-    u: &mut Unit,
-    ty: Ty,
-    name: CNameId,
-) -> Result<CField, NoMemory>
+fn typed_field(t: &Typed, u: &mut Unit, ty: Ty, name: CNameId) -> Result<CField, NoMemory>
     requires words { HasWords t.now }
     requires held { IsTrue (may_be_field (package_of t.now) ty) }
     requires name { name.0 < length u.old.names }
@@ -172,7 +160,7 @@ fn typed_field(
             name,
             count: Some(literal(len as u64)),
         }),
-        Ty::Part(s) => part_field(alloc, t, u, s, name),
+        Ty::Part(s) => part_field(t, u, s, name),
         Ty::Flag => Ok(plain(CType::Bool, name)),
         Ty::Reader => Ok(plain(CType::Bool, name)),
         Ty::Writer => Ok(plain(CType::Bool, name)),
@@ -181,27 +169,20 @@ fn typed_field(
 }
 
 /// Adds a field of the source.
-fn add_source(
-    alloc: Global,
-    t: &Typed,
-    u: &mut Unit,
-    x: Var,
-    fields: &mut CList<CField>,
-) -> Result<(), NoMemory>
+fn add_source(t: &Typed, u: &mut Unit, x: Var, fields: &mut CList<CField>) -> Result<(), NoMemory>
     requires words { HasWords t.now }
     requires named { is_named t.now x ≡ true }
     requires held { IsTrue (may_be_field (package_of t.now) x.ty) }
     ensures grows { Grows u.old u.new }
     ensures made { OnOk result (AddsFields u.old u.new fields.old fields.new (source_field_of (package_of t.now) (variable_of t.now x) ∷ [])) }
 {
-    let name = put_spelt(alloc, u, b"f_", t.text(x.name))?;
-    let field = typed_field(alloc, t, u, x.ty, name)?;
+    let name = put_spelt(u, b"f_", t.text(x.name))?;
+    let field = typed_field(t, u, x.ty, name)?;
     fields.push(field)
 }
 
 /// Adds the fields of the source.
 fn add_all_source(
-    alloc: Global,
     t: &Typed,
     u: &mut Unit,
     declared: &[Var],
@@ -214,7 +195,7 @@ fn add_all_source(
     ensures made { OnOk result (AddsFields u.old u.new fields.old fields.new (source_fields (package_of t.now) (map (variable_of t.now) declared.now))) }
 {
     for i in 0..declared.len() {
-        add_source(alloc, t, u, declared[i], fields)?;
+        add_source(t, u, declared[i], fields)?;
     }
     Ok(())
 }
@@ -233,7 +214,6 @@ fn kept_type(ty: Ty) -> CType
 
 /// Adds the field that keeps a local of a coroutine, where there is one.
 fn add_kept(
-    alloc: Global,
     t: &Typed,
     u: &mut Unit,
     method: &[u8],
@@ -246,7 +226,7 @@ fn add_kept(
     ensures made { OnOk result (AddsFields u.old u.new fields.old fields.new (kept_fields method.now (variable_of t.now x ∷ []))) }
 {
     if is_kept(x.ty) {
-        let name = saved_field(alloc, u, method, t.text(x.name))?;
+        let name = saved_field(u, method, t.text(x.name))?;
         add_named(u, kept_type(x.ty), name, fields)
     } else {
         Ok(())
@@ -255,7 +235,6 @@ fn add_kept(
 
 /// Adds the fields that keep a coroutine's locals.
 fn add_all_kept(
-    alloc: Global,
     t: &Typed,
     u: &mut Unit,
     method: &[u8],
@@ -268,14 +247,13 @@ fn add_all_kept(
     ensures made { OnOk result (AddsFields u.old u.new fields.old fields.new (kept_fields method.now (map (variable_of t.now) locals.now))) }
 {
     for i in 0..locals.len() {
-        add_kept(alloc, t, u, method, locals[i], fields)?;
+        add_kept(t, u, method, locals[i], fields)?;
     }
     Ok(())
 }
 
 /// Adds the field that keeps a number for the started statement, named by these bytes and the method, where it is there.
 fn add_number(
-    alloc: Global,
     u: &mut Unit,
     there: bool,
     ty: CUint,
@@ -288,7 +266,7 @@ fn add_number(
     ensures made { OnOk result (AddsFields u.old u.new fields.old fields.new (if there then field_of (uint ty) (begin.now ++ method.now) ∷ [] else [])) }
 {
     if there {
-        let name = put_spelt(alloc, u, begin, method)?;
+        let name = put_spelt(u, begin, method)?;
         add_named(u, CType::Uint(ty), name, fields)
     } else {
         Ok(())
@@ -297,7 +275,6 @@ fn add_number(
 
 /// Adds the fields that keep what a started statement has.
 fn add_started(
-    alloc: Global,
     t: &Typed,
     u: &mut Unit,
     method: &[u8],
@@ -312,28 +289,22 @@ fn add_started(
 {
     let held = keeps_held(t, body);
     let counted = keeps_count(t, body);
-    add_number(alloc, u, held, CUint::U64, b"h_", method, fields)?;
-    add_number(alloc, u, counted, CUint::U8, b"n_", method, fields)
+    add_number(u, held, CUint::U64, b"h_", method, fields)?;
+    add_number(u, counted, CUint::U8, b"n_", method, fields)
 }
 
 /// Adds the field that keeps where a coroutine goes on.
-fn add_point(
-    alloc: Global,
-    u: &mut Unit,
-    method: &[u8],
-    fields: &mut CList<CField>,
-) -> Result<(), NoMemory>
+fn add_point(u: &mut Unit, method: &[u8], fields: &mut CList<CField>) -> Result<(), NoMemory>
     requires { list_all is_word_byte method.now ≡ true }
     ensures grows { Grows u.old u.new }
     ensures made { OnOk result (AddsFields u.old u.new fields.old fields.new (field_of (uint U16) (point_name method.now) ∷ [])) }
 {
-    let name = point_field(alloc, u, method)?;
+    let name = point_field(u, method)?;
     add_named(u, CType::Uint(CUint::U16), name, fields)
 }
 
 /// Adds what a coroutine keeps.
 fn add_coroutine(
-    alloc: Global,
     t: &Typed,
     u: &mut Unit,
     m: &Method,
@@ -347,9 +318,9 @@ fn add_coroutine(
     ensures made { OnOk result (AddsFields u.old u.new fields.old fields.new (kept_of (method_of t.now m.now body.now))) }
 {
     let name = t.text(m.name);
-    add_point(alloc, u, name, fields)?;
-    add_all_kept(alloc, t, u, name, m.locals.as_slice(), fields)?;
-    add_started(alloc, t, u, name, body, fields)
+    add_point(u, name, fields)?;
+    add_all_kept(t, u, name, m.locals.as_slice(), fields)?;
+    add_started(t, u, name, body, fields)
 }
 
 fn is_coroutine(mark: Mark) -> bool
@@ -367,7 +338,6 @@ fn keeps_in(m: &Method, s: StructId) -> bool
 
 /// Adds what a method keeps in the struct `s`: nothing where it isn't a coroutine of that struct.
 fn add_method(
-    alloc: Global,
     t: &Typed,
     u: &mut Unit,
     s: StructId,
@@ -382,7 +352,7 @@ fn add_method(
 {
     let method = t.method(m);
     if keeps_in(method, s) {
-        add_coroutine(alloc, t, u, method, t.body(m), fields)
+        add_coroutine(t, u, method, t.body(m), fields)
     } else {
         Ok(())
     }
@@ -390,7 +360,6 @@ fn add_method(
 
 /// Adds what the coroutines of a struct keep.
 fn add_methods(
-    alloc: Global,
     t: &Typed,
     u: &mut Unit,
     s: StructId,
@@ -402,7 +371,7 @@ fn add_methods(
     ensures made { OnOk result (AddsFields u.old u.new fields.old fields.new (methods_fields s.0 (package_of t.now).methods)) }
 {
     for n in 0..t.methods() {
-        add_method(alloc, t, u, s, MethodId(n), fields)?;
+        add_method(t, u, s, MethodId(n), fields)?;
     }
     Ok(())
 }
@@ -432,8 +401,8 @@ fn struct_fields(
 {
     let mut fields = CList::new(alloc);
     add_life(u, &mut fields)?;
-    add_all_source(alloc, t, u, t.structure(s).fields.as_slice(), &mut fields)?;
-    add_methods(alloc, t, u, s, &mut fields)?;
+    add_all_source(t, u, t.structure(s).fields.as_slice(), &mut fields)?;
+    add_methods(t, u, s, &mut fields)?;
     Ok(fields)
 }
 
@@ -446,6 +415,6 @@ pub fn struct_item(alloc: Global, t: &Typed, u: &mut Unit, s: StructId) -> Resul
     ensures made { IfOk result (λ it. HasItemTree u.new it (c.struct_item (struct_fields_of (package_of t.now) s.0) (type_name (package_of t.now) s.0))) }
 {
     let fields = struct_fields(alloc, t, u, s)?;
-    let name = struct_type(alloc, t, u, s)?;
+    let name = struct_type(t, u, s)?;
     Ok(CItem::Struct { fields, name })
 }

@@ -6,12 +6,12 @@ use Rattle.std.proofs.lemmas.Bool.Decides.{nat_tests}
 use Rattle.wf_text.specs.declared.faults.NoMemory.{NoMemory}
 use Rattle.wf_text.specs.declared.place.Place.{Place}
 use Rattle.wf_ast.specs.declared.numbers.StmtId.{StmtId}
-use Rattle.wf_ast.specs.declared.resolved.Arm.{Arm}
-use Rattle.wf_ast.specs.declared.resolved.Block as resolved
-use Rattle.wf_ast.specs.declared.resolved.LoopHead.{LoopHead}
-use Rattle.wf_ast.specs.declared.resolved.Stmt.{Stmt}
-use Rattle.wf_ast.specs.declared.resolved.Stmt.TheVariants as stmts
-use Rattle.wf_ast.specs.declared.resolved.StmtNode.{StmtNode}
+use Rattle.wf_ast.specs.declared.typed_code.Arm.{Arm}
+use Rattle.wf_ast.specs.declared.typed_code.Block as typed_code
+use Rattle.wf_ast.specs.declared.typed_code.LoopHead.{LoopHead}
+use Rattle.wf_ast.specs.declared.typed_code.Stmt.{Stmt}
+use Rattle.wf_ast.specs.declared.typed_code.Stmt.TheVariants as stmts
+use Rattle.wf_ast.specs.declared.typed_code.StmtNode.{StmtNode}
 use Rattle.wf_ast.specs.declared.typed_nodes.TypedNodes.{TypedNodes}
 use Rattle.wf_ast.specs.TypedInvariant.{IsTyped}
 use Rattle.wf_ast.specs.TypedTree.{Block, choose, end}
@@ -44,12 +44,12 @@ drop_item (x ∷ xs) zero d h = refl
 drop_item (x ∷ xs) (suc i) d h = drop_item xs i d (omega (arith, h))
 
 -- An `if` by its first arm, and what stands after an arm by the next one.
-pub if_first : (nodes : TypedNodes) (s : StmtId) (arms : List Arm) (other : Option resolved.Block) (after : Block) (d : Arm) → 0 < length arms
+pub if_first : (nodes : TypedNodes) (s : StmtId) (arms : List Arm) (other : Option typed_code.Block) (after : Block) (d : Arm) → 0 < length arms
     → if_in nodes s arms other after ≡ choose (site_at nodes s) false (node_cond nodes (get_or arms 0 d).cond) (block_of nodes (get_or arms 0 d).body) (others_in nodes s (drop 1 arms) other) after
 if_first nodes s [] other after d h = absurd (omega (arith, h))
 if_first nodes s (arm ∷ arms) other after d h = refl
 
-pub other_next : (nodes : TypedNodes) (s : StmtId) (arms : List Arm) (other : Option resolved.Block) (i : ℕ) (d : Arm) → i < length arms
+pub other_next : (nodes : TypedNodes) (s : StmtId) (arms : List Arm) (other : Option typed_code.Block) (i : ℕ) (d : Arm) → i < length arms
     → others_in nodes s (drop i arms) other ≡ choose (site_at nodes s) true (node_cond nodes (get_or arms i d).cond) (block_of nodes (get_or arms i d).body) (others_in nodes s (drop (suc i) arms) other) end
 other_next nodes s arms other i d h = ap (λ l. others_in nodes s l other) (drop_item arms i d h)
 
@@ -68,7 +68,7 @@ module _ (nodes : TypedNodes) (f : Form) (numbers : List (Option ℕ)) where
 
   -- A statement by its node.
   module _ (typed : IsTyped nodes) (s : StmtId) (known : s.0 < length nodes.stmts) (u : Nodes) (start : Code) where
-    pub if_stmt : (arms : List Arm) (other : Option resolved.Block) (r : Result CStmtId NoMemory) → node.Is nodes typed s known (stmts.If arms other)
+    pub if_stmt : (arms : List Arm) (other : Option typed_code.Block) (r : Result CStmtId NoMemory) → node.Is nodes typed s known (stmts.If arms other)
         → IfOk r (λ code. (after : Block) (tail : Code) → start ≡ lower f (points_by numbers) after tail → HasCode u code.0 (lower f (points_by numbers) (if_in nodes s arms other after) tail))
         → IfOk r (λ code. (after : Block) (tail : Code) → start ≡ lower f (points_by numbers) after tail → HasCode u code.0 (lower f (points_by numbers) (onto (stmt_makers nodes) s after) tail))
     if_stmt arms other (Ok code) is h = λ after tail e.
@@ -76,7 +76,7 @@ module _ (nodes : TypedNodes) (f : Form) (numbers : List (Option ℕ)) where
         record { there = k.there; is = k.is ∙ ap (λ b. lower f (points_by numbers) b tail) (sym (if_makes nodes typed s known arms other is after)) }
     if_stmt arms other (Err refused) is h = h
 
-    pub while_stmt : (head : LoopHead) (body : resolved.Block) (r : Result CStmtId NoMemory) → node.Is nodes typed s known (stmts.While head body)
+    pub while_stmt : (head : LoopHead) (body : typed_code.Block) (r : Result CStmtId NoMemory) → node.Is nodes typed s known (stmts.While head body)
         → IfOk r (λ code. HasCode u code.0 (repeat (lowered_cond f.names (node_cond nodes head.cond)) (lower f (points_by numbers) (block_of nodes body) (again_here (site_at nodes s) (block_of nodes body))) (behind_here (site_at nodes s) (block_of nodes body) start)))
         → IfOk r (λ code. (after : Block) (tail : Code) → start ≡ lower f (points_by numbers) after tail → HasCode u code.0 (lower f (points_by numbers) (onto (stmt_makers nodes) s after) tail))
     while_stmt head body (Ok code) is h = λ after tail e.
@@ -118,7 +118,7 @@ module _ (nodes : TypedNodes) (f : Form) (numbers : List (Option ℕ)) where
   abbrev arm_code : Arm → Otherwise → (other rest : Code) → Code
   arm_code arm kind other rest = branch (lowered_cond f.names (node_cond nodes arm.cond)) (lower f (points_by numbers) (block_of nodes arm.body) finish) kind other rest
 
-  pub other_step : {a b u : Nodes} {kind : Otherwise} {code rest it : ℕ} (s : StmtId) (arms : List Arm) (other : Option resolved.Block) (left i : ℕ) (d : Arm) → suc i ≡ left → left ≤ length arms
+  pub other_step : {a b u : Nodes} {kind : Otherwise} {code rest it : ℕ} (s : StmtId) (arms : List Arm) (other : Option typed_code.Block) (left i : ℕ) (d : Arm) → suc i ≡ left → left ≤ length arms
       → HasOther a kind code (others_in nodes s (drop left arms) other) (lower f (points_by numbers) (others_in nodes s (drop left arms) other) finish)
       → Grows a b → HasCode b rest finish → HasCode u it (arm_code (get_or arms i d) kind (code_of b code) (code_of b rest))
       → HasOther u else_is.If it (others_in nodes s (drop i arms) other) (lower f (points_by numbers) (others_in nodes s (drop i arms) other) finish)
@@ -146,7 +146,7 @@ module _ (nodes : TypedNodes) (f : Form) (numbers : List (Option ℕ)) where
       (grows.more_stmts code has.made.there, subst P (sym (grows.stmts code has.made.there ∙ has.made.is)) has.fits)
 
   -- A whole `if`, from its first arm on.
-  pub if_whole : {a b u : Nodes} {kind : Otherwise} {code rest it : ℕ} (s : StmtId) (arms : List Arm) (other : Option resolved.Block) (d : Arm) → 0 < length arms
+  pub if_whole : {a b u : Nodes} {kind : Otherwise} {code rest it : ℕ} (s : StmtId) (arms : List Arm) (other : Option typed_code.Block) (d : Arm) → 0 < length arms
       → HasOther b kind code (others_in nodes s (drop 1 arms) other) (lower f (points_by numbers) (others_in nodes s (drop 1 arms) other) finish)
       → Grows a b → rest < length a.stmts → HasCode u it (arm_code (get_or arms 0 d) kind (code_of b code) (code_of b rest))
       → (after : Block) (tail : Code) → code_of a rest ≡ lower f (points_by numbers) after tail → HasCode u it (lower f (points_by numbers) (if_in nodes s arms other after) tail)
@@ -162,7 +162,7 @@ module _ (nodes : TypedNodes) (f : Form) (numbers : List (Option ℕ)) where
       }
 
   -- An `if` without an arm leaves nothing.
-  pub if_none : {u : Nodes} {rest : ℕ} (s : StmtId) (arms : List Arm) (other : Option resolved.Block) → arms ≡ [] → rest < length u.stmts
+  pub if_none : {u : Nodes} {rest : ℕ} (s : StmtId) (arms : List Arm) (other : Option typed_code.Block) → arms ≡ [] → rest < length u.stmts
       → (after : Block) (tail : Code) → code_of u rest ≡ lower f (points_by numbers) after tail → HasCode u rest (lower f (points_by numbers) (if_in nodes s arms other after) tail)
   if_none {u = u} {rest = rest} s arms other none known after tail is =
       let P : List Arm → Type 0 = λ l. HasCode u rest (lower f (points_by numbers) (if_in nodes s l other after) tail) in
@@ -198,7 +198,7 @@ else_none nodes [] h = refl
 else_none nodes (s ∷ ss) h = absurd (omega (arith, h))
 
 -- No arm is lowered yet, and all but the first one are.
-pub others_none : (nodes : TypedNodes) (s : StmtId) (arms : List Arm) (other : Option resolved.Block) (left : ℕ) → length arms ≤ left → else_in nodes other ≡ others_in nodes s (drop left arms) other
+pub others_none : (nodes : TypedNodes) (s : StmtId) (arms : List Arm) (other : Option typed_code.Block) (left : ℕ) → length arms ≤ left → else_in nodes other ≡ others_in nodes s (drop left arms) other
 others_none nodes s [] None zero h = refl
 others_none nodes s [] (Some block) zero h = refl
 others_none nodes s [] None (suc left) h = refl

@@ -9,7 +9,7 @@ use Rattle.wf_text.specs.declared.numbers.StructId.{StructId}
 use Rattle.wf_ast.specs.declared.declarations.Method.{Method}
 use Rattle.wf_ast.specs.declared.numbers.ExprId.{ExprId}
 use Rattle.wf_ast.specs.declared.variables.FieldId.{FieldId}
-use Rattle.wf_ast.specs.declared.resolved.Block as resolved
+use Rattle.wf_ast.specs.declared.typed_code.Block as typed_code
 use Rattle.wf_ast.specs.declared.typed_nodes.TypedNodes.{TypedNodes}
 use Rattle.wf_ast.specs.declared.types.Ty.{Ty}
 use Rattle.wf_ast.specs.declared.types.Ty.TheVariants as types
@@ -242,7 +242,7 @@ pub spelt_there : (nodes : TypedNodes) → HasWords nodes → (n : ℕ) (m : Met
 spelt_there nodes words n m is = list_all-at (is_spelt_method nodes) nodes.methods n m words.method_words is
 
 pub callee_is : (nodes : TypedNodes) → IsTyped nodes → (called : CalledNode) (m : Method) → slice_get nodes.methods (number_of (called_in called)) ≡ Some m
-    → (b : resolved.Block) × (callee_in nodes called ≡ method_of nodes m b)
+    → (b : typed_code.Block) × (callee_in nodes called ≡ method_of nodes m b)
 callee_is nodes typed called m is = let b = declared_there nodes typed (number_of (called_in called)) m is in (b.0, ap (λ o. unwrap_or o no_method) b.1)
 
 pub callee_named : (nodes : TypedNodes) → IsTyped nodes → (called : CalledNode) (m : Method) → slice_get nodes.methods (number_of (called_in called)) ≡ Some m

@@ -3,12 +3,12 @@ use Rattle.std.proofs.Common.{◌≡◌, ℕ, ◌<◌, Bool, true, false, List, 
 use Rattle.std.specs.Prelude.{slice_get, option_map, unwrap_or, length}
 use Rattle.wf_text.specs.declared.place.Place.{Place}
 use Rattle.wf_ast.specs.declared.numbers.StmtId.{StmtId}
-use Rattle.wf_ast.specs.declared.resolved.Arm.{Arm}
-use Rattle.wf_ast.specs.declared.resolved.Block as resolved
-use Rattle.wf_ast.specs.declared.resolved.LoopHead.{LoopHead}
-use Rattle.wf_ast.specs.declared.resolved.Stmt.{Stmt}
-use Rattle.wf_ast.specs.declared.resolved.Stmt.TheVariants as stmts
-use Rattle.wf_ast.specs.declared.resolved.StmtNode.{StmtNode}
+use Rattle.wf_ast.specs.declared.typed_code.Arm.{Arm}
+use Rattle.wf_ast.specs.declared.typed_code.Block as typed_code
+use Rattle.wf_ast.specs.declared.typed_code.LoopHead.{LoopHead}
+use Rattle.wf_ast.specs.declared.typed_code.Stmt.{Stmt}
+use Rattle.wf_ast.specs.declared.typed_code.Stmt.TheVariants as stmts
+use Rattle.wf_ast.specs.declared.typed_code.StmtNode.{StmtNode}
 use Rattle.wf_ast.specs.declared.typed_nodes.TypedNodes.{TypedNodes}
 use Rattle.wf_ast.specs.TypedInvariant.{IsTyped}
 use Rattle.wf_ast.specs.TypedTree.{Block, plain, loop}
@@ -59,12 +59,12 @@ module _ (nodes : TypedNodes) (typed : IsTyped nodes) (s : StmtId) (known : s.0 
       let C : Stmt → Type 0 = λ x. P (unwrap_or (option_map (λ (node : StmtNode). node.at) (slice_get nodes.stmts s.0)) no_place) (inner_at nodes s.0) x in
       subst C same (subst B second (subst A first (make n.0 n.1)))
 
-  pub if_makes : (arms : List Arm) (other : Option resolved.Block) → Is (stmts.If arms other) → (rest : Block) → onto (stmt_makers nodes) s rest ≡ if_in nodes s arms other rest
+  pub if_makes : (arms : List Arm) (other : Option typed_code.Block) → Is (stmts.If arms other) → (rest : Block) → onto (stmt_makers nodes) s rest ≡ if_in nodes s arms other rest
   if_makes arms other h rest =
       at_node (λ at inner st. onto (stmt_makers nodes) s rest ≡ stmt_made nodes (tree_of nodes) (onto (stmt_makers nodes)) s.0 (record { stmt = st; at = at; inner = inner }) rest)
       (stmts.If arms other) h (λ node is. stmt_is nodes s node rest is typed.stmts_ordered)
 
-  pub loop_makes : (head : LoopHead) (body : resolved.Block) → Is (stmts.While head body) → (rest : Block)
+  pub loop_makes : (head : LoopHead) (body : typed_code.Block) → Is (stmts.While head body) → (rest : Block)
       → onto (stmt_makers nodes) s rest ≡ loop (site_at nodes s) (head_made (tree_of nodes) (inner_at nodes s.0) head) (block_of nodes body) rest
   loop_makes head body h rest =
       at_node (λ at inner st. onto (stmt_makers nodes) s rest ≡ stmt_made nodes (tree_of nodes) (onto (stmt_makers nodes)) s.0 (record { stmt = st; at = at; inner = inner }) rest)

@@ -44,7 +44,7 @@ fn end_of_body(b: &Body, u: &mut Unit, w: StmtId, body: &Block) -> Result<CStmtI
     if !continues(b.typed(), w, body) {
         return Ok(end);
     }
-    let label = again_label(b.alloc(), u, w.0)?;
+    let label = again_label(u, w.0)?;
     labelled(u, label, end)
 }
 
@@ -64,7 +64,7 @@ fn behind_loop(
     if !breaks(b.typed(), w, body) {
         return Ok(rest);
     }
-    let label = behind_label(b.alloc(), u, w.0)?;
+    let label = behind_label(u, w.0)?;
     labelled(u, label, rest)
 }
 

@@ -129,7 +129,7 @@ fn callee_name(b: &Body, u: &mut Unit, called: Called) -> Result<CNameId, NoMemo
 {
     let callee = b.typed().method(called.method());
     match called {
-        Called::Own(_) => body_name(b.alloc(), b.typed(), u, callee),
+        Called::Own(_) => body_name(b.typed(), u, callee),
         Called::Sub { .. } => entry_name(b.alloc(), b.typed(), u, callee),
     }
 }

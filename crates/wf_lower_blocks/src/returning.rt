@@ -61,7 +61,7 @@ fn replaced(b: &Body, u: &mut Unit, status: CExprId) -> Result<CStmtId, NoMemory
     ensures made { IfOk result (λ code. HasCode u.new code.0 (assign_code status_local (constant_code cannot_suspend) finish_code)) }
 {
     let end = finish(u)?;
-    let other = status_constant(b.alloc(), u, CANNOT_SUSPEND)?;
+    let other = status_constant(u, CANNOT_SUSPEND)?;
     assign(u, status, other, end)
 }
 
@@ -105,7 +105,7 @@ fn give_constant(b: &Body, u: &mut Unit, n: StatusId, rest: CStmtId) -> Result<C
     ensures grows { Grows u.old u.new }
     ensures made { IfOk result (λ code. HasCode u.new code.0 (give_code (form_in b.now) (Some (constant_code (if is_coroutine (form_in b.now).method.mark && is_suspension_of (form_in b.now) n.0 then cannot_suspend else n.0))) (code_of u.old rest.0))) }
 {
-    let value = status_constant(b.alloc(), u, returned(b, n))?;
+    let value = status_constant(u, returned(b, n))?;
     give(b, u, Some(value), rest)
 }
 

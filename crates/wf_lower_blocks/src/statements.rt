@@ -245,7 +245,7 @@ fn lower_yield(
 {
     let k = b.number(s);
     let rest = resume_here(u, k, rest)?;
-    let status = status_constant(b.alloc(), u, status.0)?;
+    let status = status_constant(u, status.0)?;
     suspend(b, u, k, status, rest)
 }
 
@@ -255,7 +255,7 @@ fn lower_break(b: &Body, u: &mut Unit, w: StmtId, rest: CStmtId) -> Result<CStmt
     ensures grows { Grows u.old u.new }
     ensures made { IfOk result (λ code. HasCode u.new code.0 (c.jump (behind_name w.0) (code_of u.old rest.0))) }
 {
-    let label = behind_label(b.alloc(), u, w.0)?;
+    let label = behind_label(u, w.0)?;
     jump(u, label, rest)
 }
 
@@ -265,7 +265,7 @@ fn lower_continue(b: &Body, u: &mut Unit, w: StmtId, rest: CStmtId) -> Result<CS
     ensures grows { Grows u.old u.new }
     ensures made { IfOk result (λ code. HasCode u.new code.0 (c.jump (again_name w.0) (code_of u.old rest.0))) }
 {
-    let label = again_label(b.alloc(), u, w.0)?;
+    let label = again_label(u, w.0)?;
     jump(u, label, rest)
 }
 

@@ -1,4 +1,4 @@
--- The same of the resolved tree of a package.
+-- How many brackets the parts of a resolved package open inside one another, as WrittenDepth counts them in its parsed tree.
 use Rattle.std.specs.Prelude.{◌-◌, ℕ, Bool, true, ◌&&◌, nat_le}
 use Rattle.std.specs.List.{list_all}
 use Rattle.wf_named.specs.NamedTree.{NamedExprTree, index, slice, answer, chain, convert, negation, NamedPartTree, absent, present, NamedLinkTrees, no_link, link, NamedArgTrees, no_arg, more_args, NamedCallTree, call}

@@ -7,7 +7,7 @@ use Rattle.std.specs.List.{AllByRecursion, list_all}
 use Rattle.wf_ast.specs.declared.declarations.Method.{Method}
 use Rattle.wf_ast.specs.declared.declarations.Struct.{Struct}
 use Rattle.wf_ast.specs.declared.declarations.Var.{Var}
-use Rattle.wf_ast.specs.declared.resolved.Block as resolved
+use Rattle.wf_ast.specs.declared.typed_code.Block as typed_code
 use Rattle.wf_ast.specs.declared.typed_nodes.TypedNodes.{TypedNodes}
 use Rattle.wf_ast.specs.TypedPackage.{MethodTree, variable_of, struct_of, methods_of, package_of}
 use Rattle.wf_tokens.specs.Runs.{is_letter, is_run, is_text_byte, begins}
@@ -119,7 +119,7 @@ module _ (nodes : TypedNodes) where
       let locals = variables-spelt m.locals l in
       rw (owner, name, args, locals) refl
 
-  methods-spelt : (ms : List Method) (bodies : List resolved.Block) → length bodies ≡ length ms → AllByRecursion HasPlainVariables (methods_of nodes ms bodies) → OwnersThere (methods_of nodes ms bodies)
+  methods-spelt : (ms : List Method) (bodies : List typed_code.Block) → length bodies ≡ length ms → AllByRecursion HasPlainVariables (methods_of nodes ms bodies) → OwnersThere (methods_of nodes ms bodies)
       → list_all (is_spelt_method nodes) ms ≡ true
   methods-spelt [] bodies count a o = refl
   methods-spelt (m ∷ ms) [] count a o = absurd (cc count)

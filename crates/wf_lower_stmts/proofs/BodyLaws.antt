@@ -5,7 +5,7 @@ use Rattle.std.proofs.lemmas.Option.{slice_get-map}
 use Rattle.wf_ast.specs.declared.declarations.Method.{Method}
 use Rattle.wf_ast.specs.declared.declarations.Struct.{Struct}
 use Rattle.wf_ast.specs.declared.declarations.Var.{Var}
-use Rattle.wf_ast.specs.declared.resolved.Block.{Block}
+use Rattle.wf_ast.specs.declared.typed_code.Block.{Block}
 use Rattle.wf_ast.specs.declared.typed_nodes.TypedNodes.{TypedNodes}
 use Rattle.wf_ast.specs.TypedInvariant.{IsTyped, block_below, has_few_variables}
 use Rattle.wf_ast.specs.TypedPackage.{Variable, package_of, struct_of, method_of, methods_of, variable_of}

@@ -11,13 +11,13 @@ use Rattle.wf_base.specs.declared.base_methods.BaseSig.TheVariants as sigs
 use Rattle.wf_base.specs.declared.base_methods.ReadForm.TheVariants as reads
 use Rattle.wf_ast.specs.declared.numbers.ExprId.{ExprId}
 use Rattle.wf_ast.specs.declared.numbers.StmtId.{StmtId}
-use Rattle.wf_ast.specs.declared.resolved.Callee.{Callee}
-use Rattle.wf_ast.specs.declared.resolved.Callee.TheVariants as callees
-use Rattle.wf_ast.specs.declared.resolved.Arm.{Arm}
-use Rattle.wf_ast.specs.declared.resolved.Block as resolved
-use Rattle.wf_ast.specs.declared.resolved.Stmt.{Stmt}
-use Rattle.wf_ast.specs.declared.resolved.Stmt.TheVariants as stmts
-use Rattle.wf_ast.specs.declared.resolved.StmtNode.{StmtNode}
+use Rattle.wf_ast.specs.declared.typed_code.Callee.{Callee}
+use Rattle.wf_ast.specs.declared.typed_code.Callee.TheVariants as callees
+use Rattle.wf_ast.specs.declared.typed_code.Arm.{Arm}
+use Rattle.wf_ast.specs.declared.typed_code.Block as typed_code
+use Rattle.wf_ast.specs.declared.typed_code.Stmt.{Stmt}
+use Rattle.wf_ast.specs.declared.typed_code.Stmt.TheVariants as stmts
+use Rattle.wf_ast.specs.declared.typed_code.StmtNode.{StmtNode}
 use Rattle.wf_ast.specs.declared.typed_nodes.TypedNodes.{TypedNodes}
 use Rattle.wf_ast.specs.TypedTree.{ValueTree, Target, Awaited, Simple, assign, await, perform, invoke, break_from, continue_in, give_back, yield, claim, Site, Block, end, plain, choose, loop}
 use Rattle.wf_ast.specs.TypedTrees.{tree_of, optional_target, base_call, call_made, block_made, otherwise_made, if_made, stmt_made, onto, stmt_makers, block_of}
@@ -296,10 +296,10 @@ module _ (nodes : TypedNodes) (ordered : each_numbered (λ s node. stmt_below no
       in_front i n.0 (block_made (onto (stmt_makers nodes)) ss) n.1 ∙ ap (λ x. stands_at nodes (is_sought s) i || x) (among ss p.1)
 
   module _ (k : ℕ) (small : k ≤ length nodes.stmts) where
-    block_among : (b : resolved.Block) → block_below k b ≡ true → stands (is_sought s) (block_made (onto (stmt_makers nodes)) b.items) ≡ stands_among (stands_at nodes (is_sought s)) b.items
+    block_among : (b : typed_code.Block) → block_below k b ≡ true → stands (is_sought s) (block_made (onto (stmt_makers nodes)) b.items) ≡ stands_among (stands_at nodes (is_sought s)) b.items
     block_among b h = among b.items (ids_more k (length nodes.stmts) small b.items h)
 
-    otherwise_among : (site : Site) (arms : List Arm) (other : Option resolved.Block) → list_all (λ a. is_expr nodes a.cond && block_below k a.body) arms ≡ true → optional_block_below k other ≡ true
+    otherwise_among : (site : Site) (arms : List Arm) (other : Option typed_code.Block) → list_all (λ a. is_expr nodes a.cond && block_below k a.body) arms ≡ true → optional_block_below k other ≡ true
         → stands (is_sought s) (otherwise_made (tree_of nodes) (onto (stmt_makers nodes)) site arms other) ≡ (stands_in_arms (stands_at nodes (is_sought s)) arms || stands_in_else (stands_at nodes (is_sought s)) other)
     otherwise_among site [] None h o = refl
     otherwise_among site [] (Some b) h o = block_among b o
@@ -310,7 +310,7 @@ module _ (nodes : TypedNodes) (ordered : each_numbered (λ s node. stmt_below no
         (stands (is_sought s) (otherwise_made (tree_of nodes) (onto (stmt_makers nodes)) site arms other)) (stands_in_arms (stands_at nodes (is_sought s)) arms) (stands_in_else (stands_at nodes (is_sought s)) other)
         (block_among arm.body q.1) (otherwise_among site arms other p.1 o)
 
-    if_among : (site : Site) (arms : List Arm) (other : Option resolved.Block) → list_all (λ a. is_expr nodes a.cond && block_below k a.body) arms ≡ true → optional_block_below k other ≡ true
+    if_among : (site : Site) (arms : List Arm) (other : Option typed_code.Block) → list_all (λ a. is_expr nodes a.cond && block_below k a.body) arms ≡ true → optional_block_below k other ≡ true
         → stands (is_sought s) (if_made (tree_of nodes) (onto (stmt_makers nodes)) site arms other end) ≡ stands_in_if (stands_at nodes (is_sought s)) arms other
     if_among site [] other h o = or_false _ ∙ idle s _ (λ w. refl) (λ w. refl) (λ test. refl)
     if_among site (arm ∷ arms) other h o =
@@ -356,5 +356,5 @@ node_stands nodes typed s i st h e =
     subst B same (by_node nodes typed.stmts_ordered s i n.0 n.1)
 
 -- And in a body.
-pub body_stands : (nodes : TypedNodes) → IsTyped nodes → (s : Sought) (b : resolved.Block) → block_below (length nodes.stmts) b ≡ true → stands (is_sought s) (block_of nodes b) ≡ stands_among (stands_at nodes (is_sought s)) b.items
+pub body_stands : (nodes : TypedNodes) → IsTyped nodes → (s : Sought) (b : typed_code.Block) → block_below (length nodes.stmts) b ≡ true → stands (is_sought s) (block_of nodes b) ≡ stands_among (stands_at nodes (is_sought s)) b.items
 body_stands nodes typed s b h = among nodes typed.stmts_ordered s b.items h

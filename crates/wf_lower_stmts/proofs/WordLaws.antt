@@ -80,9 +80,6 @@ pub struct_type_is : (nodes : TypedNodes) (s : ℕ) (p q : List ℕ) → p ≡ n
 unfolding package_of
 struct_type_is nodes s p q e f = ap (λ x. codes "wuffs_" ++ (x ++ (codes "__" ++ q))) e ∙ ap (λ x. codes "wuffs_" ++ (nodes.package ++ (codes "__" ++ x))) f
 
-pub struct_type_name : (nodes : TypedNodes) (s : ℕ) → list_all is_word_byte (struct_type (package_of nodes) s) ≡ true → IsName (struct_type (package_of nodes) s)
-struct_type_name nodes s h = wuffs_is_name ((package_of nodes).package_name ++ (codes "__" ++ struct_called (package_of nodes) s)) h
-
 pub ok_map : {A E : Type 0} (P Q : A → Type 0) (r : Result A E) → ((a : A) → P a → Q a) → IfOk r P → IfOk r Q
 ok_map P Q (Ok a) f h = f a h
 ok_map P Q (Err e) f h = h

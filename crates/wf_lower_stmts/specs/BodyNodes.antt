@@ -6,12 +6,12 @@ use Rattle.wf_ast.specs.declared.declarations.Struct.{Struct}
 use Rattle.wf_ast.specs.declared.numbers.ExprId.{ExprId}
 use Rattle.wf_ast.specs.declared.numbers.StmtId.{StmtId}
 use Rattle.wf_ast.specs.declared.numbers.TextId.{TextId}
-use Rattle.wf_ast.specs.declared.resolved.Arm.{Arm}
-use Rattle.wf_ast.specs.declared.resolved.Block as resolved
-use Rattle.wf_ast.specs.declared.resolved.Callee.{Callee}
-use Rattle.wf_ast.specs.declared.resolved.Callee.TheVariants as callees
-use Rattle.wf_ast.specs.declared.resolved.Stmt.{Stmt}
-use Rattle.wf_ast.specs.declared.resolved.Stmt.TheVariants as stmts
+use Rattle.wf_ast.specs.declared.typed_code.Arm.{Arm}
+use Rattle.wf_ast.specs.declared.typed_code.Block as typed_code
+use Rattle.wf_ast.specs.declared.typed_code.Callee.{Callee}
+use Rattle.wf_ast.specs.declared.typed_code.Callee.TheVariants as callees
+use Rattle.wf_ast.specs.declared.typed_code.Stmt.{Stmt}
+use Rattle.wf_ast.specs.declared.typed_code.Stmt.TheVariants as stmts
 use Rattle.wf_base.specs.declared.base_methods.BaseSig.{BaseSig}
 use Rattle.wf_base.specs.declared.base_methods.BaseSig.TheVariants as sigs
 use Rattle.wf_base.specs.declared.base_methods.ReadForm.TheVariants.{ReadU8}
@@ -46,7 +46,7 @@ use Rattle.wf_lower_stmts.specs.declared.walks.Sought.TheVariants as sought
 pub record BodyTree : Type 0 where
   pub nodes : TypedNodes
   pub method : Method
-  pub body : resolved.Block
+  pub body : typed_code.Block
   pub numbers : List (Option ℕ)
 
 -- The package and the method as trees, with the method's names.
@@ -80,7 +80,7 @@ abbrev pub AreSmall : List (Option ℕ) → Type 0
 AreSmall numbers = (s : ℕ) → point_at numbers s < 2 ^ 31
 
 -- The names, the method and its body belong to one package.
-pub record IsBody (scope : ScopeTree) (nodes : TypedNodes) (numbers : List (Option ℕ)) (m : Method) (body : resolved.Block) (held counted : Bool) : Type 0 where
+pub record IsBody (scope : ScopeTree) (nodes : TypedNodes) (numbers : List (Option ℕ)) (m : Method) (body : typed_code.Block) (held counted : Bool) : Type 0 where
   pub typed : IsTyped nodes
   pub words : HasWords nodes
   pub same_nodes : scope.nodes ≡ nodes
@@ -143,12 +143,12 @@ abbrev pub stands_in_arms : (StmtId → Bool) → List Arm → Bool
 stands_in_arms look [] = false
 stands_in_arms look (arm ∷ arms) = stands_among look arm.body.items || stands_in_arms look arms
 
-abbrev pub stands_in_else : (StmtId → Bool) → Option resolved.Block → Bool
+abbrev pub stands_in_else : (StmtId → Bool) → Option typed_code.Block → Bool
 stands_in_else look None = false
 stands_in_else look (Some block) = stands_among look block.items
 
 -- An `if` without an arm stands for no statement.
-abbrev pub stands_in_if : (StmtId → Bool) → List Arm → Option resolved.Block → Bool
+abbrev pub stands_in_if : (StmtId → Bool) → List Arm → Option typed_code.Block → Bool
 stands_in_if look [] other = false
 stands_in_if look (arm ∷ arms) other = stands_in_arms look (arm ∷ arms) || stands_in_else look other
 

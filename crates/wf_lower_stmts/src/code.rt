@@ -10,7 +10,7 @@ ghost use Rattle.wf_lower_stmts.specs.Forms.{resume_here as resumed_here, when a
 
 use c_text::{CCall, CExprId, CNameId, CNumber, CStmt, CStmtId, Otherwise, Unit};
 use wf_exprs::nodes::number;
-use wf_exprs_nodes::helpers::put_stmt;
+use wf_exprs_nodes::helpers::{put_end, put_stmt};
 use wf_text::NoMemory;
 
 /// The end of a block.
@@ -18,7 +18,7 @@ pub fn finish(u: &mut Unit) -> Result<CStmtId, NoMemory>
     ensures grows { Grows u.old u.new }
     ensures made { IfOk result (λ it. HasCode u.new it.0 finish_code) }
 {
-    put_stmt(u, CStmt::End)
+    put_end(u)
 }
 
 /// `target = value;`

@@ -41,7 +41,7 @@ fn saved(b: &Body, u: &mut Unit, name: &[u8]) -> Result<CExprId, NoMemory>
     ensures grows { Grows u.old u.new }
     ensures made { IfOk result (λ it. HasExpr u.new it.0 (of_self (saved_name (form_in b.now).method.name name.now))) }
 {
-    let field = saved_field(b.alloc(), u, b.name(), name)?;
+    let field = saved_field(u, b.name(), name)?;
     member_of_self(u, field)
 }
 
@@ -51,7 +51,7 @@ fn save_local(b: &Body, u: &mut Unit, name: &[u8], rest: CStmtId) -> Result<CStm
     ensures grows { Grows u.old u.new }
     ensures made { IfOk result (λ it. HasCode u.new it.0 (save_one (form_in b.now).method.name name.now (code_of u.old rest.0))) }
 {
-    let local = spelt_variable(b.alloc(), u, b"v_", name)?;
+    let local = spelt_variable(u, b"v_", name)?;
     let field = saved(b, u, name)?;
     assign(u, field, local, rest)
 }
@@ -63,7 +63,7 @@ fn restore_local(b: &Body, u: &mut Unit, name: &[u8], rest: CStmtId) -> Result<C
     ensures made { IfOk result (λ it. HasCode u.new it.0 (restore_one (form_in b.now).method.name name.now (code_of u.old rest.0))) }
 {
     let field = saved(b, u, name)?;
-    let local = spelt_variable(b.alloc(), u, b"v_", name)?;
+    let local = spelt_variable(u, b"v_", name)?;
     assign(u, local, field, rest)
 }
 
@@ -147,7 +147,7 @@ fn held_there(b: &Body, u: &mut Unit) -> Result<CExprId, NoMemory>
     ensures grows { Grows u.old u.new }
     ensures made { IfOk result (λ it. HasExpr u.new it.0 (of_self (held_name (form_in b.now).method.name))) }
 {
-    let field = held_field(b.alloc(), u, b.name())?;
+    let field = held_field(u, b.name())?;
     member_of_self(u, field)
 }
 
@@ -156,7 +156,7 @@ fn count_there(b: &Body, u: &mut Unit) -> Result<CExprId, NoMemory>
     ensures grows { Grows u.old u.new }
     ensures made { IfOk result (λ it. HasExpr u.new it.0 (of_self (count_name (form_in b.now).method.name))) }
 {
-    let field = count_field(b.alloc(), u, b.name())?;
+    let field = count_field(u, b.name())?;
     member_of_self(u, field)
 }
 
@@ -165,7 +165,7 @@ pub fn point_there(b: &Body, u: &mut Unit) -> Result<CExprId, NoMemory>
     ensures grows { Grows u.old u.new }
     ensures made { IfOk result (λ it. HasExpr u.new it.0 (of_self (point_name (form_in b.now).method.name))) }
 {
-    let field = point_field(b.alloc(), u, b.name())?;
+    let field = point_field(u, b.name())?;
     member_of_self(u, field)
 }
 
@@ -317,6 +317,6 @@ pub fn suspend_with(b: &Body, u: &mut Unit, k: u32, status: u32) -> Result<CStmt
     ensures made { IfOk result (λ it. HasCode u.new it.0 (suspend_code (form_in b.now) k (constant_code status) finish_code)) }
 {
     let rest = finish(u)?;
-    let status = status_constant(b.alloc(), u, status)?;
+    let status = status_constant(u, status)?;
     suspend(b, u, k, status, rest)
 }

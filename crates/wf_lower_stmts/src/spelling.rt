@@ -11,7 +11,7 @@ ghost use Rattle.wf_lower_stmts.specs.BodyNodes.{HasWords, body_name_of, entry_n
 use c_text::{CNameId, Unit};
 use std::alloc::Global;
 use wf_ast::{Method, StructId, Typed};
-use wf_exprs::names::{put_name, put_numbered, put_spelt};
+use wf_exprs::names::{put_numbered, put_spelt, put_words};
 use wf_text::NoMemory;
 
 // Four words, one after the other.
@@ -35,46 +35,40 @@ fn joined(
 }
 
 /// The field that keeps where a coroutine goes on.
-pub fn point_field(alloc: Global, u: &mut Unit, method: &[u8]) -> Result<CNameId, NoMemory>
+pub fn point_field(u: &mut Unit, method: &[u8]) -> Result<CNameId, NoMemory>
     requires { list_all is_word_byte method.now ≡ true }
     ensures grows { Grows u.old u.new }
     ensures made { IfOk result (λ n. HasNamed u.new n.0 (point_name method.now)) }
 {
-    put_spelt(alloc, u, b"r_", method)
+    put_spelt(u, b"r_", method)
 }
 
 /// The field that keeps what a started statement has.
-pub fn held_field(alloc: Global, u: &mut Unit, method: &[u8]) -> Result<CNameId, NoMemory>
+pub fn held_field(u: &mut Unit, method: &[u8]) -> Result<CNameId, NoMemory>
     requires { list_all is_word_byte method.now ≡ true }
     ensures grows { Grows u.old u.new }
     ensures made { IfOk result (λ n. HasNamed u.new n.0 (held_name method.now)) }
 {
-    put_spelt(alloc, u, b"h_", method)
+    put_spelt(u, b"h_", method)
 }
 
 /// The field that keeps how many bytes that is.
-pub fn count_field(alloc: Global, u: &mut Unit, method: &[u8]) -> Result<CNameId, NoMemory>
+pub fn count_field(u: &mut Unit, method: &[u8]) -> Result<CNameId, NoMemory>
     requires { list_all is_word_byte method.now ≡ true }
     ensures grows { Grows u.old u.new }
     ensures made { IfOk result (λ n. HasNamed u.new n.0 (count_name method.now)) }
 {
-    put_spelt(alloc, u, b"n_", method)
+    put_spelt(u, b"n_", method)
 }
 
 /// The field that keeps a local.
-pub fn saved_field(
-    alloc: Global,
-    u: &mut Unit,
-    method: &[u8],
-    local: &[u8],
-) -> Result<CNameId, NoMemory>
+pub fn saved_field(u: &mut Unit, method: &[u8], local: &[u8]) -> Result<CNameId, NoMemory>
     requires method { list_all is_word_byte method.now ≡ true }
     requires local { list_all is_word_byte local.now ≡ true }
     ensures grows { Grows u.old u.new }
     ensures made { IfOk result (λ n. HasNamed u.new n.0 (saved_name method.now local.now)) }
 {
-    let text = joined(alloc, b"s_", method, b"__", local)?;
-    put_name(u, text.as_slice())
+    put_words(u, b"s_", method, b"__", local)
 }
 
 // The source's name of a struct.
@@ -98,14 +92,13 @@ fn struct_text(alloc: Global, t: &Typed, s: StructId) -> Result<Vec<u8>, NoMemor
 }
 
 /// The type of a struct.
-pub fn struct_type(alloc: Global, t: &Typed, u: &mut Unit, s: StructId) -> Result<CNameId, NoMemory>
+pub fn struct_type(t: &Typed, u: &mut Unit, s: StructId) -> Result<CNameId, NoMemory>
     requires known { s.0 < length t.now.structs }
     requires words { HasWords t.now }
     ensures grows { Grows u.old u.new }
     ensures made { IfOk result (λ n. HasNamed u.new n.0 (type_name (package_of t.now) s.0)) }
 {
-    let text = struct_text(alloc, t, s)?;
-    put_name(u, text.as_slice())
+    put_words(u, b"wuffs_", t.package(), b"__", struct_called(t, s))
 }
 
 /// The function that makes an object of a struct ready.
@@ -121,7 +114,7 @@ pub fn initialize_name(
     ensures made { IfOk result (λ n. HasNamed u.new n.0 (name_of_initialize (package_of t.now) s.0)) }
 {
     let text = struct_text(alloc, t, s)?;
-    put_spelt(alloc, u, text.as_slice(), b"__initialize")
+    put_spelt(u, text.as_slice(), b"__initialize")
 }
 
 /// A method as its callers outside see it.
@@ -132,39 +125,31 @@ pub fn entry_name(alloc: Global, t: &Typed, u: &mut Unit, m: &Method) -> Result<
     ensures made { IfOk result (λ n. HasNamed u.new n.0 (entry_name_of t.now m.now)) }
 {
     let of = struct_text(alloc, t, m.of)?;
-    let text = joined(alloc, of.as_slice(), b"__", t.text(m.name), b"")?;
-    put_name(u, text.as_slice())
+    put_words(u, of.as_slice(), b"__", t.text(m.name), b"")
 }
 
 /// The body of a method.
-pub fn body_name(alloc: Global, t: &Typed, u: &mut Unit, m: &Method) -> Result<CNameId, NoMemory>
+pub fn body_name(t: &Typed, u: &mut Unit, m: &Method) -> Result<CNameId, NoMemory>
     requires words { HasWords t.now }
     requires spelt { is_spelt_method t.now m.now ≡ true }
     ensures grows { Grows u.old u.new }
     ensures made { IfOk result (λ n. HasNamed u.new n.0 (body_name_of t.now m.now)) }
 {
-    let text = joined(
-        alloc,
-        b"body_",
-        struct_called(t, m.of),
-        b"__",
-        t.text(m.name),
-    )?;
-    put_name(u, text.as_slice())
+    put_words(u, b"body_", struct_called(t, m.of), b"__", t.text(m.name))
 }
 
 /// The label at the end of a loop's body.
-pub fn again_label(alloc: Global, u: &mut Unit, w: u32) -> Result<CNameId, NoMemory>
+pub fn again_label(u: &mut Unit, w: u32) -> Result<CNameId, NoMemory>
     ensures grows { Grows u.old u.new }
     ensures made { IfOk result (λ n. HasNamed u.new n.0 (again_name w)) }
 {
-    put_numbered(alloc, u, b"again_", w as u64)
+    put_numbered(u, b"again_", w as u64)
 }
 
 /// The label of what follows a loop.
-pub fn behind_label(alloc: Global, u: &mut Unit, w: u32) -> Result<CNameId, NoMemory>
+pub fn behind_label(u: &mut Unit, w: u32) -> Result<CNameId, NoMemory>
     ensures grows { Grows u.old u.new }
     ensures made { IfOk result (λ n. HasNamed u.new n.0 (behind_name w)) }
 {
-    put_numbered(alloc, u, b"behind_", w as u64)
+    put_numbered(u, b"behind_", w as u64)
 }

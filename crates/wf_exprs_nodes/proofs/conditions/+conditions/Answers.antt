@@ -8,8 +8,9 @@ use Rattle.c_text.specs.declared.ids.CExprId.{CExprId}
 use Rattle.wf_exprs.specs.Exprs.{with_operand, lowered_cond}
 use Rattle.wf_exprs.proofs.Growing.{grows_on, kept_expr, retell}
 use Rattle.wf_exprs_nodes.specs.Trees.{HasOperands, node_cond}
+use Rattle.wf_ast.proofs.ChainKinds.{all_there}
 use Rattle.wf_exprs_nodes.proofs.ConditionLaws.{behind_end, behind_next, junction_is}
-use Rattle.wf_exprs_nodes.proofs.KindLaws.{of_conditions, of_comparison, condition_below, all_there}
+use Rattle.wf_exprs_nodes.proofs.KindLaws.{of_conditions, of_comparison, condition_below}
 use Rattle.wf_exprs_nodes.proofs.OperandLaws.{has_there, has_kept, has_pushed}
 use Rattle.wf_exprs_nodes.proofs.conditions.+conditions.Goals as goal
 

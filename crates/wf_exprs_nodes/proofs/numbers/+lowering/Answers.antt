@@ -15,7 +15,8 @@ use Rattle.wf_exprs.specs.Exprs.{with_operand, lowered, lowered_expr, lowered_sl
 use Rattle.wf_exprs.proofs.Growing.{grows_on, kept_expr}
 use Rattle.wf_exprs_nodes.specs.Trees.{HasOperands, node_number, node_slice}
 use Rattle.wf_exprs_nodes.proofs.ChainLaws.{behind_end, behind_next, link_is, links_begin, links_next, operation_is}
-use Rattle.wf_exprs_nodes.proofs.KindLaws.{of_numbers, number_below, no_slice_chain, answers_a_number, list_given}
+use Rattle.wf_ast.proofs.ChainKinds.{no_slice_chain}
+use Rattle.wf_exprs_nodes.proofs.KindLaws.{of_numbers, number_below, answers_a_number, list_given}
 use Rattle.wf_exprs_nodes.proofs.OperandLaws.{has_there, has_kept, has_pushed}
 use Rattle.wf_exprs_nodes.proofs.SliceLaws.{pointer_no_literal, part_is, rated_kept, retell_rated, pair_kept, pair_as, end_kept}
 use Rattle.wf_exprs_nodes.proofs.numbers.+lowering.Goals as goal

@@ -5,7 +5,8 @@ use Rattle.wf_ast.specs.WellTyped.{same_mark}
 use Rattle.wf_ast.specs.TypedTrees.{sort_of, type_of_node}
 use Rattle.wf_ast.specs.TypedInvariant.{chain_fits, has_kind, is_expr, is_given, is_state}
 use Rattle.wf_ast.proofs.Arena.{both_true}
-use Rattle.wf_exprs_nodes.proofs.KindLaws.{no_status_chain, state_given}
+use Rattle.wf_ast.proofs.ChainKinds.{no_status_chain}
+use Rattle.wf_exprs_nodes.proofs.KindLaws.{state_given}
 use Rattle.wf_exprs_nodes.proofs.statuses.status.Goals as goal
 
 pub unreachable-requires-in-Chain : goal.unreachable-requires-in-Chain

@@ -1,5 +1,5 @@
 use Rattle.std.proofs.Common.{◌≡◌, ◌-◌, List, true, IfOk, arith, refl, rules, subst, sym}
-use Rattle.wf_ast.specs.declared.resolved.Arm.{Arm}
+use Rattle.wf_ast.specs.declared.typed_code.Arm.{Arm}
 use Rattle.wf_ast.specs.TypedTree.{Block}
 use Rattle.wf_ast.specs.TypedTrees.{block_of}
 use Rattle.c_text.specs.CGrammar.{FitsElse}

@@ -2,12 +2,13 @@ use Rattle.std.proofs.Common.{◌≡◌, ◌&&◌, true, refl, rules}
 use Rattle.wf_base.specs.declared.marks.Mark.TheVariants.{Pure}
 use Rattle.wf_base.specs.BaseTable.{row_of}
 use Rattle.wf_ast.specs.WellTyped.{same_mark}
-use Rattle.wf_ast.specs.declared.resolved.Expr.TheVariants as exprs
+use Rattle.wf_ast.specs.declared.typed_code.Expr.TheVariants as exprs
 use Rattle.wf_ast.specs.TypedTree.{local, field, arg}
 use Rattle.wf_ast.specs.TypedTrees.{sort_of, type_of_node, place_of_node, signs_of_node, constant_of_node}
 use Rattle.wf_ast.specs.TypedInvariant.{chain_fits, has_kind, is_expr, is_given, is_list}
 use Rattle.wf_ast.proofs.Arena.{both_true}
-use Rattle.wf_exprs_nodes.proofs.KindLaws.{no_slice_chain, list_given}
+use Rattle.wf_ast.proofs.ChainKinds.{no_slice_chain}
+use Rattle.wf_exprs_nodes.proofs.KindLaws.{list_given}
 use Rattle.wf_lower_blocks.proofs.WidthLaws.{base_before, base_slice, cut_bits, held_bits}
 use Rattle.wf_lower_blocks.proofs.performing.base_of.Goals as goal
 

@@ -11,8 +11,7 @@ struct_called-requires-clause-known c = spelt_known c.args.t.now c.args.m.now c.
 pub text-requires : goal.text-requires
 text-requires c = word_there c.args.t.now c.args.m.now.name (spelt_word c.args.t.now c.args.m.now c.requires.spelt)
 
-pub put_name-requires : goal.put_name-requires
-put_name-requires c =
+pub put_words-requires : goal.put_words-requires
+put_words-requires c =
     let name = ap (list_all is_word_byte) (sym (ap (λ o. unwrap_or o []) c.text.ensures)) ∙ word_is c.args.t.now c.args.m.now.name (spelt_word c.args.t.now c.args.m.now c.requires.spelt) in
-    rw (c.as_slice.ensures.value, c.in_ok-text.ensures)
     (body_is_name (c.struct_called.result.now ++ (codes "__" ++ c.text.result.now)) (joined_words c.struct_called.result.now (codes "__" ++ c.text.result.now) c.struct_called.ensures.word (joined_words (codes "__") c.text.result.now refl name)))

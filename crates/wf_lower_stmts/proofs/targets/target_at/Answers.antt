@@ -1,5 +1,5 @@
 use Rattle.std.proofs.Common.{subst}
-use Rattle.wf_ast.specs.declared.resolved.Expr.TheVariants as exprs
+use Rattle.wf_ast.specs.declared.typed_code.Expr.TheVariants as exprs
 use Rattle.wf_ast.specs.declared.types.Ty.{Ty}
 use Rattle.wf_ast.specs.TypedTree.{local, field, arg}
 use Rattle.wf_ast.specs.TypedTrees.{named, target_of, tree_of, place_of_node, signs_of_node, type_of_node, constant_of_node}
