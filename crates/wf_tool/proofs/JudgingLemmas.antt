@@ -12,7 +12,7 @@ use Rattle.wf_ast.specs.ParsedTree.{DeclTree, status, constant, structure, metho
 use Rattle.wf_ast.specs.StatementOrder.{stand_in_order}
 use Rattle.wf_ast.specs.declared.typed_nodes.TypedNodes.{TypedNodes}
 use Rattle.wf_ast.specs.declared.declarations.Method.{Method}
-use Rattle.wf_ast.specs.declared.resolved.Block as resolved_tree
+use Rattle.wf_ast.specs.declared.typed_code.Block as typed_code
 use Rattle.wf_ast.specs.TypedPackage as typed
 use Rattle.wf_ast.specs.TypedPackage.{PackageTree, package_of}
 use Rattle.wf_ast.specs.ReadPackage.{decls_of}
@@ -55,7 +55,7 @@ use Rattle.wf_tool.proofs.OrderLemmas.{any-order}
 use Rattle.wf_tool.proofs.SoundVerdicts.{accepted-runs}
 
 -- A package has as many methods as its nodes.
-methods-made : (nodes : TypedNodes) (ms : List Method) (bodies : List resolved_tree.Block) → length bodies ≡ length ms → length (typed.methods_of nodes ms bodies) ≡ length ms
+methods-made : (nodes : TypedNodes) (ms : List Method) (bodies : List typed_code.Block) → length bodies ≡ length ms → length (typed.methods_of nodes ms bodies) ≡ length ms
 methods-made nodes [] bodies count = refl
 methods-made nodes (m ∷ ms) [] count = absurd (cc count)
 methods-made nodes (m ∷ ms) (body ∷ bodies) count =

@@ -54,7 +54,7 @@ fn judge_read(alloc: Global, parsed: Package) -> Result<Accepted, PhaseFault>
     judge_named(alloc, named)
 }
 
-/// Accepts a package whose files are within the limits, or answers the refusal that decides.
+/// Accepts a package whose files are within the limits, or answers the first refusal.
 pub(crate) fn judge_files(
     alloc: Global,
     name: &str,
