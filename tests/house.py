@@ -4,6 +4,8 @@ and has one section in docs/PROOFS.md, under the same phase, and no other crate 
 README.md and docs/ lead to files and headings that are there. A path between backticks is there: from the top, or from docs/,
 tests/, examples/ or crates/; in a crate it may begin at specs/, src/ or proofs/, or be a file's name alone, and in a crate's section
 of docs/PROOFS.md it is in that crate or in one that the section names. NAME in it stands for any name.
+And that no table of the sources is looked up by a hash of what an author writes: keys of hashed tables are numbers of 32 bits, which are given
+in order, so that names can't be chosen to collide; tables of names or of pairs are ordered.
 """
 import pathlib
 import re
@@ -118,10 +120,18 @@ def check_paths():
                         yield f"{document.name}:{number}: there is no {path}"
 
 
+def check_tables():
+    for source in sorted((TOP / "crates").glob("*/src/**/*.rt")):
+        for number, line in enumerate(source.read_text().splitlines(), 1):
+            for key in re.findall(r"\b(?:Index|Hash)(?:Map|Set)<([^,>]*)", line):
+                if key.strip() != "u32":
+                    yield f"{source.relative_to(TOP)}:{number}: a table by a hash of {key}"
+
+
 def main():
     if sys.argv[1:] != ["--check"]:
         sys.exit(__doc__)
-    wrong = [*check_crates(), *check_links(), *check_paths()]
+    wrong = [*check_crates(), *check_links(), *check_paths(), *check_tables()]
     for line in wrong:
         print(line)
     print(f"house: {len(crates())} crates, {len(DOCUMENTS)} documents, {len(wrong)} failed")

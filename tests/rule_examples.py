@@ -2,8 +2,8 @@
 """rule_examples.py PROGRAM: the examples of docs/RULES.md and docs/LANGUAGE.md that are whole files, through the built program.
 
 A block that begins with ```wuffs refused RULE LINE:COL has to be refused so; under a rule's heading it is refused by that rule.
-One that begins with ```wuffs passes has to be accepted. A line that ends with // N times stands for N such lines, with % in it as
-0, 1 and so on.
+One that begins with ```wuffs passes has to be accepted. A line that begins with - [refused RULE LINE:COL](FILE) or - [passes](FILE)
+tells the same of a file.
 """
 import pathlib
 import re
@@ -14,23 +14,20 @@ import tempfile
 DOCS = pathlib.Path(__file__).resolve().parent.parent / "docs"
 
 
-def repeated(line):
-    """The lines that a line of an example stands for."""
-    times = re.fullmatch(r"(.*\S) +// (\d+) times", line)
-    return [times[1].replace("%", str(number)) for number in range(int(times[2]))] if times else [line]
-
-
 def examples(page):
-    """The blocks of the page: line, rule of the section, the words after `wuffs`, text."""
+    """The examples of the page: line, rule of the section, the words that tell its answer, text."""
     section, block = None, None
-    for number, line in enumerate(page.splitlines(), 1):
+    for number, line in enumerate(page.read_text().splitlines(), 1):
         heading = re.fullmatch(r"## ([A-Z]\d+)", line)
+        linked = re.match(r"- \[((?:refused|passes)[^]]*)\]\(([^)]*\.wuffs)\)", line)
         if block is None and heading:
             section = heading.group(1)
+        elif block is None and linked:
+            yield number, section, linked[1].split(), (page.parent / linked[2]).read_text()
         elif block is None and line.startswith("```wuffs "):
             block = (number, section, line.split()[1:], [])
         elif block is not None and line == "```":
-            yield block[0], block[1], block[2], "".join(one + "\n" for line in block[3] for one in repeated(line))
+            yield block[0], block[1], block[2], "".join(line + "\n" for line in block[3])
             block = None
         elif block is not None:
             block[3].append(line)
@@ -63,7 +60,7 @@ def main():
     passed = failed = 0
     refused, passes = set(), set()
     for page in (DOCS / "RULES.md", DOCS / "LANGUAGE.md"):
-        for line, section, words, text in examples(page.read_text()):
+        for line, section, words, text in examples(page):
             wrong = fault(section, words, answer(program, text))
             if section:
                 (refused if words[:1] == ["refused"] else passes).add(section)

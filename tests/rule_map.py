@@ -49,7 +49,7 @@ def sections(text):
         if heading:
             rule = heading.group(1)
             found[rule] = 0
-        elif rule and line.startswith("```wuffs"):
+        elif rule and re.match(r"```wuffs|- \[(refused|passes)", line):
             found[rule] += 1
     return found
 
