@@ -1,5 +1,5 @@
 -- What tables know.
-use Rattle.std.specs.Prelude.{ℕ, Bool, false, List, [], Option, Some, None, is_some, slice_get, nat_eq, option_map}
+use Rattle.std.specs.Prelude.{ℕ, Bool, false, cond, List, [], Option, Some, None, is_some, slice_get, nat_eq, nat_lt, option_map}
 use Rattle.std.specs.BTreeMap.{BTreeMap}
 use Rattle.indexmap.specs.IndexMap.{IndexMap, get}
 use Rattle.indexmap.specs.IndexSet.{IndexSet, contains}
@@ -58,6 +58,14 @@ abbrev pub arg_at : Tables → (method : Option ℕ) → ℕ → Option Entry
 arg_at t None text = None
 arg_at t (Some m) text = arg_in (slice_get t.variables.items m) text
 
+-- The constant that has this name, where it is one of the first `known`.
+abbrev pub constant_in : (known : ℕ) → Option Entry → Option Entry
+constant_in known None = None
+constant_in known (Some entry) = cond (nat_lt entry.place known) (Some entry) None
+
+abbrev pub constant_at : Tables → (known : ℕ) → ℕ → Option Entry
+constant_at t known text = constant_in known (get nat_eq t.constants.entries text)
+
 -- What may be called on them, and their places.
 abbrev pub entry_sort : Option Entry → Option Sort
 entry_sort entry = option_map (λ e. e.sort) entry
@@ -71,11 +79,17 @@ local_sort_at t method text = entry_sort (local_at t method text)
 abbrev pub arg_sort_at : Tables → (method : Option ℕ) → ℕ → Option Sort
 arg_sort_at t method text = entry_sort (arg_at t method text)
 
+abbrev pub constant_sort_at : Tables → (known : ℕ) → ℕ → Option Sort
+constant_sort_at t known text = entry_sort (constant_at t known text)
+
 abbrev pub local_place_at : Tables → (method : Option ℕ) → ℕ → Option ℕ
 local_place_at t method text = entry_place (local_at t method text)
 
 abbrev pub arg_place_at : Tables → (method : Option ℕ) → ℕ → Option ℕ
 arg_place_at t method text = entry_place (arg_at t method text)
+
+abbrev pub constant_place_at : Tables → (known : ℕ) → ℕ → Option ℕ
+constant_place_at t known text = entry_place (constant_at t known text)
 
 abbrev pub flag_in : Option Bool → Bool
 flag_in None = false
@@ -105,7 +119,7 @@ known_by texts t s = record {
   is_status = has_number t.statuses;
   is_struct = has_number t.structs;
   local = local_sort_at t s.method;
-  constant = sort_at s.constants;
+  constant = constant_sort_at t s.constants;
   field = field_at t s.this;
   arg = arg_sort_at t s.method;
   own_method = own_method_at t s.this;

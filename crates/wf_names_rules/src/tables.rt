@@ -5,7 +5,7 @@ ghost use Rattle.indexmap.specs.IndexSet.{contains};
 ghost use Rattle.wf_base.specs.BaseTable.{method_named};
 ghost use Rattle.wf_names_rules.specs.Declarations.{bytes_in};
 ghost use Rattle.wf_names_rules.specs.Meanings.{or_sort, path_sort as sort_of_path, this_callee as callee_here, struct_callee as callee_in_struct, found_base, part_callee as callee_in_part, sorted_callee as callee_by_sort, callee_on as callee_of_name};
-ghost use Rattle.wf_names_rules.specs.Tables.{known_by, public_at, pair_sort, entry_sort as sort_of_entry, sort_at, local_in as local_known, local_at, local_sort_at, arg_in as arg_known, arg_at, arg_sort_at, field_at, own_method_at};
+ghost use Rattle.wf_names_rules.specs.Tables.{known_by, public_at, pair_sort, entry_sort as sort_of_entry, local_in as local_known, local_at, local_sort_at, constant_sort_at, arg_in as arg_known, arg_at, arg_sort_at, field_at, own_method_at, constant_in as constant_known, constant_at};
 
 use crate::callees::Callee;
 use crate::sorts::Sort;
@@ -71,6 +71,8 @@ pub struct Tables {
     pub statuses: Numbers,
     /// The structs, from 0.
     pub structs: Numbers,
+    /// The constants.
+    pub constants: Variables,
     /// A field, by its struct's name and its own; ordered, so that a look-up takes few comparisons whatever the names are.
     pub fields: BTreeMap<(u32, u32), Entry>,
     /// The number of a method, by its struct's name and its own.
@@ -89,6 +91,7 @@ impl Drop for Tables {
         let Tables {
             statuses: _,
             structs: _,
+            constants: _,
             fields: _,
             methods: _,
             method_names: _,
@@ -99,22 +102,13 @@ impl Drop for Tables {
     }
 }
 
-/// What is known at a place besides: constants, the struct of `this` by its name, and the method, by its number, whose
-/// arguments and locals are known. Outside methods there are none.
+/// What is known at a place besides: how many constants, from the first, the struct of `this` by its name, and the method,
+/// by its number, whose arguments and locals are known. Outside methods there are none.
+#[derive(Clone, Copy)]
 pub struct Scope {
-    pub constants: Variables,
+    pub constants: u32,
     pub this: Option<u32>,
     pub method: Option<usize>,
-}
-
-impl Drop for Scope {
-    fn drop(self) {
-        let Scope {
-            constants: _,
-            this: _,
-            method: _,
-        } = self;
-    }
 }
 
 /// The bytes of a text, none where the package doesn't have it.
@@ -155,14 +149,29 @@ fn field(tables: &Tables, scope: &Scope, text: TextId) -> Option<Sort>
     }
 }
 
-// What may be called on the variable of this name.
-fn variable(variables: &Variables, text: TextId) -> Option<Sort>
-    ensures { result ≡ sort_at variables.now text.0 }
+fn constant_in(entry: Option<Entry>, known: u32) -> Option<Entry>
+    ensures { result ≡ constant_known known entry }
 {
-    match variables.entries.get(&text.0) {
-        Some(entry) => Some(entry.sort),
+    match entry {
+        Some(entry) => {
+            if entry.place < known {
+                Some(entry)
+            } else {
+                None
+            }
+        }
         None => None,
     }
+}
+
+/// The constant of this name, where it is known.
+pub fn constant(tables: &Tables, scope: &Scope, text: TextId) -> Option<Entry>
+    ensures { result ≡ constant_at tables.now scope.now.constants text.0 }
+{
+    constant_in(
+        tables.constants.entries.get(&text.0).copied(),
+        scope.constants,
+    )
 }
 
 fn local_in(tables: &Tables, m: usize, text: TextId) -> Option<Entry>
@@ -220,11 +229,11 @@ pub(crate) fn arg_sort(tables: &Tables, scope: &Scope, text: TextId) -> Option<S
 }
 
 fn bare(tables: &Tables, scope: &Scope, text: TextId) -> Option<Sort>
-    ensures { result ≡ or_sort (local_sort_at tables.now scope.now.method text.0) (sort_at scope.now.constants text.0) }
+    ensures { result ≡ or_sort (local_sort_at tables.now scope.now.method text.0) (constant_sort_at tables.now scope.now.constants text.0) }
 {
     match entry_sort(local(tables, scope, text)) {
         Some(sort) => Some(sort),
-        None => variable(&scope.constants, text),
+        None => entry_sort(constant(tables, scope, text)),
     }
 }
 

@@ -12,6 +12,6 @@ use Rattle.wf_names_nodes.proofs.packages.next_const.Goals as goal
 pub returns-clause-added : goal.returns-clause-added
 returns-clause-added c =
     let es = expr_trees c.args.parsed.now.exprs in
-    ok_still c.add_constant.result _
+    ok_still c.pass_constant.result _
     (λ known h. c.in_ok-put_const.ensures ∙ ap (λ k. with_consts (named_package c.args.nodes.now) (resolved_const k c.args.constant.name (type_at es c.args.constant.of.now) (expr_at es c.args.constant.value) ∷ []))
     (standing_same (package_of c.args.parsed.now) (constant_scope known) c.args.tables.now c.args.scope.now c.requires.tables h))
