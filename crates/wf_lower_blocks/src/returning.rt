@@ -54,7 +54,7 @@ fn is_suspension(b: &Body, n: StatusId) -> bool
 }
 
 /// `status = cannot_suspend;` at the end of a block.
-fn replaced(b: &Body, u: &mut Unit, status: CExprId) -> Result<CStmtId, NoMemory>
+fn replaced(u: &mut Unit, status: CExprId) -> Result<CStmtId, NoMemory>
     requires status { expr_of u.old status.0 ≡ status_local }
     requires there { status.0 < length u.old.exprs }
     ensures grows { Grows u.old u.new }
@@ -78,7 +78,7 @@ fn replace_suspension(
     ensures grows { Grows u.old u.new }
     ensures made { IfOk result (λ code. HasCode u.new code.0 (when_code (begins_with_code 36 status_local) (assign_code status_local (constant_code cannot_suspend) finish_code) (code_of u.old rest.0))) }
 {
-    let body = replaced(b, u, status)?;
+    let body = replaced(u, status)?;
     let test = begins_with(b.alloc(), u, b'$', status)?;
     when(u, test, body, rest)
 }
