@@ -220,7 +220,7 @@ borne name [] i x e = absurd (cc e)
 borne name (y ∷ ys) zero x e = let same : y ≡ x = cc e in ap (λ z. Some (name z)) same
 borne name (y ∷ ys) (suc i) x e = borne name ys i x e
 
-owned-names : (ms : List Method) → owned_names (map owned ms) ≡ map (λ m. m.name) ms
+pub owned-names : (ms : List Method) → owned_names (map owned ms) ≡ map (λ m. m.name) ms
 owned-names [] = refl
 owned-names (m ∷ ms) = ap (λ names. m.name ∷ names) (owned-names ms)
 

@@ -1,20 +1,20 @@
 // What lists of declared names break.
 
-ghost use Rattle.std.specs.Prelude.{◌≡◌, ℕ, Option, not, [], nat_eq, IfOk, OnOk};
-ghost use Rattle.indexmap.specs.IndexMap.{get};
-ghost use Rattle.wf_ast.specs.declared.parsed.Name.{Name};
+ghost use Rattle.std.specs.Prelude.{◌≡◌, not, [], OnOk};
 ghost use Rattle.wf_text.specs.Precedence.{soonest};
 ghost use Rattle.wf_names_rules.specs.NameRules.{later_of as later_named};
 ghost use Rattle.wf_names_rules.specs.Passes.{refused_if as refuses_if};
-ghost use Rattle.wf_names_decls.specs.DeclarationPass.{names_judged, owned_doubles as doubles_of_owned, methods_judged, first_spelt, hidden_item, hidden_of, args_judged, locals_judged};
+ghost use Rattle.wf_names_decls.specs.DeclarationPass.{names_judged, owned_doubles as doubles_of_owned, methods_judged, hidden_item, hidden_of, args_judged, locals_judged};
+ghost use Rattle.wf_names_decls.specs.Gathering.{owned_names};
+ghost use Rattle.wf_names_decls.specs.ConstantNames.{constant_by};
 
-use crate::gathering::{Owned, owned_names};
-use indexmap::IndexMap;
+use crate::gathering::Owned;
 use std::alloc::Global;
 use std::collections::BTreeSet;
-use wf_ast::PackageNodes;
 use wf_ast::parsed::Name;
+use wf_ast::{PackageNodes, TextId};
 use wf_names_rules::lists::{beyond, doubles, initializes, reserved};
+use wf_names_rules::tables::Variables;
 use wf_text::faults::NoMemory;
 use wf_text::found::Found;
 use wf_text::precedence::is_before;
@@ -59,35 +59,40 @@ fn owned_doubles(alloc: Global, found: &mut Found, methods: &[Owned]) -> Result<
     Ok(())
 }
 
-/// The methods of a package: those of a struct that are declared twice, reserved names, `initialize`, and the one
-/// after the 1,024 that a package may have.
+/// The methods of a package, and their names alone: those of a struct that are declared twice, reserved names,
+/// `initialize`, and the one after the 1,024 that a package may have.
 pub(crate) fn judge_methods(
     alloc: Global,
     found: &mut Found,
     parsed: &PackageNodes,
     methods: &[Owned],
+    names: &[Name],
 ) -> Result<(), NoMemory>
+    requires { names.now ≡ owned_names methods.now }
     ensures { OnOk result (found.new ≡ methods_judged parsed.now.texts found.old methods.now) }
 {
     owned_doubles(alloc, found, methods)?;
-    let names = owned_names(alloc, methods)?;
-    reserved(found, parsed, names.as_slice());
-    initializes(found, parsed, names.as_slice());
-    found.refuse(beyond(names.as_slice(), Rule::L6, 1024));
+    reserved(found, parsed, names);
+    initializes(found, parsed, names);
+    found.refuse(beyond(names, Rule::L6, 1024));
     Ok(())
 }
 
-/// Each name by its text; of names that are spelt alike the first.
-pub(crate) fn by_text(alloc: Global, names: &[Name]) -> Result<IndexMap<u32, Name>, NoMemory>
-    ensures { IfOk result (λ table. (text : ℕ) → get nat_eq table text ≡ first_spelt names.now text) }
+/// The constants of a package: their names, in order, and their places by their texts.
+#[derive(Clone, Copy)]
+pub(crate) struct Constants<'a> {
+    pub names: &'a [Name],
+    pub places: &'a Variables,
+}
+
+// The name of the constant of this text; of constants with one name the first.
+fn constant(constants: &Constants<'_>, text: TextId) -> Option<Name>
+    ensures { result ≡ constant_by constants.now.names.now constants.now.places.now text.0 }
 {
-    let mut table = IndexMap::new(alloc);
-    for name in names {
-        if !table.contains_key(&name.text.0) {
-            table.insert(name.text.0, *name)?;
-        }
+    match constants.places.entries.get(&text.0) {
+        Some(entry) => constants.names.get(entry.place as usize).copied(),
+        None => None,
     }
-    Ok(table)
 }
 
 // Of two names that mean different things and are spelt alike the one after the other.
@@ -109,17 +114,17 @@ fn later_of(first: Name, second: Name) -> Refusal
     }
 }
 
-fn hidden_local(constants: &IndexMap<u32, Name>, local: Name) -> Option<Refusal>
-    ensures { result ≡ hidden_item (get nat_eq constants.now local.text.0) local }
+fn hidden_local(constants: &Constants<'_>, local: Name) -> Option<Refusal>
+    ensures { result ≡ hidden_item (constant_by constants.now.names.now constants.now.places.now local.text.0) local }
 {
-    match constants.get(&local.text.0) {
-        Some(constant) => Some(later_of(local, *constant)),
+    match constant(constants, local.text) {
+        Some(constant) => Some(later_of(local, constant)),
         None => None,
     }
 }
 
-fn hidden_locals(found: &mut Found, constants: &IndexMap<u32, Name>, locals: &[Name])
-    ensures { found.new ≡ soonest found.old (hidden_of (get nat_eq constants.now) locals.now) }
+fn hidden_locals(found: &mut Found, constants: &Constants<'_>, locals: &[Name])
+    ensures { found.new ≡ soonest found.old (hidden_of (constant_by constants.now.names.now constants.now.places.now) locals.now) }
 {
     for local in locals {
         found.refuse(hidden_local(constants, *local));
@@ -146,10 +151,10 @@ pub(crate) fn judge_locals(
     alloc: Global,
     found: &mut Found,
     parsed: &PackageNodes,
-    constants: &IndexMap<u32, Name>,
+    constants: &Constants<'_>,
     locals: &[Name],
 ) -> Result<(), NoMemory>
-    ensures { OnOk result (found.new ≡ locals_judged (get nat_eq constants.now) parsed.now.texts found.old locals.now) }
+    ensures { OnOk result (found.new ≡ locals_judged (constant_by constants.now.names.now constants.now.places.now) parsed.now.texts found.old locals.now) }
 {
     judge_names(alloc, found, parsed, locals)?;
     hidden_locals(found, constants, locals);
