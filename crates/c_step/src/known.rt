@@ -15,18 +15,18 @@ ghost use Rattle.c_step_engine.specs.Engines.{given, OnDone};
 ghost use Rattle.c_step_calls.specs.Resting.{RestsAgain};
 ghost use Rattle.c_step.specs.Machines.{loaded_of, IsKnown, IsReady, HasEntry, IsCallee, IsInited};
 
-use c_form::Formed;
 use c_meaning::values::Value;
 use c_step_calls::{Called, Room, call_on_host, init_receiver};
 use c_step_run::{Code, Store};
 use c_step_tables::{MethodEntry, StructEntry, struct_entry};
+use c_text::Unit;
 use wf_bufs::{Bufs, Call, PublicSurface, ReceiverDecl, Reply};
 use wf_text::StatusId;
 
 /// A text, its package's public surface and the receivers, with tables of these.
 pub(crate) struct Known {
     /// The text.
-    pub(crate) formed: Formed,
+    pub(crate) unit: Unit,
     /// The package's public surface.
     pub(crate) surface: PublicSurface,
     /// The receivers.
@@ -46,7 +46,7 @@ pub(crate) struct Known {
 impl Drop for Known {
     fn drop(self) {
         let Known {
-            formed: _,
+            unit: _,
             surface: _,
             receivers: _,
             pointers: _,
