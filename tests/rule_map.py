@@ -21,8 +21,9 @@ table that is the rule's definition comes first; what else names the rule in spe
 rules of types, its judgement and the function that decides it have one name, with the kind of part after it where each kind
 has a function of its own; the judgements stand in wf_types_rules/specs/Judgements. Every rule has its printed name, and its
 rank among rules at one place, in wf_text (`specs/RuleNames`, `specs/Precedence`). Tests are the files of tests/ with a row that
-expects the rule, and the file of the second checker, tests/second_opinion/, that refuses by it. In the columns of specs/ and src/
-`wf_types_rules/Judgements: NAME` is NAME in `crates/wf_types_rules/specs/Judgements.antt` or, under src/, in such a file whose name ends in .rt.
+expects the rule, and the file of the second checker, tests/second_opinion/, that refuses by it. In the column
+of specs/ `wf_types_rules/Judgements: NAME` is NAME in `crates/wf_types_rules/specs/Judgements.antt`; in that of src/
+`wf_tool/taking: NAME` is NAME in `crates/wf_tool/src/taking.rt`.
 
 | Rule | Definition (specs/) | Code (src/) | Tests |
 |---|---|---|---|
