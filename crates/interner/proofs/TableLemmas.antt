@@ -1,6 +1,7 @@
 -- A table of texts, and a map that has the number of each.
-use Rattle.std.proofs.Common.{◌≡◌, ◌≢◌, ◌∙◌, ◌⊎◌, ℕ, zero, suc, Bool, true, false, Option, Some, None, List, [], ◌∷◌, ◌++◌, length, map, refl, sym, ap, subst, inl, inr}
+use Rattle.std.proofs.Common.{◌≡◌, ◌≢◌, ◌∙◌, ◌⊎◌, ℕ, zero, suc, ◌<◌, Bool, true, false, if◌then◌else◌, unwrap_or, Option, Some, None, List, [], ◌∷◌, ◌++◌, length, map, refl, sym, ap, subst, inl, inr}
 use Rattle.std.specs.List.{slice_get}
+use Rattle.std.specs.Option.{IfSome, IfNone}
 use Rattle.std.specs.Str.{bytes_eq}
 use Rattle.std.specs.Ordering.{is_eq, nat_cmp}
 use Rattle.std.specs.Cmp.Lexicographic.{slice_cmp, nat_list_cmp_total, texts_ties}
@@ -8,9 +9,11 @@ use Rattle.std.specs.BTreeMap.{BTreeMap, get_by, UpdatesBy}
 use Rattle.std.specs.Map.{lookup, IsKeyTest, AreApart, KeepsOthers}
 use Rattle.std.proofs.lemmas.Bool.{cases_Bool}
 use Rattle.std.proofs.lemmas.Cmp.{eq_by_cmp_equiv}
-use Rattle.std.proofs.lemmas.List.{length-map, map-append}
+use Rattle.std.proofs.lemmas.List.{map-append}
+use Rattle.std.proofs.lemmas.Option.{slice_get_within}
 use Rattle.std.proofs.lemmas.Slice.Eq.{bytes_eq-Decides}
-use Rattle.interner.specs.Interning.{AreDistinct, Numbers, keyed}
+use Rattle.interner.specs.Interning.{AreDistinct, Numbers, digest, found, Finds}
+use Rattle.interner.proofs.PlaceLemmas.{Joined}
 
 -- Texts that a look-up tells apart are without repeats.
 pub distinct_texts : (number : List ℕ → Option ℕ) (texts : List (List ℕ)) → Numbers number texts → AreDistinct texts
@@ -85,40 +88,59 @@ not_known : (number : List ℕ → Option ℕ) (texts : List (List ℕ)) (text :
 not_known number texts text n absent None e = refl
 not_known number texts text n absent (Some i) e = absurd (absent i (n.stands i text e))
 
--- What a map has at a query that is a text's.
-pub by_text : {K : Type 0} (items : K → List ℕ) (numbers : BTreeMap K ℕ) (query text : List ℕ) (o : Option ℕ) → query ≡ keyed text
-    → o ≡ get_by (λ k. slice_cmp nat_cmp query (items k)) numbers → get_by (λ k. slice_cmp nat_cmp (keyed text) (items k)) numbers ≡ o
-by_text items numbers query text o same e = subst (λ q. get_by (λ k. slice_cmp nat_cmp q (items k)) numbers ≡ o) same (sym e)
+-- A text whose number is found stands at it.
+pub found_stands : (texts : List (List ℕ)) (text : List ℕ) (first : ℕ → Option ℕ) (other : List ℕ → Option ℕ) (o x : Option ℕ) (n : ℕ)
+    → Finds first other texts → o ≡ first (digest text) → x ≡ other text → found texts text o x ≡ Some n → slice_get texts n ≡ Some text
+found_stands texts text first other o x n h a b is = h.numbers.stands n text (ap (λ (p : Option ℕ). found texts text p (other text)) (sym a) ∙ (ap (λ (p : Option ℕ). found texts text o p) (sym b) ∙ is))
 
-pub apart_keyed : (text other : List ℕ) → bytes_eq text other ≡ false → bytes_eq (keyed text) (keyed other) ≡ false
-apart_keyed text other e = elim (cases_Bool (bytes_eq (keyed text) (keyed other))) [
-  | inl y ↦ (let whole : keyed text ≡ keyed other = (bytes_eq-Decides (keyed text) (keyed other)).0 y in
-      let tails : text ≡ other = cc whole in
-      let same : bytes_eq text other ≡ true = (bytes_eq-Decides text other).1 tails in
-      absurd (cc (e, same)))
-  | inr f ↦ f
-]
+-- A text whose number isn't found stands nowhere.
+pub not_found_nowhere : (texts : List (List ℕ)) (text : List ℕ) (first : ℕ → Option ℕ) (other : List ℕ → Option ℕ) (o x : Option ℕ)
+    → Finds first other texts → o ≡ first (digest text) → x ≡ other text → found texts text o x ≡ None → (i : ℕ) → slice_get texts i ≢ Some text
+not_found_nowhere texts text first other o x h a b is i at =
+    let known : found texts text (first (digest text)) (other text) ≡ Some i = h.numbers.known i text at in
+    let same : found texts text o x ≡ Some i = ap (λ (p : Option ℕ). found texts text p x) a ∙ (ap (λ (p : Option ℕ). found texts text (first (digest text)) p) b ∙ known) in
+    absurd (cc (is, same))
 
--- The map and the list after a new text has joined both.
-pub both_joined : {K T : Type 0} (items : K → List ℕ) (bytes : T → List ℕ) (old new : BTreeMap K ℕ) (texts later : List T) (query text : List ℕ) (owned : T) (n : ℕ)
-    → Numbers (λ other. get_by (λ k. slice_cmp nat_cmp (keyed other) (items k)) old) (map bytes texts)
-    → ((i : ℕ) → slice_get (map bytes texts) i ≢ Some text)
-    → UpdatesBy (λ x y. slice_cmp nat_cmp (items x) (items y)) (λ k. slice_cmp nat_cmp query (items k)) old new (Some n)
-    → query ≡ keyed text → n ≡ length texts → bytes owned ≡ text → later ≡ texts ++ owned ∷ []
-    → Numbers (λ other. get_by (λ k. slice_cmp nat_cmp (keyed other) (items k)) new) (map bytes later)
-both_joined items bytes old new texts later query text owned n h absent u key number same e =
-    let before : List ℕ → Option ℕ = λ other. get_by (λ k. slice_cmp nat_cmp (keyed other) (items k)) old in
-    let after : List ℕ → Option ℕ = λ other. get_by (λ k. slice_cmp nat_cmp (keyed other) (items k)) new in
-    let updates : UpdatesBy (λ x y. slice_cmp nat_cmp (items x) (items y)) (λ k. slice_cmp nat_cmp (keyed text) (items k)) old new (Some n) =
-    subst (λ q. UpdatesBy (λ x y. slice_cmp nat_cmp (items x) (items y)) (λ k. slice_cmp nat_cmp q (items k)) old new (Some n)) key u in
-    let last : length (map bytes texts) ≡ n = length-map texts bytes ∙ sym number in
-    let here : after text ≡ Some (length (map bytes texts)) = updates.1 ∙ ap Some (sym last) in
+-- The maps and the list after a new text has joined the list and one of them.
+pub both_joined : {T : Type 0} (bytes : T → List ℕ) (first first_later : ℕ → Option ℕ) (other other_later : List ℕ → Option ℕ) (texts later : List T) (text : List ℕ) (owned : T)
+    → Finds first other (map bytes texts) → ((i : ℕ) → slice_get (map bytes texts) i ≢ Some text)
+    → Joined first first_later other other_later (map bytes texts) text
+    → bytes owned ≡ text → later ≡ texts ++ owned ∷ [] → Finds first_later other_later (map bytes later)
+both_joined bytes first first_later other other_later texts later text owned h absent j same e =
+    let before : List ℕ → Option ℕ = λ q. found (map bytes texts) q (first (digest q)) (other q) in
+    let after : List ℕ → Option ℕ = λ q. found (map bytes texts ++ text ∷ []) q (first_later (digest q)) (other_later q) in
     let made : Numbers after (map bytes texts ++ text ∷ []) =
-    joined_texts before after (map bytes texts) text h (not_known before (map bytes texts) text h absent (before text) refl) here
-    (λ other f. other_texts items (keyed text) old new (Some n) updates (keyed other) (apart_keyed text other f)) in
+    joined_texts before after (map bytes texts) text h.numbers (not_known before (map bytes texts) text h.numbers absent (before text) refl) j.here j.others in
     let whole : map bytes later ≡ map bytes texts ++ text ∷ [] = ap (map bytes) e ∙ map-append bytes texts (owned ∷ []) ∙ ap (λ t. map bytes texts ++ t ∷ []) same in
-    subst (λ ts. Numbers after ts) (sym whole) made
+    subst (λ ts. Finds first_later other_later ts) (sym whole) (record { places = j.places; numbers = made })
+
+-- What is found of a text that isn't in the list.
+pub nothing_found : (texts : List (List ℕ)) (text : List ℕ) (first : ℕ → Option ℕ) (other : List ℕ → Option ℕ) → Finds first other texts
+    → ((i : ℕ) → slice_get texts i ≢ Some text) → found texts text (first (digest text)) (other text) ≡ None
+nothing_found texts text first other h absent = not_known (λ q. found texts q (first (digest q)) (other q)) texts text h.numbers absent _ refl
 
 -- A text that is spelt as another stands at the other's number.
 pub stands_at : (texts : List (List ℕ)) (n : ℕ) (found text : List ℕ) → slice_get texts n ≡ Some found → bytes_eq found text ≡ true → slice_get texts n ≡ Some text
 stands_at texts n found text is same = is ∙ ap Some ((bytes_eq-Decides found text).0 same)
+
+-- Another text stands at the number that its digest has.
+pub found_later : (texts : List (List ℕ)) (n : ℕ) (held text : List ℕ) (x : Option ℕ) → slice_get texts n ≡ Some held → bytes_eq held text ≡ false → found texts text (Some n) x ≡ x
+found_later texts n held text x at other =
+    ap (λ (o : Option (List ℕ)). if bytes_eq (unwrap_or o []) text then Some n else x) at ∙ ap (λ (b : Bool). if b then Some n else x) other
+
+-- What a map of other texts answers of a text at whose digest another stands.
+pub later_stands : (texts : List (List ℕ)) (text held : List ℕ) (n : ℕ) (first : ℕ → Option ℕ) (other : List ℕ → Option ℕ) (x : Option ℕ)
+    → Finds first other texts → Some n ≡ first (digest text) → slice_get texts n ≡ Some held → bytes_eq held text ≡ false → x ≡ other text
+    → IfSome x (λ m. slice_get texts m ≡ Some text)
+later_stands texts text held n first other None h a at f b = tt
+later_stands texts text held n first other (Some m) h a at f b = found_stands texts text first other (Some n) (Some m) m h a b (found_later texts n held text (Some m) at f)
+
+pub later_within : (texts : List (List ℕ)) (text : List ℕ) (x : Option ℕ) → IfSome x (λ m. slice_get texts m ≡ Some text) → IfSome x (λ m. m < length texts)
+later_within texts text None h = tt
+later_within texts text (Some m) h = slice_get_within texts m text h
+
+pub later_nowhere : (texts : List (List ℕ)) (text held : List ℕ) (n : ℕ) (first : ℕ → Option ℕ) (other : List ℕ → Option ℕ) (x : Option ℕ)
+    → Finds first other texts → Some n ≡ first (digest text) → slice_get texts n ≡ Some held → bytes_eq held text ≡ false → x ≡ other text
+    → IfNone x ((i : ℕ) → slice_get texts i ≢ Some text)
+later_nowhere texts text held n first other None h a at f b = not_found_nowhere texts text first other (Some n) None h a b (found_later texts n held text None at f)
+later_nowhere texts text held n first other (Some m) h a at f b = tt

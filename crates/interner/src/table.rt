@@ -1,6 +1,6 @@
-// Texts, each once, in the order in which they are first seen. A text is looked up in an ordered map, so that a look-up takes
-// few comparisons whatever the texts are; they are ordered by digests first, so that mostly the bytes of one text alone are
-// compared. Most look-ups don't come to the map, since the numbers of texts that were looked up are remembered.
+// Texts, each once, in the order in which they are first seen. A text is looked up in ordered maps, so that a look-up takes
+// few comparisons whatever the texts are: by its digest first, and by its bytes where another text has the same digest. Most
+// look-ups don't come to the maps, since the numbers of texts that were looked up are remembered.
 
 ghost use Rattle.std.specs.Prelude.{◌≡◌, ◌≢◌, ◌<◌, ◌≤◌, ◌++◌, ◌∷◌, Some, [], ℕ, length, slice_get, IfSome, IfNone, IfOk, OnOk, OnErr};
 ghost use Rattle.interner.specs.Interning.{Interns, AreDistinct, digest};
@@ -10,16 +10,15 @@ use std::collections::BTreeMap;
 use std::hash::{FoldHasher, Hasher};
 use std::marker::Model;
 
-/// The digest of a text, and the text.
-type Key = (u64, Vec<u8>);
-
 /// A table of texts without repeats. A text's number is its place, from 0.
 pub struct Interner {
     alloc: Global,
     /// The texts, each at its number.
     texts: Vec<Vec<u8>>,
-    /// The number of each text.
-    numbers: BTreeMap<Key, usize>,
+    /// The number of the first text of which each digest was made.
+    firsts: BTreeMap<u64, usize>,
+    /// The number of each other text.
+    others: BTreeMap<Vec<u8>, usize>,
     /// Numbers of texts that were looked up, each where its digest says, until another takes its place.
     recent: Vec<usize>,
 }
@@ -29,24 +28,25 @@ impl Drop for Interner {
         let Interner {
             alloc: _,
             texts: _,
-            numbers: _,
+            firsts: _,
+            others: _,
             recent: _,
         } = self;
     }
 }
 
 impl Model for Interner {
-    ghost use Rattle.std.specs.Prelude.{map, List, ◌∷◌, ℕ};
+    ghost use Rattle.std.specs.Prelude.{map, List, ℕ};
     ghost use Rattle.std.specs.Ordering.{nat_cmp};
     ghost use Rattle.std.specs.BTreeMap.{get_by};
     ghost use Rattle.std.specs.Cmp.Lexicographic.{slice_cmp};
-    ghost use Rattle.interner.specs.Interning.{Numbers, keyed};
+    ghost use Rattle.interner.specs.Interning.{Finds};
 
     ghost Value = { List (List ℕ) };
 
     ghost view = { λ it. map (λ text. text.items) it.texts.items };
 
-    ghost invariant = { λ it. Numbers (λ text. get_by (λ key. slice_cmp nat_cmp (keyed text) (key.0 ∷ key.1.items)) it.numbers) (map (λ text. text.items) it.texts.items) };
+    ghost invariant = { λ it. Finds (λ made. get_by (nat_cmp made) it.firsts) (λ text. get_by (λ key. slice_cmp nat_cmp text key.items) it.others) (map (λ text. text.items) it.texts.items) };
 }
 
 /// A number made of the text's bytes, in which few texts are alike.
@@ -66,7 +66,8 @@ impl Interner {
         Interner {
             alloc,
             texts: Vec::new(alloc),
-            numbers: BTreeMap::new(alloc),
+            firsts: BTreeMap::new(alloc),
+            others: BTreeMap::new(alloc),
             recent: Vec::new(alloc),
         }
     }
@@ -148,39 +149,42 @@ impl Interner {
         Ok(())
     }
 
-    /// The number of a text by the map; the text joins the table where it isn't in it. On `Err` the table is as it was.
+    /// The number of a text by the maps; the text joins the table where it isn't in it. On `Err` the table is as it was.
     fn find_or_join(&mut self, made: u64, text: &[u8]) -> Result<usize, AllocError>
         requires { made ≡ digest text.now }
         ensures ok { IfOk result (λ n. Interns self.old self.new text.now n) }
         ensures number { IfOk result (λ n. n ≤ length self.old) }
         ensures err { OnErr result (self.new ≡ self.old) }
     {
-        let key = (made, Vec::from_slice(self.alloc, text)?);
-        match self.find(&key, text) {
+        match self.find(made, text) {
             Some(number) => Ok(number),
-            None => self.join(key, text),
+            None => self.join(made, text),
         }
     }
 
     /// The number of `text`, if it is in the table.
-    fn find(&self, key: &Key, text: &[u8]) -> Option<usize>
-        requires digest { key.now.0 ≡ digest text.now }
-        requires text { key.now.1.items ≡ text.now }
+    fn find(&self, made: u64, text: &[u8]) -> Option<usize>
+        requires { made ≡ digest text.now }
         ensures found { IfSome result (λ n. slice_get self.now n ≡ Some text.now) }
         ensures number { IfSome result (λ n. n < length self.now) }
         ensures none { IfNone result ((i : ℕ) → slice_get self.now i ≢ Some text.now) }
     {
-        let found = self.numbers.get(key).copied();
-        match found {
-            Some(number) => Some(number),
+        let first = self.firsts.get(&made).copied();
+        match first {
+            Some(number) => {
+                if self.text(number) == text {
+                    Some(number)
+                } else {
+                    self.others.get(text).copied()
+                }
+            }
             None => None,
         }
     }
 
     /// A text that isn't in the table joins it at its end. On `Err` the table is as it was.
-    fn join(&mut self, key: Key, text: &[u8]) -> Result<usize, AllocError>
-        requires digest { key.0 ≡ digest text.now }
-        requires text { key.1.items ≡ text.now }
+    fn join(&mut self, made: u64, text: &[u8]) -> Result<usize, AllocError>
+        requires digest { made ≡ digest text.now }
         requires new { (i : ℕ) → slice_get self.old i ≢ Some text.now }
         ensures number { IfOk result (λ n. n ≡ length self.old) }
         ensures ok { OnOk result (self.new ≡ self.old ++ text.now ∷ []) }
@@ -189,10 +193,23 @@ impl Interner {
         let number = self.texts.len();
         let owned = Vec::from_slice(self.alloc, text)?;
         self.texts.reserve(1)?;
-        self.numbers.insert(key, number)?;
-        match self.texts.push(owned) {
-            Ok(()) => Ok(number),
-            Err(_) => unreachable!(),
+        let first = self.firsts.get(&made).copied();
+        match first {
+            Some(_) => {
+                let key = Vec::from_slice(self.alloc, text)?;
+                self.others.insert(key, number)?;
+                match self.texts.push(owned) {
+                    Ok(()) => Ok(number),
+                    Err(_) => unreachable!(),
+                }
+            }
+            None => {
+                self.firsts.insert(made, number)?;
+                match self.texts.push(owned) {
+                    Ok(()) => Ok(number),
+                    Err(_) => unreachable!(),
+                }
+            }
         }
     }
 }

@@ -1,29 +1,46 @@
-use Rattle.std.proofs.Common.{◌≡◌, ℕ, List, ◌∷◌, Some, sym, subst, ◌∙◌}
-use Rattle.std.specs.List.{slice_get}
+use Rattle.std.proofs.Common.{◌≡◌, ℕ, Some, None, map, refl, sym, ap, ◌∙◌}
+use Rattle.std.specs.Ordering.{nat_cmp}
+use Rattle.std.specs.Cmp.Lexicographic.{slice_cmp}
+use Rattle.std.specs.BTreeMap.{get_by}
 use Rattle.std.proofs.lemmas.Option.{slice_get_within}
-use Rattle.interner.specs.Interning.{keyed}
-use Rattle.interner.proofs.TableLemmas.{by_text}
+use Rattle.interner.specs.Interning.{digest}
+use Rattle.interner.proofs.TableLemmas.{stands_at, not_found_nowhere, later_stands, later_within, later_nowhere}
 use Rattle.interner.proofs.table.Interner.find.Goals as goal
 
--- A text that the map has stands at its number.
-pub returns-in-Some-clause-found : goal.returns-in-Some-clause-found
-returns-in-Some-clause-found c =
-    let first = c.requires.digest in
-    let rest = c.requires.text in
-    let key : c.args.key.now.0 ∷ c.args.key.now.1.items ≡ keyed c.args.text.now = cc (first, rest) in
-    let has = by_text (λ k. k.0 ∷ k.1.items) c.self.inside.numbers (c.args.key.now.0 ∷ c.args.key.now.1.items) c.args.text.now _ key (sym c.in-Some.is ∙ c.copied-found.ensures ∙ c.get.ensures.value) in
-    rw (← c.self.view_is) (c.self.invariant.stands c.in-Some.number c.args.text.now has)
+-- The text at the number that its digest has.
+pub returns-then-eq-clause-found : goal.returns-then-eq-clause-found
+returns-then-eq-clause-found c = stands_at c.args.self.now c.in-Some.number c.text.result.now c.args.text.now c.text.ensures (sym c.eq.ensures ∙ c.if-eq.true)
 
-pub returns-in-Some-clause-number : goal.returns-in-Some-clause-number
-returns-in-Some-clause-number c = slice_get_within c.args.self.now c.in-Some.number c.args.text.now (returns-in-Some-clause-found c)
+pub returns-then-eq-clause-number : goal.returns-then-eq-clause-number
+returns-then-eq-clause-number c = slice_get_within c.args.self.now c.in-Some.number c.args.text.now (returns-then-eq-clause-found c)
 
--- A text that stands in the table has a number in the map.
+-- What the maps answer of a text at whose digest another stands.
+pub returns-else-eq-clause-found : goal.returns-else-eq-clause-found
+returns-else-eq-clause-found c =
+    let first : Some c.in-Some.number ≡ get_by (nat_cmp (digest c.args.text.now)) c.self.inside.firsts =
+    sym c.in-Some.is ∙ c.copied-first.ensures ∙ c.get.ensures.value ∙ ap (λ (made : ℕ). get_by (nat_cmp made) c.self.inside.firsts) c.requires in
+    rw (← c.self.view_is)
+    (later_stands (map (λ text. text.items) c.self.inside.texts.items) c.args.text.now c.text.result.now c.in-Some.number
+    (λ made. get_by (nat_cmp made) c.self.inside.firsts) (λ q. get_by (λ key. slice_cmp nat_cmp q key.items) c.self.inside.others) c.copied.result
+    c.self.invariant first (rw (← c.self.view_is) at c.text.ensures) (sym c.eq.ensures ∙ c.if-eq.false) (c.copied.ensures ∙ c.get-else-eq.ensures.value))
+
+pub returns-else-eq-clause-number : goal.returns-else-eq-clause-number
+returns-else-eq-clause-number c = later_within c.args.self.now c.args.text.now c.copied.result (returns-else-eq-clause-found c)
+
+pub returns-else-eq-clause-none : goal.returns-else-eq-clause-none
+returns-else-eq-clause-none c =
+    let first : Some c.in-Some.number ≡ get_by (nat_cmp (digest c.args.text.now)) c.self.inside.firsts =
+    sym c.in-Some.is ∙ c.copied-first.ensures ∙ c.get.ensures.value ∙ ap (λ (made : ℕ). get_by (nat_cmp made) c.self.inside.firsts) c.requires in
+    rw (← c.self.view_is)
+    (later_nowhere (map (λ text. text.items) c.self.inside.texts.items) c.args.text.now c.text.result.now c.in-Some.number
+    (λ made. get_by (nat_cmp made) c.self.inside.firsts) (λ q. get_by (λ key. slice_cmp nat_cmp q key.items) c.self.inside.others) c.copied.result
+    c.self.invariant first (rw (← c.self.view_is) at c.text.ensures) (sym c.eq.ensures ∙ c.if-eq.false) (c.copied.ensures ∙ c.get-else-eq.ensures.value))
+
+-- No text has this digest.
 pub returns-in-None-clause-none : goal.returns-in-None-clause-none
-returns-in-None-clause-none c i g =
-    let first = c.requires.digest in
-    let rest = c.requires.text in
-    let key : c.args.key.now.0 ∷ c.args.key.now.1.items ≡ keyed c.args.text.now = cc (first, rest) in
-    let none = by_text (λ k. k.0 ∷ k.1.items) c.self.inside.numbers (c.args.key.now.0 ∷ c.args.key.now.1.items) c.args.text.now _ key (sym c.in-None.is ∙ c.copied-found.ensures ∙ c.get.ensures.value) in
-    let stands = subst (λ (texts : List (List ℕ)). slice_get texts i ≡ Some c.args.text.now) (sym c.self.view_is) g in
-    let known = c.self.invariant.known i c.args.text.now stands in
-    absurd (cc (none, known))
+returns-in-None-clause-none c =
+    let none : None ≡ get_by (nat_cmp (digest c.args.text.now)) c.self.inside.firsts =
+    sym c.in-None.is ∙ c.copied-first.ensures ∙ c.get.ensures.value ∙ ap (λ (made : ℕ). get_by (nat_cmp made) c.self.inside.firsts) c.requires in
+    rw (← c.self.view_is)
+    (not_found_nowhere (map (λ text. text.items) c.self.inside.texts.items) c.args.text.now (λ made. get_by (nat_cmp made) c.self.inside.firsts) (λ q. get_by (λ key. slice_cmp nat_cmp q key.items) c.self.inside.others)
+    None _ c.self.invariant none refl refl)
