@@ -30,9 +30,6 @@ climbs_on nodes scope e links x found next held h linked is =
     let whole : type_of scope (expr_of nodes x.0) ≡ option_and_then held_type (option_map (held_in nodes.names) held) = link_type scope (expr_of nodes x.0) (expr_of nodes h.at.0) popped.link.is ∙ ap (option_and_then held_type) (sym told.0) in
     record { at = x; spine = popped.spine; told = rw whole is }
 
-pub climbs_end : (nodes : Nodes) (scope : Scope) (e : CExprId) (found : Option ExprType) → Climbs nodes scope e [] found → TellsType nodes found (type_of scope (expr_of nodes e.0))
-climbs_end nodes scope e found h = subst (λ (at : CExprId). TellsType nodes found (type_of scope (expr_of nodes at.0))) h.spine h.told
-
 -- The link that comes next has a number that isn't above the whole's, and stands for what its tree does.
 pub climbs_below : (nodes : Nodes) (scope : Scope) (e : CExprId) (whole links : List CExprId) (x : CExprId) (found : Option ExprType) → whole ≡ links ++ x ∷ [] → Climbs nodes scope e whole found → x.0 ≤ e.0
 climbs_below nodes scope e whole links x found is h = (spine_pop nodes e links x h.at (subst (λ (xs : List CExprId). Spine nodes e xs h.at) is h.spine)).below

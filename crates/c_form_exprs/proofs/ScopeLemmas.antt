@@ -1,22 +1,19 @@
 -- The names of a scope.
 use Rattle.std.proofs.Common.{◌≡◌, ℕ, Bool, true, false, if◌then◌else◌, List, [], ◌∷◌, ◌++◌, map, find, position, Option, Some, None, is_some, Result, Ok, Err, IfOk, OnErr, refl, sym, ◌∙◌, ap, subst}
-use Rattle.std.specs.Option.{option_map}
 use Rattle.std.specs.Str.{bytes_eq}
 use Rattle.wf_text.specs.declared.faults.NoMemory.{NoMemory}
 use Rattle.c_text.specs.declared.nodes.CType.{CType}
-use Rattle.c_text.specs.declared.nodes.CField.{CField}
-use Rattle.c_text.specs.CTree.{FieldTree, ParamTree}
-use Rattle.c_text.specs.CNodes.{Nodes, field_tree}
+use Rattle.c_text.specs.CTree.{ParamTree}
+use Rattle.c_text.specs.CNodes.{Nodes}
 use Rattle.c_text.specs.CFits.{HasType}
 use Rattle.c_meaning.specs.CTypes as by_name
 use Rattle.c_meaning.specs.CTypes.{TextDecl, Scope, variable_held}
-use Rattle.c_form_exprs.specs.declared.types.Held.{Held}
 use Rattle.c_form_exprs.specs.declared.types.Held.TheVariants as held
 use Rattle.c_form_exprs.specs.Tables.{named}
 use Rattle.c_form_exprs.proofs.FrontLemmas.{find_listed}
 use Rattle.c_form_exprs.proofs.TableLemmas.{place_in}
-use Rattle.c_form_exprs.specs.Front.{Lists, Finds, IsTyped, IsField, entry_param}
-use Rattle.c_form_exprs.specs.TypeViews.{held_in, TellsHeld}
+use Rattle.c_form_exprs.specs.Front.{Lists, Finds, IsTyped, entry_param}
+use Rattle.c_form_exprs.specs.TypeViews.{TellsHeld}
 
 names_grow : (nodes : Nodes) (es : List (List ℕ × CType)) (name : List ℕ) (ty : CType) → Lists (IsTyped nodes) (λ p. p.name) es (map (entry_param nodes.names) es) → HasType nodes ty → Lists (IsTyped nodes) (λ p. p.name) (es ++ (name, ty) ∷ []) (map (entry_param nodes.names) (es ++ (name, ty) ∷ []))
 names_grow nodes [] name ty h has = (refl, record { same = refl; has = has }, tt)
@@ -46,9 +43,6 @@ none_held_by nodes scope name (Some t) h is none = absurd (cc (none))
 
 pub none_held : (nodes : Nodes) (scope : Scope) (name : List ℕ) → find (λ it. bytes_eq it.name name) scope.names ≡ None → is_some (find (λ it. bytes_eq it.name name) scope.texts) ≡ false → TellsHeld nodes None (variable_held scope name)
 none_held nodes scope name h none = none_held_by nodes scope name (find (λ it. bytes_eq it.name name) scope.texts) h refl none
-
-pub member_found : (nodes : Nodes) (of : List ℕ) (field : CField) (r : Held) (x : Option FieldTree) → Finds (IsField nodes) (Some field) x → held_in nodes.names r ≡ by_name.field_held of (field_tree nodes.names field) → option_map (held_in nodes.names) (Some r) ≡ option_map (by_name.field_held of) x
-member_found nodes of field r x h is = rw h.1 (ap Some (is ∙ ap (by_name.field_held of) h.2.same))
 
 -- The place of a name among the parameters and locals.
 pub place_named : (names : List (List ℕ)) (es : List (List ℕ × CType)) (name : List ℕ) → position (λ (it : ParamTree). bytes_eq it.name name) (map (entry_param names) es) ≡ position (λ (entry : List ℕ × CType). bytes_eq entry.0 name) es

@@ -234,9 +234,6 @@ defaults_picked : (ls : List LineTree) → (cases_in ls).defaults ≡ length (pi
 defaults_picked [] = refl
 defaults_picked (l ∷ ls) = one_default l.code (cases_in ls) (picked default_of ls) (defaults_picked ls)
 
-one_unit : (a b : Unit {0}) → a ≡ b
-one_unit a b = refl
-
 few_differ : (ks : List (Unit {0})) → length ks ≤ 1 → AllDiffer ks
 few_differ [] h i j k e g = absurd (cc e)
 few_differ (x ∷ []) h zero zero k e g = refl

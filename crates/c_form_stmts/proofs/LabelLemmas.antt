@@ -15,15 +15,6 @@ use Rattle.c_form_stmts.specs.Statements.{label_of, label_names, is_label, label
 use Rattle.c_form_stmts.specs.Labels.{Labelled, LabelledNext}
 use Rattle.c_form_stmts.proofs.NameLemmas.{named_among, new_from_none}
 
-pub no_label : (whole : List LineTree) (l : LineTree) (left : List LineTree) (table : List (List ℕ × ℕ)) (i : ℕ) (distinct : Bool) → label_of l.code ≡ None → Labelled whole (l ∷ left) table i distinct → Labelled whole left table (i + 1) distinct
-no_label whole l left table i distinct is h = record {
-  found = λ q. ap (λ o. option_or (named table q) (if is_label q o then Some i else label_at (i + 1) left q)) (sym is) ∙ h.found q;
-  new = before ∙ h.new;
-}
-  where
-    before : are_new (map (λ e. e.0) table) (label_names left) ≡ are_new (map (λ e. e.0) table) (label_names (l ∷ left))
-    before = rw is refl
-
 or_or : {V : Type 0} (a : Option V) (b : Bool) (v : V) (c : Option V) → option_or (option_or a (if b then Some v else None)) c ≡ option_or a (if b then Some v else c)
 or_or None true v c = refl
 or_or None false v c = refl

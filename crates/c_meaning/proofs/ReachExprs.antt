@@ -241,11 +241,6 @@ module _ (inside : ℕ → Bool) where
     address_in (Some characters) None h = tt
     address_in (Some characters) (Some p) h = tt
 
-    -- Operators.
-    numeric_in : {A : Type 0} (f : A → Number) (o : Option A) → OptIn (option_map (λ x. numeric (f x)) o)
-    numeric_in f None = tt
-    numeric_in f (Some x) = tt
-
     moved_pointer_in : (o : Bool) (p : Pointer) (z : ℤ) → inside p.object ≡ true → OptIn (option_map address (moved_pointer memory o p z))
     moved_pointer_in true p z h = as_address (offset_object p z) (indexed p _ h)
       where

@@ -135,11 +135,6 @@ module _ (memory : Memory) (to from : Pointer) (bytes : ℕ) (it : Object) (ther
   moves_to : Option Field → Option Field → Option Memory
   moves_to target source = option_and_then (λ (t : CellType × List Cell). option_and_then (λ (s : CellType × List Cell). moved memory to from bytes t s) (option_and_then cells_of source)) (option_and_then cells_of target)
 
-  no_source : (target : Field) → (source : Option Field) → option_and_then cells_of source ≡ None → moves_to (Some target) source ≡ None
-  unfolding moves_to
-  no_source (part k) source e = refl
-  no_source (cells type xs) source e = ap (option_and_then (λ (s : CellType × List Cell). moved memory to from bytes (type, xs) s)) e
-
   moves_as : (target : Field) (source : Option Field) → slice_get it to.field ≡ Some target
       → moves_to (Some target) source ≡ option_map now_with (option_and_then (λ s. moved_field target to.index s from.index bytes) source)
   unfolding moves_to

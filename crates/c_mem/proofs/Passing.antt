@@ -5,7 +5,6 @@ use Rattle.std.proofs.lemmas.List.{append_assoc, append-nil, drop_more, take_mor
 use Rattle.std.proofs.lemmas.Bool.Decides.{nat_tests}
 use Rattle.c_meaning.specs.CMemory.{Field, cells, part, Object, Memory, part_of, zero_field, parts_of, contains, zeroed_from}
 use Rattle.c_mem.specs.Marking.{Marked, MarksOne}
-use Rattle.c_mem.proofs.Stored.{read_is}
 
 -- Nothing is wanted of a front, or of all.
 pub unwanted : (number : ℕ) (wanted : List ℕ) (objects : Memory) → ((k : ℕ) → number ≤ k → k < number + length objects → contains wanted k ≡ false) → zeroed_from number wanted objects ≡ objects
@@ -65,9 +64,6 @@ ends first before at last now marks z h = sym (z.same
     length_rest zero xs = omega arith
     length_rest (suc n) [] = omega arith
     length_rest (suc n) (x ∷ xs) = omega (arith, length_rest n xs)
-
-mark_at : (marks : List Bool) (at : ℕ) (b : Bool) → at < length marks → b ≡ slice_index_or marks at b → slice_get marks at ≡ Some b
-mark_at marks at b h e = read_is marks at b h e
 
 wants : (marks : List Bool) (at last : ℕ) (wanted : List ℕ) (b : Bool) → Marked marks at last wanted → at ≤ last → slice_get marks at ≡ Some b → contains wanted at ≡ b
 wants marks at last wanted b m h e = let q : Some (contains wanted at) ≡ Some b = sym (m.up_to at (omega arith) h) ∙ e in cc (q)

@@ -13,11 +13,6 @@ IsText tokens = (unit : List ItemTree) × IsUnit unit × (tokens ≡ unit_tokens
 abbrev pub IsLive : List CToken → Type 0
 IsLive tokens = (more : List CToken) × IsText (tokens ++ more)
 
--- After `front` the first token of `back` is the first that no text has there; at the end, the tokens are no text.
-abbrev pub IsFirstWrong : (front back : List CToken) → Type 0
-IsFirstWrong front [] = IsText front → ⊥
-IsFirstWrong front (t ∷ back) = IsLive (front ++ t ∷ []) → ⊥
-
 -- A token is spelt as such: names, literals and strings of the subset.
 abbrev pub IsToken : CToken → Type 0
 IsToken (named n) = IsName n
@@ -35,12 +30,6 @@ is_opening (marked mark.OpenParen) = true
 is_opening (marked mark.OpenBracket) = true
 is_opening (marked mark.OpenBrace) = true
 is_opening _ = false
-
-abbrev pub is_closing : CToken → Bool
-is_closing (marked mark.CloseParen) = true
-is_closing (marked mark.CloseBracket) = true
-is_closing (marked mark.CloseBrace) = true
-is_closing _ = false
 
 -- The number of open brackets after a token and after tokens, where n were open before.
 abbrev pub open_after : (n : ℕ) → CToken → ℕ

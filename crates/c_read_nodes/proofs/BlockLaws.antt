@@ -1,13 +1,12 @@
 -- Blocks of statements and whole `if`s.
-use Rattle.std.proofs.Common.{◌≡◌, ◌<◌, false, List, [], ◌∷◌, length, refl, sym, ◌∙◌, ap, subst}
+use Rattle.std.proofs.Common.{◌≡◌, ◌<◌, List, ◌∷◌, length, sym, ◌∙◌, ap, subst}
 use Rattle.c_text.specs.declared.ids.CStmtId.{CStmtId}
 use Rattle.c_text.specs.declared.ids.CNameId.{CNameId}
 use Rattle.c_text.specs.declared.kinds.Otherwise.TheVariants as else_is
 use Rattle.c_text.specs.CNodes.{Nodes, bytes_at, expr_of, code_of}
 use Rattle.c_text.specs.CTree.{Code, finish, branch, variable}
-use Rattle.c_read_grammar.specs.Values.{Val, an_expr, chain, last_arm, make_if, perform_expr}
+use Rattle.c_read_grammar.specs.Values.{an_expr, perform_expr}
 use Rattle.c_read_grammar.specs.declared.actions.ExprAction.TheVariants.{MakeVariableBelow}
-use Rattle.c_read_nodes.specs.declared.shapes.Shape.TheVariants as shapes
 use Rattle.c_read_nodes.specs.declared.statements.Branch.{Branch}
 use Rattle.c_read_nodes.specs.declared.statements.Statement.{Statement}
 use Rattle.c_read_nodes.specs.declared.statements.Statement.TheVariants as says
@@ -31,18 +30,6 @@ arm_code old mid new later arm end other g k fits test body is whole =
     let b : code_of new arm.body.0 ≡ code_of old arm.body.0 = code_same mid new k.sound k.extends arm.body (more_stmts old mid g.sound g.extends arm.body body) ∙ code_same old mid g.sound g.extends arm.body body in
     let o : code_of new other.0 ≡ code_with old (says.If later) finish = whole ∙ ap (code_with mid (says.If later)) is ∙ statement_same old mid g.sound g.extends (says.If later) finish fits in
     cc (t, b, o)
-
--- A chain goes on with the arm on top, or ends.
-pub chain_next : (nodes new : Nodes) (later next : Code) (arm : Arm) (vs ws : List Value) (whole : List Val) → vs ≡ vals.Arm arm ∷ ws → next ≡ branch (expr_of nodes arm.test.0) (code_of nodes arm.body.0) else_is.If later finish
-    → seen_values new ws ≡ seen_values nodes ws → chain later (seen_values nodes vs) ≡ whole → chain next (seen_values new ws) ≡ whole
-chain_next nodes new later next arm vs ws whole is step same all =
-    let here : chain later (seen_values nodes (vals.Arm arm ∷ ws)) ≡ whole = ap (λ x. chain later (seen_values nodes x)) (sym is) ∙ all in
-    ap (λ x. chain x (seen_values new ws)) step ∙ ap (chain (branch (expr_of nodes arm.test.0) (code_of nodes arm.body.0) else_is.If later finish)) same ∙ here
-
-pub else_none : (nodes : Nodes) (vs : List Value) → fits (shapes.Code ∷ []) vs ≡ false → make_if (seen_values nodes vs) ≡ last_arm else_is.Nothing finish (seen_values nodes vs)
-else_none nodes [] h = refl
-else_none nodes (vals.Code c ∷ vs) h = absurd (cc h)
-else_none nodes (v ∷ vs) h = refl
 
 -- A value above others than before.
 pub above : (nodes : Nodes) (n : CNameId) (ws ms : List Value) (v : Value) → ValueFits nodes (vals.Name n ∷ ws) v → ValueFits nodes ms v

@@ -1,16 +1,12 @@
 -- A machine's store before, during and after a host's call.
-use Rattle.std.proofs.Common.{◌≡◌, ℕ, ◌+◌, ◌-◌, ◌*◌, ◌<◌, ◌≤◌, List, [], ◌∷◌, length, Option, Some, refl, sym, subst, ap, ◌∙◌, arith}
-use Rattle.std.specs.Prelude.{vec_len, vec_capacity}
+use Rattle.std.proofs.Common.{◌≡◌, ℕ, ◌+◌, ◌-◌, ◌<◌, ◌≤◌, length, refl, sym, subst, ◌∙◌, arith}
+use Rattle.std.specs.Prelude.{vec_capacity}
 use Rattle.c_mem.specs.declared.mem.Mem.{Mem}
 use Rattle.c_mem.specs.MemoryViews.{memory, HasRoom}
-use Rattle.c_meaning.specs.declared.values.Value.{Value}
-use Rattle.c_meaning.specs.CMemory.{Memory}
 use Rattle.c_step_exprs.specs.Stacks.{on_stack, most}
-use Rattle.c_step_frames.specs.Frames.{FrameView}
 use Rattle.c_step_run.specs.declared.store.Store.{Store}
-use Rattle.c_step_run.specs.declared.store.Active.{Active}
 use Rattle.c_step_run.specs.Coding.{CodeView}
-use Rattle.c_step_run.specs.Ready.{RestBelow, CanEnter, KeepsRoom, KeepsShape}
+use Rattle.c_step_run.specs.Ready.{RestBelow, CanEnter, KeepsShape}
 use Rattle.c_step_run.proofs.Rooms.{fewer_objects, rest_fewer}
 use Rattle.c_step_calls.specs.declared.room.Spares.{Spares}
 use Rattle.c_step_calls.specs.declared.room.Room.{Room}
@@ -113,14 +109,3 @@ rests_after_init c room old st rests keeps =
       args = keeps.room.arguments;
       most = refl;
     }
-
-pub can_init : (c : CodeView) (room : Room) (st : Store) (own : ℕ) → IsResting c room st → own < length c.functions → CanEnter c (record { own = own; frame = room.objects }) st
-can_init c room st own rests h = record {
-  within = h;
-  ranked = rests.ranked;
-  arguments = rest_fewer (length c.functions) (own + 1) st.args.items (omega (arith, h)) rests.arguments;
-  frames = rest_fewer (length c.functions) (own + 1) st.frames.items (omega (arith, h)) rests.frames;
-  objects = fewer_objects st.mem (room.most + room.most + length c.functions) (own + 1) (omega (arith, h)) rests.fits;
-  values = rests.values own;
-  last = sym rests.objects;
-}

@@ -1,7 +1,7 @@
 -- Arguments are taken from the stack one by one, the last one first.
 use Rattle.std.proofs.Common.{◌⊎◌, inl, inr, IfSome, ◌≡◌, ℕ, zero, suc, ◌+◌, ◌<◌, ◌≤◌, List, [], ◌∷◌, ◌++◌, length, Option, Some, None, refl, sym, ap, ◌∙◌, subst, arith, take, drop}
 use Rattle.std.specs.Prelude.{◌-◌, option_map, option_and_then, slice_get, slice_set}
-use Rattle.std.proofs.lemmas.List.{append_assoc, append-nil, reverse-append, take-append-drop}
+use Rattle.std.proofs.lemmas.List.{append_assoc, reverse-append}
 use Rattle.c_meaning.specs.declared.cells.Cell.{Cell}
 use Rattle.c_meaning.specs.declared.cells.CellType.{CellType}
 use Rattle.c_meaning.specs.declared.values.Value.{Value}
@@ -10,11 +10,7 @@ use Rattle.c_mem.specs.FieldParts.{stored_in, stored_at_field, Fits, FitsField, 
 use Rattle.c_mem.proofs.Fitting.{converted_fits}
 use Rattle.c_mem.specs.Leaving.{Leaves}
 use Rattle.c_meaning.specs.Typed.{of_cells, field_shape, object_shape}
-use Rattle.c_step_frames.specs.Frames.{one_cell, passed_cells, unset_cells, call_object, IsOneCell, StartsWith, on_top, PassesOne}
-
--- One argument more, at the end.
-with_last : Option Field → Option (List Field) → Option (List Field)
-with_last f fs = option_and_then (λ it. option_map (λ fields. fields ++ it ∷ []) fs) f
+use Rattle.c_step_frames.specs.Frames.{one_cell, passed_cells, unset_cells, IsOneCell, StartsWith, on_top, PassesOne}
 
 none_last : (o : Option Cell) (t : CellType) → option_and_then (λ cell. option_map (λ (fields : List Field). one_cell t cell ∷ fields) None) o ≡ None
 none_last None t = refl
@@ -140,21 +136,6 @@ too_few ts given i t done e h =
     h ∙ ap (λ (o : Option (List Field)). option_map (λ (front : List Field). front ++ done) o)
     (ap (λ (vs : List Value). passed_cells (take (i + 1) ts) vs) (top_of_none (i + 1)) ∙ nothing_passed ts i t e)
 
--- At first none is taken, and at last all are.
-pub none_taken : (ts : List CellType) (stack : List Value) → Gives ts (on_top (length ts) stack) (length ts) stack []
-none_taken ts stack = all_there (passed_cells ts (on_top (length ts) stack)) ∙ ap (λ (us : List CellType). option_map (λ (front : List Field). front ++ []) (passed_cells us (on_top (length ts) stack))) (sym (take_all ts))
-  where
-    all_there : (o : Option (List Field)) → o ≡ option_map (λ (front : List Field). front ++ []) o
-    all_there None = refl
-    all_there (Some fields) = ap Some (sym (append-nil fields))
-
-    take_all : {A : Type 0} (xs : List A) → take (length xs) xs ≡ xs
-    take_all [] = refl
-    take_all (x ∷ xs) = ap (λ (ys : List _). x ∷ ys) (take_all xs)
-
-pub all_taken : (ts : List CellType) (given : List Value) (stack : List Value) (done : List Field) → Gives ts given 0 stack done → passed_cells ts given ≡ Some done
-all_taken ts given stack done h = h
-
 -- The fields that are there so far.
 pub done_grows : (fs : Object) (i n : ℕ) (x : Field) → i < length fs → i < n → take (n - i) (drop i (slice_set fs i x)) ≡ x ∷ take (n - (i + 1)) (drop (i + 1) fs)
 done_grows [] i n x h k = absurd (omega (arith, h))
@@ -190,10 +171,6 @@ set_same_shape (u ∷ ts) (f ∷ fs) (suc i) t cell h e = ap (λ xs. field_shape
 pub unset_starts : (ts us : List CellType) → StartsWith ts (unset_cells (ts ++ us))
 unset_starts [] us = tt
 unset_starts (t ∷ ts) us = (refl, unset_starts ts us)
-
-pub drop_unset : (ts us : List CellType) → drop (length ts) (unset_cells (ts ++ us)) ≡ unset_cells us
-drop_unset [] us = refl
-drop_unset (t ∷ ts) us = drop_unset ts us
 
 -- An argument fits its field.
 pub passes_fit : (ts : List CellType) (fs : Object) (i : ℕ) (t : CellType) (v : Value) (cell : Cell) → StartsWith ts fs → slice_get ts i ≡ Some t → Some cell ≡ cell_of t v → FitsObject fs i cell
@@ -272,23 +249,9 @@ pub top_is : (stack now : List Value) (v : Value) → Some v ≡ slice_get stack
 top_is [] now v e n = absurd (cc (e))
 top_is (w ∷ ws) now v e n = let s : v ≡ w = cc (e) in sym (ap (λ x. x ∷ now) s ∙ ap (λ xs. w ∷ xs) n)
 
-pub none_on_top : (stack : List Value) → None ≡ slice_get stack 0 → stack ≡ []
-none_on_top [] e = refl
-none_on_top (w ∷ ws) e = absurd (cc (e))
-
 pub leaves_this : (given : Option Object) (old new x : Object) (r : Option (Unit {0})) → Leaves given old r new → given ≡ Some x → new ≡ x
 leaves_this given old new x None h e = absurd (cc (h.0, e))
 leaves_this given old new x (Some done) h e = cc (h, e)
-
--- All of a call's object.
-pub whole_object : (ts us : List CellType) (given : List Value) (old object : Object) → old ≡ unset_cells (ts ++ us)
-    → passed_cells ts given ≡ Some (take (length ts) object) → drop (length ts) object ≡ drop (length ts) old → call_object ts us given ≡ Some object
-whole_object ts us given old object is passed rest =
-    ap (option_map (λ (fields : List Field). fields ++ unset_cells us)) passed
-    ∙ ap Some (ap (λ (xs : List Field). take (length ts) object ++ xs) (sym (rest ∙ (ap (drop (length ts)) is ∙ drop_unset ts us))) ∙ take-append-drop (length ts) object)
-
-pub no_object : (ts us : List CellType) (given : List Value) → passed_cells ts given ≡ None → call_object ts us given ≡ None
-no_object ts us given e = ap (option_map (λ (fields : List Field). fields ++ unset_cells us)) e
 
 pub passes_one : (ts : List CellType) (fs new : Object) (i : ℕ) (t : CellType) (v : Value) (cell : Cell) (stack now : List Value) (r : Option (Unit {0})) → StartsWith ts fs → slice_get ts i ≡ Some t
     → Some v ≡ slice_get stack 0 → now ≡ drop 1 stack → Some cell ≡ cell_of t v → Leaves (stored_at_field fs i 0 cell) fs r new → PassesOne ts i fs stack (Some tt) new now

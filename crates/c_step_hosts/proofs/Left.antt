@@ -1,8 +1,7 @@
 -- Objects that are kept again.
-use Rattle.std.proofs.Common.{◌≡◌, ℕ, zero, suc, ◌+◌, ◌<◌, ◌≤◌, true, List, [], ◌∷◌, ◌++◌, length, take, Some, refl, sym, subst, ap, ◌∙◌, arith, length-append}
+use Rattle.std.proofs.Common.{◌≡◌, ℕ, zero, suc, ◌+◌, ◌<◌, ◌≤◌, true, List, [], ◌∷◌, ◌++◌, length, Some, refl, sym, subst, ap, ◌∙◌, arith, length-append}
 use Rattle.std.specs.Prelude.{reverse, slice_get}
 use Rattle.std.proofs.lemmas.List.{append_assoc, append-nil, reverse-append}
-use Rattle.std.proofs.Math.Seq.{take-append_seam}
 use Rattle.c_meaning.specs.CMemory.{Object, Memory}
 use Rattle.c_mem.specs.FieldParts.{has_bytes}
 use Rattle.c_step_hosts.specs.Spares.{IsIo, AreIos, HaveBytes}
@@ -12,9 +11,6 @@ use Rattle.c_step_hosts.proofs.Spared.{one_io_more, one_bytes_more}
 
 one_first : (x : Object) (xs : List Object) → reverse (x ∷ xs) ≡ reverse xs ++ x ∷ []
 one_first x xs = reverse-append (x ∷ []) xs
-
-pub none_moved : (memory : Memory) (spares : List Object) → MovesLast 0 memory memory spares spares
-none_moved memory spares = record { them = []; cut = sym (append-nil memory); many = refl; kept = sym (append-nil spares) }
 
 pub moved_more : (n m : ℕ) (first mid last : Memory) (a b c : List Object) → MovesLast n first mid a b → MovesLast m mid last b c → MovesLast (n + m) first last a c
 moved_more n m first mid last a b c x y = record {
@@ -33,11 +29,6 @@ moved_length n old new a b x = (
   omega (arith, ap (λ (m : Memory). length m) x.cut, length-append new x.them, x.many),
   omega (arith, ap (λ (m : List Object). length m) x.kept, length-append a (reverse x.them), reversed_length x.them, x.many),
 )
-
-pub moved_front : (n k : ℕ) (old new : Memory) (a b : List Object) → MovesLast n old new a b → length old ≡ k + n → new ≡ take k old
-moved_front n k old new a b x e =
-    let s : length new ≡ k = omega (arith, e, (moved_length n old new a b x).0) in
-    sym (take-append_seam new x.them) ∙ (ap (λ (m : Memory). take (length new) m) (sym x.cut) ∙ ap (λ (j : ℕ). take j old) s)
 
 behind : (front rest : Memory) (k : ℕ) → slice_get (front ++ rest) (length front + k) ≡ slice_get rest k
 behind [] rest k = ap (slice_get rest) (omega arith)
@@ -76,16 +67,3 @@ moved_bytes n from old new a b x e h s =
 -- What stands at the front is as it was.
 pub ios_stay : (n from to : ℕ) (old new : Memory) (a b : List Object) → MovesLast n old new a b → to ≤ length new → AreIosBetween from to old → AreIosBetween from to new
 ios_stay n from to old new a b x l h = λ k o f t e. h k o f t (ap (λ (m : Memory). slice_get m k) x.cut ∙ (in_front new x.them k (omega (arith, t, l)) ∙ e))
-
-take_empty : (k : ℕ) → take {A = Object} k [] ≡ []
-take_empty zero = refl
-take_empty (suc k) = refl
-
-take_less : (xs : Memory) (n m : ℕ) → n ≤ m → take n (take m xs) ≡ take n xs
-take_less xs zero m h = refl
-take_less [] (suc n) m h = ap (λ (ys : Memory). take (suc n) ys) (take_empty m)
-take_less (x ∷ xs) (suc n) zero h = absurd (omega (arith, h))
-take_less (x ∷ xs) (suc n) (suc m) h = ap (λ (ys : Memory). x ∷ ys) (take_less xs n m (omega (arith, h)))
-
-pub both_fronts : (old mid new : Memory) (n m : ℕ) → n ≤ m → mid ≡ take m old → new ≡ take n mid → new ≡ take n old
-both_fronts old mid new n m h e f = f ∙ (ap (λ (xs : Memory). take n xs) e ∙ take_less old n m h)

@@ -1,8 +1,7 @@
 -- Bytes that are lent.
-use Rattle.std.proofs.Common.{◌≡◌, ℕ, zero, suc, ◌+◌, ◌<◌, ◌≤◌, List, [], ◌∷◌, ◌++◌, length, map, drop, Option, Some, None, refl, sym, subst, ap, ◌∙◌, arith, All, slice_index_or, length-set}
+use Rattle.std.proofs.Common.{◌≡◌, ℕ, zero, suc, ◌+◌, ◌<◌, List, [], ◌∷◌, ◌++◌, length, map, drop, Option, Some, None, refl, sym, subst, ap, ◌∙◌, arith, All, slice_index_or, length-set}
 use Rattle.std.specs.Prelude.{slice_get, slice_set}
 use Rattle.std.specs.Option.{option_map_or}
-use Rattle.std.proofs.lemmas.List.{append-nil}
 use Rattle.wf_text.specs.HostActions.{HostArg, num, flag, io, bytes}
 use Rattle.wf_base.specs.BaseOps.{Buffer}
 use Rattle.wf_base.specs.HostRun.{Host}
@@ -12,7 +11,7 @@ use Rattle.wf_bufs.specs.HostViews.{arg_of}
 use Rattle.c_meaning.specs.CMemory.{Object, Memory}
 use Rattle.c_meaning.specs.CRun.{bytes_object, arg_bytes, byte_objects}
 use Rattle.c_step_hosts.specs.Lending.{IsThere, AreThere, lent_buffer, lent_for, all_lent}
-use Rattle.c_step_hosts.proofs.Steps.{next_arg, no_args, grows}
+use Rattle.c_step_hosts.proofs.Steps.{next_arg, grows}
 
 pub elsewhere : {A : Type 0} (xs : List A) (i j : ℕ) (x : A) → (i ≡ j → ⊥) → slice_get (slice_set xs i x) j ≡ slice_get xs j
 elsewhere [] i j x h = refl
@@ -120,8 +119,3 @@ lends_next whole now later lent host after args i d w l m h =
 
 pub next_is_there : (whole now : Memory) (lent host : Host) (args : List Arg) (i : ℕ) (d : Arg) → i < length args → LendsOn whole lent now host (drop i (map arg_of args)) → IsThere (length host.buffers) (length host.arrays) (arg_of (slice_index_or args i d))
 next_is_there whole now lent host args i d w l = (subst (λ (xs : List HostArg). AreThere (length host.buffers) (length host.arrays) xs) (next_arg args i d w) l.there).0
-
-pub lent_at_end : (whole now : Memory) (lent host : Host) (args : List Arg) (i : ℕ) → length args ≤ i → LendsOn whole lent now host (drop i (map arg_of args)) → (now ≡ whole) × (host ≡ lent)
-lent_at_end whole now lent host args i h l =
-    let e : LendsOn whole lent now host [] = subst (LendsOn whole lent now host) (no_args args i h) l in
-    (sym (append-nil now) ∙ e.memory, e.comes)

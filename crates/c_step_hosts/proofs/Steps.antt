@@ -1,6 +1,6 @@
 -- One argument more of a call has come to stand in memory.
 use Rattle.std.proofs.Common.{◌≡◌, ℕ, zero, suc, ◌+◌, ◌<◌, ◌≤◌, List, [], ◌∷◌, ◌++◌, length, map, drop, replicate, refl, sym, subst, ap, ◌∙◌, arith, slice_index_or, Some, None, length-append}
-use Rattle.std.proofs.lemmas.List.{append_assoc, append-nil, drop_more, drop-map}
+use Rattle.std.proofs.lemmas.List.{append_assoc, drop_more, drop-map}
 use Rattle.wf_text.specs.HostActions.{HostArg, num, flag, io, bytes}
 use Rattle.wf_bufs.specs.declared.calls.Arg.{Arg}
 use Rattle.wf_bufs.specs.HostViews.{arg_of}
@@ -35,9 +35,6 @@ pub one_io : (host : Host) (now later : Memory) (object i : ℕ) (args : List Ar
 one_io host now later object i args d whole h e l =
     grows now later (io_object host object (arg_of (slice_index_or args i d))) (io_objects host (object + 1) (drop (i + 1) (map arg_of args))) whole
     (ap (λ (xs : List HostArg). now ++ io_objects host object xs) (sym (next_arg args i d h)) ∙ e) l
-
-pub all_ios : (host : Host) (now : Memory) (object i : ℕ) (args : List Arg) (whole : Memory) → length args ≤ i → now ++ io_objects host object (drop i (map arg_of args)) ≡ whole → now ≡ whole
-all_ios host now object i args whole h e = sym (ap (λ (xs : List HostArg). now ++ io_objects host object xs) (no_args args i h) ∙ append-nil now) ∙ e
 
 pub next_there : (buffers arrays : ℕ) (args : List Arg) (i : ℕ) (d : Arg) → i < length args → AreThere buffers arrays (drop i (map arg_of args))
     → IsThere buffers arrays (arg_of (slice_index_or args i d)) × AreThere buffers arrays (drop (i + 1) (map arg_of args))

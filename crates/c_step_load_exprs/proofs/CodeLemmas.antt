@@ -8,9 +8,8 @@ use Rattle.c_step_exprs.specs.declared.instrs.Instr.{Instr}
 use Rattle.c_step_exprs.specs.declared.instrs.Instr.TheVariants as does
 use Rattle.c_step_exprs.specs.declared.instrs.Test.{Test}
 use Rattle.c_step_exprs.specs.declared.instrs.Test.TheVariants as tests
-use Rattle.c_step_exprs.specs.declared.instrs.Turn.TheVariants as turn
 use Rattle.c_step_exprs.specs.Resolving.{arms_code}
-use Rattle.c_step_load_exprs.specs.Codes.{open_arms, tested_code}
+use Rattle.c_step_load_exprs.specs.Codes.{open_arms}
 
 pub set_at : (xs front behind : List Instr) (old it : Instr) (at : ℕ) → xs ≡ front ++ old ∷ behind → at ≡ length front → slice_set xs at it ≡ front ++ it ∷ behind
 set_at xs front behind old it at is n = ap (λ (ys : List Instr). slice_set ys at it) is ∙ (ap (λ (k : ℕ). slice_set (front ++ old ∷ behind) k it) n ∙ set-append_seam front old behind it)
@@ -21,20 +20,6 @@ both xs ys zs a b e f = f ∙ (ap (λ (us : List Instr). us ++ b) e ∙ append_a
 
 pub all_three : (ws xs ys zs a b c : List Instr) → xs ≡ ws ++ a → ys ≡ xs ++ b → zs ≡ ys ++ c → zs ≡ ws ++ (a ++ (b ++ c))
 all_three ws xs ys zs a b c e f g = both ws xs zs a (b ++ c) e (both xs ys zs b c f g)
-
-pub put_one : (xs ys zs a b : List Instr) (i : Instr) → zs ≡ xs ++ i ∷ [] → a ≡ i ∷ [] → zs ≡ xs ++ a
-put_one xs ys zs a b i e f = e ∙ ap (λ (us : List Instr). xs ++ us) (sym f)
-
--- A second operand after its test.
-pub tested_put : (old first second third : List Instr) (v : List Instr) (test : Test) (at after : ℕ)
-    → first ≡ old ++ does.Stuck ∷ [] → second ≡ first ++ (v ++ does.Turn turn.Truth ∷ []) → at ≡ length old → after ≡ length second - 1
-    → ((front behind : List Instr) (x : Instr) → second ≡ front ++ x ∷ behind → at ≡ length front → third ≡ front ++ does.Test test (after - at) ∷ behind)
-    → third ≡ old ++ tested_code test v
-tested_put old first second third v test at after e f a b g =
-    let whole : second ≡ old ++ does.Stuck ∷ (v ++ does.Turn turn.Truth ∷ []) = both old first second (does.Stuck ∷ []) (v ++ does.Turn turn.Truth ∷ []) e f in
-    let size : length second ≡ length old + suc (length v + 1) = ap length whole ∙ (length-append old _ ∙ ap (λ (n : ℕ). length old + suc n) (length-append v (does.Turn turn.Truth ∷ []))) in
-    let count : after - at ≡ suc (length v) = omega (arith, a, b, size) in
-    g old (v ++ does.Turn turn.Truth ∷ []) does.Stuck whole a ∙ ap (λ (n : ℕ). old ++ does.Test test n ∷ (v ++ does.Turn turn.Truth ∷ [])) count
 
 -- Both arms of `?:`, once their common type is told.
 pub arms_closed : (first second third fourth fifth front met unmet : List Instr) (x : Instr) (from middle end : ℕ)

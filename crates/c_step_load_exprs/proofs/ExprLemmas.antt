@@ -6,26 +6,21 @@ use Rattle.std.specs.Option.{option_map}
 use Rattle.std.proofs.lemmas.List.{append_assoc}
 use Rattle.pens.proofs.Progress.{unroll}
 use Rattle.c_text.specs.declared.ids.CExprId.{CExprId}
-use Rattle.c_text.specs.declared.kinds.COp.{COp}
 use Rattle.c_text.specs.declared.nodes.CArg.{CArg}
 use Rattle.c_text.specs.declared.nodes.CArg.TheVariants as arg
 use Rattle.c_text.specs.declared.nodes.CParam.{CParam}
 use Rattle.c_text.specs.CTree.{ExprTree, number, variable, member, element, pointed, operation, unary, cast, choice, called}
-use Rattle.c_text.specs.CNodes.{Nodes, expr_of, operands_in, args_in, param_tree}
-use Rattle.c_text.specs.CFits.{HasParams, HasType}
-use Rattle.c_text.proofs.Parts.{no_expr, no_arg_given}
-use Rattle.c_meaning.specs.CTypes.{Scope, Function, type_of, held_of, held_type, passable, arg_types}
+use Rattle.c_text.specs.CNodes.{Nodes, expr_of, args_in, param_tree}
+use Rattle.c_text.proofs.Parts.{no_arg_given}
+use Rattle.c_meaning.specs.CTypes.{Scope, type_of, passable, arg_types}
 use Rattle.c_meaning.specs.CTypes as by_name
-use Rattle.c_meaning.specs.CExprs.{Combination}
-use Rattle.c_form_exprs.specs.declared.front.Head.{Head}
 use Rattle.c_form_exprs.specs.declared.types.ExprType.{ExprType}
-use Rattle.c_form_exprs.specs.Front.{Finds, IsHead}
 use Rattle.c_form_exprs.specs.Spines.{Spine, link_of, arg_type}
 use Rattle.c_form_exprs.specs.TypeViews.{value_in, HasValue, TellsType}
 use Rattle.c_form_exprs.proofs.SpineLemmas.{spine_pop}
 use Rattle.c_form_exprs.proofs.ArgLemmas.{takes_from}
 use Rattle.c_step_exprs.specs.declared.instrs.Instr.{Instr}
-use Rattle.c_step_exprs.specs.Resolving.{value_code, operator_code, operands_code, args_code, arg_count}
+use Rattle.c_step_exprs.specs.Resolving.{value_code, args_code, arg_count}
 use Rattle.c_step_load_exprs.specs.Codes.{link_code, arg_code, fits_first}
 use Rattle.c_step_load_exprs.proofs.CodeLemmas.{both}
 
@@ -69,22 +64,6 @@ climbing_on nodes scope e whole links x found next before now after is h code ty
       code = both before now after (value_code scope (expr_of nodes h.at.0)) (link_code scope (expr_of nodes x.0)) h.code (code (expr_of nodes h.at.0) link h.told.0)
           ∙ ap (λ (us : List Instr). before ++ us) (sym (link_value scope (expr_of nodes x.0) (expr_of nodes h.at.0) link));
     }
-
-pub climbing_end : (nodes : Nodes) (scope : Scope) (e : CExprId) (found : Option ExprType) (before now : List Instr) → Climbing nodes scope e [] found before now → (now ≡ before ++ value_code scope (expr_of nodes e.0)) × TellsType nodes found (type_of scope (expr_of nodes e.0))
-climbing_end nodes scope e found before now h = (
-  subst (λ (at : CExprId). now ≡ before ++ value_code scope (expr_of nodes at.0)) h.spine h.code,
-  subst (λ (at : CExprId). TellsType nodes found (type_of scope (expr_of nodes at.0))) h.spine h.told,
-)
-
--- An operand more.
-pub operand_put : (nodes : Nodes) (scope : Scope) (c : Combination) (o : Bool) (op : COp) (others : List CExprId) (i : ℕ) (now after whole : List Instr) → i < length others
-    → after ≡ now ++ operator_code c o op (value_code scope (expr_of nodes (get_or others i no_expr).0))
-    → now ++ operands_code scope c o op (operands_in (expr_of nodes) (drop i others)) ≡ whole
-    → after ++ operands_code scope c o op (operands_in (expr_of nodes) (drop (i + 1) others)) ≡ whole
-operand_put nodes scope c o op others i now after whole within e h =
-    ap (λ (us : List Instr). us ++ operands_code scope c o op (operands_in (expr_of nodes) (drop (i + 1) others))) e
-    ∙ (append_assoc now (operator_code c o op (value_code scope (expr_of nodes (get_or others i no_expr).0))) (operands_code scope c o op (operands_in (expr_of nodes) (drop (i + 1) others)))
-    ∙ (ap (λ (es : List CExprId). now ++ operands_code scope c o op (operands_in (expr_of nodes) es)) (sym (unroll others i no_expr within)) ∙ h))
 
 -- An argument more.
 arg_first : (nodes : Nodes) (scope : Scope) (a : CArg) (args : List CArg) → args_code scope (args_in nodes.names (expr_of nodes) (a ∷ args)) ≡ arg_code nodes scope a ++ args_code scope (args_in nodes.names (expr_of nodes) args)
@@ -155,12 +134,3 @@ pub args_counted : (nodes : Nodes) (given : List CArg) → arg_count (args_in no
 args_counted nodes [] = refl
 args_counted nodes (arg.Expr e ∷ given) = ap suc (args_counted nodes given)
 args_counted nodes (arg.SizeOf n ∷ given) = ap suc (args_counted nodes given)
-
--- What is known of a function that was found.
-pub head_result : (nodes : Nodes) (r : Option Head) (f : Option Function) → Finds (IsHead nodes) r f → IfSome r (λ head. IfSome head.result (HasType nodes))
-head_result nodes None f h = tt
-head_result nodes (Some head) f h = h.2.has_result
-
-pub head_params : (nodes : Nodes) (r : Option Head) (f : Option Function) → Finds (IsHead nodes) r f → IfSome r (λ head. HasParams nodes head.params.now)
-head_params nodes None f h = tt
-head_params nodes (Some head) f h = h.2.has_params

@@ -1,25 +1,23 @@
 -- What names stand for is the same from the last item on.
-use Rattle.std.proofs.Common.{◌≡◌, ◌<◌, ◌≤◌, ℕ, zero, suc, Bool, false, if◌then◌else◌, List, [], ◌∷◌, ◌++◌, length, map, drop, get_or, position, Option, Some, None, is_some, refl, sym, ap, ◌∙◌, subst, arith}
+use Rattle.std.proofs.Common.{◌≡◌, ◌<◌, ℕ, zero, suc, Bool, if◌then◌else◌, List, [], ◌∷◌, length, get_or, position, Option, Some, None, is_some, refl, sym, ap, ◌∙◌, subst, arith}
 use Rattle.std.specs.Prelude.{bytes_eq}
 use Rattle.std.specs.Option.{option_map, option_and_then}
 use Rattle.c_text.specs.declared.nodes.CParam.{CParam}
 use Rattle.c_text.specs.CTree.{TypeTree, uint, size, boolean, uint_pointer, struct_pointer, text, ParamTree, ItemTree}
-use Rattle.c_text.specs.CNodes.{Nodes, param_tree, unit_tree}
+use Rattle.c_text.specs.CNodes.{Nodes, unit_tree}
 use Rattle.c_text.specs.CFits.{HasParam, HasParams}
 use Rattle.c_text.proofs.Parts.{no_param}
-use Rattle.c_meaning.specs.CTypes.{StructDecl, TextDecl, Scope, structs_of, texts_of, functions_of, struct_named, function_named, field_named, variable_held, member_held, field_held, cast_from, is_known, value_type, ExprType, numbers, points_to, zero_literal, cell, object, byte, Held, one, fixed, many, inner, character, characters}
+use Rattle.c_meaning.specs.CTypes.{StructDecl, TextDecl, Scope, structs_of, texts_of, functions_of, struct_named, function_named, field_named, variable_held, member_held, field_held, cast_from, is_known, value_type, ExprType, numbers, points_to, zero_literal, cell, object, byte}
 use Rattle.c_meaning.specs.CExprs.{field_number}
 use Rattle.c_form_exprs.specs.declared.front.Head.{Head}
 use Rattle.c_form_exprs.specs.declared.types.ExprType.{ExprType as TypeOf}
 use Rattle.c_form_exprs.specs.declared.types.Held.{Held as HeldOf}
 use Rattle.c_form_exprs.specs.Front.{Within, Finds, IsHead, scope_in, front_items}
 use Rattle.c_form_exprs.specs.TypeViews.{TellsType, TellsHeld}
-use Rattle.c_form_exprs.specs.Spines.{fits_type}
 use Rattle.c_step_exprs.specs.declared.instrs.Instr.TheVariants as does
 use Rattle.c_step_exprs.specs.declared.instrs.Put.TheVariants as put
-use Rattle.c_step_exprs.specs.Resolving.{function_number, named_code, held_code, variable_code}
+use Rattle.c_step_exprs.specs.Resolving.{function_number, variable_code}
 use Rattle.c_step_load_exprs.specs.Knowing.{Knows, program_scope}
-use Rattle.c_step_load_exprs.specs.Codes.{fits_first}
 use Rattle.c_step_load_exprs.proofs.PlaceLemmas.{all_items, place_found}
 
 module _ (w : Within) (numbered : Nodes) (k : Knows w numbered) where
@@ -86,32 +84,8 @@ local_value scope q r k string e f =
     let found = place_found (λ (it : ParamTree). bytes_eq it.name q) scope.names k at in
     rw (at, found.1) refl
 
-pub other_value : (held : Option Held) (name string : Option ℕ) → name ≡ None → named_code name string ++ held_code held ≡ variable_code held name string
-other_value held (Some k) string e = absurd (cc (e))
-other_value None None string e = refl
-other_value (Some held) None string e = by held
-  where
-    by : (h : Held) → named_code None string ++ held_code (Some h) ≡ variable_code (Some h) None string
-    by (one t) = refl
-    by (fixed t) = refl
-    by (many t) = refl
-    by (inner name) = refl
-    by character = refl
-    by characters = refl
-
 -- Parameters.
 pub param_has : (nodes : Nodes) (ps : List CParam) (i : ℕ) → i < length ps → HasParams nodes ps → HasParam nodes (get_or ps i no_param)
 param_has nodes [] i within h = absurd (omega (arith, within))
 param_has nodes (p ∷ ps) zero within h = h.0
 param_has nodes (p ∷ ps) (suc i) within h = param_has nodes ps i (omega (arith, within)) h.1
-
-pub first_param : (nodes : Nodes) (ps : List CParam) (i : ℕ) (type : Option ExprType) → i < length ps → fits_type (param_tree nodes.names (get_or ps i no_param)) type ≡ fits_first (map (param_tree nodes.names) (drop i ps)) type
-first_param nodes [] i type within = absurd (omega (arith, within))
-first_param nodes (p ∷ ps) zero type within = refl
-first_param nodes (p ∷ ps) (suc i) type within = first_param nodes ps i type (omega (arith, within))
-
-pub no_param_left : (nodes : Nodes) (ps : List CParam) (i : ℕ) (type : Option ExprType) → length ps ≤ i → false ≡ fits_first (map (param_tree nodes.names) (drop i ps)) type
-no_param_left nodes [] zero type past = refl
-no_param_left nodes [] (suc i) type past = refl
-no_param_left nodes (p ∷ ps) zero type past = absurd (omega (arith, past))
-no_param_left nodes (p ∷ ps) (suc i) type past = no_param_left nodes ps i type (omega (arith, past))

@@ -43,9 +43,6 @@ pub places_more : (es new : List (List ℕ × ℕ)) (names : List (List ℕ)) (n
 places_more es new names name n true f g at h = subst (λ (xs : List (List ℕ × ℕ)). HasPlaces xs (names ++ name ∷ [])) (sym g) (places_fresh es names name n at h)
 places_more es new names name n false f g at h = subst (λ (xs : List (List ℕ × ℕ)). HasPlaces xs (names ++ name ∷ [])) (sym g) (places_taken es names name f h)
 
-pub no_places : (es : List (List ℕ × ℕ)) → es ≡ [] → HasPlaces es []
-no_places es e q = ap (λ (xs : List (List ℕ × ℕ)). named xs q) e
-
 -- What a table of places of names tells of those that have these names.
 pub place_of : {A : Type 0} (name : A → List ℕ) (es : List (List ℕ × ℕ)) (xs : List A) → HasPlaces es (map name xs) → (q : List ℕ) → named es q ≡ position (λ x. bytes_eq (name x) q) xs
 place_of name es xs h q = h q ∙ place_in (λ n. bytes_eq n q) name xs
@@ -76,10 +73,6 @@ pub names_more : (kind : Kind) (items : List ItemTree) (i : ℕ) (item : ItemTre
 names_more kind.Text items i item is = ap (names_of kind.Text) (take_one_more items i item is) ∙ (ap (map (λ t. t.name)) (texts_append (take i items) (item ∷ [])) ∙ map-append (λ t. t.name) (texts_of (take i items)) (texts_of (item ∷ [])))
 names_more kind.Function items i item is = ap (names_of kind.Function) (take_one_more items i item is) ∙ (ap (map (λ f. f.name)) (functions_append (take i items) (item ∷ [])) ∙ map-append (λ f. f.name) (functions_of (take i items)) (functions_of (item ∷ [])))
 
-pub no_names : (kind : Kind) (items : List ItemTree) → names_of kind (take 0 items) ≡ []
-no_names kind.Text items = refl
-no_names kind.Function items = refl
-
 pub structs_more : (items : List ItemTree) (i : ℕ) (item : ItemTree) → slice_get items i ≡ Some item → structs_of (take (i + 1) items) ≡ structs_of (take i items) ++ structs_of (item ∷ [])
 structs_more items i item is = ap structs_of (take_one_more items i item is) ∙ structs_append (take i items) (item ∷ [])
 
@@ -89,22 +82,9 @@ field_name_has nodes [] i within h = absurd (omega (arith, within))
 field_name_has nodes (f ∷ fs) zero within h = h.0.1
 field_name_has nodes (f ∷ fs) (suc i) within h = field_name_has nodes fs i (omega (arith, within)) h.1
 
-pub fields_more : (nodes : Nodes) (fs : List CField) (i : ℕ) → i < length fs → map (λ f. bytes_at nodes.names f.name.0) (take (i + 1) fs) ≡ map (λ f. bytes_at nodes.names f.name.0) (take i fs) ++ bytes_at nodes.names (get_or fs i no_field).name.0 ∷ []
-fields_more nodes fs i within = ap (map (λ f. bytes_at nodes.names f.name.0)) (take_one_more fs i (get_or fs i no_field) (slice_get-get_or fs i no_field within)) ∙ map-append (λ f. bytes_at nodes.names f.name.0) (take i fs) (get_or fs i no_field ∷ [])
-
 pub field_names : (nodes : Nodes) (fs : List CField) → map (λ f. f.name) (map (field_tree nodes.names) fs) ≡ map (λ f. bytes_at nodes.names f.name.0) fs
 field_names nodes [] = refl
 field_names nodes (f ∷ fs) = ap (λ (names : List (List ℕ)). bytes_at nodes.names f.name.0 ∷ names) (field_names nodes fs)
-
-pub as_many : (nodes : Nodes) (fs : List CField) (i : ℕ) → i ≤ length fs → i ≡ length (map (λ f. bytes_at nodes.names f.name.0) (take i fs))
-as_many nodes [] zero within = refl
-as_many nodes [] (suc i) within = absurd (omega (arith, within))
-as_many nodes (f ∷ fs) zero within = refl
-as_many nodes (f ∷ fs) (suc i) within = ap suc (as_many nodes fs i (omega (arith, within)))
-
--- The place of a field, by the table of its struct.
-pub no_struct_field : (tables : List (List (List ℕ × ℕ))) (x : Option StructDecl) (q : List ℕ) → Finds (HasFieldPlaces tables) None x → None ≡ option_and_then (λ it. position (λ f. bytes_eq f.name q) it.fields) x
-no_struct_field tables x q h = rw h refl
 
 pub struct_field : (tables : List (List (List ℕ × ℕ))) (k : ℕ) (x : Option StructDecl) (table : List (List ℕ × ℕ)) (q : List ℕ) → Finds (HasFieldPlaces tables) (Some k) x → slice_get tables k ≡ Some table → named table q ≡ option_and_then (λ it. position (λ f. bytes_eq f.name q) it.fields) x
 struct_field tables k x table q h is =

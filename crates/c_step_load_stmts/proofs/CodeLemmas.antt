@@ -1,17 +1,17 @@
 -- A statement's code, as its own instruction and the code of its parts.
 use Rattle.std.proofs.Common.{◌≡◌, ◌+◌, ℕ, List, [], ◌∷◌, ◌++◌, length, Option, refl, sym, ap, ◌∙◌, arith}
-use Rattle.std.proofs.lemmas.List.{append_assoc, append-nil, length-append}
+use Rattle.std.proofs.lemmas.List.{append_assoc, length-append}
 use Rattle.c_text.specs.declared.kinds.Otherwise.{Otherwise}
-use Rattle.c_text.specs.CTree.{ExprTree, Args, Code, nested, empty, assign, call, jump, branch, repeat, select, leave}
-use Rattle.c_meaning.specs.CStep.{by_default, callee_of}
+use Rattle.c_text.specs.CTree.{ExprTree, Args, Code, empty, assign, call, jump, branch, leave}
+use Rattle.c_meaning.specs.CStep.{callee_of}
 use Rattle.c_step_exprs.specs.declared.instrs.Instr.{Instr}
 use Rattle.c_step_exprs.specs.Resolving.{value_code, place_code}
 use Rattle.c_step_text.specs.declared.text.Arm.{Arm}
 use Rattle.c_step_text.specs.declared.text.StmtInstr.{StmtInstr}
-use Rattle.c_step_text.specs.declared.text.StmtInstr.TheVariants.{Assign, Goto, Test, Back, Switch, Stuck}
+use Rattle.c_step_text.specs.declared.text.StmtInstr.TheVariants.{Assign, Goto, Test, Stuck}
 use Rattle.c_step_text.specs.Flat.{FlatText, flat_text}
-use Rattle.c_step_text.specs.Layout.{Names, go, past, past_both, second, seek, number_or}
-use Rattle.c_step_text.specs.Emitted.{span_of, cases_of, arms_of, call_exprs, call_instr, jump_instr, return_exprs, return_instr, exprs_of, statements_of}
+use Rattle.c_step_text.specs.Layout.{Names, go, past_both, second}
+use Rattle.c_step_text.specs.Emitted.{span_of, arms_of, call_exprs, call_instr, jump_instr, return_exprs, return_instr, exprs_of, statements_of}
 use Rattle.c_step_load_stmts.specs.Bodies.{with_exprs, with_arms, with_statement, with_code}
 
 same_text : (s s' : List StmtInstr) (e e' : List Instr) (a a' : List Arm) → s ≡ s' → e ≡ e' → a ≡ a' → flat_text s e a ≡ flat_text s' e' a'
@@ -92,16 +92,6 @@ module _ (names : Names) (t : FlatText) (i next : ℕ) (rest : Code) where
   pub empty_laid : with_code names t i next (empty rest) ≡ with_code names (with_statement t (Goto (go (i + 1) next rest))) (i + 1) next rest
   empty_laid = none_more names t i next (Goto (go (i + 1) next rest)) rest
 
-  pub nested_laid : (inner : Code)
-      → with_code names t i next (nested inner rest)
-      ≡ with_code names (with_statement (with_code names (with_statement t (Goto (go (i + 1) (go (past i inner) next rest) inner))) (i + 1) (go (past i inner) next rest) inner) Stuck) (past i inner) next rest
-  nested_laid inner =
-      let x : StmtInstr = Goto (go (i + 1) (go (past i inner) next rest) inner) in
-      ap (λ (ss : List StmtInstr). flat_text ss (t.exprs ++ (exprs_of names inner ++ exprs_of names rest)) (t.arms ++ (arms_of (i + 1) inner ++ arms_of (past i inner) rest)))
-      (sym (append_assoc t.statements (Goto (go (i + 1) (go (past i inner) next rest) inner) ∷ []) (statements_of names (i + 1) (go (past i inner) next rest) (length t.exprs) (length t.arms) inner ++ (Stuck ∷ statements_of names (past i inner) next (length t.exprs + length (exprs_of names inner)) (length t.arms + length (arms_of (i + 1) inner)) rest))))
-      ∙ block_more names (with_statement t (Goto (go (i + 1) (go (past i inner) next rest) inner))) (i + 1) (go (past i inner) next rest) inner Stuck (past i inner) next (length t.exprs + length (exprs_of names inner)) (length t.arms + length (arms_of (i + 1) inner)) rest
-      (sym (length-append t.exprs (exprs_of names inner))) (sym (length-append t.arms (arms_of (i + 1) inner)))
-
   -- A condition or a number before a block.
   in_front : (x : StmtInstr) (v : List Instr) (cs : List Arm) (inner : Code) (after : ℕ) (y : StmtInstr) (j e e' m m' : ℕ) → e ≡ length (t.exprs ++ v) → e' ≡ e + length (exprs_of names inner) → m ≡ length (t.arms ++ cs) → m' ≡ m + length (arms_of (i + 1) inner)
       → flat_text (t.statements ++ x ∷ (statements_of names (i + 1) after e m inner ++ (y ∷ statements_of names j next e' m' rest))) (t.exprs ++ (v ++ (exprs_of names inner ++ exprs_of names rest))) (t.arms ++ (cs ++ (arms_of (i + 1) inner ++ arms_of j rest)))
@@ -118,23 +108,6 @@ module _ (names : Names) (t : FlatText) (i next : ℕ) (rest : Code) where
       ∙ sym (append_assoc t.statements (x ∷ []) (statements_of names (i + 1) after (length (t.exprs ++ v)) (length (t.arms ++ cs)) inner ++ (y ∷ statements_of names j next e' m' rest)))))
       (sym (append_assoc t.exprs v (exprs_of names inner ++ exprs_of names rest))) (sym (append_assoc t.arms cs (arms_of (i + 1) inner ++ arms_of j rest)))
       ∙ block_more names (with_statement (with_arms (with_exprs t v) cs) x) (i + 1) after inner y j next e' m' rest (omega (arith, at_e, at_e', l)) (omega (arith, at_m, at_m', k))
-
-  pub repeat_laid : (test : ExprTree) (body : Code)
-      → with_code names t i next (repeat test body rest)
-      ≡ with_code names (with_statement (with_code names (with_statement (with_exprs t (value_code names.scope test)) (Test (span_of (length t.exprs) (value_code names.scope test)) (go (i + 1) (second i body) body) (go (past i body) next rest))) (i + 1) (second i body) body) (Back (span_of (length t.exprs) (value_code names.scope test)) (go (i + 1) (second i body) body) (go (past i body) next rest))) (past i body) next rest
-  repeat_laid test body =
-      in_front (Test (span_of (length t.exprs) (value_code names.scope test)) (go (i + 1) (second i body) body) (go (past i body) next rest)) (value_code names.scope test) [] body (second i body) (Back (span_of (length t.exprs) (value_code names.scope test)) (go (i + 1) (second i body) body) (go (past i body) next rest)) (past i body)
-      (length t.exprs + length (value_code names.scope test)) (length t.exprs + length (value_code names.scope test) + length (exprs_of names body)) (length t.arms) (length t.arms + length (arms_of (i + 1) body))
-      (sym (length-append t.exprs (value_code names.scope test))) refl (ap length (sym (append-nil t.arms))) refl
-      ∙ ap (λ (as_ : List Arm). with_code names (with_statement (with_code names (with_statement (flat_text t.statements (t.exprs ++ value_code names.scope test) as_) (Test (span_of (length t.exprs) (value_code names.scope test)) (go (i + 1) (second i body) body) (go (past i body) next rest))) (i + 1) (second i body) body) (Back (span_of (length t.exprs) (value_code names.scope test)) (go (i + 1) (second i body) body) (go (past i body) next rest))) (past i body) next rest) (append-nil t.arms)
-
-  pub select_laid : (on : ExprTree) (body : Code)
-      → with_code names t i next (select on body rest)
-      ≡ with_code names (with_statement (with_code names (with_statement (with_arms (with_exprs t (value_code names.scope on)) (cases_of (i + 1) body)) (Switch (span_of (length t.exprs) (value_code names.scope on)) (span_of (length t.arms) (cases_of (i + 1) body)) (number_or (seek by_default (i + 1) body) (go (past i body) next rest)))) (i + 1) (go (past i body) next rest) body) Stuck) (past i body) next rest
-  select_laid on body =
-      in_front (Switch (span_of (length t.exprs) (value_code names.scope on)) (span_of (length t.arms) (cases_of (i + 1) body)) (number_or (seek by_default (i + 1) body) (go (past i body) next rest))) (value_code names.scope on) (cases_of (i + 1) body) body (go (past i body) next rest) Stuck (past i body)
-      (length t.exprs + length (value_code names.scope on)) (length t.exprs + length (value_code names.scope on) + length (exprs_of names body)) (length t.arms + length (cases_of (i + 1) body)) (length t.arms + length (cases_of (i + 1) body) + length (arms_of (i + 1) body))
-      (sym (length-append t.exprs (value_code names.scope on))) refl (sym (length-append t.arms (cases_of (i + 1) body))) refl
 
   pub branch_laid : (test : ExprTree) (body : Code) (kind : Otherwise) (other : Code)
       → with_code names t i next (branch test body kind other rest)

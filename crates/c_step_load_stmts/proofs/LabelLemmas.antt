@@ -1,9 +1,8 @@
 -- Labels, one statement after the other.
-use Rattle.std.proofs.Common.{◌≡◌, ◌<◌, ◌≤◌, ◌+◌, ℕ, zero, suc, Bool, true, false, if◌then◌else◌, List, [], ◌∷◌, ◌++◌, length, map, take, get_or, Option, Some, None, is_none, refl, sym, ap, ◌∙◌, subst, arith}
+use Rattle.std.proofs.Common.{◌≡◌, ◌≤◌, ◌+◌, ℕ, zero, suc, Bool, true, false, if◌then◌else◌, List, [], ◌∷◌, ◌++◌, length, map, take, Option, Some, None, is_none, refl, sym, ap, ◌∙◌, subst}
 use Rattle.std.specs.Prelude.{bytes_eq, slice_get}
 use Rattle.std.specs.Option.{option_or}
-use Rattle.std.proofs.lemmas.List.{take_all, map-append}
-use Rattle.std.proofs.lemmas.Option.{slice_get-get_or}
+use Rattle.std.proofs.lemmas.List.{take_all}
 use Rattle.c_text.specs.CNodes.{Nodes, made_code}
 use Rattle.c_text.specs.CTree.{ExprTree, Code}
 use Rattle.c_text.specs.declared.ids.CNameId.{CNameId}
@@ -12,13 +11,12 @@ use Rattle.c_text.specs.declared.nodes.CStmt.{CStmt}
 use Rattle.c_text.specs.declared.nodes.CStmt.TheVariants as stmt
 use Rattle.c_meaning.specs.CStep.{by_name}
 use Rattle.c_form_exprs.specs.Tables.{named}
-use Rattle.c_form_exprs.proofs.GrowLemmas.{named_end, taken_not, take_one_more}
+use Rattle.c_form_exprs.proofs.GrowLemmas.{named_end, taken_not}
 use Rattle.c_step_text.specs.Layout.{first_number, number_here, seek}
 use Rattle.c_step_places.specs.declared.listing.Place.{Place}
 use Rattle.c_step_places.specs.Marks.{marked, first_marked}
 use Rattle.c_step_places.specs.Places.{PlaceTree, place_in, places_of, HasPlace, HasPlaces}
 use Rattle.c_step_places.proofs.MarkLemmas.{marks_append, names_found}
-use Rattle.c_step_places.proofs.PlaceLemmas.{no_place}
 use Rattle.c_step_load_stmts.specs.Bodies.{HasLabels}
 
 same_first : (a b : Option ℕ) → option_or a b ≡ first_number a b
@@ -53,15 +51,6 @@ no_label es before p is h q = h q ∙ (sym (ends (first_marked (by_name q) befor
     ends : (o : Option ℕ) → first_number o None ≡ o
     ends None = refl
     ends (Some n) = refl
-
--- Places, one after the other.
-pub place_has : (nodes : Nodes) (ps : List Place) (i : ℕ) → i < length ps → HasPlaces nodes ps → HasPlace nodes (get_or ps i no_place)
-place_has nodes [] i within h = absurd (omega (arith, within))
-place_has nodes (p ∷ ps) zero within h = h.0
-place_has nodes (p ∷ ps) (suc i) within h = place_has nodes ps i (omega (arith, within)) h.1
-
-pub places_more : (nodes : Nodes) (ps : List Place) (i : ℕ) → i < length ps → map (place_in nodes) (take (i + 1) ps) ≡ map (place_in nodes) (take i ps) ++ place_in nodes (get_or ps i no_place) ∷ []
-places_more nodes ps i within = ap (map (place_in nodes)) (take_one_more ps i (get_or ps i no_place) (slice_get-get_or ps i no_place within)) ∙ map-append (place_in nodes) (take i ps) (get_or ps i no_place ∷ [])
 
 pub all_labels : (nodes : Nodes) (table : List (List ℕ × ℕ)) (ps : List Place) (i start : ℕ) (body : Code) → length ps ≤ i → HasLabels table (map (place_in nodes) (take i ps)) → map (place_in nodes) ps ≡ places_of true start body → (name : List ℕ) → named table name ≡ seek (by_name name) start body
 all_labels nodes table ps i start body past h is name = h name ∙ (ap (λ (xs : List Place). first_marked (by_name name) (map (place_in nodes) xs)) (take_all i ps past) ∙ (ap (first_marked (by_name name)) is ∙ names_found name start body))

@@ -4,23 +4,23 @@ use Rattle.std.specs.Prelude.{reverse}
 use Rattle.wf_text.specs.declared.faults.NoMemory.{NoMemory}
 use Rattle.c_text.specs.declared.ids.CStmtId.{CStmtId}
 use Rattle.c_text.specs.declared.kinds.Otherwise.{Otherwise}
-use Rattle.c_text.specs.CTree.{ExprTree, Args, Code, nested, empty, assign, call, jump, branch, repeat, select, leave}
+use Rattle.c_text.specs.CTree.{ExprTree, Args, Code, empty, assign, call, jump, branch, leave}
 use Rattle.c_text.specs.CNodes.{Nodes, code_of}
 use Rattle.c_meaning.specs.CTypes.{Scope}
-use Rattle.c_meaning.specs.CStep.{by_default, callee_of}
+use Rattle.c_meaning.specs.CStep.{callee_of}
 use Rattle.c_step_exprs.specs.Resolving.{value_code, place_code}
 use Rattle.c_step_text.specs.declared.text.Span.{Span}
 use Rattle.c_step_text.specs.declared.text.StmtInstr.{StmtInstr}
-use Rattle.c_step_text.specs.declared.text.StmtInstr.TheVariants.{Assign, Goto, Test, Back, Switch, Stuck}
+use Rattle.c_step_text.specs.declared.text.StmtInstr.TheVariants.{Assign, Goto, Test, Stuck}
 use Rattle.c_step_text.specs.Flat.{FlatText}
-use Rattle.c_step_text.specs.Layout.{Names, go, past, past_both, second, seek, number_or}
-use Rattle.c_step_text.specs.Emitted.{span_of, cases_of, call_exprs, call_instr, jump_instr, return_exprs, return_instr}
+use Rattle.c_step_text.specs.Layout.{Names, go, past_both, second}
+use Rattle.c_step_text.specs.Emitted.{span_of, call_exprs, call_instr, jump_instr, return_exprs, return_instr}
 use Rattle.c_step_load_stmts.specs.declared.tasks.Task.{Task}
 use Rattle.c_step_load_stmts.specs.declared.tasks.Task.TheVariants as task
-use Rattle.c_step_load_stmts.specs.Bodies.{with_exprs, with_arms, with_statement, with_code}
+use Rattle.c_step_load_stmts.specs.Bodies.{with_exprs, with_statement, with_code}
 use Rattle.c_step_load_stmts.specs.Tasks.{with_tasks, finished}
-use Rattle.c_step_load_stmts.proofs.CodeLemmas.{assign_laid, call_laid, leave_laid, jump_laid, empty_laid, nested_laid, repeat_laid, select_laid, branch_laid}
-use Rattle.c_step_load_stmts.proofs.TaskLemmas.{three_finished, four_finished}
+use Rattle.c_step_load_stmts.proofs.CodeLemmas.{assign_laid, call_laid, leave_laid, jump_laid, empty_laid, branch_laid}
+use Rattle.c_step_load_stmts.proofs.TaskLemmas.{four_finished}
 
 -- Two things that hold after a step that was made.
 pub on_two : {A : Type 0} (r : Result A NoMemory) (P Q R : Type 0) → (P → Q → R) → OnOk r P → OnOk r Q → OnOk r R
@@ -49,30 +49,6 @@ jump_step names t x i next rest label ex = rw ex (sym (jump_laid names t i next 
 pub empty_step : (names : Names) (t : FlatText) (n i next : ℕ) (rest : Code) → n ≡ go (i + 1) next rest
     → with_code names (with_statement t (Goto n)) (i + 1) next rest ≡ with_code names t i next (empty rest)
 empty_step names t n i next rest en = rw en (sym (empty_laid names t i next rest))
-
-module _ (nodes : Nodes) (names : Names) (old new : List Task) (t u : FlatText) (i next : ℕ) (body rest : CStmtId) where
-  pub nested_step : (inside behind after to : ℕ) → inside ≡ i + 1 → behind ≡ past i (code_of nodes body.0) → after ≡ go (past i (code_of nodes body.0)) next (code_of nodes rest.0) → to ≡ go inside after (code_of nodes body.0)
-      → u ≡ with_statement t (Goto to) → new ≡ old ++ task.Code rest behind next ∷ task.Instr Stuck ∷ task.Code body inside after ∷ []
-      → finished nodes names u new ≡ finished nodes names (with_code names t i next (nested (code_of nodes body.0) (code_of nodes rest.0))) old
-  nested_step inside behind after to a b c d eu is =
-      three_finished nodes old new (task.Code rest behind next) (task.Instr Stuck) (task.Code body inside after) is names u
-      ∙ ap (λ (w : FlatText). with_tasks nodes names w (reverse old)) (rw (eu, d, a, b, c) (sym (nested_laid names t i next (code_of nodes rest.0) (code_of nodes body.0))))
-
-  pub select_step : (w : FlatText) (scope : Scope) (x : StmtInstr) (on : ExprTree) (inside behind after : ℕ) → names.scope ≡ scope → inside ≡ i + 1 → behind ≡ past i (code_of nodes body.0) → after ≡ go (past i (code_of nodes body.0)) next (code_of nodes rest.0)
-      → w ≡ with_arms (with_exprs t (value_code scope on)) (cases_of inside (code_of nodes body.0)) → x ≡ Switch (span_of (length t.exprs) (value_code scope on)) (span_of (length t.arms) (cases_of inside (code_of nodes body.0))) (number_or (seek by_default inside (code_of nodes body.0)) after)
-      → u ≡ with_statement w x → new ≡ old ++ task.Code rest behind next ∷ task.Instr Stuck ∷ task.Code body inside after ∷ []
-      → finished nodes names u new ≡ finished nodes names (with_code names t i next (select on (code_of nodes body.0) (code_of nodes rest.0))) old
-  select_step w scope x on inside behind after sc a b c ew ex eu is =
-      three_finished nodes old new (task.Code rest behind next) (task.Instr Stuck) (task.Code body inside after) is names u
-      ∙ ap (λ (v : FlatText). with_tasks nodes names v (reverse old)) (rw (eu, ew, ex, a, b, c, sym sc) (sym (select_laid names t i next (code_of nodes rest.0) on (code_of nodes body.0))))
-
-  pub repeat_step : (w : FlatText) (scope : Scope) (s : Span) (test : ExprTree) (inside behind after end met : ℕ) → names.scope ≡ scope → inside ≡ i + 1 → behind ≡ past i (code_of nodes body.0) → after ≡ go (past i (code_of nodes body.0)) next (code_of nodes rest.0) → end ≡ second i (code_of nodes body.0) → met ≡ go inside end (code_of nodes body.0)
-      → w ≡ with_exprs t (value_code scope test) → s ≡ span_of (length t.exprs) (value_code scope test)
-      → u ≡ with_statement w (Test s met after) → new ≡ old ++ task.Code rest behind next ∷ task.Instr (Back s met after) ∷ task.Code body inside end ∷ []
-      → finished nodes names u new ≡ finished nodes names (with_code names t i next (repeat test (code_of nodes body.0) (code_of nodes rest.0))) old
-  repeat_step w scope s test inside behind after end met sc a b c d m ew es eu is =
-      three_finished nodes old new (task.Code rest behind next) (task.Instr (Back s met after)) (task.Code body inside end) is names u
-      ∙ ap (λ (v : FlatText). with_tasks nodes names v (reverse old)) (rw (eu, ew, es, m, a, b, c, d, sym sc) (sym (repeat_laid names t i next (code_of nodes rest.0) test (code_of nodes body.0))))
 
 pub branch_step : (nodes : Nodes) (names : Names) (old new : List Task) (t w u : FlatText) (scope : Scope) (i next : ℕ) (test : ExprTree) (kind : Otherwise) (body other rest : CStmtId) (s : Span) (inside behind after sec met unmet : ℕ) → names.scope ≡ scope
     → inside ≡ i + 1 → behind ≡ past_both i (code_of nodes body.0) (code_of nodes other.0) → after ≡ go (past_both i (code_of nodes body.0) (code_of nodes other.0)) next (code_of nodes rest.0) → sec ≡ second i (code_of nodes body.0)

@@ -8,9 +8,6 @@ use Rattle.c_step_text.specs.Layout.{Names}
 use Rattle.c_step_load_stmts.specs.declared.tasks.Task.{Task}
 use Rattle.c_step_load_stmts.specs.Tasks.{with_tasks, finished, HasTask, HasTasks, task_size, size_of}
 
-pub finished_push : (nodes : Nodes) (names : Names) (t : FlatText) (left : List Task) (x : Task) → finished nodes names t (left ++ x ∷ []) ≡ with_tasks nodes names t (x ∷ reverse left)
-finished_push nodes names t left x = ap (with_tasks nodes names t) (reverse-append left (x ∷ []))
-
 pub has_push : (nodes : Nodes) (left : List Task) (x : Task) → HasTasks nodes left → HasTask nodes x → HasTasks nodes (left ++ x ∷ [])
 has_push nodes [] x h k = (k, tt)
 has_push nodes (y ∷ ys) x h k = (h.0, has_push nodes ys x h.1 k)
@@ -31,9 +28,6 @@ module _ (nodes : Nodes) (old new : List Task) (x : Task) (is : new ≡ old ++ x
   pub one_size : size_of nodes new ≡ size_of nodes old + task_size nodes x
   one_size = ap (size_of nodes) is ∙ size_push nodes old x
 
-  pub one_finished : (names : Names) (t : FlatText) → finished nodes names t new ≡ with_tasks nodes names t (x ∷ reverse old)
-  one_finished names t = ap (finished nodes names t) is ∙ finished_push nodes names t old x
-
 -- Three more, the last first.
 three : (old : List Task) (x y z : Task) → old ++ x ∷ y ∷ z ∷ [] ≡ ((old ++ x ∷ []) ++ y ∷ []) ++ z ∷ []
 three old x y z = sym (append_assoc (old ++ x ∷ []) (y ∷ []) (z ∷ []) ∙ append_assoc old (x ∷ []) (y ∷ z ∷ []))
@@ -51,9 +45,6 @@ module _ (nodes : Nodes) (old new : List Task) (x y z : Task) (is : new ≡ old 
       let b : size_of nodes ((old ++ x ∷ []) ++ y ∷ []) ≡ size_of nodes (old ++ x ∷ []) + task_size nodes y = size_push nodes (old ++ x ∷ []) y in
       let c : size_of nodes (((old ++ x ∷ []) ++ y ∷ []) ++ z ∷ []) ≡ size_of nodes ((old ++ x ∷ []) ++ y ∷ []) + task_size nodes z = size_push nodes ((old ++ x ∷ []) ++ y ∷ []) z in
       ap (size_of nodes) split ∙ omega (arith, a, b, c)
-
-  pub three_finished : (names : Names) (t : FlatText) → finished nodes names t new ≡ with_tasks nodes names t (z ∷ y ∷ x ∷ reverse old)
-  three_finished names t = ap (finished nodes names t) is ∙ ap (with_tasks nodes names t) (reverse-append old (x ∷ y ∷ z ∷ []))
 
 -- Four more.
 four : (old : List Task) (x y z v : Task) → old ++ x ∷ y ∷ z ∷ v ∷ [] ≡ (old ++ x ∷ y ∷ z ∷ []) ++ v ∷ []

@@ -87,8 +87,3 @@ an_entry External false left now go e h = let s : now ≡ left = cc (h) in ap go
 an_entry External true left now go e h = absurd (cc (e))
 an_entry StaticInline false left now go e h = let s : now ≡ left = cc (h) in ap go (sym s)
 an_entry StaticInline true left now go e h = absurd (cc (e))
-
-pub fewer_turns : (turn : Bool) (left now : ℕ) → Some now ≡ entering turn left → now ≤ left
-fewer_turns false left now h = let s : now ≡ left = cc (h) in omega (arith, s)
-fewer_turns true zero now h = absurd (cc (h))
-fewer_turns true (suc left) now h = let s : now ≡ left = cc (h) in omega (arith, s)

@@ -83,10 +83,6 @@ module _ (p : Program) (callable : List Function) (frame : ℕ) (m0 m : Memory) 
         ∙ ap (λ (o : Option (List Value)). option_and_then (λ (next : ℕ × List Value). exec (seen_in p callable frame m0) next.0 (drop (call + 1) code) next.1) (goes_on o))
         (subst (λ (x : Memory). called_by_instr (seen_in p callable frame x) i after ≡ None) same e))
 
--- What is kept.
-pub same_memory : (st : Store) → KeepsMemory st st
-same_memory st = record { room = record { arguments = refl; frames = refl; objects = λ more h. h; values = omega arith }; same = refl }
-
 pub kept_room : (a b c : Store) → KeepsRoom a b → KeepsRoom b c → KeepsRoom a c
 kept_room a b c h k = record {
   arguments = k.arguments ∙ h.arguments;

@@ -60,12 +60,6 @@ stored_keeps old mid mem true keeps empty shape room = record {
   empty = empty;
 }
 
-pub same_shape : (st : Store) → on_stack st.stack ≡ [] → KeepsShape st st
-same_shape st empty = record { room = record { arguments = refl; frames = refl; objects = λ more h. h; values = omega arith }; shape = refl; empty = empty }
-
-pub memory_shape : (old st : Store) → KeepsMemory old st → on_stack st.stack ≡ [] → KeepsShape old st
-memory_shape old st keeps empty = record { room = keeps.room; shape = ap shape_of keeps.same; empty = empty }
-
 pub kept_shape : (a b c : Store) → KeepsShape a b → KeepsShape b c → KeepsShape a c
 kept_shape a b c h k = record { room = kept_room a b c h.room k.room; shape = k.shape ∙ h.shape; empty = k.empty }
 
@@ -87,10 +81,6 @@ initial_is t p f callable frame start field m span (Some x) numbered h =
     ap (option_and_then (stored m (record { object = frame; field = field; index = 0 })))
     (sym (value_evaluated (surroundings (running p f (expression_call p callable) (call_of p callable) frame) m) (λ k given. expression_at p callable k m given) (numbered.values m) x)
     ∙ ap (λ (is : List Instr). evaluated (seen_in p callable frame m) is) (sym h))
-
-pub no_initial : (t : FlatText) (scope : Scope) (r : Running) (field : ℕ) (m : Memory) (e : Option ExprTree) → InitialOf t scope e None → initial_stored r field e m ≡ Some m
-no_initial t scope r field m None h = refl
-no_initial t scope r field m (Some x) h = absurd h
 
 -- The locals in order.
 pub record LocalAt (t : FlatText) (scope : Scope) (first : ℕ) (locals : List LocalTree) (i : ℕ) (item : Initial) : Type 0 where

@@ -135,10 +135,6 @@ can_start c at old st v h get same_args new_frames room size n enters =
 pub given_then : (g : Option (List Value)) (vs : List Value) (f : List Value → Outcome Returned) → g ≡ Some vs → defined g f ≡ f vs
 given_then g vs f e = ap (λ (o : Option (List Value)). defined o f) e
 
-pub given_lost : (g : Option (List Value)) (f : List Value → Outcome Returned) → ((vs : List Value) → f vs ≡ Lost) → defined g f ≡ Lost
-given_lost None f h = refl
-given_lost (Some vs) f h = h vs
-
 -- The function that stands under a number.
 pub coded_func : (c : CodeView) (frames args : List FrameView) (p : Program) (f : Function) (callable : List Function) (k : ℕ) (x : Func) (coded : IsCoded c frames args p f callable) → length callable ≡ k → slice_get c.functions k ≡ Some x → coded.func ≡ x
 coded_func c frames args p f callable k x coded size e = let q : Some coded.func ≡ Some x = sym coded.is ∙ (ap (slice_get c.functions) size ∙ e) in cc (q)

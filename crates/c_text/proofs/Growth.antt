@@ -106,9 +106,6 @@ sound_name old x sound fits =
       items = λ i y is. item_fits old new grows y (sound.items i y is);
     }
 
-pub sound_empty : IsSound no_nodes
-sound_empty = record { names = λ i y is. absurd (cc (is)); strings = λ i y is. absurd (cc (is)); exprs = λ i y is. absurd (cc (is)); stmts = λ i y is. absurd (cc (is)); items = λ i y is. absurd (cc (is)) }
-
 pub added_expr : (old : Nodes) (x : CExpr) → IsSound old → FitsExpr old (length old.exprs) x → expr_of (record old { exprs = old.exprs ++ x ∷ [] }) (length old.exprs) ≡ made_expr old.names (expr_of old) x
 added_expr old x sound fits =
     let new = record old { exprs = old.exprs ++ x ∷ [] } in

@@ -1,40 +1,9 @@
 -- The text of an expression is that of its links, one after the other.
-use Rattle.std.proofs.Common.{◌≡◌, ◌<◌, ◌+◌, ◌-◌, ◌++◌, ℕ, zero, suc, List, Some, None, refl, sym, ◌∙◌, ap, subst, arith, add-one, append_assoc, codes}
+use Rattle.std.proofs.Common.{◌≡◌, ◌<◌, ◌+◌, ◌-◌, ◌++◌, ℕ, zero, suc, refl, sym, ◌∙◌, ap, arith, add-one, append_assoc, codes}
 use Rattle.c_text.specs.CTree.{ExprTree, number, variable, member, element, pointed, operation, unary, cast, choice, called}
 use Rattle.c_text.specs.CLayout.{expr_text}
-use Rattle.c_text.specs.CLinks.{front_of, link_count, without_links, link_text, links_text}
+use Rattle.c_text.specs.CLinks.{link_count, without_links, link_text, links_text}
 use Rattle.c_text.proofs.Trees.{append_nil}
-
--- An expression with a front is one of two forms.
-link_cases : (P : ExprTree → Type 0) (e front : ExprTree) → front_of e ≡ Some front → ((field : List ℕ) → P (member front field)) → ((index : ExprTree) → P (element front index)) → P e
-link_cases P (member pointer field) front h members elements = let e : pointer ≡ front = cc (h) in subst (λ (p : ExprTree). P (member p field)) (sym e) (members field)
-link_cases P (element pointer index) front h members elements = let e : pointer ≡ front = cc (h) in subst (λ (p : ExprTree). P (element p index)) (sym e) (elements index)
-link_cases P (number n) front h members elements = absurd (cc (h))
-link_cases P (variable name) front h members elements = absurd (cc (h))
-link_cases P (pointed pointer) front h members elements = absurd (cc (h))
-link_cases P (operation op first second others) front h members elements = absurd (cc (h))
-link_cases P (unary op of) front h members elements = absurd (cc (h))
-link_cases P (cast to of) front h members elements = absurd (cc (h))
-link_cases P (choice test met unmet) front h members elements = absurd (cc (h))
-link_cases P (called function given) front h members elements = absurd (cc (h))
-
-pub one_link : (e : ExprTree) → front_of e ≡ None → link_count e ≡ 1
-one_link (member pointer field) h = absurd (cc (h))
-one_link (element pointer index) h = absurd (cc (h))
-one_link (number n) h = refl
-one_link (variable name) h = refl
-one_link (pointed pointer) h = refl
-one_link (operation op first second others) h = refl
-one_link (unary op of) h = refl
-one_link (cast to of) h = refl
-one_link (choice test met unmet) h = refl
-one_link (called function given) h = refl
-
-pub more_links : (e front : ExprTree) → front_of e ≡ Some front → link_count e ≡ link_count front + 1
-more_links e front h = link_cases (λ x. link_count x ≡ link_count front + 1) e front h (λ field. refl) (λ index. refl)
-
-pub without_one : (e front : ExprTree) (n : ℕ) → front_of e ≡ Some front → without_links e (n + 1) ≡ without_links front n
-without_one e front n h = ap (without_links e) (add-one n) ∙ link_cases (λ x. without_links x (suc n) ≡ without_links front n) e front h (λ field. refl) (λ index. refl)
 
 last_of : (e : ExprTree) → links_text e (suc zero) ≡ link_text e
 last_of (member pointer field) = refl

@@ -11,7 +11,7 @@ use Rattle.c_text.specs.declared.nodes.CField.{CField}
 use Rattle.c_text.specs.declared.nodes.CParam.{CParam}
 use Rattle.c_text.specs.declared.nodes.CLocal.{CLocal}
 use Rattle.c_text.specs.CNodes.{Nodes, expr_of, operands_in, args_in, field_tree, param_tree, local_tree}
-use Rattle.c_text.specs.CFits.{HasField, HasFields, HasParam, HasParams, HasLocal, HasLocals, HasExprs, HasArg, HasArgs}
+use Rattle.c_text.specs.CFits.{HasField, HasFields, HasParams, HasLocal, HasLocals, HasExprs, HasArgs}
 use Rattle.c_text.specs.CLayout.{fields_text, more_params_text, locals_text, operands_text, args_text, more_args_text}
 use Rattle.c_text.specs.CLines.{arg_text}
 use Rattle.pens.proofs.Progress.{unroll}
@@ -55,9 +55,6 @@ fields_here nodes fs i within h = (subst (λ (xs : List CField). HasFields nodes
 pub params_rest : (nodes : Nodes) (ps : List CParam) (i : ℕ) → i < length ps → HasParams nodes (drop i ps) → HasParams nodes (drop (i + 1) ps)
 params_rest nodes ps i within h = (subst (λ (xs : List CParam). HasParams nodes xs) (unroll ps i no_param within) h).1
 
-pub params_here : (nodes : Nodes) (ps : List CParam) (i : ℕ) → i < length ps → HasParams nodes (drop i ps) → HasParam nodes (get_or ps i no_param)
-params_here nodes ps i within h = (subst (λ (xs : List CParam). HasParams nodes xs) (unroll ps i no_param within) h).0
-
 pub locals_rest : (nodes : Nodes) (ls : List CLocal) (i : ℕ) → i < length ls → HasLocals nodes (drop i ls) → HasLocals nodes (drop (i + 1) ls)
 locals_rest nodes ls i within h = (subst (λ (xs : List CLocal). HasLocals nodes xs) (unroll ls i no_local within) h).1
 
@@ -67,14 +64,8 @@ locals_here nodes ls i within h = (subst (λ (xs : List CLocal). HasLocals nodes
 pub exprs_rest : (below : ℕ) (es : List CExprId) (i : ℕ) → i < length es → HasExprs below (drop i es) → HasExprs below (drop (i + 1) es)
 exprs_rest below es i within h = (subst (λ (xs : List CExprId). HasExprs below xs) (unroll es i no_expr within) h).1
 
-pub exprs_here : (below : ℕ) (es : List CExprId) (i : ℕ) → i < length es → HasExprs below (drop i es) → (get_or es i no_expr).0 < below
-exprs_here below es i within h = (subst (λ (xs : List CExprId). HasExprs below xs) (unroll es i no_expr within) h).0
-
 pub args_rest : (nodes : Nodes) (below : ℕ) (args : List CArg) (i : ℕ) → i < length args → HasArgs nodes below (drop i args) → HasArgs nodes below (drop (i + 1) args)
 args_rest nodes below args i within h = (subst (λ (xs : List CArg). HasArgs nodes below xs) (unroll args i no_arg_given within) h).1
-
-pub args_here : (nodes : Nodes) (below : ℕ) (args : List CArg) (i : ℕ) → i < length args → HasArgs nodes below (drop i args) → HasArg nodes below (get_or args i no_arg_given)
-args_here nodes below args i within h = (subst (λ (xs : List CArg). HasArgs nodes below xs) (unroll args i no_arg_given within) h).0
 
 pub args_step : (nodes : Nodes) (a : CArg) (args : List CArg) → args_written nodes (a ∷ args) ≡ (codes ", " ++ arg_text nodes.names (expr_of nodes) a) ++ args_written nodes args
 args_step nodes (arg.Expr e) args = refl

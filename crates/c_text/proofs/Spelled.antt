@@ -99,9 +99,6 @@ begins_append : (a b : List ℕ) → Begins a → Begins (a ++ b)
 begins_append [] b h = absurd h
 begins_append (x ∷ a) b h = h
 
-begins_open : (bytes : List ℕ) → Begins (40 ∷ bytes)
-begins_open bytes = inr refl
-
 or_true : (a b : Bool) → a ≡ true → (a || b) ≡ true
 or_true true b h = refl
 or_true false b h = absurd (cc (h))

@@ -135,10 +135,6 @@ type_kept old new grows (type.UintPointer u) h = tt
 type_kept old new grows (type.StructPointer n) h = name_kept old new grows n h
 type_kept old new grows type.Text h = tt
 
-exprs_kept : (below more : ℕ) → below ≤ more → (es : List CExprId) → HasExprs below es → HasExprs more es
-exprs_kept below more le [] h = tt
-exprs_kept below more le (e ∷ es) h = (omega (arith, le, h.0), exprs_kept below more le es h.1)
-
 args_kept : (old new : Nodes) → Extends old new → (below more : ℕ) → below ≤ more → (args : List CArg) → HasArgs old below args → HasArgs new more args
 args_kept old new grows below more le [] h = tt
 args_kept old new grows below more le (arg.Expr e ∷ args) h = (omega (arith, le, h.0), args_kept old new grows below more le args h.1)

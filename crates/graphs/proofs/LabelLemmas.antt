@@ -11,10 +11,6 @@ use Rattle.graphs.specs.Labels.{goes_back, label, AreTied, AreLabels, AreGiven, 
 use Rattle.graphs.proofs.WalkLemmas.{either, found-at, place, get-front, get-within, holds-pushed, keeps-pushed, has-pushed, take-more}
 use Rattle.graphs.proofs.OrderLemmas.{all-held}
 
-or_left : (x y : Bool) → x ≡ true → (x || y) ≡ true
-or_left true y h = refl
-or_left false y h = absurd (cc h)
-
 not_both : (t : Bool) → t ≡ true → t ≡ false → ⊥
 not_both true h k = cc k
 not_both false h k = cc h
@@ -24,11 +20,6 @@ pub place-read : (ks : List ℕ) (p b : ℕ) → p < length ks → b ≡ slice_i
 place-read [] p b l e = absurd (omega (arith, l))
 place-read (k ∷ ks) zero b l e = ap (λ x. Some x) (sym e)
 place-read (k ∷ ks) (suc p) b l e = place-read ks p b (omega (arith, l)) e
-
-pub place-get : (ks : List ℕ) (p d : ℕ) → p < length ks → slice_get ks p ≡ Some (slice_index_or ks p d)
-place-get [] p d l = absurd (omega (arith, l))
-place-get (k ∷ ks) zero d l = refl
-place-get (k ∷ ks) (suc p) d l = place-get ks p d (omega (arith, l))
 
 pub label-read : (ks : List ℕ) (b l : ℕ) → b < length ks → l ≡ slice_index_or ks b l → label ks b ≡ l
 label-read [] b l m e = absurd (omega (arith, m))

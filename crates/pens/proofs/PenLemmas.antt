@@ -17,10 +17,6 @@ append_nil (x ∷ xs) = ap (λ ys. x ∷ ys) (append_nil xs)
 longest_put : (before now : Option ℕ) (count : ℕ) → count ≤ 4096 → now ≡ longest_with before count → KeepsLongest before now
 longest_put before now count small is most was = (max most count, is ∙ ap (λ o. longest_with o count) was, omega arith, omega (arith, small))
 
-room_put : (before now : Option ℕ) (count : ℕ) → FitsRoom before now (Ok tt) count → (room : ℕ) → before ≡ Some room → count ≤ room → now ≡ Some (room - count)
-room_put None now count fits room is enough = absurd (cc (is))
-room_put (Some r) now count fits room is enough = let e : r ≡ room = cc (is) in (fits (omega (arith, e, enough))).1 ∙ ap (λ n. Some (n - count)) e
-
 room_failed : (before now : Option ℕ) (fault : SinkFault) (count : ℕ) → FitsRoom before now (Err fault) count → (room : ℕ) → before ≡ Some room → room < count
 room_failed None now fault count fits room is = absurd (cc (is))
 room_failed (Some r) now fault count fits room is =
@@ -29,20 +25,6 @@ room_failed (Some r) now fault count fits room is =
       | inl q ↦ (let h = (fits (omega (arith, e, q))).0 in absurd (cc (h)))
       | inr o ↦ elim o [ inl less ↦ less | inr more ↦ (let h = (fits (omega (arith, e, more))).0 in absurd (cc (h))) ]
     ]
-
--- the whole buffer was put
-pub put_all : (old new : PenState) → old.failed ≡ false → new.failed ≡ false → length old.waiting ≤ 4096 → new.waiting ≡ [] → Appends old.written new.written old.waiting → new.sent ≡ cut (old.sent + length old.waiting) → new.faults ≡ old.faults → FitsRoom old.room new.room (Ok tt) (length old.waiting) → new.longest ≡ longest_with old.longest (length old.waiting) → Wrote old new []
-put_all old new fine_before fine small empty written sent faults room longest =
-    let flows : Flows old new [] = record {
-      taken = old.waiting;
-      left = [];
-      flow = refl;
-      written = written;
-      sent = sent;
-      longest = longest_put old.longest new.longest (length old.waiting) small longest;
-      ending = subst (λ (g : Bool). EndsIn g old new old.waiting [] (length old.waiting + 0)) (sym fine) (sym empty, faults, λ r is enough. room_put old.room new.room (length old.waiting) room r is (omega (arith, enough)));
-    } in
-    subst (λ (f : Bool). WroteFrom f old new []) (sym fine_before) flows
 
 -- a part of the buffer was put
 pub put_part : (old new : PenState) (fault : SinkFault) → old.failed ≡ false → new.failed ≡ true → length old.waiting ≤ 4096 → Appends old.written new.written (take fault.gone old.waiting) → new.sent ≡ cut (old.sent + length (take fault.gone old.waiting)) → old.faults < new.faults → FitsRoom old.room new.room (Err fault) (length old.waiting) → new.longest ≡ longest_with old.longest (length old.waiting) → Wrote old new []

@@ -36,9 +36,6 @@ pub record Shifted {S : Type 0} (Writes : S → S → List ℕ → Type 0) (star
   pub wrote : Writes start now front
   pub is : whole ≡ front ++ left
 
-pub shift_begins : {S : Type 0} (Writes : S → S → List ℕ → Type 0) (start : S) (whole : List ℕ) → Writes start start [] → Shifted Writes start start whole whole
-shift_begins Writes start whole nothing = record { front = []; wrote = nothing; is = refl }
-
 pub shift_on : {S : Type 0} (Writes : S → S → List ℕ → Type 0) (start now next : S) (whole left one after : List ℕ) → ((x y : List ℕ) → Writes start now x → Writes now next y → Writes start next (x ++ y)) → Shifted Writes start now whole left → left ≡ one ++ after → Writes now next one → Shifted Writes start next whole after
 shift_on Writes start now next whole left one after joined so_far part writes = record {
   front = so_far.front ++ one;

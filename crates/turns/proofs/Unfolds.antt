@@ -50,9 +50,6 @@ module _ {S A : Type 0} (step : ℕ → S → Next S A) (weight : S → ℕ) (fa
   pub goes : {n : ℕ} {s t : S} → step n s ≡ Go t → run step weight n s ≡ run step weight n t
   goes {n} {s} e = unfolds n s ∙ ap (λ next. on_next next (run step weight n) (run step weight)) e
 
-  pub turns_on : {n m : ℕ} {s t : S} → step n s ≡ Turn m t → run step weight n s ≡ run step weight m t
-  turns_on {n} {m} {s} e = unfolds n s ∙ ap (λ next. on_next next (run step weight n) (run step weight)) e
-
   pub ends : {n m : ℕ} {s : S} {a : A} → step n s ≡ End m a → run step weight n s ≡ Got m a
   ends {n} {m} {s} e = unfolds n s ∙ ap (λ next. on_next next (run step weight n) (run step weight)) e
 

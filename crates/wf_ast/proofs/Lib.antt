@@ -1,3 +1,4 @@
+pub mod AboveLemmas
 pub mod Accessors
 pub mod Arena
 pub mod BaseMethodExamples

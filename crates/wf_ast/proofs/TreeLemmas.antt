@@ -258,6 +258,9 @@ IsBelow-more k l m (Some e) h = omega arith
 pub GivenBelow-more : (k l : ℕ) → k ≤ l → (gs : List Given) → GivenBelow k gs → GivenBelow l gs
 GivenBelow-more k l m gs h = all_map (λ g. g.value.0 < k) (λ g. g.value.0 < l) (λ g p. omega arith) gs h
 
+pub LinksBelow-more : (k l : ℕ) → k ≤ l → (ls : List Link) → LinksBelow k ls → LinksBelow l ls
+LinksBelow-more k l m ls h = all_map (λ x. x.operand.0 < k) (λ x. x.operand.0 < l) (λ x p. omega (arith, p, m)) ls h
+
 pub PrefixBelow-more : (k l : ℕ) → k ≤ l → (p : Prefix) → PrefixBelow k p → PrefixBelow l p
 PrefixBelow-more k l m (prefixes.Slice at) h = tt
 PrefixBelow-more k l m (prefixes.Array length at) h = omega arith
@@ -298,6 +301,10 @@ StmtsOrdered-more e f m (n ∷ ns) k o = (StmtParts-more e f k m n.stmt o.0, Stm
 
 pub BlockBelow-more : (k l : ℕ) → k ≤ l → (b : Block) → BlockBelow k b → BlockBelow l b
 BlockBelow-more k l m b h = all_map (λ s. s.0 < k) (λ s. s.0 < l) (λ s p. omega arith) b.items h
+
+pub ElseBelow-more : (k l : ℕ) → k ≤ l → (b : Option Block) → ElseBelow k b → ElseBelow l b
+ElseBelow-more k l m None h = tt
+ElseBelow-more k l m (Some b) h = BlockBelow-more k l m b h
 
 pub FieldsBelow-more : (k l : ℕ) → k ≤ l → (fs : List Field) → FieldsBelow k fs → FieldsBelow l fs
 FieldsBelow-more k l m fs h = all_map (λ f. TypeBelow k f.of) (λ f. TypeBelow l f.of) (λ f p. TypeBelow-more k l m f.of p) fs h

@@ -1,5 +1,7 @@
+pub mod Above
 pub mod BaseStatuses
 pub mod Mentions
+pub mod NodeKinds
 pub mod OperatorForms
 pub mod Operators
 pub mod ParsedParts

@@ -32,11 +32,9 @@ use Rattle.wf_ast.specs.declared.parsed.TypeExpr.{TypeExpr}
 use Rattle.wf_ast.specs.declared.parsed.Via.{Via}
 use Rattle.wf_ast.specs.ParsedTree as tree
 use Rattle.wf_ast.specs.ParsedTree.{ExprTree, PartTree, LinkTrees, GivenTrees, CallTree, TypeTree, BoundsTree, TargetTree, ClauseTrees, ViaTree, StmtTree, BlockTree, ArmTrees, FieldTrees, ResultTree, DeclTree}
+pub use Rattle.wf_ast.specs.Places.{no_place}
 
--- The place of no token, and what a number stands for that names no node: no package has them.
-abbrev pub no_place : Place
-no_place = record { file = 0; line = 0; col = 0 }
-
+-- What a number stands for that names no node: no package has them.
 abbrev pub expr_or : Option ExprTree → ExprTree
 expr_or (Some e) = e
 expr_or None = tree.fine no_place

@@ -1,7 +1,11 @@
--- Where the nodes of a typed package stand.
+-- Where the nodes of a typed package stand, and the place of what stands nowhere.
 use Rattle.std.specs.Prelude.{◌≡◌, ℕ, ◌<◌, List, Some, map, slice_get}
 use Rattle.wf_text.specs.declared.place.Place.{Place}
 use Rattle.wf_ast.specs.declared.typed_nodes.TypedNodes.{TypedNodes}
+
+-- The place of no token, and of what a number stands for that names no node: no package has it.
+abbrev pub no_place : Place
+no_place = record { file = 0; line = 0; col = 0 }
 
 -- The places of all expressions, and of all statements, by number.
 abbrev pub expr_places : TypedNodes → List Place

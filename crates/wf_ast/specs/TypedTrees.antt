@@ -29,11 +29,8 @@ use Rattle.wf_ast.specs.declared.typed_code.Stmt.TheVariants as stmts
 use Rattle.wf_ast.specs.declared.typed_code.StmtNode.{StmtNode}
 use Rattle.wf_ast.specs.declared.typed_code.Block as typed_code
 use Rattle.wf_ast.specs.declared.typed_nodes.TypedNodes.{TypedNodes}
+pub use Rattle.wf_ast.specs.Places.{no_place}
 use Rattle.wf_ast.specs.TypedTree.{Path, local, field, arg, NumType, Arith, plus, minus, times, divided, remainder, shift_left, shift_right, bits_and, bits_or, bits_xor, mod_plus, mod_minus, mod_times, mod_shift_left, sat_plus, sat_minus, Order, less, at_most, equal, differs, at_least, greater, reader_length, reader_position, peek, writer_length, writer_position, NumTree, number, read, element, link, convert, length_of, asked, SliceTree, slice, array, cut, EndTree, absent, present, StatusTree, status, held, no_status, CondTree, truth, flag, compare, same_status, junction, negation, closed, has_category, ValueTree, numeric, logical, state, elements, io, lost, Target, to_number, to_element, to_flag, to_status, to_slice, to_nothing, take_number, skip, write, skip_fast, write_fast, copy_to_writer, copy_to_slice, own, sub, Axiom, Simple, assign, await, perform, invoke, break_from, continue_in, give_back, yield, claim, Site, Head, Block, end, plain, choose, loop}
-
--- The place of no token, and what a number stands for that names no node: no typed package has them.
-abbrev pub no_place : Place
-no_place = record { file = 0; line = 0; col = 0 }
 
 -- The kinds of operators.
 pub data Sort : Type 0 where
@@ -222,13 +219,13 @@ optional_target look None = to_nothing
 optional_target look (Some e) = target_of (look e)
 
 -- The operator of an assignment with one.
-abbrev pub arith_in : Sort → Option Arith
-arith_in (arithmetic op) = Some op
-arith_in sort = None
+abbrev pub arithmetic_of : Sort → Option Arith
+arithmetic_of (arithmetic op) = Some op
+arithmetic_of sort = None
 
 abbrev pub assigned_by : Option Op → Option Arith
 assigned_by None = None
-assigned_by (Some op) = arith_in (sort_of op)
+assigned_by (Some op) = arithmetic_of (sort_of op)
 
 -- What no typed package has as a statement.
 abbrev pub no_statement : Simple

@@ -5,7 +5,7 @@ use Rattle.wf_ast.specs.declared.numbers.TextId.{TextId}
 use Rattle.wf_ast.specs.declared.typed_nodes.TypedNodes.{TypedNodes}
 use Rattle.wf_ast.specs.TypedTree.{NumTree}
 use Rattle.wf_ast.specs.TypedTrees.{num_in, tree_of}
-use Rattle.wf_facts_exprs.specs.Claims.{is_number_at}
+use Rattle.wf_ast.specs.NodeKinds.{is_number_at}
 use Rattle.wf_axioms.specs.declared.binding.Binding.{Binding}
 use Rattle.wf_axioms.specs.Matching.{Trees}
 

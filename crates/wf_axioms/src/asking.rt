@@ -3,7 +3,8 @@
 ghost use Rattle.std.specs.Prelude.{◌≡◌, ◌≤◌, false, true, List, None, length, option_map, All, IfOk, IfSome, IsTrue};
 ghost use Rattle.wf_ast.specs.declared.typed_nodes.TypedNodes.{TypedNodes};
 ghost use Rattle.wf_ast.specs.TypedTrees.{cond_in, num_in, tree_of};
-ghost use Rattle.wf_facts_exprs.specs.Claims.{Claim, is_condition_at, is_side, side_in};
+ghost use Rattle.wf_ast.specs.NodeKinds.{is_condition_at};
+ghost use Rattle.wf_facts_exprs.specs.Claims.{Claim, is_side, side_in};
 ghost use Rattle.wf_facts_exprs.specs.Demands.{cond_refusal, num_refusal};
 ghost use Rattle.wf_axioms.specs.Axioms.{row_of};
 ghost use Rattle.wf_axioms.specs.Matching.{claim_of, claims_of, given_trees, premises_for, side_of_term};

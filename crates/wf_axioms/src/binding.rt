@@ -4,7 +4,7 @@ ghost use Rattle.std.specs.Prelude.{◌≡◌, true, option_map, IsTrue, IfSome}
 ghost use Rattle.wf_ast.specs.declared.typed_nodes.TypedNodes.{TypedNodes};
 ghost use Rattle.wf_ast.specs.TypedTrees.{num_in, tree_of};
 ghost use Rattle.wf_ast.specs.Same.{same_num};
-ghost use Rattle.wf_facts_exprs.specs.Claims.{is_number_at};
+ghost use Rattle.wf_ast.specs.NodeKinds.{is_number_at};
 ghost use Rattle.wf_axioms.specs.Matching.{no_trees, stands_for, with_tree, bind as bind_tree};
 ghost use Rattle.wf_axioms.specs.Bindings.{trees_in, AreNumbers};
 

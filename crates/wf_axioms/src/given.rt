@@ -3,7 +3,7 @@
 ghost use Rattle.std.specs.Prelude.{◌≡◌, true, find, nat_eq, option_map, IfSome, IsTrue, All};
 ghost use Rattle.std.specs.Cmp.Lexicographic.{pointwise};
 ghost use Rattle.wf_ast.specs.TypedTrees.{num_in, text_of, tree_of};
-ghost use Rattle.wf_facts_exprs.specs.Claims.{is_number_at};
+ghost use Rattle.wf_ast.specs.NodeKinds.{is_number_at};
 ghost use Rattle.wf_axioms.specs.Axioms.{letter_text};
 ghost use Rattle.wf_axioms.specs.Matching.{bind_free as bind_free_tree, given_trees, is_free as free_in, letter_named as named_so, with_given, with_one};
 ghost use Rattle.wf_axioms.specs.Bindings.{trees_in, is_given_number, AreNumbers};

@@ -13,9 +13,9 @@ use Rattle.wf_ast.specs.declared.typed_code.StmtNode.{StmtNode}
 use Rattle.wf_ast.specs.declared.typed_nodes.TypedNodes.{TypedNodes}
 use Rattle.wf_ast.specs.TypedTree.{CondTree, Site, Head}
 use Rattle.wf_ast.specs.TypedTrees.{no_place}
+use Rattle.wf_ast.specs.NodeKinds.{node_cond}
 use Rattle.wf_facts_exprs.specs.Claims.{Claim, claims_in}
 use Rattle.wf_facts_exprs.specs.Demands.{demand, or_else, cond_refusal, unless_refused}
-use Rattle.wf_facts_exprs.specs.Operands.{node_cond}
 use Rattle.wf_facts.specs.Conditions.{StopsAt}
 use Rattle.wf_facts.specs.FactLists.{all_added, with_condition}
 use Rattle.wf_facts.specs.IndexedFacts.{FactList}

@@ -16,11 +16,11 @@ use Rattle.wf_ast.specs.declared.typed_nodes.TypedNodes.{TypedNodes}
 use Rattle.wf_ast.specs.TypedTree.{Simple, Site, Head, Block, end}
 use Rattle.wf_ast.specs.TypedTrees.{no_place, no_statement, tree_of, head_made, block_made, otherwise_made, stmt_made, onto, stmt_makers}
 use Rattle.wf_ast.specs.TypedInvariant.{is_expr, block_below, optional_block_below, stmt_below, IsTyped}
+use Rattle.wf_ast.specs.NodeKinds.{node_cond}
 use Rattle.wf_ast.proofs.Arena.{both_true, numbered_from_zero}
 use Rattle.wf_points.proofs.StatementArena.{stmt_is}
 use Rattle.wf_facts_exprs.specs.Claims.{Claim}
 use Rattle.wf_facts_exprs.specs.Demands.{or_else}
-use Rattle.wf_facts_exprs.specs.Operands.{node_cond}
 use Rattle.wf_facts.specs.FactLists.{with_condition, common}
 use Rattle.wf_loops.specs.LoopRules.{front_refusal, head_list, body_list}
 use Rattle.wf_loops.specs.LoopNodes.{is_loop, head_at}

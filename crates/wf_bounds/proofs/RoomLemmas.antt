@@ -15,8 +15,8 @@ use Rattle.wf_ast.specs.declared.typed_nodes.TypedNodes.{TypedNodes}
 use Rattle.wf_facts_exprs.specs.declared.facts.Fact.{Fact}
 use Rattle.wf_ast.specs.TypedTree.{Path, arg, Order, equal, differs, NumTree, number, CondTree, truth, compare, junction, negation, ValueTree, state}
 use Rattle.wf_ast.specs.TypedTrees.{Sort, arithmetic, ordering, joining, sort_of, cond_in, named, comparison, chain_of, answer_of, made, made_or_number}
+use Rattle.wf_ast.specs.OperatorForms.{is_joining}
 use Rattle.wf_facts_exprs.specs.Claims.{Claim, claim_in, claims_in, is_among, turned}
-use Rattle.wf_facts_exprs.specs.Operands.{is_joining}
 use Rattle.wf_facts.specs.FactLists.{added, all_added, with_condition}
 use Rattle.wf_bounds.specs.WalkAnswers.{keeps_limit}
 use Rattle.wf_bounds.specs.WalkNodes.{joins_none, joins_none_in}

@@ -25,10 +25,10 @@ use Rattle.wf_ast.specs.TypedPackage.{package_of}
 use Rattle.wf_ast.specs.TypedInvariant.{is_expr, is_optional_expr, has_kind, has_few_variables, callee_exists, block_below, optional_block_below, stmt_below, IsTyped}
 use Rattle.wf_ast.specs.WellTyped.{Context, breaks, well_cond, fits_type, well_simple, well_returned, well_block}
 use Rattle.wf_ast.specs.Value.{same_truth}
+use Rattle.wf_ast.specs.NodeKinds.{is_condition_at}
 use Rattle.wf_ast.proofs.Arena.{both_true, numbered_from_zero}
 use Rattle.wf_points.proofs.StatementArena.{stmt_is}
 use Rattle.wf_points.proofs.NumberLemmas.{tree_there}
-use Rattle.wf_facts_exprs.specs.Claims.{is_condition_at}
 use Rattle.wf_loops.specs.LoopNodes.{is_loop, head_at}
 use Rattle.wf_loops.proofs.LoopLemmas.{loop_within}
 use Rattle.wf_loops.proofs.NodeLemmas.{condition_found, loop_found}

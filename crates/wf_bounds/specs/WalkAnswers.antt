@@ -7,9 +7,9 @@ use Rattle.wf_text.specs.declared.faults.PhaseFault.TheVariants.{Refused, Memory
 use Rattle.wf_ast.specs.declared.typed_code.Arm.{Arm}
 use Rattle.wf_ast.specs.declared.typed_nodes.TypedNodes.{TypedNodes}
 use Rattle.wf_ast.specs.TypedTree.{CondTree, Head}
+use Rattle.wf_ast.specs.NodeKinds.{node_cond}
 use Rattle.wf_facts_exprs.specs.Claims.{Claim, claims_in}
 use Rattle.wf_facts_exprs.specs.Demands.{or_else, cond_refusal}
-use Rattle.wf_facts_exprs.specs.Operands.{node_cond}
 use Rattle.wf_facts.specs.FactLists.{with_condition}
 use Rattle.wf_facts.specs.IndexedFacts.{FactList, IsOver}
 use Rattle.wf_loops.specs.LoopRules.{front_refusal, exit_refusal, head_list, body_list, limit}

@@ -17,9 +17,10 @@ use Rattle.wf_ast.specs.TypedTree.{CondTree, junction, negation, Simple, Site, H
 use Rattle.wf_ast.specs.TypedTrees.{onto, sort_of, stmt_makers}
 use Rattle.wf_ast.specs.TypedPackage.{MethodTree, package_of}
 use Rattle.wf_ast.specs.WellTyped.{well_block}
-use Rattle.wf_facts_exprs.specs.Claims.{Claim, is_condition_at}
+use Rattle.wf_ast.specs.NodeKinds.{is_condition_at, node_cond}
+use Rattle.wf_ast.specs.OperatorForms.{is_joining}
+use Rattle.wf_facts_exprs.specs.Claims.{Claim}
 use Rattle.wf_facts_exprs.specs.Demands.{or_else}
-use Rattle.wf_facts_exprs.specs.Operands.{is_joining, node_cond}
 use Rattle.wf_facts.specs.FactLists.{with_condition}
 use Rattle.wf_loops.specs.LoopRules.{front_refusal, head_list, body_list}
 use Rattle.wf_loops.specs.LoopNodes.{is_loop, head_at, place_at}

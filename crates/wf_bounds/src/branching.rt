@@ -2,8 +2,8 @@
 
 ghost use Rattle.std.specs.Prelude.{◌≡◌, ◌<◌, Result, true, false, IsTrue, IfOk, OnOk, length};
 ghost use Rattle.wf_text.specs.declared.rules.Refusal.{Refusal};
-ghost use Rattle.wf_facts_exprs.specs.Claims.{claims_in, is_condition_at};
-ghost use Rattle.wf_facts_exprs.specs.Operands.{node_cond};
+ghost use Rattle.wf_ast.specs.NodeKinds.{is_condition_at, node_cond};
+ghost use Rattle.wf_facts_exprs.specs.Claims.{claims_in};
 ghost use Rattle.wf_facts.specs.FactLists.{with_condition};
 ghost use Rattle.wf_facts.specs.IndexedFacts.{IsOver};
 ghost use Rattle.wf_loops.specs.LoopNodes.{Decides};

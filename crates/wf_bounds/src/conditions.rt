@@ -1,9 +1,9 @@
 // The value of a condition.
 
 ghost use Rattle.std.specs.Prelude.{◌≡◌, true};
-ghost use Rattle.wf_facts_exprs.specs.Claims.{claims_in, is_condition_at, AreFacts};
+ghost use Rattle.wf_ast.specs.NodeKinds.{is_condition_at, node_cond};
+ghost use Rattle.wf_facts_exprs.specs.Claims.{claims_in, AreFacts};
 ghost use Rattle.wf_facts_exprs.specs.Demands.{cond_refusal, unless_refused};
-ghost use Rattle.wf_facts_exprs.specs.Operands.{node_cond};
 
 use wf_ast::{ExprId, Typed};
 use wf_facts_exprs::{Fact, check_value};

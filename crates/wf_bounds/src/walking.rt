@@ -2,8 +2,8 @@
 // goes along. It stops at the first refusal, after a statement that never goes on, and before one that it looks for.
 
 ghost use Rattle.std.specs.Prelude.{◌≡◌, ◌<◌, true, false, IsTrue, List, length};
-ghost use Rattle.wf_facts_exprs.specs.Claims.{Claim, claims_in, is_condition_at};
-ghost use Rattle.wf_facts_exprs.specs.Operands.{node_cond};
+ghost use Rattle.wf_ast.specs.NodeKinds.{is_condition_at, node_cond};
+ghost use Rattle.wf_facts_exprs.specs.Claims.{Claim, claims_in};
 ghost use Rattle.wf_facts.specs.FactLists.{with_condition};
 ghost use Rattle.wf_facts.specs.IndexedFacts.{IsOver};
 ghost use Rattle.wf_loops.specs.LoopNodes.{is_loop, head_at, place_at};

@@ -11,11 +11,11 @@ use Rattle.wf_ast.specs.declared.numbers.ExprId.{ExprId}
 use Rattle.wf_ast.specs.declared.numbers.TextId.{TextId}
 use Rattle.wf_ast.specs.declared.typed_nodes.TypedNodes.{TypedNodes}
 use Rattle.wf_ast.specs.TypedTrees.{num_in, tree_of}
+use Rattle.wf_ast.specs.NodeKinds.{node_number}
 use Rattle.wf_facts_exprs.specs.declared.facts.Cmp.{Cmp}
 use Rattle.wf_facts_exprs.specs.declared.facts.Side.{Side}
 use Rattle.wf_facts_exprs.specs.Claims.{Claim}
 use Rattle.wf_facts_exprs.specs.Demands.{demand, num_refusal, or_else, unless_refused}
-use Rattle.wf_facts_exprs.specs.Operands.{node_number}
 use Rattle.wf_axioms.specs.declared.axioms.Axiom.{Axiom}
 use Rattle.wf_axioms.specs.declared.axioms.Axiom.TheVariants.{LtByGt, LtByLtLt, LtByLtEq, LtByEqLt, LtByLtLe, LtByLeLt, GtByLt, LeByGe, LeByLeLe, LeByLeEq, LeByEqLe, GeByLe, LtSum, LtSums, LeSum, LeByLt, EqByLeLe, SumsByLeLe}
 use Rattle.wf_axioms.specs.Axioms.{axiom_text}

@@ -8,23 +8,20 @@ use Rattle.wf_text.specs.declared.rules.Refusal.{Refusal}
 use Rattle.wf_text.specs.declared.rules.Rule.TheVariants.{B8}
 use Rattle.wf_base.specs.declared.base_methods.BaseSig.{BaseSig}
 use Rattle.wf_base.specs.declared.base_methods.BaseSig.TheVariants as sigs
-use Rattle.wf_base.specs.declared.base_methods.ReadForm.{ReadForm}
 use Rattle.wf_base.specs.declared.widths.Width.{Width}
 use Rattle.wf_base.specs.declared.widths.Width.TheVariants.{W8, W32}
-use Rattle.wf_base.specs.declared.base_methods.Kind.TheVariants as kinds
-use Rattle.wf_base.specs.BaseTable.{read_width, row_of}
 use Rattle.wf_ast.specs.declared.numbers.ExprId.{ExprId}
 use Rattle.wf_ast.specs.declared.types.Ty.{Ty}
 use Rattle.wf_ast.specs.declared.types.Ty.TheVariants as types
 use Rattle.wf_ast.specs.declared.typed_nodes.TypedNodes.{TypedNodes}
-use Rattle.wf_ast.specs.TypedTree.{NumType, ValueTree, numeric, elements, Target, arg, skip, write, skip_fast, write_fast, copy_to_writer, copy_to_slice}
+use Rattle.wf_ast.specs.TypedTree.{ValueTree, numeric, elements, Target, arg, skip, write, copy_to_writer}
 use Rattle.wf_ast.specs.TypedTrees.{base_call, io_in, num_in, slice_in, tree_of, type_of_node}
-use Rattle.wf_ast.specs.TypedInvariant.{IsTyped, has_kind, is_expr, is_io, is_numeric, is_tree_of}
+use Rattle.wf_ast.specs.TypedInvariant.{IsTyped, is_expr, is_numeric, is_tree_of}
 use Rattle.wf_ast.specs.WellTyped.{Context, type_at, is_reader, is_writer, is_coroutine, may_go_into, well_num, well_slice, slice_of, takes_bits, has_none, well_simple}
+use Rattle.wf_ast.specs.NodeKinds.{is_number_at, node_number, node_slice}
 use Rattle.wf_ast.proofs.Accessors.{tree_kind}
-use Rattle.wf_facts_exprs.specs.Claims.{Claim, is_number_at}
+use Rattle.wf_facts_exprs.specs.Claims.{Claim}
 use Rattle.wf_facts_exprs.specs.Demands.{or_else}
-use Rattle.wf_facts_exprs.specs.Operands.{node_number, node_slice}
 use Rattle.wf_facts.specs.IndexedFacts.{FactList}
 use Rattle.wf_bounds_stmts.specs.Requirements.{all_handed}
 use Rattle.wf_bounds_stmts.specs.Targets.{answer_refusal}
@@ -127,13 +124,6 @@ module _ (nodes : TypedNodes) (fs : List Claim) (at : Place) (target : Target) (
   abbrev pub Left : BaseSig → List ExprId → Type 0
   Left sig args = Leaves nodes fs (base_call at target on sig (map (tree_of nodes) args)) r known
 
-  pub read_left : (form : ReadForm) (args : List ExprId) → args ≡ [] → (of : Option NumType) → of ≡ all_of (read_width form)
-      → Settles nodes (answer_refusal (interrupted fs) at target of) (awaited fs target) r known → Left (sigs.Read form) args
-  read_left form args h of k s =
-      let P : List ExprId → Type 0 = λ xs. Left (sigs.Read form) xs in
-      let Q : Option NumType → Type 0 = λ it. Settles nodes (answer_refusal (interrupted fs) at target it) (awaited fs target) r known in
-      subst P (sym h) (λ a inside site. settled nodes (answer_refusal (interrupted fs) at target (all_of (read_width form))) (awaited fs target) r known (subst Q k s))
-
   abbrev Handed : Width → ValueTree → Type 0
   Handed width v = Settles nodes (or_else (all_handed B8 fs ((all_of width, v) ∷ [])) (answer_refusal (interrupted fs) at target None)) (awaited fs target) r known
 
@@ -149,22 +139,6 @@ module _ (nodes : TypedNodes) (fs : List Claim) (at : Place) (target : Target) (
       let Q : ValueTree → Type 0 = λ v. Handed W8 v in
       subst P (sym h) (λ a inside site. settled nodes (await_refusal fs at target (write (node_number nodes e))) (awaited fs target) r known (subst Q n s))
 
-  pub skip_fast_left : (args : List ExprId) (e w : ExprId) → args ≡ e ∷ w ∷ []
-      → Settles nodes (perform_refusal fs at target (skip_fast (io_in on) (node_number nodes e) (node_number nodes w))) (performed fs target (skip_fast (io_in on) (node_number nodes e) (node_number nodes w))) r known
-      → Left sigs.SkipFast args
-  skip_fast_left args e w h s =
-      let P : List ExprId → Type 0 = λ xs. Left sigs.SkipFast xs in
-      let call = skip_fast (io_in on) (node_number nodes e) (node_number nodes w) in
-      subst P (sym h) (λ a inside site. settled nodes (perform_refusal fs at target call) (performed fs target call) r known s)
-
-  pub write_fast_left : (args : List ExprId) (e : ExprId) → args ≡ e ∷ []
-      → Settles nodes (perform_refusal fs at target (write_fast (io_in on) (node_number nodes e))) (performed fs target (write_fast (io_in on) (node_number nodes e))) r known
-      → Left sigs.WriteFast args
-  write_fast_left args e h s =
-      let P : List ExprId → Type 0 = λ xs. Left sigs.WriteFast xs in
-      let call = write_fast (io_in on) (node_number nodes e) in
-      subst P (sym h) (λ a inside site. settled nodes (perform_refusal fs at target call) (performed fs target call) r known s)
-
   pub copy_out_left : (args : List ExprId) (e : ExprId) (a : ℕ) → args ≡ e ∷ [] → a ≡ io_in on
       → Settles nodes (perform_refusal fs at target (copy_to_writer a (node_slice nodes e))) (performed fs target (copy_to_writer a (node_slice nodes e))) r known
       → Left sigs.WriterCopy args
@@ -173,14 +147,6 @@ module _ (nodes : TypedNodes) (fs : List Claim) (at : Place) (target : Target) (
       let Q : ℕ → Type 0 = λ n. Settles nodes (perform_refusal fs at target (copy_to_writer n (node_slice nodes e))) (performed fs target (copy_to_writer n (node_slice nodes e))) r known in
       let call = copy_to_writer (io_in on) (node_slice nodes e) in
       subst P (sym h) (λ x inside site. settled nodes (perform_refusal fs at target call) (performed fs target call) r known (subst Q k s))
-
-  pub copy_in_left : (width : Width) (args : List ExprId) (e : ExprId) → args ≡ e ∷ []
-      → Settles nodes (perform_refusal fs at target (copy_to_slice (slice_in on) (node_slice nodes e))) (performed fs target (copy_to_slice (slice_in on) (node_slice nodes e))) r known
-      → Left (sigs.SliceCopy width) args
-  copy_in_left width args e h s =
-      let P : List ExprId → Type 0 = λ xs. Left (sigs.SliceCopy width) xs in
-      let call = copy_to_slice (slice_in on) (node_slice nodes e) in
-      subst P (sym h) (λ a inside site. settled nodes (perform_refusal fs at target call) (performed fs target call) r known s)
 
 -- What the rules of types tell of the arguments of a base method.
 module _ (nodes : TypedNodes) (typed : IsTyped nodes) (at : Place) (target : Target) (on : ExprId) (sig : BaseSig) (args : List ExprId) (well : KeepsTypes nodes (base_call at target (tree_of nodes on) sig (map (tree_of nodes) args))) where
@@ -195,9 +161,6 @@ module _ (nodes : TypedNodes) (typed : IsTyped nodes) (at : Place) (target : Tar
 
   pub counted : (s : BaseSig) → sig ≡ s → length args ≡ arg_count s
   counted s h = sym (length-map args (tree_of nodes)) ∙ args_counted well.context well.loops at target (tree_of nodes on) s (map (tree_of nodes) args) (well_by s h args refl)
-
-  pub is_statement : is_called sig ≡ true
-  is_statement = called well.context well.loops at target (tree_of nodes on) sig (map (tree_of nodes) args) well.well
 
   first_there : (e : ExprId) (es : List ExprId) → args ≡ e ∷ es → list_all (is_expr nodes) args ≡ true → (is_expr nodes e ≡ true) × (list_all (is_expr nodes) es ≡ true)
   first_there e es h k = let P : List ExprId → Type 0 = λ it. list_all (is_expr nodes) it ≡ true in and_parts (is_expr nodes e) _ (subst P h k)
@@ -229,21 +192,3 @@ module _ (nodes : TypedNodes) (typed : IsTyped nodes) (at : Place) (target : Tar
       let j = and_parts (is_expr nodes w) _ i.1 in
       let both = skip_fast_well well.context well.loops at target (tree_of nodes on) (tree_of nodes e) (tree_of nodes w) (well_by sigs.SkipFast h (e ∷ w ∷ []) two) in
       (number_found nodes typed well.context e i.0 both.0, number_found nodes typed well.context w j.0 both.1)
-
--- The type of what a base method is called on.
-reader_type : (ty : Ty) → has_kind kinds.Reader ty ≡ true → ty ≡ types.Reader
-reader_type types.Reader h = refl
-reader_type ty h = absurd (cc (h))
-
-writer_type : (ty : Ty) → has_kind kinds.Writer ty ≡ true → ty ≡ types.Writer
-writer_type types.Writer h = refl
-writer_type ty h = absurd (cc (h))
-
-pub skips_reader : (sig : BaseSig) (ty : Ty) → has_kind (row_of sig).on ty ≡ true → sig ≡ sigs.SkipFast → ty ≡ types.Reader
-skips_reader sig ty h k = let P : BaseSig → Type 0 = λ it. has_kind (row_of it).on ty ≡ true in reader_type ty (subst P k h)
-
-pub writes_writer : (sig : BaseSig) (ty : Ty) → has_kind (row_of sig).on ty ≡ true → sig ≡ sigs.WriteFast → ty ≡ types.Writer
-writes_writer sig ty h k = let P : BaseSig → Type 0 = λ it. has_kind (row_of it).on ty ≡ true in writer_type ty (subst P k h)
-
-pub copies_out : (sig : BaseSig) (ty : Ty) → has_kind (row_of sig).on ty ≡ true → sig ≡ sigs.WriterCopy → is_io ty ≡ true
-copies_out sig ty h k = let P : BaseSig → Type 0 = λ it. has_kind (row_of it).on ty ≡ true in ap is_io (writer_type ty (subst P k h))

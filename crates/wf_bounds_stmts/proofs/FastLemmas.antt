@@ -14,11 +14,11 @@ use Rattle.wf_ast.specs.StatementOrder.{stands_before}
 use Rattle.wf_ast.specs.TypedTree.{NumType, NumTree, number, asked, at_least, reader_length, writer_length, ValueTree, numeric, io}
 use Rattle.wf_ast.specs.TypedTrees.{no_place, io_in, tree_of, type_of_node, place_of_node}
 use Rattle.wf_ast.specs.TypedInvariant.{is_expr, is_tree_of}
+use Rattle.wf_ast.specs.NodeKinds.{is_number_at, node_number}
 use Rattle.wf_facts_exprs.specs.declared.facts.Side.TheVariants as sides
-use Rattle.wf_facts_exprs.specs.Claims.{Claim, single, length_in, side_in, is_number_at}
+use Rattle.wf_facts_exprs.specs.Claims.{Claim, single, length_in, side_in}
 use Rattle.wf_facts_exprs.specs.Given.{gives_sides}
 use Rattle.wf_facts_exprs.specs.Demands.{or_else, num_refusal, unless_refused}
-use Rattle.wf_facts_exprs.specs.Operands.{node_number}
 use Rattle.wf_facts_exprs.proofs.ShapeLemmas.{asked_alike}
 use Rattle.wf_facts_exprs.proofs.JudgeLemmas.{number_alike, sides-alike}
 use Rattle.wf_bounds_stmts.specs.Requirements.{all_handed, handed_refusal, lies_refusal, place_of, Placed, placed, written_first}

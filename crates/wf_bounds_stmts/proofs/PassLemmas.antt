@@ -24,9 +24,9 @@ use Rattle.wf_ast.specs.TypedTrees.{no_place, no_statement, axiom_made, call_mad
 use Rattle.wf_ast.specs.TypedInvariant.{IsTyped, axiom_exists, is_expr}
 use Rattle.wf_ast.specs.TypedPackage.{method_of, methods_of, package_of, variable_of}
 use Rattle.wf_ast.specs.WellTyped.{well_assigned, well_axiom, well_cond, well_num, well_simple}
-use Rattle.wf_facts_exprs.specs.Claims.{Claim, claim_in, claims_in, is_condition_at}
+use Rattle.wf_ast.specs.NodeKinds.{is_condition_at, node_cond, node_number}
+use Rattle.wf_facts_exprs.specs.Claims.{Claim, claim_in, claims_in}
 use Rattle.wf_facts_exprs.specs.Demands.{or_else, unless_refused}
-use Rattle.wf_facts_exprs.specs.Operands.{node_cond, node_number}
 use Rattle.wf_facts.specs.IndexedFacts.{FactList}
 use Rattle.wf_axioms.specs.Bindings.{is_given_number}
 use Rattle.wf_loops.specs.LoopNodes.{is_loop, head_at}
@@ -65,10 +65,6 @@ module _ (nodes : TypedNodes) (at : Place) (p : Option Refusal) (known : FactLis
 pub an-operator : (o : Option Arith) → is_some o ≡ true → (op : Arith) × (o ≡ Some op)
 an-operator (Some op) h = (op, refl)
 an-operator None h = absurd (cc (h))
-
-pub no-operator : (o : Option Arith) → is_some o ≡ false → o ≡ None
-no-operator (Some op) h = absurd (cc (h))
-no-operator None h = refl
 
 -- A node by its number.
 abbrev inner_in : Option StmtNode → Place

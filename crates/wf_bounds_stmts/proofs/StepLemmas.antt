@@ -5,7 +5,6 @@ use Rattle.std.specs.List.{list_all}
 use Rattle.std.proofs.lemmas.Bool.{and_parts}
 use Rattle.wf_text.specs.declared.place.Place.{Place}
 use Rattle.wf_ast.specs.declared.numbers.ExprId.{ExprId}
-use Rattle.wf_ast.specs.declared.things.Thing.{Thing}
 use Rattle.wf_ast.specs.declared.types.Ty.{Ty}
 use Rattle.wf_ast.specs.declared.typed_nodes.TypedNodes.{TypedNodes}
 use Rattle.wf_ast.specs.TypedTree.{Arith, NumTree, number, read, element, link, convert, length_of, asked, slice, array, cut, status, held, no_status, truth, flag, compare, same_status, junction, negation, closed, has_category, ValueTree, numeric, logical, state, elements, io, lost}
@@ -13,7 +12,8 @@ use Rattle.wf_ast.specs.declared.operators.Op.{Op}
 use Rattle.wf_ast.specs.declared.typed_code.Expr.TheVariants as exprs
 use Rattle.wf_ast.specs.TypedTrees.{Sort, arithmetic, ordering, joining, sort_of, num_in, num_type, num_chain, chain_of, target_of, type_of_node, constant_of_node}
 use Rattle.wf_ast.specs.TypedInvariant.{chain_fits, node_fits, parts_below, is_expr, is_numeric, is_logical}
-use Rattle.wf_facts_exprs.specs.Claims.{Claim, is_number_at}
+use Rattle.wf_ast.specs.NodeKinds.{is_number_at}
+use Rattle.wf_facts_exprs.specs.Claims.{Claim}
 use Rattle.wf_facts_exprs.proofs.JudgeLemmas.{numeric-not-logical, is-arith}
 use Rattle.wf_facts.specs.Forms.{number_in}
 use Rattle.wf_bounds_stmts.specs.Targets.{step_of, number_written, written_by, assigned}
@@ -96,29 +96,3 @@ stepped-by fs (elements (array at of count p)) v op = refl
 stepped-by fs (elements (cut at cells from to)) v op = refl
 stepped-by fs (io at a) v op = refl
 stepped-by fs lost v op = refl
-
--- A variable that takes a number holds one.
-pub written-read : (w : ValueTree) (y : Thing) → number_written (target_of w) ≡ Some y → is_read (num_in w) ≡ true
-written-read (numeric (read at of p)) y h = refl
-written-read (numeric (element at of cells index)) y h = absurd (cc (h))
-written-read (numeric (number at n)) y h = absurd (cc (h))
-written-read (numeric (link at sign o bits joined a b)) y h = absurd (cc (h))
-written-read (numeric (convert at sign bits a)) y h = absurd (cc (h))
-written-read (numeric (length_of at cells)) y h = absurd (cc (h))
-written-read (numeric (asked at q a)) y h = absurd (cc (h))
-written-read (logical (flag at p)) y h = absurd (cc (h))
-written-read (logical (truth at b)) y h = absurd (cc (h))
-written-read (logical (compare at sign a o b)) y h = absurd (cc (h))
-written-read (logical (same_status at sign a one b)) y h = absurd (cc (h))
-written-read (logical (junction at both joined a b)) y h = absurd (cc (h))
-written-read (logical (negation at a)) y h = absurd (cc (h))
-written-read (logical (closed at a)) y h = absurd (cc (h))
-written-read (logical (has_category at a category)) y h = absurd (cc (h))
-written-read (state (held at p)) y h = absurd (cc (h))
-written-read (state (status at n)) y h = absurd (cc (h))
-written-read (state no_status) y h = absurd (cc (h))
-written-read (elements (slice at bits p)) y h = absurd (cc (h))
-written-read (elements (array at of count p)) y h = absurd (cc (h))
-written-read (elements (cut at cells from to)) y h = absurd (cc (h))
-written-read (io at a) y h = absurd (cc (h))
-written-read lost y h = absurd (cc (h))

@@ -9,13 +9,11 @@ use Rattle.wf_ast.specs.declared.types.Ty.TheVariants as types
 use Rattle.wf_ast.specs.declared.typed_code.Expr.{Expr}
 use Rattle.wf_ast.specs.declared.typed_code.Expr.TheVariants as exprs
 use Rattle.wf_ast.specs.declared.typed_nodes.TypedNodes.{TypedNodes}
-use Rattle.wf_ast.specs.TypedTree.{local, field, arg, Arith, Order, equal, differs, NumTree, number, read, element, link, convert, length_of, asked, SliceTree, slice, status, held, CondTree, truth, flag, junction, ValueTree, numeric, logical, state, elements, io, lost, Target, to_number, to_element, to_flag, to_status, to_slice, to_nothing}
+use Rattle.wf_ast.specs.TypedTree.{local, field, arg, Arith, Order, equal, differs, NumTree, number, element, link, SliceTree, status, CondTree, truth, junction, ValueTree, numeric, logical, state, io, lost, to_nothing}
 use Rattle.wf_ast.specs.TypedTrees.{Sort, arithmetic, ordering, joining, sort_of, num_in, cond_in, num_type, num_chain, cond_chain, comparison, chain_of, first_sign, named, answer_of, made, made_or_number, target_of, tree_of, type_of_node, constant_of_node, place_of_node, signs_of_node}
 use Rattle.wf_ast.specs.TypedInvariant.{is_numeric, chain_fits, kind_fits, node_fits}
-use Rattle.wf_facts_exprs.specs.Claims.{Claim}
-use Rattle.wf_facts_exprs.specs.Demands.{value_refusal}
-use Rattle.wf_bounds_stmts.specs.Targets.{taken_by, target_refusal, written_by, writes_element, number_written}
-use Rattle.wf_bounds_stmts.specs.Nodes.{node_written, constant_or_written, is_element_thing, Seen}
+use Rattle.wf_bounds_stmts.specs.Targets.{taken_by, written_by, number_written}
+use Rattle.wf_bounds_stmts.specs.Nodes.{node_written, constant_or_written, Seen}
 
 num-chain-seen : (ty : Ty) (at : Place) (op : Arith) (bits : ℕ) (joined : Bool) (sign : Place) (a b : NumTree) (ts : List ValueTree) (signs : List Place)
     → target_of (numeric (num_chain at op bits true (link at sign op bits joined a b) ts signs)) ≡ to_nothing
@@ -148,45 +146,3 @@ pub target-seen : (nodes : TypedNodes) (e : ExprId) (x : Expr)
     → Seen (tree_of nodes e) (type_of_node nodes e.0) (constant_or_written (type_of_node nodes e.0) (constant_of_node nodes e.0) x)
 target-seen nodes e x h k =
     rw h (node-seen nodes (tree_of nodes) (place_of_node nodes e.0) (signs_of_node nodes e.0) (type_of_node nodes e.0) (constant_of_node nodes e.0) x k)
-
--- An element's demands are its value's, and no other target has any.
-pub element-refusal : (fs : List Claim) (v : ValueTree) → writes_element (target_of v) ≡ true → value_refusal fs v ≡ target_refusal fs (target_of v)
-element-refusal fs (numeric (element at of cells index)) h = refl
-element-refusal fs (numeric (number at n)) h = absurd (cc (h))
-element-refusal fs (numeric (read at of p)) h = absurd (cc (h))
-element-refusal fs (numeric (link at sign op bits joined a b)) h = absurd (cc (h))
-element-refusal fs (numeric (convert at sign bits a)) h = absurd (cc (h))
-element-refusal fs (numeric (length_of at cells)) h = absurd (cc (h))
-element-refusal fs (numeric (asked at q a)) h = absurd (cc (h))
-element-refusal fs (logical (flag at p)) h = absurd (cc (h))
-element-refusal fs (logical c) h = absurd (cc (h))
-element-refusal fs (state (held at p)) h = absurd (cc (h))
-element-refusal fs (state s) h = absurd (cc (h))
-element-refusal fs (elements (slice at bits p)) h = absurd (cc (h))
-element-refusal fs (elements s) h = absurd (cc (h))
-element-refusal fs (io at a) h = absurd (cc (h))
-element-refusal fs lost h = absurd (cc (h))
-
-pub other-refusal : (fs : List Claim) (target : Target) → writes_element target ≡ false → target_refusal fs target ≡ None
-other-refusal fs (to_element at of cells index) h = absurd (cc (h))
-other-refusal fs (to_number at of path) h = refl
-other-refusal fs (to_flag at path) h = refl
-other-refusal fs (to_status at path) h = refl
-other-refusal fs (to_slice at bits path) h = refl
-other-refusal fs to_nothing h = refl
-
-pub element-written : (target : Target) → is_element_thing (written_by target) ≡ writes_element target
-element-written (to_element at of cells index) = refl
-element-written (to_number at of (local n)) = refl
-element-written (to_number at of (field n)) = refl
-element-written (to_number at of (arg n)) = refl
-element-written (to_flag at (local n)) = refl
-element-written (to_flag at (field n)) = refl
-element-written (to_flag at (arg n)) = refl
-element-written (to_status at (local n)) = refl
-element-written (to_status at (field n)) = refl
-element-written (to_status at (arg n)) = refl
-element-written (to_slice at bits (local n)) = refl
-element-written (to_slice at bits (field n)) = refl
-element-written (to_slice at bits (arg n)) = refl
-element-written to_nothing = refl

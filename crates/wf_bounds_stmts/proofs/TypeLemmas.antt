@@ -17,9 +17,8 @@ use Rattle.wf_ast.specs.TypedTrees.{num_in, slice_in, tree_of, type_of_node, no_
 use Rattle.wf_ast.specs.TypedInvariant.{IsTyped, is_expr, is_numeric, is_tree_of}
 use Rattle.wf_ast.specs.TypedPackage.{Variable}
 use Rattle.wf_ast.specs.WellTyped.{Context, variable_at, type_at, is_number, is_flag, is_status, is_slice, is_range, well_num, well_slice, may_write, takes, takes_bits, takes_answer, has_none, well_assigned, well_simple, well_returned, fits_type}
+use Rattle.wf_ast.specs.NodeKinds.{is_number_at, node_number}
 use Rattle.wf_ast.proofs.Accessors.{tree_kind}
-use Rattle.wf_facts_exprs.specs.Claims.{is_number_at}
-use Rattle.wf_facts_exprs.specs.Operands.{node_number}
 use Rattle.wf_facts.specs.IndexedFacts.{IsNamedInSets}
 use Rattle.wf_bounds_stmts.specs.Targets.{thing_at, written_by}
 use Rattle.wf_bounds_stmts.specs.Outcomes.{MayBeDropped}

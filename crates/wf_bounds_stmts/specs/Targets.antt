@@ -48,11 +48,6 @@ without_some (Some x) fs = without x fs
 abbrev pub unwritten : Target → List Claim → List Claim
 unwritten target fs = without_some (written_by target) fs
 
--- Whether an element is written, and the variable that takes a number, if one does.
-abbrev pub writes_element : Target → Bool
-writes_element (to_element at of cells index) = true
-writes_element target = false
-
 abbrev pub number_written : Target → Option Thing
 number_written (to_number at of path) = Some (thing_at path)
 number_written target = None

@@ -3,9 +3,9 @@
 ghost use Rattle.std.specs.Prelude.{◌≡◌, ◌<◌, ◌≤◌, length, map, take, false, true, All, IsTrue, None};
 ghost use Rattle.wf_text.specs.declared.rules.Rule.TheVariants.{B6, B7};
 ghost use Rattle.wf_ast.specs.TypedTrees.{axiom_made, text_of, tree_of};
-ghost use Rattle.wf_facts_exprs.specs.Claims.{claims_in, AreFacts, is_condition_at, is_number_at};
+ghost use Rattle.wf_ast.specs.NodeKinds.{is_condition_at, is_number_at, node_cond, node_number};
+ghost use Rattle.wf_facts_exprs.specs.Claims.{claims_in, AreFacts};
 ghost use Rattle.wf_facts_exprs.specs.Demands.{cond_refusal, demand, num_refusal, or_else, unless_refused};
-ghost use Rattle.wf_facts_exprs.specs.Operands.{node_cond, node_number};
 ghost use Rattle.wf_facts.specs.FactLists.{with_condition};
 ghost use Rattle.wf_facts.specs.IndexedFacts.{IsOver};
 ghost use Rattle.wf_axioms.specs.Axioms.{row_of};

@@ -3,9 +3,9 @@
 ghost use Rattle.std.specs.Prelude.{◌≡◌, IsTrue, None, true};
 ghost use Rattle.wf_ast.specs.TypedTrees.{target_of, tree_of, type_of_node};
 ghost use Rattle.wf_ast.specs.TypedInvariant.{is_expr};
-ghost use Rattle.wf_facts_exprs.specs.Claims.{claims_in, AreFacts, is_number_at};
+ghost use Rattle.wf_ast.specs.NodeKinds.{is_number_at, node_number};
+ghost use Rattle.wf_facts_exprs.specs.Claims.{claims_in, AreFacts};
 ghost use Rattle.wf_facts_exprs.specs.Demands.{unless_refused};
-ghost use Rattle.wf_facts_exprs.specs.Operands.{node_number};
 ghost use Rattle.wf_facts.specs.IndexedFacts.{IsOver};
 ghost use Rattle.wf_bounds_stmts.specs.Targets.{assign_refusal, assigned, known_equal, written_by};
 ghost use Rattle.wf_bounds_stmts.specs.Nodes.{known_variable, number_variable as number_variable_in};

@@ -3,7 +3,6 @@ use Rattle.std.specs.Prelude.{◌≡◌, ◌<◌, ◌&&◌, ℕ, Bool, true, fal
 use Rattle.wf_base.specs.declared.marks.Mark.TheVariants.{Pure}
 use Rattle.wf_ast.specs.WellTyped.{same_mark}
 use Rattle.wf_base.specs.declared.base_methods.BaseSig.{BaseSig}
-use Rattle.wf_base.specs.declared.base_methods.Gives.{Gives}
 use Rattle.wf_base.specs.declared.base_methods.Gives.TheVariants as gives
 use Rattle.wf_base.specs.BaseTable.{bits_of, row_of}
 use Rattle.wf_ast.specs.declared.numbers.ExprId.{ExprId}
@@ -12,7 +11,8 @@ use Rattle.wf_ast.specs.declared.types.Ty.{Ty}
 use Rattle.wf_ast.specs.declared.types.Ty.TheVariants as types
 use Rattle.wf_ast.specs.TypedTree.{NumTree}
 use Rattle.wf_ast.specs.TypedTrees.{Sort, arithmetic, ordering, joining, type_of_node}
-use Rattle.wf_ast.specs.TypedInvariant.{is_expr, is_numeric, is_list, is_state, is_logical, has_kind}
+use Rattle.wf_ast.specs.TypedInvariant.{has_kind}
+use Rattle.wf_ast.specs.NodeKinds.{is_number_at, is_num}
 use Rattle.c_text.specs.declared.kinds.COp.{COp}
 use Rattle.c_text.specs.declared.kinds.COp.TheVariants.{Both, Either}
 use Rattle.c_text.specs.CNodes.{Nodes, expr_of}
@@ -64,27 +64,11 @@ abbrev pub linked_by : Sort → (bits : ℕ) → Rated → Rated → ExprTree
 linked_by (arithmetic op) bits a b = linked op bits false a b
 linked_by sort bits a b = two (c_op sort) (balanced bits a b) b.code
 
--- What base methods answer with a number.
-abbrev pub gives_number : Gives → Bool
-gives_number (gives.Num width) = true
-gives_number given = false
-
+-- A base method answers with a number.
 abbrev pub answers_number : TypedNodes → BaseSig → ExprId → Bool
-answers_number nodes sig on = same_mark (row_of sig).mark Pure && (has_kind (row_of sig).on (type_of_node nodes on.0) && gives_number (row_of sig).gives)
+answers_number nodes sig on = same_mark (row_of sig).mark Pure && (has_kind (row_of sig).on (type_of_node nodes on.0) && is_num (row_of sig).gives)
 
--- An expression of a kind.
-abbrev pub is_number_at : TypedNodes → ExprId → Bool
-is_number_at nodes e = is_expr nodes e && is_numeric (type_of_node nodes e.0)
-
-abbrev pub is_slice_at : TypedNodes → ExprId → Bool
-is_slice_at nodes e = is_expr nodes e && is_list (type_of_node nodes e.0)
-
-abbrev pub is_status_at : TypedNodes → ExprId → Bool
-is_status_at nodes e = is_expr nodes e && is_state (type_of_node nodes e.0)
-
-abbrev pub is_condition_at : TypedNodes → ExprId → Bool
-is_condition_at nodes e = is_expr nodes e && is_logical (type_of_node nodes e.0)
-
+-- The end of a part, if there is one, is a number.
 abbrev pub is_end : TypedNodes → Option ExprId → Bool
 is_end nodes None = true
 is_end nodes (Some e) = is_number_at nodes e

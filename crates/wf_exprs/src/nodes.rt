@@ -86,7 +86,7 @@ pub fn spelt_variable(u: &mut Unit, begin: &[u8], end: &[u8]) -> Result<CExprId,
 }
 
 /// `of->name`
-pub fn member(u: &mut Unit, of: CExprId, name: &[u8]) -> Result<CExprId, NoMemory>
+pub(crate) fn member(u: &mut Unit, of: CExprId, name: &[u8]) -> Result<CExprId, NoMemory>
     requires of_there { of.0 < length u.old.exprs }
     requires pointer { is_literal_tree (expr_of u.old of.0) ≡ false }
     requires name { IsName name.now }
@@ -215,7 +215,7 @@ pub fn choice(
 }
 
 /// `(function(first, second))`
-pub fn called(
+pub(crate) fn called(
     alloc: Global,
     u: &mut Unit,
     function: CNameId,

@@ -11,6 +11,8 @@ use Rattle.wf_ast.specs.declared.types.Ty.{Ty}
 use Rattle.wf_ast.specs.declared.typed_nodes.TypedNodes.{TypedNodes}
 use Rattle.wf_ast.specs.TypedTree.{Arith, plus, minus, times, divided, remainder, shift_left, shift_right, bits_and, bits_or, bits_xor, mod_plus, mod_minus, mod_times, mod_shift_left, sat_plus, sat_minus, NumTree, ValueTree, link}
 use Rattle.wf_ast.specs.TypedTrees.{Sort, arithmetic, ordering, joining, num_in, num_chain, chain_of, num_type, tree_of}
+use Rattle.wf_ast.specs.NodeKinds.{node_number}
+use Rattle.wf_ast.specs.OperatorForms.{is_arithmetic}
 use Rattle.c_text.specs.CTree.{ExprTree, operation, Operands, no_operand, operand}
 use Rattle.wf_exprs.specs.Names.{Names}
 use Rattle.wf_exprs.specs.Words.{two}
@@ -19,7 +21,7 @@ use Rattle.wf_exprs.specs.Making.{HasRated, c_op, linked_by, rated_in}
 use Rattle.wf_exprs.specs.declared.rated.Rated.{Rated as RatedNode}
 use Rattle.c_text.specs.declared.ids.CExprId.{CExprId}
 use Rattle.c_text.specs.CNodes.{Nodes, expr_of, operands_in}
-use Rattle.wf_exprs_nodes.specs.Trees.{HasOperands, node_number, is_arithmetic, repeats_arith, repeats, chain_on, numbers_behind}
+use Rattle.wf_exprs_nodes.specs.Trees.{HasOperands, repeats_arith, repeats, chain_on, numbers_behind}
 use Rattle.wf_exprs_nodes.proofs.OperandLaws.{has_is}
 use Rattle.wf_exprs_nodes.proofs.SliceLaws.{rated_is}
 

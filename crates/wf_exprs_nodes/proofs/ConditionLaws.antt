@@ -8,16 +8,18 @@ use Rattle.wf_ast.specs.declared.typed_nodes.TypedNodes.{TypedNodes}
 use Rattle.wf_ast.specs.TypedTree.{less, at_most, equal, differs, at_least, greater, CondTree, junction, ValueTree}
 use Rattle.wf_ast.specs.TypedTrees.{Sort, arithmetic, ordering, joining, num_in, cond_in, status_in, cond_chain, chain_of, comparison, first_sign, tree_of, type_of_node}
 use Rattle.wf_ast.specs.TypedInvariant.{is_expr, is_numeric, is_state, chain_fits, compares_kinds, is_tree_of}
+use Rattle.wf_ast.specs.NodeKinds.{is_number_at, is_status_at, node_cond}
+use Rattle.wf_ast.specs.OperatorForms.{is_joining, is_ordering, is_equal, order_in}
 use Rattle.wf_ast.proofs.Arena.{both_true}
 use Rattle.wf_ast.proofs.ChainKinds.{operand_kinds, compares_numbers, compares_statuses}
 use Rattle.c_text.specs.CTree.{ExprTree, operation, Operands, no_operand}
 use Rattle.wf_exprs.specs.Names.{Names}
 use Rattle.wf_exprs.specs.Exprs.{with_operand, chained, compared, statuses_compared, lowered_cond, lowered_expr}
-use Rattle.wf_exprs.specs.Making.{c_op, is_number_at, is_status_at}
+use Rattle.wf_exprs.specs.Making.{c_op}
 use Rattle.wf_exprs.specs.Grown.{HasExpr}
 use Rattle.c_text.specs.declared.ids.CExprId.{CExprId}
 use Rattle.c_text.specs.CNodes.{Nodes, expr_of, operands_in}
-use Rattle.wf_exprs_nodes.specs.Trees.{HasOperands, node_cond, is_joining, is_ordering, is_equal, order_in, conditions_behind}
+use Rattle.wf_exprs_nodes.specs.Trees.{HasOperands, conditions_behind}
 use Rattle.wf_exprs_nodes.proofs.ChainLaws.{appended, appended_none, appended_one}
 use Rattle.wf_exprs_nodes.proofs.OperandLaws.{has_is}
 use Rattle.std.proofs.Math.ListN.{drop_of_length-le}

@@ -16,11 +16,12 @@ use Rattle.wf_base.specs.BaseTable.{row_of}
 use Rattle.wf_ast.specs.WellTyped.{same_mark}
 use Rattle.wf_ast.specs.TypedTrees.{Sort, arithmetic, ordering, joining, sort_of, type_of_node}
 use Rattle.wf_ast.specs.TypedInvariant.{is_expr, is_numeric, is_logical, is_state, is_list, is_io, is_given, has_kind, chain_fits, kind_fits}
+use Rattle.wf_ast.specs.NodeKinds.{is_number_at, is_condition_at}
+use Rattle.wf_ast.specs.OperatorForms.{is_arithmetic, is_joining, is_ordering}
 use Rattle.wf_ast.proofs.Arena.{both_true}
 use Rattle.wf_ast.proofs.ChainKinds.{gives_number, junction_gives_condition, comparison_gives_condition, no_slice_chain, no_status_chain, numeric_operands, logical_operands}
 use Rattle.wf_ast.proofs.TypeKinds.{number_no_condition, list_no_condition, list_no_number, list_no_state, state_no_condition, state_no_number}
-use Rattle.wf_exprs.specs.Making.{is_number_at, is_condition_at}
-use Rattle.wf_exprs_nodes.specs.Trees.{answers_number, answers_truth, gives_flag, is_arithmetic, is_joining, is_num, is_ordering}
+use Rattle.wf_exprs_nodes.specs.Trees.{answers_number, answers_truth, gives_flag, is_num}
 
 -- A chain that gives a number is arithmetic, and has at least two operands, which are numbers that stand before it.
 pub record IsOfNumbers (nodes : TypedNodes) (sort : Sort) (es : List ExprId) : Type 0 where

@@ -1,5 +1,5 @@
--- The trees of nodes, and what becomes of them in C.
-use Rattle.std.specs.Prelude.{◌&&◌, ℕ, Bool, true, false, if◌then◌else◌, List, [], ◌∷◌, nat_lt, nat_eq, Option, None, Some, ⊤}
+-- What becomes of the trees of nodes in C.
+use Rattle.std.specs.Prelude.{◌&&◌, ℕ, Bool, true, false, if◌then◌else◌, List, [], ◌∷◌, nat_eq, ⊤}
 use Rattle.wf_base.specs.declared.marks.Mark.TheVariants.{Pure}
 use Rattle.wf_base.specs.declared.base_methods.BaseSig.{BaseSig}
 use Rattle.wf_base.specs.declared.base_methods.Gives.{Gives}
@@ -8,53 +8,17 @@ use Rattle.wf_base.specs.BaseTable.{row_of}
 use Rattle.wf_ast.specs.WellTyped.{same_mark}
 use Rattle.wf_ast.specs.declared.types.Ty.{Ty}
 use Rattle.wf_ast.specs.declared.types.Ty.TheVariants as types
-use Rattle.wf_ast.specs.declared.numbers.ExprId.{ExprId}
-use Rattle.wf_ast.specs.declared.typed_nodes.TypedNodes.{TypedNodes}
-use Rattle.wf_ast.specs.TypedTree.{Arith, plus, times, bits_and, bits_or, bits_xor, Order, equal, NumTree, SliceTree, StatusTree, CondTree, ValueTree, numeric, logical, state}
-use Rattle.wf_ast.specs.TypedTrees.{Sort, arithmetic, ordering, joining, num_in, slice_in, cond_in, status_in, tree_of}
+use Rattle.wf_ast.specs.TypedTree.{Arith, plus, times, bits_and, bits_or, bits_xor, NumTree, CondTree, ValueTree, numeric, logical, state}
+use Rattle.wf_ast.specs.TypedTrees.{Sort, arithmetic, ordering, joining, num_in}
 use Rattle.c_text.specs.declared.ids.CExprId.{CExprId}
 use Rattle.c_text.specs.CNodes.{Nodes}
 use Rattle.c_text.specs.CTree.{ExprTree, cast, Operands, no_operand, operand}
 use Rattle.wf_exprs.specs.Names.{Names}
 use Rattle.wf_exprs.specs.Exprs.{Rated, rated, calculated, place_code, peeked, raised, lowered, lowered_expr, lowered_cond, lowered_status}
 use Rattle.wf_exprs.specs.Grown.{HasExpr}
-use Rattle.wf_exprs.specs.Making.{linked_by, is_number_at}
+use Rattle.wf_exprs.specs.Making.{linked_by}
 use Rattle.wf_exprs.specs.Words.{num, two, uint_of}
 use Rattle.c_text.specs.declared.kinds.COp.TheVariants.{Add}
-
--- The trees of a node.
-abbrev pub node_number : TypedNodes → ExprId → NumTree
-node_number nodes e = num_in (tree_of nodes e)
-
-abbrev pub node_slice : TypedNodes → ExprId → SliceTree
-node_slice nodes e = slice_in (tree_of nodes e)
-
-abbrev pub node_cond : TypedNodes → ExprId → CondTree
-node_cond nodes e = cond_in (tree_of nodes e)
-
-abbrev pub node_status : TypedNodes → ExprId → StatusTree
-node_status nodes e = status_in (tree_of nodes e)
-
--- Kinds of operators.
-abbrev pub is_arithmetic : Sort → Bool
-is_arithmetic (arithmetic op) = true
-is_arithmetic sort = false
-
-abbrev pub is_joining : Sort → Bool
-is_joining (joining both) = true
-is_joining sort = false
-
-abbrev pub is_ordering : Sort → Bool
-is_ordering (ordering op) = true
-is_ordering sort = false
-
-abbrev pub order_in : Sort → Order
-order_in (ordering op) = op
-order_in sort = equal
-
-abbrev pub is_equal : Order → Bool
-is_equal equal = true
-is_equal op = false
 
 -- What is a single value in C.
 abbrev pub is_single : Ty → Bool
@@ -97,11 +61,6 @@ HasOperands nodes [] no_operand = ⊤
 HasOperands nodes (e ∷ es) (operand t ts) = HasExpr nodes e.0 t × HasOperands nodes es ts
 HasOperands nodes [] (operand t ts) = ⊥
 HasOperands nodes (e ∷ es) no_operand = ⊥
-
--- The end of a part stands before it, and is a number.
-abbrev pub end_fits : TypedNodes → (e : ExprId) → Option ExprId → Bool
-end_fits nodes e None = true
-end_fits nodes e (Some i) = nat_lt i.0 e.0 && is_number_at nodes i
 
 -- Parts of what a reader is asked for: the place of the next byte but k, a byte in the type of a width, and the third and
 -- the fourth byte of a number.

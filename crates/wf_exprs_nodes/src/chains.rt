@@ -3,13 +3,14 @@
 ghost use Rattle.std.specs.Prelude.{◌≡◌, ◌<◌, true, length, IsTrue, IfOk};
 ghost use Rattle.wf_base.specs.BaseTable.{bits_of};
 ghost use Rattle.wf_ast.specs.TypedTrees.{sort_of};
+ghost use Rattle.wf_ast.specs.OperatorForms.{is_joining};
 ghost use Rattle.c_text.specs.CFits.{HasExprs};
 ghost use Rattle.c_text.specs.CNodes.{expr_of, operands_in};
 ghost use Rattle.c_text.specs.CTree as c;
 ghost use Rattle.wf_exprs.specs.Exprs.{balanced as balanced_code, calculated as calculated_of, rated};
 ghost use Rattle.wf_exprs.specs.Grown.{Grows, HasExpr};
 ghost use Rattle.wf_exprs.specs.Making.{HasRated, c_op, linked_by, rated_in};
-ghost use Rattle.wf_exprs_nodes.specs.Trees.{is_joining, repeats as repeats_sort};
+ghost use Rattle.wf_exprs_nodes.specs.Trees.{repeats as repeats_sort};
 
 use c_text::{CExpr, CExprId, CList, Unit};
 use std::alloc::Global;

@@ -6,14 +6,16 @@ ghost use Rattle.wf_base.specs.BaseTable.{bits_of, row_of};
 ghost use Rattle.wf_ast.specs.TypedTree.{field, cut as cut_tree, element as element_tree, convert};
 ghost use Rattle.wf_ast.specs.TypedTrees.{answer_of, chain_of, end_in, first_sign, named, num_type, place_of_node, signs_of_node, sort_of, tree_of, type_of_node};
 ghost use Rattle.wf_ast.specs.TypedInvariant.{has_kind, is_expr};
+ghost use Rattle.wf_ast.specs.NodeKinds.{is_number_at, is_slice_at, end_fits, node_number, node_slice};
+ghost use Rattle.wf_ast.specs.OperatorForms.{is_arithmetic};
 ghost use Rattle.wf_exprs.specs.Exprs.{calculated as calculated_of, given as given_code, is_array, literal_type as type_of_literal, lowered, lowered_end, lowered_expr, lowered_slice, path_code, path_pair as pair_of_path, rated};
 ghost use Rattle.wf_exprs.specs.Grown.{Grows, HasExpr};
-ghost use Rattle.wf_exprs.specs.Making.{HasEnd, HasPair, HasRated, is_number_at, is_slice_at};
+ghost use Rattle.wf_exprs.specs.Making.{HasEnd, HasPair, HasRated};
 ghost use Rattle.wf_exprs.specs.Names.{Names};
 ghost use Rattle.wf_exprs.specs.Scopes.{path_of};
 ghost use Rattle.wf_exprs.specs.Words.{literal as literal_of, num};
 ghost use Rattle.wf_num.specs.declared.c_arithmetic.CTy.TheVariants.{Int};
-ghost use Rattle.wf_exprs_nodes.specs.Trees.{answers_number, end_fits, is_arithmetic, node_number, node_slice, repeats as repeats_sort};
+ghost use Rattle.wf_exprs_nodes.specs.Trees.{answers_number, repeats as repeats_sort};
 
 use crate::asking::{bytes_left, peek, position};
 use crate::chains::{link, number_operation, repeats};
@@ -53,7 +55,7 @@ pub fn number(scope: &Scope, u: &mut Unit, e: ExprId) -> Result<Rated, NoMemory>
 }
 
 /// A number that is known.
-pub fn constant(u: &mut Unit, n: u64) -> Result<Rated, NoMemory>
+pub(crate) fn constant(u: &mut Unit, n: u64) -> Result<Rated, NoMemory>
     ensures grows { Grows u.old u.new }
     ensures made { IfOk result (λ a. HasRated u.new a (rated (num n) (type_of_literal (literal_of n)))) }
 {

@@ -95,7 +95,7 @@ fn part_length(
 }
 
 /// The part of a slice from one end up to another; absent ends are 0 and the length.
-pub fn part(
+pub(crate) fn part(
     alloc: Global,
     u: &mut Unit,
     whole: Cells,

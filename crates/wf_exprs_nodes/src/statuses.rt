@@ -3,16 +3,15 @@
 ghost use Rattle.std.specs.Prelude.{◌≡◌, ◌<◌, true, false, length, IsTrue, IfOk};
 ghost use Rattle.wf_ast.specs.TypedInvariant.{is_expr, is_state};
 ghost use Rattle.wf_ast.specs.TypedTrees.{place_of_node, type_of_node, tree_of, named};
+ghost use Rattle.wf_ast.specs.NodeKinds.{is_status_at, node_status};
 ghost use Rattle.c_text.specs.CGrammar.{is_literal as is_literal_tree};
 ghost use Rattle.c_text.specs.CNodes.{expr_of};
 ghost use Rattle.c_text.specs.CTree as c;
 ghost use Rattle.c_text.specs.declared.kinds.COp.TheVariants.{Eq};
 ghost use Rattle.wf_exprs.specs.Exprs.{begins_with as begins_with_code, category_code, is_constant as is_constant_tree, lowered_status, status_constant as constant_code};
 ghost use Rattle.wf_exprs.specs.Grown.{Grows, HasExpr};
-ghost use Rattle.wf_exprs.specs.Making.{is_status_at};
 ghost use Rattle.wf_exprs.specs.Scopes.{path_of};
 ghost use Rattle.wf_exprs.specs.Words.{num, two as two_trees};
-ghost use Rattle.wf_exprs_nodes.specs.Trees.{node_status};
 
 use c_text::{CExpr, CExprId, COp, Unit};
 use std::alloc::Global;
@@ -69,7 +68,7 @@ fn held_status(scope: &Scope, u: &mut Unit, e: ExprId, path: Path) -> Result<CEx
 }
 
 /// Whether a status is a constant.
-pub fn is_constant(t: &Typed, e: ExprId) -> bool
+pub(crate) fn is_constant(t: &Typed, e: ExprId) -> bool
     requires { IsTrue (is_status_at t.now e) }
     ensures { result ≡ is_constant_tree (node_status t.now e) }
 {

@@ -10,7 +10,7 @@ use Rattle.wf_facts_exprs.specs.declared.facts.Fact.{Fact}
 use Rattle.wf_facts_exprs.specs.Claims.{Claim, claim_in, claims_in, claim_mentions, same_claim, is_among, is_fact}
 use Rattle.wf_facts.specs.declared.sets.FactSet.{FactSet}
 use Rattle.wf_facts.specs.Sets.{member, members, IsSetOf, unmarked}
-use Rattle.wf_facts.specs.FactLists.{added, common}
+use Rattle.wf_facts.specs.FactLists.{common}
 use Rattle.wf_facts.specs.IndexedFacts.{FactList, IsOver, has_set, set_number, set_of, mentioning, words_at, thing_of}
 use Rattle.wf_facts.proofs.SetLemmas.{members_known, IsSetOf-put}
 use Rattle.wf_facts.proofs.DropLemmas.{length-mentioning, number_below}
@@ -112,10 +112,3 @@ IsOver-pushed nodes old f list sets before n count same more fact marks over =
           let P : List Bool → Type 0 = IsSetOf (words_at sets k) in
           subst P (sym (map-append (λ g. claim_mentions x (claim_in nodes g)) old.list (f ∷ []))) (IsSetOf-put (set_of old x) (words_at sets k) (mentioning nodes x old.list) b (over.sets x h) put);
     })
-
-pub claims-pushed : (nodes : TypedNodes) (fs gs : List Fact) (f : Fact) → gs ≡ fs ++ f ∷ [] → is_among (claims_in nodes fs) (claim_in nodes f) ≡ false
-    → claims_in nodes gs ≡ added (claims_in nodes fs) (claim_in nodes f)
-claims-pushed nodes fs gs f more none = ap (claims_in nodes) more ∙ map-append (claim_in nodes) fs (f ∷ []) ∙ sym (rw none refl)
-
-pub claims-standing : (nodes : TypedNodes) (fs : List Fact) (f : Fact) → is_among (claims_in nodes fs) (claim_in nodes f) ≡ true → claims_in nodes fs ≡ added (claims_in nodes fs) (claim_in nodes f)
-claims-standing nodes fs f there = sym (rw there refl)

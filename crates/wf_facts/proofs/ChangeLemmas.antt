@@ -1,57 +1,20 @@
 -- What is still known of a number once it has changed.
 use Rattle.std.proofs.Common.{◌≡◌, ℕ, zero, suc, ◌+◌, ◌<◌, ◌≤◌, Bool, true, false, ◌||◌, List, [], ◌∷◌, ◌++◌, length, get_or, take, drop, map, Option, Some, None, refl, sym, ap, ◌∙◌, subst, arith, add-one}
-use Rattle.std.specs.Prelude.{slice_set, nat_eq, option_map}
+use Rattle.std.specs.Prelude.{slice_set, nat_eq}
 use Rattle.std.proofs.lemmas.Bool.{ne_eqb, eq-eqb}
 use Rattle.std.proofs.lemmas.List.{append-nil, take_more, take_more_set, get_or-drop, drop-drop, drop-set-lt, length-set, length-take-le, length-map, take_all, map-append}
 use Rattle.std.proofs.lemmas.List.Elements.{All-set}
 use Rattle.wf_ast.specs.declared.things.Thing.{Thing}
 use Rattle.wf_ast.specs.declared.typed_nodes.TypedNodes.{TypedNodes}
-use Rattle.wf_ast.specs.TypedTree.{number, Order}
-use Rattle.wf_ast.specs.TypedTrees.{no_place}
 use Rattle.wf_facts_exprs.specs.declared.facts.Fact.{Fact}
-use Rattle.wf_facts_exprs.specs.Claims.{SideTree, single, sum, tree_of_side, Claim, compared, side_mentions, claim_in, claims_in, claim_mentions, is_fact, AreFacts}
+use Rattle.wf_facts_exprs.specs.Claims.{Claim, claim_in, claims_in, claim_mentions, is_fact, AreFacts}
 use Rattle.wf_facts.specs.declared.sets.FactSet.{FactSet}
 use Rattle.wf_facts.specs.declared.changes.Change.{Change}
-use Rattle.wf_facts.specs.declared.changes.Change.TheVariants.{Raised, Lowered, Shortened}
-use Rattle.wf_facts.specs.Forms.{form_of, number_in}
 use Rattle.wf_facts.specs.Sets.{member, members, IsSetOf, unmarked}
-use Rattle.wf_facts.specs.FactLists.{changed, still_known, moves_with, moved_number}
+use Rattle.wf_facts.specs.FactLists.{changed, still_known}
 use Rattle.wf_facts.specs.IndexedFacts.{FactList, IsOver, mentioning, set_of, set_number, words_at}
 use Rattle.wf_facts.proofs.SetLemmas.{length-members, unmarked-push, members_known}
 use Rattle.wf_facts.proofs.DropLemmas.{length-mentioning, item_at}
-
--- One comparison.
-module _ (change : Change) (op : Order) where
-  pub known_none : (l r : SideTree) → None ≡ number_in (tree_of_side r) → None ≡ still_known change (compared l op r)
-  known_none (single a) (single (number at n)) h = absurd (cc (h))
-  known_none (sum a b) (single (number at n)) h = absurd (cc (h))
-  known_none (single a) (single t) h = refl
-  known_none (sum a b) (single t) h = refl
-  known_none (single a) (sum c d) h = refl
-  known_none (sum a b) (sum c d) h = refl
-
-  pub known_silent : (l r : SideTree) (n : ℕ) → Some n ≡ number_in (tree_of_side r) → moves_with change (form_of (tree_of_side l)) op ≡ false → None ≡ still_known change (compared l op r)
-  known_silent (single a) (single (number at m)) n h s = sym (rw s refl)
-  known_silent (sum a b) (single (number at m)) n h s = refl
-  known_silent l (single t) n h s = absurd (cc (h))
-  known_silent l (sum c d) n h s = absurd (cc (h))
-
-  pub known_moved : (l r : SideTree) (n : ℕ) → Some n ≡ number_in (tree_of_side r) → moves_with change (form_of (tree_of_side l)) op ≡ true
-      → still_known change (compared l op r) ≡ option_map (λ m. compared l op (single (number no_place m))) (moved_number change n)
-  known_moved (single a) (single (number at m)) n h s = let e : m ≡ n = cc (h) in rw (s, e) refl
-  known_moved (sum a b) (single (number at m)) n h s = absurd (no_sum change s)
-    where
-      no_sum : (change : Change) → moves_with change (form_of (tree_of_side (sum a b))) op ≡ true → ⊥
-      no_sum (Raised k) s = absurd (cc (s))
-      no_sum (Lowered k) s = absurd (cc (s))
-      no_sum (Shortened k) s = absurd (cc (s))
-  known_moved l (single t) n h s = absurd (cc (h))
-  known_moved l (sum c d) n h s = absurd (cc (h))
-
-pub number_mentions_nothing : (x : Thing) (r : SideTree) (n : ℕ) → Some n ≡ number_in (tree_of_side r) → side_mentions x r ≡ false
-number_mentions_nothing x (single (number at m)) n h = refl
-number_mentions_nothing x (single t) n h = absurd (cc (h))
-number_mentions_nothing x (sum c d) n h = absurd (cc (h))
 
 -- A list whose marked items are taken along.
 abbrev onto : Option Claim → List Claim → List Claim

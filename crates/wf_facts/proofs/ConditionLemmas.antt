@@ -10,8 +10,10 @@ use Rattle.wf_ast.specs.TypedTree.{Order, less, at_most, equal, differs, at_leas
 use Rattle.wf_ast.specs.TypedTrees.{Sort, arithmetic, ordering, joining, num_in, cond_in, cond_chain, chain_of, comparison, first_sign, tree_of, type_of_node}
 use Rattle.wf_ast.specs.TypedInvariant.{is_numeric, is_logical, is_tree_of, chain_fits, compares_kinds}
 use Rattle.wf_ast.specs.Value.{same_truth}
+use Rattle.wf_ast.specs.NodeKinds.{node_cond, node_number}
+use Rattle.wf_ast.specs.OperatorForms.{is_joining, order_in}
 use Rattle.wf_facts_exprs.specs.Claims.{Claim, stands, turned, with_answer, facts_of}
-use Rattle.wf_facts_exprs.specs.Operands.{node_cond, node_number, is_joining, joins_all, order_in}
+use Rattle.wf_facts_exprs.specs.Operands.{joins_all}
 use Rattle.wf_facts_exprs.proofs.PassLemmas.{both_of}
 use Rattle.wf_facts_exprs.proofs.JudgeLemmas.{numeric-not-logical}
 use Rattle.wf_facts.specs.FactLists.{added, all_added}

@@ -3,7 +3,7 @@ use Rattle.std.proofs.Common.{◌≡◌, ℕ, zero, suc, ◌+◌, ◌<◌, ◌�
 use Rattle.std.specs.Prelude.{slice_set, nat_eq, replicate}
 use Rattle.std.proofs.lemmas.Bool.{cases_eq, cases_lt}
 use Rattle.std.proofs.lemmas.Bool.Decides.{nat_tests}
-use Rattle.std.proofs.lemmas.List.{append-nil, take_more, take_more_set, get_or-drop, drop-drop, drop-set-lt, length-set, length-take-le, take_all, get_or_default, map-append}
+use Rattle.std.proofs.lemmas.List.{append-nil, take_more, take_more_set, get_or-drop, drop-drop, drop-set-lt, length-set, length-take-le, get_or_default, map-append}
 use Rattle.std.proofs.lemmas.List.Elements.{All-nil, All-cons, All-head, All-tail}
 use Rattle.wf_ast.specs.declared.things.Thing.{Thing}
 use Rattle.wf_ast.specs.declared.things.Thing.TheVariants as things
@@ -72,12 +72,6 @@ module _ {X : Type 0} (dropped : List ℕ) (xs ys : List X) (stay i : ℕ) (c : 
 
 pub Closes-first : {X : Type 0} (dropped : List ℕ) (xs : List X) (first : ℕ) → ((k : ℕ) → k < first → member dropped k ≡ false) → Closes dropped xs xs first first
 Closes-first dropped xs first before = record { front = sym (all_stay dropped first (take first xs) before); rest = refl; behind = omega arith; long = refl }
-
-pub Closes-all : {X : Type 0} (dropped : List ℕ) (xs ys : List X) (stay i : ℕ) → Closes dropped xs ys stay i → length xs ≤ i → i ≤ length xs → take stay ys ≡ unmarked (members dropped (length xs)) xs
-Closes-all dropped xs ys stay i c h k =
-    let e : i ≡ length xs = omega (arith, h, k) in
-    let P : ℕ → Type 0 = λ n. take stay ys ≡ unmarked (members dropped n) (take n xs) in
-    subst P e c.front ∙ ap (unmarked (members dropped (length xs))) (take_all (length xs) xs (omega arith))
 
 -- Sets by place.
 pub words_read : (sets : List FactSet) (k : ℕ) (s : FactSet) → k < length sets → s ≡ get_or sets k s → words_at sets k ≡ s.words

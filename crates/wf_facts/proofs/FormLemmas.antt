@@ -1,5 +1,5 @@
 -- What the numbers of a typed package are.
-use Rattle.std.proofs.Common.{◌≡◌, ℕ, suc, ◌+◌, Bool, true, false, ◌&&◌, ◌||◌, List, [], ◌∷◌, length, map, Option, None, Some, refl, sym, ap, ◌∙◌, subst, arith}
+use Rattle.std.proofs.Common.{◌≡◌, ℕ, suc, Bool, true, false, ◌&&◌, ◌||◌, List, [], ◌∷◌, length, map, Option, None, Some, refl, sym, ap, ◌∙◌, subst, arith}
 use Rattle.std.specs.Prelude.{if◌then◌else◌, nat_eq, is_some}
 use Rattle.std.proofs.lemmas.Bool.{and_parts, ne_eqb}
 use Rattle.wf_text.specs.declared.place.Place.{Place}
@@ -21,7 +21,8 @@ use Rattle.wf_ast.specs.TypedTrees.{Sort, arithmetic, ordering, joining, sort_of
 use Rattle.wf_ast.specs.TypedInvariant.{is_expr, is_numeric, is_logical, is_state, is_list, is_io, is_tree_of, is_given, kind_fits, node_fits, chain_fits, has_kind}
 use Rattle.wf_ast.specs.WellTyped.{same_mark}
 use Rattle.wf_ast.specs.Same.{same_arith}
-use Rattle.wf_facts_exprs.specs.Claims.{sum_of, tree_of_side, length_in, is_number_at}
+use Rattle.wf_ast.specs.NodeKinds.{is_number_at}
+use Rattle.wf_facts_exprs.specs.Claims.{length_in}
 use Rattle.wf_facts.specs.declared.forms.Form.{Form}
 use Rattle.wf_facts.specs.declared.forms.Form.TheVariants as forms
 use Rattle.wf_facts.specs.Forms.{form_of, form_of_node, form_of_method, number_in}
@@ -167,21 +168,6 @@ module _ (nodes : TypedNodes) (e : ExprId) (expr : Expr)
   pub number_is : (k : Option ℕ) → k ≡ constant_of_node nodes e.0 → k ≡ number_in (num_in (tree_of nodes e))
   number_is (Some n) is = sym (rw (by_constant (Some n) (sym is)).0 refl)
   number_is None is = sym (no_number (num_in (tree_of nodes e)) expr (other_form (sym is)))
-
--- The sum of two numbers is a number where both are constant.
-pub both_numbers : (a b : NumTree) (m n : ℕ) → Some m ≡ number_in a → Some n ≡ number_in b → (form_of (tree_of_side (sum_of a b)) ≡ forms.Number) × (number_in (tree_of_side (sum_of a b)) ≡ Some (m + n))
-both_numbers (number at m') (number at' n') m n h k = (refl, sym (cc (h, k)))
-both_numbers (number at m') b m n h k = absurd (cc (k))
-both_numbers a b m n h k = absurd (cc (h))
-
-pub first_no_number : (a b : NumTree) → None ≡ number_in a → (form_of (tree_of_side (sum_of a b)) ≡ forms.Sum) × (number_in (tree_of_side (sum_of a b)) ≡ None)
-first_no_number (number at m) b h = absurd (cc (h))
-first_no_number a b h = (refl, refl)
-
-pub second_no_number : (a b : NumTree) → None ≡ number_in b → (form_of (tree_of_side (sum_of a b)) ≡ forms.Sum) × (number_in (tree_of_side (sum_of a b)) ≡ None)
-second_no_number a (number at n) h = absurd (cc (h))
-second_no_number (number at m) b h = (refl, refl)
-second_no_number a b h = (refl, refl)
 
 -- A length is no number.
 length_tree : (nodes : TypedNodes) (e : ExprId) (ty : Ty) (t : ValueTree) → (is_list ty || is_io ty) ≡ true → is_tree_of ty t ≡ true

@@ -5,28 +5,19 @@ use Rattle.std.proofs.lemmas.Bool.{cases_eq}
 use Rattle.std.proofs.lemmas.Bool.Decides.{nat_tests}
 use Rattle.wf_ast.specs.declared.numbers.ExprId.{ExprId}
 use Rattle.wf_ast.specs.declared.things.Thing.{Thing}
-use Rattle.wf_ast.specs.declared.types.Ty.{Ty}
 use Rattle.wf_ast.specs.declared.typed_code.Expr.{Expr}
 use Rattle.wf_ast.specs.declared.typed_nodes.TypedNodes.{TypedNodes}
-use Rattle.wf_ast.specs.TypedTree.{local, field, arg, ValueTree}
+use Rattle.wf_ast.specs.TypedTree.{ValueTree}
 use Rattle.wf_ast.specs.TypedTrees.{tree_of, type_of_node, constant_of_node}
-use Rattle.wf_ast.specs.TypedInvariant.{parts_of, is_list}
-use Rattle.wf_ast.specs.Mentions.{path_is, is_element, mentions}
-use Rattle.wf_ast.specs.SameNodes.{head_mentions, any_mentions, local_is}
+use Rattle.wf_ast.specs.TypedInvariant.{parts_of}
+use Rattle.wf_ast.specs.Mentions.{mentions}
+use Rattle.wf_ast.specs.SameNodes.{head_mentions, any_mentions}
 use Rattle.wf_ast.proofs.SameLaws.{Lent}
 use Rattle.wf_ast.proofs.MentionLaws.{head_seen, part_seen, part_unseen, nothing_seen}
 use Rattle.wf_facts.specs.declared.sets.FactSet.{FactSet}
 use Rattle.wf_facts.specs.Sets.{member}
-use Rattle.wf_facts.specs.IndexedFacts.{Marks, thing_of, words_at}
+use Rattle.wf_facts.specs.IndexedFacts.{Marks, words_at}
 use Rattle.wf_facts.proofs.DropLemmas.{words_set, words_set_other}
-
--- The sets of what is met, one after the other.
-pub marks-none : (n : ℕ) (xs : List FactSet) → Marks n (λ k. false) xs xs
-marks-none n xs k h j low = by (nat_eq j n) (member (words_at xs k) j)
-  where
-    by : (e m : Bool) → m ≡ ((e && false) || m)
-    by true m = refl
-    by false m = refl
 
 pub marks-same : (n : ℕ) (p q : ℕ → Bool) (xs ys : List FactSet) → ((k : ℕ) → k < 260 → p k ≡ q k) → Marks n p xs ys → Marks n q xs ys
 marks-same n p q xs ys same m k h j low = m k h j low ∙ ap (λ b. (nat_eq j n && b) || member (words_at xs k) j) (same k h)
@@ -129,48 +120,5 @@ module _ (nodes : TypedNodes) (e : ExprId) (expr : Expr) (it : Lent nodes e expr
       by true m = sym (head_seen nodes e expr it x h (type_of_node nodes e.0) refl m) ∙ sym (ap (λ b. b || any_mentions (tree_of nodes) x (parts_of expr)) m)
       by false m = parts-seen m (parts_of expr) 0 refl refl ∙ sym (ap (λ b. b || any_mentions (tree_of nodes) x (parts_of expr)) m)
 
--- The set of each thing that a node names by itself.
-each-set : (P : ℕ → Type 0) → P 0 → P 1 → P 2 → P 3 → ((k : ℕ) → k < 256 → P (suc (suc (suc (suc k))))) → (k : ℕ) → k < 260 → P k
-each-set P this args element slices low zero h = this
-each-set P this args element slices low (suc zero) h = args
-each-set P this args element slices low (suc (suc zero)) h = element
-each-set P this args element slices low (suc (suc (suc zero))) h = slices
-each-set P this args element slices low (suc (suc (suc (suc k)))) h = low k (omega (arith, h))
-
 past : (k m : ℕ) → m < 4 → nat_eq (suc (suc (suc (suc k)))) m ≡ false
 past k m h = grind (arith, nat_tests, h)
-
-pub field-met : (n k : ℕ) → k < 260 → path_is (thing_of k) (field n) ≡ nat_eq k 0
-field-met n = each-set (λ k. path_is (thing_of k) (field n) ≡ nat_eq k 0) refl refl refl refl (λ k l. sym (past k 0 (omega arith)))
-
-pub arg-met : (n k : ℕ) → k < 260 → path_is (thing_of k) (arg n) ≡ nat_eq k 1
-arg-met n = each-set (λ k. path_is (thing_of k) (arg n) ≡ nat_eq k 1) refl refl refl refl (λ k l. sym (past k 1 (omega arith)))
-
-pub element-met : (k : ℕ) → k < 260 → is_element (thing_of k) ≡ nat_eq k 2
-element-met = each-set (λ k. is_element (thing_of k) ≡ nat_eq k 2) refl refl refl refl (λ k l. sym (past k 2 (omega arith)))
-
-pub local-met : (n k : ℕ) → k < 260 → path_is (thing_of k) (local n) ≡ nat_eq k (4 + n)
-local-met n = each-set (λ k. path_is (thing_of k) (local n) ≡ nat_eq k (4 + n)) (sym (short 0 (omega arith))) (sym (short 1 (omega arith))) (sym (short 2 (omega arith))) (sym (short 3 (omega arith))) (λ k l. by k (cases_eq k n))
-  where
-    short : (m : ℕ) → m < 4 → nat_eq m (4 + n) ≡ false
-    short m h = grind (arith, nat_tests, h)
-
-    by : (k : ℕ) → (k ≡ n) ⊎ (k ≡ n → ⊥) → nat_eq k n ≡ nat_eq (suc (suc (suc (suc k)))) (4 + n)
-    by k (inl e) =
-        let a : nat_eq k n ≡ true = grind (arith, nat_tests, e) in
-        let b : nat_eq (suc (suc (suc (suc k)))) (4 + n) ≡ true = grind (arith, nat_tests, e) in a ∙ sym b
-    by k (inr e) =
-        let a : nat_eq k n ≡ false = grind (arith, nat_tests, e) in
-        let b : nat_eq (suc (suc (suc (suc k)))) (4 + n) ≡ false = grind (arith, nat_tests, e) in a ∙ sym b
-
--- A local from 256 on has no set.
-pub local-unmet : (n k : ℕ) → 256 ≤ n → k < 260 → false ≡ path_is (thing_of k) (local n)
-local-unmet n k h = each-set (λ k. false ≡ path_is (thing_of k) (local n)) refl refl refl refl (λ k l. let other : nat_eq k n ≡ false = grind (arith, nat_tests, h, l) in sym other) k
-
-pub local-is-met : (ty : Ty) (n k : ℕ) → k < 260 → (path_is (thing_of k) (local n) || (is_list ty && nat_eq k 3)) ≡ local_is (thing_of k) ty n
-local-is-met ty n = each-set (λ k. (path_is (thing_of k) (local n) || (is_list ty && nat_eq k 3)) ≡ local_is (thing_of k) ty n) refl refl refl refl (λ k l. let other = past k 3 (omega arith) in rw other (by (nat_eq k n) (is_list ty)))
-  where
-    by : (b l : Bool) → (b || (l && false)) ≡ (b || (l && b))
-    by true l = refl
-    by false true = refl
-    by false false = refl

@@ -12,8 +12,9 @@ use Rattle.wf_ast.specs.TypedTrees.{made_or_number, tree_of, num_in, cond_in, ty
 use Rattle.wf_ast.specs.TypedInvariant.{is_expr, is_numeric, is_logical, is_list, is_io, is_tree_of, node_fits}
 use Rattle.wf_ast.specs.Same.{same, same_cond}
 use Rattle.wf_ast.specs.Mentions.{mentions, num_mentions, cond_mentions}
+use Rattle.wf_ast.specs.NodeKinds.{is_number_at, is_condition_at}
 use Rattle.wf_ast.proofs.TreeKinds.{made_or_number_kind}
-use Rattle.wf_facts_exprs.specs.Claims.{sum_of, side_mentions, length_in, is_number_at, is_condition_at}
+use Rattle.wf_facts_exprs.specs.Claims.{sum_of, side_mentions, length_in}
 
 -- The tree of a node is of the kind of its type.
 pub node_kind : (nodes : TypedNodes) (e : ExprId) (expr : Expr)

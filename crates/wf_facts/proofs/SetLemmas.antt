@@ -283,9 +283,6 @@ HasMoved-on dropped own moved i j h m none =
     let e : i + (j - i) ≡ j = omega (arith, h) in
     subst P e (more-absent dropped own moved i (j - i) m (λ k a b. none k a (omega (arith, b, h))))
 
-pub HasMoved-none : (dropped own moved : List ℕ) → IsSetOf moved [] → HasMoved dropped own moved 0
-HasMoved-none dropped own moved set = set
-
 -- A set of known marks has them as its members.
 front-more : (ms : List Bool) (n : ℕ) → n < length ms → take n ms ++ marked ms n ∷ [] ≡ take (suc n) ms
 front-more [] n h = absurd (omega (arith, h))

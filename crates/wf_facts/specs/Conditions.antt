@@ -2,8 +2,8 @@
 use Rattle.std.specs.Prelude.{◌≡◌, ℕ, Bool, false, List, [], ◌∷◌, ◌++◌, length, take, Some, slice_get}
 use Rattle.wf_ast.specs.declared.numbers.ExprId.{ExprId}
 use Rattle.wf_ast.specs.declared.typed_nodes.TypedNodes.{TypedNodes}
+use Rattle.wf_ast.specs.NodeKinds.{node_cond}
 use Rattle.wf_facts_exprs.specs.Claims.{Claim, is_among, facts_of}
-use Rattle.wf_facts_exprs.specs.Operands.{node_cond}
 use Rattle.wf_facts.specs.FactLists.{all_added}
 
 -- The facts of several conditions with one answer, in order.

@@ -1,6 +1,6 @@
 // What is still known of a number once it has changed.
 
-ghost use Rattle.std.specs.Prelude.{◌≡◌, ℕ, ◌≤◌, ◌<◌, ◌^◌, length, true, option_map, IfSome, if◌then◌else◌};
+ghost use Rattle.std.specs.Prelude.{◌≡◌, ℕ, ◌≤◌, ◌<◌, ◌^◌, length, true, option_map, IfSome};
 ghost use Rattle.wf_ast.specs.declared.things.Thing.{Thing};
 ghost use Rattle.wf_ast.specs.declared.things.Thing.TheVariants as things;
 ghost use Rattle.wf_facts.specs.declared.changes.Change.TheVariants as changes;
@@ -18,21 +18,6 @@ use wf_ast::{ArgId, Thing, Typed};
 use wf_facts_exprs::{Cmp, Fact, Side};
 
 impl Facts {
-    /// A variable grows, or without `up` shrinks, by a constant: a comparison with a number goes on with the number that has
-    /// grown or shrunk likewise, and is dropped where that isn't one of 64 bits; so are all other facts that mention it.
-    pub fn shift(&mut self, t: &Typed, x: Thing, k: u64, up: bool)
-        requires few { IsNamedInSets x }
-        requires over { IsOver t.now self.old }
-        ensures over { IsOver t.now self.new }
-        ensures claims { claims_in t.now self.new.list ≡ changed x (if up then changes.Raised k else changes.Lowered k) (claims_in t.now self.old.list) }
-    {
-        if up {
-            self.change(t, x, Change::Raised(k));
-        } else {
-            self.change(t, x, Change::Lowered(k));
-        }
-    }
-
     /// The length of a reader or a writer shrinks by at most `k`, or by what isn't known: that it is at least a number, or
     /// above one, goes on with the number less `k` where `k` doesn't exceed it; all other facts that mention it are dropped.
     pub fn lower_length(&mut self, t: &Typed, io: ArgId, k: Option<u64>)

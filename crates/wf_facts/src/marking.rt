@@ -6,7 +6,8 @@ ghost use Rattle.wf_ast.specs.SameNodes.{head_mentions};
 ghost use Rattle.wf_ast.specs.TypedTree.{local};
 ghost use Rattle.wf_ast.specs.TypedTrees.{cond_in, num_in, tree_of, type_of_node};
 ghost use Rattle.wf_ast.specs.TypedInvariant.{is_list as is_list_type};
-ghost use Rattle.wf_facts_exprs.specs.Claims.{claim_in, claim_mentions, side_in, side_mentions, length_in, is_condition_at, is_fact, is_number_at, is_side};
+ghost use Rattle.wf_ast.specs.NodeKinds.{is_condition_at, is_number_at};
+ghost use Rattle.wf_facts_exprs.specs.Claims.{claim_in, claim_mentions, side_in, side_mentions, length_in, is_fact, is_side};
 ghost use Rattle.wf_facts_exprs.specs.declared.facts.Side.TheVariants as sides;
 ghost use Rattle.wf_facts.specs.IndexedFacts.{Marks, thing_of};
 

@@ -3,7 +3,8 @@
 ghost use Rattle.std.specs.Prelude.{◌≡◌, IsTrue, true};
 ghost use Rattle.wf_ast.specs.TypedTrees.{tree_of, num_in, cond_in, type_of_node};
 ghost use Rattle.wf_ast.specs.Mentions.{num_mentions, cond_mentions};
-ghost use Rattle.wf_facts_exprs.specs.Claims.{claim_in, claim_mentions, side_in, length_in, is_fact, is_side, is_number_at, is_condition_at};
+ghost use Rattle.wf_ast.specs.NodeKinds.{is_number_at, is_condition_at};
+ghost use Rattle.wf_facts_exprs.specs.Claims.{claim_in, claim_mentions, side_in, length_in, is_fact, is_side};
 ghost use Rattle.wf_facts_exprs.specs.Claims.{side_mentions as tree_side_mentions};
 ghost use Rattle.wf_facts_exprs.specs.declared.facts.Side.TheVariants as sides;
 

@@ -3,7 +3,8 @@
 ghost use Rattle.std.specs.Prelude.{◌≡◌, true};
 ghost use Rattle.wf_ast.specs.TypedTrees.{tree_of, cond_in};
 ghost use Rattle.wf_ast.specs.Same.{same_cond, same_order};
-ghost use Rattle.wf_facts_exprs.specs.Claims.{claim_in, same_claim, is_fact, is_condition_at, order_of};
+ghost use Rattle.wf_ast.specs.NodeKinds.{is_condition_at};
+ghost use Rattle.wf_facts_exprs.specs.Claims.{claim_in, same_claim, is_fact, order_of};
 
 use wf_ast::{ExprId, Typed, same};
 use wf_facts_exprs::{Cmp, Fact, same_side};

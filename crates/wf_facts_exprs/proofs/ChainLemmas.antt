@@ -15,10 +15,12 @@ use Rattle.wf_ast.specs.declared.types.Ty.{Ty}
 use Rattle.wf_ast.specs.declared.typed_nodes.TypedNodes.{TypedNodes}
 use Rattle.wf_ast.specs.TypedTree.{Arith, minus, mod_minus, sat_minus, NumTree, link}
 use Rattle.wf_ast.specs.TypedTrees.{Sort, arithmetic, ordering, joining, num_in, num_chain, chain_of, first_sign, num_type, tree_of}
+use Rattle.wf_ast.specs.OperatorForms.{arith_in, is_arithmetic}
+use Rattle.wf_ast.specs.NodeKinds.{node_number}
 use Rattle.wf_facts_exprs.specs.Claims.{Claim}
 use Rattle.wf_facts_exprs.specs.RangeOf.{rule_range, part_range, range_of, is_ordered, operator_range}
 use Rattle.wf_facts_exprs.specs.Demands.{demand, or_else, operand_demand, num_refusal, unless_refused}
-use Rattle.wf_facts_exprs.specs.Operands.{arith_in, is_arithmetic, is_difference, after, rule_refusal, ruled, judged, node_number, rest_signs, is_last, part_demand, one_more, and_then_range, chain_on, part_number}
+use Rattle.wf_facts_exprs.specs.Operands.{is_difference, after, rule_refusal, ruled, judged, rest_signs, is_last, part_demand, one_more, and_then_range, chain_on, part_number}
 use Rattle.wf_facts_exprs.proofs.PassLemmas.{both_of}
 use Rattle.wf_facts_exprs.proofs.JudgeLemmas.{answer-ok, answer-err, after-or, or-none}
 

@@ -1,5 +1,5 @@
 -- The demands of conditions that stand in a chain.
-use Rattle.std.proofs.Common.{◌≡◌, ℕ, zero, suc, ◌<◌, ◌≤◌, Bool, true, false, ◌&&◌, ◌||◌, List, [], ◌∷◌, length, map, drop, Option, Some, None, nat_lt, refl, sym, ◌∙◌, arith}
+use Rattle.std.proofs.Common.{◌≡◌, ◌<◌, ◌≤◌, Bool, true, false, ◌&&◌, ◌||◌, List, [], ◌∷◌, length, map, Option, Some, None, nat_lt, refl, sym, ◌∙◌, arith}
 use Rattle.std.specs.Prelude.{slice_index_or}
 use Rattle.std.specs.List.{list_all}
 use Rattle.std.proofs.lemmas.Bool.Decides.{nat_tests}
@@ -9,12 +9,14 @@ use Rattle.wf_ast.specs.declared.numbers.ExprId.{ExprId}
 use Rattle.wf_ast.specs.declared.types.Ty.{Ty}
 use Rattle.wf_ast.specs.declared.types.Ty.TheVariants as types
 use Rattle.wf_ast.specs.declared.typed_nodes.TypedNodes.{TypedNodes}
-use Rattle.wf_ast.specs.TypedTree.{CondTree, junction, ValueTree, numeric, state, Order, less, at_most, equal, differs, at_least, greater}
+use Rattle.wf_ast.specs.TypedTree.{CondTree, junction, ValueTree, numeric, Order, equal, differs}
 use Rattle.wf_ast.specs.TypedTrees.{Sort, arithmetic, ordering, joining, num_in, cond_in, cond_chain, chain_of, comparison, first_sign, tree_of, type_of_node}
 use Rattle.wf_ast.specs.TypedInvariant.{is_expr, is_numeric, is_logical, is_tree_of, chain_fits, compares_kinds}
-use Rattle.wf_facts_exprs.specs.Claims.{Claim, is_number_at}
+use Rattle.wf_ast.specs.NodeKinds.{is_number_at, node_cond, node_number}
+use Rattle.wf_ast.specs.OperatorForms.{is_joining}
+use Rattle.wf_facts_exprs.specs.Claims.{Claim}
 use Rattle.wf_facts_exprs.specs.Demands.{or_else, num_refusal, cond_refusal}
-use Rattle.wf_facts_exprs.specs.Operands.{node_cond, node_number, is_joining, conds_refusal, is_condition_below}
+use Rattle.wf_facts_exprs.specs.Operands.{conds_refusal, is_condition_below}
 use Rattle.wf_facts_exprs.proofs.PassLemmas.{both_of}
 use Rattle.wf_facts_exprs.proofs.JudgeLemmas.{or-none, numeric-not-logical}
 
@@ -42,19 +44,6 @@ module _ (fs : List Claim) (nodes : TypedNodes) where
   numbers-refusal at sign op (types.Num width lo hi) t u h k = absurd (cc (k))
   numbers-refusal at sign op ty t u h k = absurd (cc (h))
 
-  states-refusal : (at sign : Place) (op : Order) (ty ty' : Ty) (t u : ValueTree) → compares_kinds (ordering op) ty ty' ≡ true → is_numeric ty ≡ false → is_tree_of ty t ≡ true → cond_refusal fs (cond_in (comparison at sign op t u)) ≡ None
-  states-refusal at sign equal types.Status ty' (state a) u h k l = refl
-  states-refusal at sign differs types.Status ty' (state a) u h k l = refl
-  states-refusal at sign less types.Status ty' t u h k l = absurd (cc (h))
-  states-refusal at sign at_most types.Status ty' t u h k l = absurd (cc (h))
-  states-refusal at sign at_least types.Status ty' t u h k l = absurd (cc (h))
-  states-refusal at sign greater types.Status ty' t u h k l = absurd (cc (h))
-  states-refusal at sign op types.Status ty' t u h k l = absurd (cc (l))
-  states-refusal at sign op (types.Num width lo hi) ty' t u h k l = absurd (cc (k))
-  states-refusal at sign equal ty ty' t u h k l = absurd (cc (h))
-  states-refusal at sign differs ty ty' t u h k l = absurd (cc (h))
-  states-refusal at sign op ty ty' t u h k l = absurd (cc (h))
-
   pub pair-refusal : (at : Place) (signs : List Place) (ty : Ty) (sort : Sort) (es : List ExprId) (d : ExprId) → chain_fits nodes sort es ty ≡ true → is_joining sort ≡ false → is_logical ty ≡ true
       → is_numeric (type_of_node nodes (slice_index_or es 0 d).0) ≡ true → is_tree_of (type_of_node nodes (slice_index_or es 0 d).0) (tree_of nodes (slice_index_or es 0 d)) ≡ true
       → cond_refusal fs (cond_in (chain_of at signs ty sort (map (tree_of nodes) es))) ≡ or_else (num_refusal fs false (node_number nodes (slice_index_or es 0 d))) (num_refusal fs false (node_number nodes (slice_index_or es 1 d)))
@@ -62,14 +51,6 @@ module _ (fs : List Claim) (nodes : TypedNodes) where
   pair-refusal at signs ty (arithmetic op) (e ∷ f ∷ es) d h k l m n = absurd (numeric-not-logical ty (both_of (is_numeric ty) _ h).0 l)
   pair-refusal at signs ty (joining both) es d h k l m n = absurd (cc (k))
   pair-refusal at signs ty sort es d h k l m n = absurd (cc (h))
-
-  pub pair-states : (at : Place) (signs : List Place) (ty : Ty) (sort : Sort) (es : List ExprId) (d : ExprId) → chain_fits nodes sort es ty ≡ true → is_joining sort ≡ false → is_logical ty ≡ true
-      → is_numeric (type_of_node nodes (slice_index_or es 0 d).0) ≡ false → is_tree_of (type_of_node nodes (slice_index_or es 0 d).0) (tree_of nodes (slice_index_or es 0 d)) ≡ true
-      → cond_refusal fs (cond_in (chain_of at signs ty sort (map (tree_of nodes) es))) ≡ None
-  pair-states at signs ty (ordering op) (e ∷ f ∷ []) d h k l m n = states-refusal at (first_sign at signs) op (type_of_node nodes e.0) (type_of_node nodes f.0) (tree_of nodes e) (tree_of nodes f) (both_of (is_logical ty) _ h).1 m n
-  pair-states at signs ty (arithmetic op) (e ∷ f ∷ es) d h k l m n = absurd (numeric-not-logical ty (both_of (is_numeric ty) _ h).0 l)
-  pair-states at signs ty (joining both) es d h k l m n = absurd (cc (k))
-  pair-states at signs ty sort es d h k l m n = absurd (cc (h))
 
 -- ---- what the parts are
 
@@ -127,10 +108,3 @@ module _ (nodes : TypedNodes) (e : ExprId) (inside : e.0 < length nodes.exprs) w
   pair-parts ty (arithmetic op) (p ∷ q ∷ es) d h k l below = absurd (numeric-not-logical ty (both_of (is_numeric ty) _ h).0 l)
   pair-parts ty (joining both) es d h k l below = absurd (cc (k))
   pair-parts ty sort es d h k l below = absurd (cc (h))
-
--- The parts that are left, from one on.
-pub conds-next : (fs : List Claim) (nodes : TypedNodes) (es : List ExprId) (i : ℕ) (d : ExprId) → i < length es
-    → conds_refusal fs nodes (drop i es) ≡ or_else (cond_refusal fs (node_cond nodes (slice_index_or es i d))) (conds_refusal fs nodes (drop (suc i) es))
-conds-next fs nodes [] i d h = absurd (omega (arith, h))
-conds-next fs nodes (e ∷ es) zero d h = refl
-conds-next fs nodes (e ∷ es) (suc i) d h = conds-next fs nodes es i d (omega (arith, h))

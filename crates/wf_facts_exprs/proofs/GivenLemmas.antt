@@ -11,10 +11,12 @@ use Rattle.wf_ast.specs.TypedTree.{CondTree, junction, ValueTree, numeric, state
 use Rattle.wf_ast.specs.TypedTrees.{Sort, arithmetic, ordering, joining, num_in, cond_in, cond_chain, chain_of, comparison, first_sign, tree_of, type_of_node}
 use Rattle.wf_ast.specs.TypedInvariant.{is_numeric, is_logical, is_tree_of, chain_fits, compares_kinds}
 use Rattle.wf_ast.specs.Value.{same_truth}
+use Rattle.wf_ast.specs.NodeKinds.{node_cond, node_number}
+use Rattle.wf_ast.specs.OperatorForms.{is_joining, order_in}
 use Rattle.wf_facts_exprs.specs.Claims.{Claim, single, with_answer}
 use Rattle.wf_facts_exprs.specs.Demands.{or_else, cond_refusal}
 use Rattle.wf_facts_exprs.specs.Given.{gives, gives_part, gives_sides, is_standing}
-use Rattle.wf_facts_exprs.specs.Operands.{node_cond, node_number, is_joining, joins_all, order_in, all_given, any_given, conds_refusal}
+use Rattle.wf_facts_exprs.specs.Operands.{joins_all, all_given, any_given, conds_refusal}
 use Rattle.wf_facts_exprs.proofs.PassLemmas.{both_of}
 use Rattle.wf_facts_exprs.proofs.JudgeLemmas.{numeric-not-logical}
 

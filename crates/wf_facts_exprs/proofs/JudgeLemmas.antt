@@ -19,13 +19,15 @@ use Rattle.wf_ast.specs.TypedTree.{Arith, Order, less, at_most, at_least, NumTyp
 use Rattle.wf_ast.specs.TypedTrees.{Sort, arithmetic, ordering, joining, no_place, num_in, slice_in, io_in, num_chain, chain_of, first_sign, num_type, tree_of, type_of_node, place_of_node}
 use Rattle.wf_ast.specs.TypedInvariant.{is_expr, is_numeric, is_logical, is_list, is_io, is_tree_of, chain_fits}
 use Rattle.wf_ast.specs.Same.{same_num}
-use Rattle.wf_facts_exprs.specs.Claims.{single, Claim, length_in, side_in, is_number_at}
+use Rattle.wf_ast.specs.NodeKinds.{is_number_at, node_slice}
+use Rattle.wf_ast.specs.OperatorForms.{is_arithmetic}
+use Rattle.wf_facts_exprs.specs.Claims.{single, Claim, length_in, side_in}
 use Rattle.wf_facts_exprs.specs.declared.facts.Side.{Side}
 use Rattle.wf_facts_exprs.specs.declared.facts.Side.TheVariants as sides
 use Rattle.wf_facts_exprs.specs.RangeOf.{first_rule, met, rule_range, range_of, side_range, type_range, operator_range}
 use Rattle.wf_facts_exprs.specs.Given.{second_rule, gives_sides}
 use Rattle.wf_facts_exprs.specs.Demands.{demand, or_else, operand_demand, num_refusal, slice_refusal, unless_refused}
-use Rattle.wf_facts_exprs.specs.Operands.{is_arithmetic, rule_refusal, width_demand, ruled, judged, judged_slice, is_operator, node_slice, after, part_demand, one_more, length_rule, ends_refusal}
+use Rattle.wf_facts_exprs.specs.Operands.{rule_refusal, width_demand, ruled, judged, judged_slice, is_operator, after, part_demand, one_more, length_rule, ends_refusal}
 use Rattle.wf_facts_exprs.specs.Shapes.{Alike}
 use Rattle.wf_facts_exprs.proofs.PassLemmas.{both_of}
 use Rattle.wf_facts_exprs.proofs.AlikeLemmas.{swapped, first-alike, met-alike}

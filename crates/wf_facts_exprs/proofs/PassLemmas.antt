@@ -25,9 +25,6 @@ lt_from m n h = grind (arith, nat_tests, h)
 pub to_lt : (m n : ℕ) → m < n → nat_lt m n ≡ true
 to_lt m n h = grind (arith, nat_tests, h)
 
-pub to_ge : (m n : ℕ) → n ≤ m → nat_lt m n ≡ false
-to_ge m n h = grind (arith, nat_tests, h)
-
 pub or_cases : (a b : Bool) → (a || b) ≡ true → (a ≡ true) ⊎ (b ≡ true)
 or_cases true b h = inl refl
 or_cases false b h = inr h

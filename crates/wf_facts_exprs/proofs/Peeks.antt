@@ -9,7 +9,8 @@ use Rattle.wf_base.specs.BaseOps.{Buffer, little_endian, unread}
 use Rattle.wf_base.specs.BaseOps as ops
 use Rattle.wf_base.specs.BaseTable.{bits_of, peek_width, peek_value}
 
-little-small : (n : ℕ) (xs : List ℕ) → length xs ≤ n → All (λ cell. cell < 2 ^ 8) xs → little_endian xs < 2 ^ (8 * n)
+-- What bytes spell is a number of as many bits.
+pub little-small : (n : ℕ) (xs : List ℕ) → length xs ≤ n → All (λ cell. cell < 2 ^ 8) xs → little_endian xs < 2 ^ (8 * n)
 little-small n [] h all = pow_pos (8 * n)
 little-small zero (x ∷ xs) h all = absurd (omega (arith, h))
 little-small (suc n) (x ∷ xs) h all =

@@ -19,9 +19,10 @@ use Rattle.wf_ast.specs.TypedTrees.{Sort, arithmetic, ordering, joining, sort_of
 use Rattle.wf_ast.specs.TypedInvariant.{is_expr, is_numeric, is_list, is_tree_of, chain_fits, kind_fits}
 use Rattle.wf_ast.specs.Same.{same_num}
 use Rattle.wf_ast.specs.WellTyped.{is_constant}
+use Rattle.wf_ast.specs.NodeKinds.{is_number_at}
 use Rattle.wf_ast.proofs.SameLaws.{Lent, tree_at, kinds_at}
 use Rattle.wf_ast.proofs.TreeKinds.{made_or_number_kind}
-use Rattle.wf_facts_exprs.specs.Claims.{single, sum, sum_of, tree_of_side, length_in, is_number_at}
+use Rattle.wf_facts_exprs.specs.Claims.{single, sum, sum_of, tree_of_side, length_in}
 use Rattle.wf_facts_exprs.specs.RangeOf.{number_of_side}
 use Rattle.wf_facts_exprs.specs.Shapes.{Alike, is_plain, is_sum_of_two}
 use Rattle.wf_facts_exprs.proofs.PassLemmas.{both_of, lt_from}

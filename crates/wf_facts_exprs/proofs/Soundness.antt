@@ -476,10 +476,6 @@ module _ (c : Context) (s : State) (lawful : IsLawful c s) (fs : List Claim) (we
       let order : v.number ≤ y.number = grind (arith, nat_tests, first_test) in
       record { first = v.number; last = y.number; first_is = v.is; last_is = y.is; ordered_ends = order; inside = omega (arith, le, same) }
 
-  whole-part : (part : Bool) (t : NumTree) → is_whole_number t ≡ true → (part || is_whole_number t) ≡ true
-  whole-part true t h = refl
-  whole-part false t h = h
-
   mutual
     pub num-sound : (part : Bool) (t : NumTree) → (part || is_whole_number t) ≡ true → well_part c t ≡ true → num_refusal fs part t ≡ None → Sound part t
     num-sound part (number at n) w h e = number-sound part at n h

@@ -7,10 +7,11 @@ use Rattle.wf_ast.specs.declared.types.Ty.TheVariants as types
 use Rattle.wf_ast.specs.declared.typed_nodes.TypedNodes.{TypedNodes}
 use Rattle.wf_ast.specs.TypedTree.{NumTree, number, link, length_of, asked, plus, Order, less, at_most, equal, differs, at_least, greater, reader_length, writer_length, CondTree, truth, compare, junction, negation, ValueTree, elements, io}
 use Rattle.wf_ast.specs.TypedTrees.{no_place, no_number, num_in, cond_in, tree_of, type_of_node, place_of_node}
-use Rattle.wf_ast.specs.TypedInvariant.{is_expr, is_numeric, is_logical, is_list, is_io}
+use Rattle.wf_ast.specs.TypedInvariant.{is_expr, is_list, is_io}
 use Rattle.wf_ast.specs.Value.{State, value, truth_of, compares, same_truth}
 use Rattle.wf_ast.specs.Same.{same_num, same_cond, same_order}
 use Rattle.wf_ast.specs.Mentions.{num_mentions, cond_mentions}
+use Rattle.wf_ast.specs.NodeKinds.{is_number_at, is_condition_at}
 use Rattle.wf_facts_exprs.specs.declared.facts.Cmp.{Cmp}
 use Rattle.wf_facts_exprs.specs.declared.facts.Cmp.TheVariants.{Lt, Le, Eq, Ne, Ge, Gt}
 use Rattle.wf_facts_exprs.specs.declared.facts.Side.{Side}
@@ -146,13 +147,6 @@ abbrev pub claims_in : TypedNodes → List Fact → List Claim
 claims_in nodes fs = map (claim_in nodes) fs
 
 -- The numbers in a fact name expressions of the package, of the kinds that the fact wants.
-
-abbrev pub is_number_at : TypedNodes → ExprId → Bool
-is_number_at nodes e = is_expr nodes e && is_numeric (type_of_node nodes e.0)
-
-abbrev pub is_condition_at : TypedNodes → ExprId → Bool
-is_condition_at nodes e = is_expr nodes e && is_logical (type_of_node nodes e.0)
-
 abbrev pub is_side : TypedNodes → Side → Bool
 is_side nodes (sides.Expr e) = is_number_at nodes e
 is_side nodes (sides.Sum a b) = is_number_at nodes a && is_number_at nodes b

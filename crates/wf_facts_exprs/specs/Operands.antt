@@ -6,34 +6,22 @@ use Rattle.wf_text.specs.declared.rules.Rule.TheVariants.{B1}
 use Rattle.wf_text.specs.declared.rules.Refusal.{Refusal}
 use Rattle.wf_num.specs.declared.ranges.Range.{Range}
 use Rattle.wf_num.specs.Ranges.{fits_width, exact_range, width_range}
-use Rattle.wf_base.specs.declared.marks.Mark.TheVariants.{Pure}
-use Rattle.wf_base.specs.declared.base_methods.BaseSig.{BaseSig}
-use Rattle.wf_base.specs.declared.base_methods.Gives.{Gives}
-use Rattle.wf_base.specs.declared.base_methods.Gives.TheVariants as answers
-use Rattle.wf_base.specs.BaseTable.{row_of}
 use Rattle.wf_ast.specs.declared.types.Ty.{Ty}
 use Rattle.wf_ast.specs.declared.types.Ty.TheVariants as types
-use Rattle.wf_ast.specs.WellTyped.{same_mark}
 use Rattle.wf_ast.specs.Value.{same_truth}
 use Rattle.wf_facts_exprs.specs.Given.{gives}
 use Rattle.wf_ast.specs.declared.numbers.ExprId.{ExprId}
 use Rattle.wf_ast.specs.declared.operators.Op.{Op}
 use Rattle.wf_ast.specs.declared.typed_nodes.TypedNodes.{TypedNodes}
-use Rattle.wf_ast.specs.TypedTree.{Arith, plus, minus, mod_minus, sat_minus, Order, equal, NumTree, link, SliceTree, EndTree, CondTree, ValueTree}
-use Rattle.wf_ast.specs.TypedTrees.{Sort, arithmetic, ordering, joining, sort_of, first_sign, num_in, slice_in, cond_in, tree_of, type_of_node}
-use Rattle.wf_facts_exprs.specs.Claims.{Claim, is_number_at, is_condition_at}
+use Rattle.wf_ast.specs.TypedTree.{Arith, minus, mod_minus, sat_minus, Order, NumTree, link, SliceTree, EndTree, ValueTree}
+use Rattle.wf_ast.specs.TypedTrees.{Sort, joining, sort_of, first_sign, slice_in, tree_of, type_of_node}
+use Rattle.wf_ast.specs.OperatorForms.{arith_in}
+use Rattle.wf_ast.specs.NodeKinds.{node_number, node_cond, is_number_at, is_condition_at}
+use Rattle.wf_facts_exprs.specs.Claims.{Claim}
 use Rattle.wf_facts_exprs.specs.RangeOf.{narrowed, thinned, operator_range, is_ordered, length_range, rule_range, range_of}
 use Rattle.wf_facts_exprs.specs.Demands.{demand, or_else, operand_demand, num_refusal, slice_refusal, end_refusal, ends_demand, cond_refusal, unless_refused}
 use Rattle.wf_facts_exprs.specs.declared.meeting.Pass.{Pass}
 use Rattle.wf_facts_exprs.specs.declared.meeting.Pass.TheVariants.{Narrow, Thin}
-
-abbrev pub is_arithmetic : Sort → Bool
-is_arithmetic (arithmetic op) = true
-is_arithmetic sort = false
-
-abbrev pub arith_in : Sort → Arith
-arith_in (arithmetic op) = op
-arith_in sort = plus
 
 abbrev pub arith_of : Op → Arith
 arith_of op = arith_in (sort_of op)
@@ -72,13 +60,6 @@ judged_slice fs t = unless_refused (slice_refusal fs t) tt
 abbrev pub is_operator : NumTree → Bool
 is_operator (link at sign op bits joined a b) = true
 is_operator t = false
-
--- The trees of a node by its parts.
-abbrev pub node_number : TypedNodes → ExprId → NumTree
-node_number nodes e = num_in (tree_of nodes e)
-
-abbrev pub node_slice : TypedNodes → ExprId → SliceTree
-node_slice nodes e = slice_in (tree_of nodes e)
 
 -- The operators and operands of a chain, in order, where the range of the part so far is r and `first` its first operand.
 abbrev pub after : Option Refusal → Result Range Refusal → Result Range Refusal
@@ -126,14 +107,6 @@ length_rule ty t = length_range (slice_in t)
 abbrev pub rule_of_length : TypedNodes → ExprId → Range
 rule_of_length nodes e = length_rule (type_of_node nodes e.0) (tree_of nodes e)
 
--- The method answers a number.
-abbrev pub is_num : Gives → Bool
-is_num (answers.Num width) = true
-is_num answer = false
-
-abbrev pub gives_number : BaseSig → Bool
-gives_number sig = is_num (row_of sig).gives && same_mark (row_of sig).mark Pure
-
 -- The ends of a slice stand before it, and are numbers.
 abbrev pub end_fits : TypedNodes → (e end : ExprId) → Bool
 end_fits nodes e i = nat_lt i.0 e.0 && is_number_at nodes i
@@ -153,14 +126,7 @@ ends_refusal fs at cells from to = or_else (end_refusal fs from) (or_else (end_r
 abbrev pub part_number : TypedNodes → List ExprId → ℕ → NumTree
 part_number nodes es i = node_number nodes (slice_index_or es i (record { 0 = 0 }))
 
--- Conditions: the tree of one, an operator that joins them, and the first demand of several in order.
-abbrev pub node_cond : TypedNodes → ExprId → CondTree
-node_cond nodes e = cond_in (tree_of nodes e)
-
-abbrev pub is_joining : Sort → Bool
-is_joining (joining both) = true
-is_joining sort = false
-
+-- The first demand of several conditions in order.
 abbrev pub conds_refusal : List Claim → TypedNodes → List ExprId → Option Refusal
 conds_refusal fs nodes [] = None
 conds_refusal fs nodes (e ∷ es) = or_else (cond_refusal fs (node_cond nodes e)) (conds_refusal fs nodes es)
@@ -168,14 +134,10 @@ conds_refusal fs nodes (e ∷ es) = or_else (cond_refusal fs (node_cond nodes e)
 abbrev pub is_condition_below : TypedNodes → (e part : ExprId) → Bool
 is_condition_below nodes e p = nat_lt p.0 e.0 && is_condition_at nodes p
 
--- `and` with yes and `or` with no need all of their operands; the order of a comparison.
+-- `and` with yes and `or` with no need all of their operands.
 abbrev pub joins_all : Sort → (answer : Bool) → Bool
 joins_all (joining both) answer = same_truth both answer
 joins_all sort answer = false
-
-abbrev pub order_in : Sort → Order
-order_in (ordering op) = op
-order_in sort = equal
 
 abbrev pub all_given : List Claim → TypedNodes → List ExprId → (answer : Bool) → Bool
 all_given fs nodes [] answer = true

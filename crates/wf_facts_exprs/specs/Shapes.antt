@@ -1,5 +1,5 @@
 -- What a side is, told by the nodes of its parts: so that two sides are compared by comparing two nodes at most twice.
-use Rattle.std.specs.Prelude.{◌≡◌, ℕ, ◌^◌, Bool, true, false, ◌&&◌, nat_lt, List, [], ◌∷◌, Option, None, Some}
+use Rattle.std.specs.Prelude.{◌≡◌, ◌^◌, Bool, true, false, ◌&&◌, nat_lt, List, [], ◌∷◌, Option, None, Some}
 use Rattle.wf_base.specs.declared.base_methods.BaseSig.{BaseSig}
 use Rattle.wf_base.specs.declared.base_methods.BaseSig.TheVariants as sigs
 use Rattle.wf_ast.specs.declared.operators.Op.{Op}
@@ -10,17 +10,11 @@ use Rattle.wf_ast.specs.TypedTree.{NumTree, number, link, length_of, asked, plus
 use Rattle.wf_ast.specs.TypedTrees.{no_place, num_in, slice_in, io_in, tree_of, type_of_node}
 use Rattle.wf_ast.specs.TypedInvariant.{is_expr, is_list, is_io}
 use Rattle.wf_ast.specs.Same.{same_num}
-use Rattle.wf_facts_exprs.specs.Claims.{is_number_at}
+use Rattle.wf_ast.specs.NodeKinds.{is_number_at}
 use Rattle.wf_facts_exprs.specs.declared.shapes.Measured.{Measured}
 use Rattle.wf_facts_exprs.specs.declared.shapes.Measured.TheVariants.{Elements, Unread, Room}
 use Rattle.wf_facts_exprs.specs.declared.shapes.Shape.{Shape}
 use Rattle.wf_facts_exprs.specs.declared.shapes.Shape.TheVariants as shapes
-
--- The number of a kind of length.
-abbrev pub measured_number : Measured → ℕ
-measured_number Elements = 0
-measured_number Unread = 1
-measured_number Room = 2
 
 abbrev pub length_tree : TypedNodes → Measured → ExprId → NumTree
 length_tree nodes Elements e = length_of no_place (slice_in (tree_of nodes e))

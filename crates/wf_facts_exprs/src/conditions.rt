@@ -4,9 +4,11 @@ ghost use Rattle.std.specs.Prelude.{◌≡◌, ◌≤◌, ◌<◌, length, map, 
 ghost use Rattle.std.specs.List.{list_all};
 ghost use Rattle.wf_ast.specs.TypedTrees.{chain_of, cond_in, place_of_node, signs_of_node, sort_of, tree_of, type_of_node};
 ghost use Rattle.wf_ast.specs.TypedInvariant.{chain_fits, is_expr};
-ghost use Rattle.wf_facts_exprs.specs.Claims.{AreFacts, claims_in, is_condition_at, is_number_at};
+ghost use Rattle.wf_ast.specs.NodeKinds.{is_condition_at, is_number_at, node_cond, node_number};
+ghost use Rattle.wf_ast.specs.OperatorForms.{is_joining};
+ghost use Rattle.wf_facts_exprs.specs.Claims.{AreFacts, claims_in};
 ghost use Rattle.wf_facts_exprs.specs.Demands.{cond_refusal, num_refusal, or_else, unless_refused, value_refusal};
-ghost use Rattle.wf_facts_exprs.specs.Operands.{conds_refusal, is_condition_below, is_joining, node_cond, node_number};
+ghost use Rattle.wf_facts_exprs.specs.Operands.{conds_refusal, is_condition_below};
 
 use crate::facts::Fact;
 use crate::judging::{judge, judge_slice};

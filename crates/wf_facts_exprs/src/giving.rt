@@ -5,10 +5,12 @@ ghost use Rattle.std.specs.List.{list_all};
 ghost use Rattle.wf_ast.specs.Same.{same_cond};
 ghost use Rattle.wf_ast.specs.TypedTrees.{chain_of, place_of_node, signs_of_node, sort_of, tree_of, type_of_node};
 ghost use Rattle.wf_ast.specs.TypedInvariant.{chain_fits};
-ghost use Rattle.wf_facts_exprs.specs.Claims.{AreFacts, claim_in, claims_in, is_condition_at, is_fact, is_number_at, order_of, same_claim, single, stands as standing_claim};
+ghost use Rattle.wf_ast.specs.NodeKinds.{is_condition_at, is_number_at, node_cond, node_number};
+ghost use Rattle.wf_ast.specs.OperatorForms.{is_joining};
+ghost use Rattle.wf_facts_exprs.specs.Claims.{AreFacts, claim_in, claims_in, is_fact, order_of, same_claim, single, stands as standing_claim};
 ghost use Rattle.wf_facts_exprs.specs.Demands.{cond_refusal, num_refusal};
 ghost use Rattle.wf_facts_exprs.specs.Given.{gives as given, gives_sides as sides_given, is_standing};
-ghost use Rattle.wf_facts_exprs.specs.Operands.{all_given, any_given, conds_refusal, is_condition_below, is_joining, node_cond, node_number};
+ghost use Rattle.wf_facts_exprs.specs.Operands.{all_given, any_given, conds_refusal, is_condition_below};
 
 use crate::facts::{Cmp, Fact, Side};
 use crate::operands::{compared_by, is_number, joins, needs_all};

@@ -7,13 +7,15 @@ ghost use Rattle.wf_num.specs.Ranges.{IsSmall, fits_width};
 ghost use Rattle.wf_ast.specs.TypedTree.{absent, asked, at_most, convert, cut, element, elements, length_of, numeric, peek, present};
 ghost use Rattle.wf_ast.specs.TypedTrees.{answer_of, chain_of, end_in, first_sign, io_in, num_type, place_of_node, signs_of_node, sort_of, tree_of, type_of_node};
 ghost use Rattle.wf_ast.specs.TypedInvariant.{chain_fits, has_kind, is_expr, is_tree_of};
+ghost use Rattle.wf_ast.specs.NodeKinds.{is_number_at, gives_number, node_number, node_slice};
+ghost use Rattle.wf_ast.specs.OperatorForms.{is_arithmetic};
 ghost use Rattle.wf_base.specs.BaseTable.{bits_of, bytes_of, peek_width, row_of};
-ghost use Rattle.wf_facts_exprs.specs.Claims.{AreFacts, claims_in, is_number_at, is_side, side_in};
+ghost use Rattle.wf_facts_exprs.specs.Claims.{AreFacts, claims_in, is_side, side_in};
 ghost use Rattle.wf_facts_exprs.specs.RangeOf.{first_rule as by_first_rule, is_ordered, length_range as range_of_length, side_range, type_range as range_of_type};
 ghost use Rattle.wf_facts_exprs.specs.Given.{second_rule as by_second_rule};
 ghost use Rattle.wf_facts_exprs.specs.Demands.{demand as wanted, unless_refused};
 ghost use Rattle.wf_facts_exprs.specs.Shapes.{is_measured};
-ghost use Rattle.wf_facts_exprs.specs.Operands.{arith_of, end_fits, ends_fit, ends_refusal, gives_number, is_arithmetic, is_difference, is_operator, judged, judged_slice, node_number, node_slice, one_more, part_number, rule_of_length, ruled, variable_range, width_demand};
+ghost use Rattle.wf_facts_exprs.specs.Operands.{arith_of, end_fits, ends_fit, ends_refusal, is_difference, is_operator, judged, judged_slice, one_more, part_number, rule_of_length, ruled, variable_range, width_demand};
 
 use crate::facts::{Cmp, Fact, Side};
 use crate::given::{Ranged, first_rule, gives_ranged};

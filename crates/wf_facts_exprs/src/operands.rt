@@ -3,8 +3,9 @@
 ghost use Rattle.std.specs.Prelude.{◌≡◌, false, IsTrue};
 ghost use Rattle.wf_ast.specs.TypedTrees.{sort_of, type_of_node};
 ghost use Rattle.wf_ast.specs.TypedInvariant.{is_expr, is_numeric};
+ghost use Rattle.wf_ast.specs.OperatorForms.{is_joining, order_in};
 ghost use Rattle.wf_facts_exprs.specs.Claims.{order_of, with_answer};
-ghost use Rattle.wf_facts_exprs.specs.Operands.{is_joining, joins_all, order_in};
+ghost use Rattle.wf_facts_exprs.specs.Operands.{joins_all};
 
 use crate::facts::Cmp;
 use wf_ast::{ExprId, Op, Ty, Typed};

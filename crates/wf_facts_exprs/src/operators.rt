@@ -3,9 +3,10 @@
 ghost use Rattle.std.specs.Prelude.{◌≡◌, ◌≤◌, ◌<◌, ◌⊎◌, true, false, IsTrue, pos, ◌≤ℤ◌};
 ghost use Rattle.wf_num.specs.Ranges.{IsSmall, div_ranges, low, rem_ranges};
 ghost use Rattle.wf_ast.specs.TypedTrees.{sort_of};
+ghost use Rattle.wf_ast.specs.OperatorForms.{is_arithmetic};
 ghost use Rattle.wf_facts_exprs.specs.RangeOf.{cut_off as range_cut_off, difference as range_difference, operator_range as range_by_operator, wrapped as range_wrapped};
 ghost use Rattle.wf_facts_exprs.specs.Demands.{demand as wanted, is_below, is_divisor, operand_demand as wanted_of_operand, unless_refused};
-ghost use Rattle.wf_facts_exprs.specs.Operands.{arith_of, is_arithmetic, is_difference};
+ghost use Rattle.wf_facts_exprs.specs.Operands.{arith_of, is_difference};
 
 use wf_ast::Op;
 use wf_num::Range;

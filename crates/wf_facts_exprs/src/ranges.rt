@@ -4,11 +4,11 @@ ghost use Rattle.std.specs.Prelude.{◌≡◌, ◌<◌, ◌^◌, false, IsTrue, 
 ghost use Rattle.wf_num.specs.Ranges.{IsSmall, exact_range};
 ghost use Rattle.wf_ast.specs.TypedTree.{number};
 ghost use Rattle.wf_ast.specs.TypedTrees.{no_place};
-ghost use Rattle.wf_facts_exprs.specs.Claims.{AreFacts, claims_in, is_number_at, is_side, order_of, side_in};
+ghost use Rattle.wf_ast.specs.NodeKinds.{is_number_at, node_number};
+ghost use Rattle.wf_facts_exprs.specs.Claims.{AreFacts, claims_in, is_side, order_of, side_in};
 ghost use Rattle.wf_facts_exprs.specs.RangeOf.{met, range_of as range_under, side_range};
 ghost use Rattle.wf_facts_exprs.specs.Given.{gives_sides as sides_given};
 ghost use Rattle.wf_facts_exprs.specs.Demands.{num_refusal, side_refusal, unless_refused};
-ghost use Rattle.wf_facts_exprs.specs.Operands.{node_number};
 
 use crate::facts::{Cmp, Fact, Side};
 use crate::given::{first_rule, second_rule};

@@ -6,9 +6,10 @@ ghost use Rattle.wf_ast.specs.TypedTree.{number};
 ghost use Rattle.wf_ast.specs.TypedTrees.{no_place, num_in, slice_in, io_in, tree_of, type_of_node, place_of_node, signs_of_node, chain_of, sort_of, answer_of};
 ghost use Rattle.wf_ast.specs.TypedInvariant.{is_tree_of, is_expr, is_list, is_io, chain_fits, has_kind};
 ghost use Rattle.wf_ast.specs.Same.{same_num, same_slice};
+ghost use Rattle.wf_ast.specs.NodeKinds.{is_number_at};
 ghost use Rattle.wf_base.specs.BaseTable.{row_of};
-ghost use Rattle.wf_facts_exprs.specs.Claims.{is_side, is_number_at, side_in, tree_of_side};
-ghost use Rattle.wf_facts_exprs.specs.Shapes.{Alike, is_measured, is_sum_of_two as adds_two, measured_by, measured_number, shape_fits, shape_tree};
+ghost use Rattle.wf_facts_exprs.specs.Claims.{is_side, side_in, tree_of_side};
+ghost use Rattle.wf_facts_exprs.specs.Shapes.{Alike, is_measured, is_sum_of_two as adds_two, measured_by, shape_fits, shape_tree};
 
 use crate::facts::Side;
 use wf_ast::{Expr, ExprId, Op, Ty, Typed, same};

@@ -1,7 +1,6 @@
 -- The promises of a loop one by one, and how its lists grow by their facts.
-use Rattle.std.proofs.Common.{◌≡◌, ℕ, zero, suc, ◌+◌, ◌<◌, ◌≤◌, Bool, true, false, List, [], ◌∷◌, ◌++◌, length, take, drop, Option, Some, None, Result, Ok, Err, refl, sym, ap, ◌∙◌, subst, arith}
+use Rattle.std.proofs.Common.{◌≡◌, ℕ, zero, suc, ◌+◌, ◌<◌, ◌≤◌, Bool, true, false, List, [], ◌∷◌, ◌++◌, length, take, drop, Option, Some, None, Ok, Err, refl, sym, ap, ◌∙◌, subst, arith}
 use Rattle.std.specs.Prelude.{if◌then◌else◌, slice_index_or, slice_get, nat_le}
-use Rattle.std.proofs.lemmas.Bool.{and_parts}
 use Rattle.std.proofs.lemmas.Bool.Decides.{nat_tests}
 use Rattle.std.proofs.lemmas.List.{length-append}
 use Rattle.wf_text.specs.declared.place.Place.{Place}
@@ -12,25 +11,20 @@ use Rattle.wf_ast.specs.declared.parsed.Clause.{Clause}
 use Rattle.wf_ast.specs.declared.numbers.ExprId.{ExprId}
 use Rattle.wf_ast.specs.declared.typed_nodes.TypedNodes.{TypedNodes}
 use Rattle.wf_ast.specs.TypedTree.{CondTree, Head}
+use Rattle.wf_ast.specs.NodeKinds.{node_cond}
 use Rattle.wf_facts_exprs.specs.declared.facts.Fact.{Fact}
-use Rattle.wf_facts_exprs.specs.Claims.{Claim, claims_in, is_among, is_condition_at, facts_of}
+use Rattle.wf_facts_exprs.specs.Claims.{Claim, claims_in, is_among, facts_of}
 use Rattle.wf_facts_exprs.specs.Given.{gives}
 use Rattle.wf_facts_exprs.specs.Demands.{demand, or_else, cond_refusal, unless_refused}
-use Rattle.wf_facts_exprs.specs.Operands.{node_cond}
 use Rattle.wf_facts.specs.FactLists.{added, all_added, with_condition}
 use Rattle.wf_facts.specs.Conditions.{StopsAt}
 use Rattle.wf_loops.specs.declared.moments.Moment.{Moment}
 use Rattle.wf_loops.specs.declared.moments.Moment.TheVariants.{Leave}
 use Rattle.wf_loops.specs.LoopRules.{is_asked, rule_of, required, promises_refusal, with_promises, limit, after_list}
-use Rattle.wf_loops.specs.LoopNodes.{are_conditions, promises_in}
+use Rattle.wf_loops.specs.LoopNodes.{promises_in}
 
 -- The promise at a place, and those from the next one on.
 module _ (nodes : TypedNodes) where
-  pub condition_here : (cs : List (Clause × ExprId)) (i : ℕ) (d : Clause × ExprId) → are_conditions nodes cs ≡ true → i < length cs → is_condition_at nodes (slice_index_or cs i d).1 ≡ true
-  condition_here [] i d h k = absurd (omega (arith, k))
-  condition_here (c ∷ cs) zero d h k = (and_parts (is_condition_at nodes c.1) _ h).0
-  condition_here (c ∷ cs) (suc i) d h k = condition_here cs i d (and_parts (is_condition_at nodes c.1) _ h).1 (omega (arith, k))
-
   module _ (moment : Moment) (fs : List Claim) where
     promises_suc : (at : Place) (cs : List (Clause × ExprId)) (i : ℕ) (d : Clause × ExprId) → i < length cs
         → promises_refusal moment fs at (promises_in nodes (drop i cs))
@@ -123,12 +117,6 @@ err_is_some (Some other) found h = let e : found ≡ other = cc (h) in ap (λ r.
 
 -- What a condition that is required comes to.
 module _ (fs : List Claim) (rule : Rule) (at : Place) (t : CondTree) where
-  pub is_met : cond_refusal fs t ≡ None → gives fs t true ≡ true → Ok (tt {0}) ≡ unless_refused (required fs rule at t) (tt {0})
-  is_met h k = ap (λ r. unless_refused (or_else r (demand true rule at)) (tt {0})) (sym h) ∙ ap (λ b. unless_refused (or_else (cond_refusal fs t) (demand b rule at)) (tt {0})) (sym k)
-
-  pub is_not_given : cond_refusal fs t ≡ None → gives fs t true ≡ false → Err (record { rule = rule; at = at }) ≡ unless_refused (required fs rule at t) (tt {0})
-  is_not_given h k = ap (λ r. unless_refused (or_else r (demand false rule at)) (tt {0})) (sym h) ∙ ap (λ b. unless_refused (or_else (cond_refusal fs t) (demand b rule at)) (tt {0})) (sym k)
-
   pub has_no_value : (found : Refusal) → cond_refusal fs t ≡ Some found → Err found ≡ unless_refused (required fs rule at t) (tt {0})
   has_no_value found h = ap (λ r. unless_refused (or_else r (demand (gives fs t true) rule at)) (tt {0})) (sym h)
 

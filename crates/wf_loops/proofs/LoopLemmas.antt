@@ -22,9 +22,9 @@ use Rattle.wf_ast.specs.TypedTree.{CondTree, junction, ValueTree, logical, state
 use Rattle.wf_ast.specs.TypedTrees.{no_place, Sort, arithmetic, ordering, joining, sort_of, cond_in, cond_chain, chain_of, comparison, answer_of, named, made, made_or_number, tree_of, type_of_node, constant_of_node, place_of_node, signs_of_node}
 use Rattle.wf_ast.specs.TypedInvariant.{is_expr, is_numeric, is_logical, is_tree_of, node_fits, chain_fits, kind_fits}
 use Rattle.wf_ast.specs.WellTyped.{is_word_true}
-use Rattle.wf_facts_exprs.specs.Claims.{Claim, is_condition_at}
+use Rattle.wf_ast.specs.NodeKinds.{is_condition_at, node_cond}
+use Rattle.wf_facts_exprs.specs.Claims.{Claim}
 use Rattle.wf_facts_exprs.specs.Demands.{value_refusal, cond_refusal}
-use Rattle.wf_facts_exprs.specs.Operands.{node_cond}
 use Rattle.wf_facts.proofs.MentioningLemmas.{node_kind}
 use Rattle.wf_loops.specs.LoopNodes.{is_loop, is_loop_stmt, head_at, head_of_stmt, no_head, place_at, are_conditions, promises_in}
 

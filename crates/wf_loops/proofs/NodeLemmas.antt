@@ -20,9 +20,8 @@ use Rattle.wf_ast.specs.TypedTree.{ValueTree, numeric, state, elements, io}
 use Rattle.wf_ast.specs.TypedTrees.{cond_in, head_made, tree_of, type_of_node}
 use Rattle.wf_ast.specs.TypedInvariant.{IsTyped, is_expr, is_logical, is_tree_of, stmt_below}
 use Rattle.wf_ast.specs.WellTyped.{Context, well_cond}
+use Rattle.wf_ast.specs.NodeKinds.{is_condition_at, node_cond}
 use Rattle.wf_ast.proofs.Accessors.{tree_kind, stmt_inside}
-use Rattle.wf_facts_exprs.specs.Claims.{is_condition_at}
-use Rattle.wf_facts_exprs.specs.Operands.{node_cond}
 use Rattle.wf_loops.specs.LoopNodes.{is_loop, is_loop_stmt, head_at, place_at, are_conditions, promises_in}
 use Rattle.wf_loops.specs.LoopLaws.{well_head}
 

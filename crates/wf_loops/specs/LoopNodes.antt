@@ -13,8 +13,8 @@ use Rattle.wf_ast.specs.declared.typed_code.Stmt.TheVariants as stmts
 use Rattle.wf_ast.specs.declared.typed_nodes.TypedNodes.{TypedNodes}
 use Rattle.wf_ast.specs.TypedTree.{CondTree, Head, lost}
 use Rattle.wf_ast.specs.TypedTrees.{no_place, cond_in, head_made, tree_of}
-use Rattle.wf_facts_exprs.specs.Claims.{Claim, claims_in, is_condition_at}
-use Rattle.wf_facts_exprs.specs.Operands.{node_cond}
+use Rattle.wf_ast.specs.NodeKinds.{is_condition_at, node_cond}
+use Rattle.wf_facts_exprs.specs.Claims.{Claim, claims_in}
 use Rattle.wf_facts.specs.IndexedFacts.{FactList, IsOver}
 use Rattle.wf_loops.specs.LoopRules.{limit}
 

@@ -1,8 +1,8 @@
 // Which promises of a loop are required, and where.
 
 ghost use Rattle.std.specs.Prelude.{◌≡◌, true};
-ghost use Rattle.wf_facts_exprs.specs.Claims.{AreFacts, claims_in, is_condition_at};
-ghost use Rattle.wf_facts_exprs.specs.Operands.{node_cond};
+ghost use Rattle.wf_ast.specs.NodeKinds.{is_condition_at, node_cond};
+ghost use Rattle.wf_facts_exprs.specs.Claims.{AreFacts, claims_in};
 ghost use Rattle.wf_facts_exprs.specs.Demands.{unless_refused};
 ghost use Rattle.wf_facts.specs.IndexedFacts.{IsOver};
 ghost use Rattle.wf_loops.specs.LoopRules.{is_asked as asked_at, rule_of as rule_of_clause, required, promises_refusal, entry_refusal, way_back_refusal, break_refusal, exit_refusal};

@@ -1,9 +1,9 @@
 // The facts that stand at a loop's head, and after it.
 
 ghost use Rattle.std.specs.Prelude.{◌≡◌, ◌≤◌, length, true, OnOk};
-ghost use Rattle.wf_facts_exprs.specs.Claims.{claims_in, is_condition_at};
+ghost use Rattle.wf_ast.specs.NodeKinds.{is_condition_at, node_cond};
+ghost use Rattle.wf_facts_exprs.specs.Claims.{claims_in};
 ghost use Rattle.wf_facts_exprs.specs.Demands.{unless_refused};
-ghost use Rattle.wf_facts_exprs.specs.Operands.{node_cond};
 ghost use Rattle.wf_facts.specs.FactLists.{with_condition};
 ghost use Rattle.wf_facts.specs.IndexedFacts.{IsOver};
 ghost use Rattle.wf_loops.specs.LoopRules.{with_promises, limit, head_list, after_list};

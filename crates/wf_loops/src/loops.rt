@@ -2,8 +2,7 @@
 
 ghost use Rattle.std.specs.Prelude.{◌≡◌, true};
 ghost use Rattle.wf_ast.specs.WellTyped.{is_word_true as word_true};
-ghost use Rattle.wf_facts_exprs.specs.Claims.{is_condition_at};
-ghost use Rattle.wf_facts_exprs.specs.Operands.{node_cond};
+ghost use Rattle.wf_ast.specs.NodeKinds.{is_condition_at, node_cond};
 ghost use Rattle.wf_loops.specs.LoopNodes.{is_loop, head_at, place_at, are_conditions, promises_in};
 
 use wf_ast::{Expr, ExprId, LoopHead, Stmt, StmtId, Typed};

@@ -16,6 +16,7 @@ use Rattle.wf_ast.specs.declared.typed_nodes.TypedNodes.{TypedNodes}
 use Rattle.wf_ast.specs.TypedInvariant.{IsTyped}
 use Rattle.wf_ast.specs.TypedTree.{Block, choose, end}
 use Rattle.wf_ast.specs.TypedTrees.{block_made, block_of, onto, stmt_made, stmt_makers, tree_of}
+use Rattle.wf_ast.specs.NodeKinds.{node_cond}
 use Rattle.wf_ast.proofs.Arena.{both_true}
 use Rattle.wf_points.proofs.StatementArena.{stmt_is}
 use Rattle.c_text.specs.declared.ids.CStmtId.{CStmtId}
@@ -26,7 +27,6 @@ use Rattle.c_text.specs.CNodes.{Nodes, code_of}
 use Rattle.c_text.specs.CTree.{Code, branch, finish, repeat}
 use Rattle.wf_exprs.specs.Exprs.{lowered_cond}
 use Rattle.wf_exprs.specs.Grown.{Grows, HasCode}
-use Rattle.wf_exprs_nodes.specs.Trees.{node_cond}
 use Rattle.wf_lower_stmts.specs.BodyNodes.{point_at, points_by}
 use Rattle.wf_lower_stmts.specs.Forms.{Form}
 use Rattle.wf_lower_stmts.specs.Lower.{again_here, behind_here, lower, other_kind}

@@ -13,12 +13,12 @@ use Rattle.wf_ast.specs.TypedTree.{lost, ValueTree, Target, Awaited, skip_fast, 
 use Rattle.wf_ast.specs.TypedPackage.{MethodTree, package_of}
 use Rattle.wf_ast.specs.TypedTrees.{base_call, io_in}
 use Rattle.wf_ast.specs.WellTyped.{number_of}
+use Rattle.wf_ast.specs.NodeKinds.{node_number}
 use Rattle.wf_ast.proofs.Accessors.{there}
 use Rattle.c_text.specs.declared.ids.CStmtId.{CStmtId}
 use Rattle.c_text.specs.CNodes.{Nodes}
 use Rattle.c_text.specs.CTree.{Code}
 use Rattle.wf_exprs.specs.Grown.{HasCode}
-use Rattle.wf_exprs_nodes.specs.Trees.{node_number}
 use Rattle.wf_lower_stmts.specs.BodyNodes.{AreAlike, target_in}
 use Rattle.wf_lower_stmts.specs.Forms.{Form, resume_here}
 use Rattle.wf_lower_stmts.specs.Statements.{awoken_call, begun_call, handed_call, lower_call, lower_plain, lower_point, lower_simple, lower_written, plain_call}

@@ -8,11 +8,11 @@ use Rattle.wf_ast.specs.declared.typed_nodes.TypedNodes.{TypedNodes}
 use Rattle.wf_ast.specs.TypedTree.{local, equal, compare, slice, ValueTree, numeric, logical, state, elements, io, lost}
 use Rattle.wf_ast.specs.TypedTrees.{no_number, no_place, num_in, cond_in, slice_in, tree_of, type_of_node}
 use Rattle.wf_ast.specs.TypedInvariant.{IsTyped, is_expr, is_numeric, is_logical, is_list, is_tree_of}
+use Rattle.wf_ast.specs.NodeKinds.{is_number_at, is_condition_at, is_slice_at, node_number, node_cond, node_slice}
 use Rattle.c_text.specs.CNodes.{Nodes}
 use Rattle.wf_exprs.specs.declared.rated.Pair.{Pair as PairNode}
 use Rattle.wf_exprs.specs.Exprs.{Pair}
-use Rattle.wf_exprs.specs.Making.{HasPair, is_number_at, is_condition_at, is_slice_at}
-use Rattle.wf_exprs_nodes.specs.Trees.{node_number, node_cond, node_slice}
+use Rattle.wf_exprs.specs.Making.{HasPair}
 use Rattle.wf_lower_stmts.proofs.PlaceLaws.{kind_at}
 
 second_false : (a b : Bool) → a ≡ true → (a && b) ≡ false → b ≡ false

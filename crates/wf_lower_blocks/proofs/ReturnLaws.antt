@@ -16,13 +16,13 @@ use Rattle.wf_ast.specs.TypedTree.{StatusTree, status, held, no_status, ValueTre
 use Rattle.wf_ast.specs.TypedTrees.{num_in, cond_in, status_in, tree_of, type_of_node}
 use Rattle.wf_ast.specs.Value.{same_category}
 use Rattle.wf_ast.specs.WellTyped.{is_coroutine}
+use Rattle.wf_ast.specs.NodeKinds.{node_status}
 use Rattle.wf_ast.proofs.Accessors.{tree_kind}
 use Rattle.wf_meaning.specs.Entry.{cannot_suspend, has_kind}
 use Rattle.c_text.specs.CTree.{Code, finish}
 use Rattle.c_text.specs.CTree as c
 use Rattle.wf_exprs.specs.Exprs.{begins_with, given, is_constant, lowered_cond, lowered_status, status_constant}
 use Rattle.wf_lower_stmts.specs.Forms.{Form, give, status_local, when}
-use Rattle.wf_exprs_nodes.specs.Trees.{node_status}
 use Rattle.wf_lower_stmts.specs.Statements.{give_status, give_value, is_suspension}
 use Rattle.wf_lower_blocks.proofs.CallLaws.{number_is, flag_is, status_is}
 

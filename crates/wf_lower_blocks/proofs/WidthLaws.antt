@@ -12,8 +12,9 @@ use Rattle.wf_ast.specs.declared.types.Ty.TheVariants as types
 use Rattle.wf_ast.specs.TypedInvariant.{is_expr, is_list, kind_fits, node_fits, optional_numeric, parts_below}
 use Rattle.wf_ast.specs.TypedTree.{Path}
 use Rattle.wf_ast.specs.TypedTrees.{made, made_or_number, named, slice_in, tree_of, type_of_node}
+use Rattle.wf_ast.specs.NodeKinds.{is_slice_at}
 use Rattle.wf_ast.proofs.Arena.{both_true}
-use Rattle.wf_exprs.specs.Making.{bits_at, is_slice_at}
+use Rattle.wf_exprs.specs.Making.{bits_at}
 use Rattle.wf_lower_stmts.specs.Statements.{slice_bits}
 
 pub named_bits : (at : Place) (ty : Ty) (path : Path) → is_list ty ≡ true → slice_bits (slice_in (named at ty path)) ≡ bits_at ty

@@ -3,8 +3,6 @@ use Rattle.std.specs.Prelude.{◌≡◌, ◌<◌, ⊤, ℕ, Bool, true, false, �
 use Rattle.std.specs.List.{list_all}
 use Rattle.wf_text.specs.declared.place.Place.{Place}
 use Rattle.wf_base.specs.declared.marks.Mark.TheVariants.{Pure}
-use Rattle.wf_base.specs.declared.base_methods.BaseSig.{BaseSig}
-use Rattle.wf_base.specs.declared.base_methods.BaseSig.TheVariants as sigs
 use Rattle.wf_base.specs.declared.base_methods.ReadForm.{ReadForm}
 use Rattle.wf_base.specs.declared.base_methods.ReadForm.TheVariants.{ReadU8}
 use Rattle.wf_base.specs.BaseTable.{bytes_of, read_width}
@@ -20,6 +18,7 @@ use Rattle.wf_ast.specs.TypedPackage.{MethodTree, package_of}
 use Rattle.wf_ast.specs.TypedTree.{ValueTree, lost, Target, Awaited, take_number, skip, write, Written, skip_fast, write_fast, copy_to_writer, copy_to_slice, Called, own, sub, Simple, assign, await, perform, invoke, break_from, continue_in, give_back, yield, claim, end}
 use Rattle.wf_ast.specs.TypedTrees.{cond_in, tree_of, target_of, optional_target, assigned_by, no_statement, call_made, axiom_made}
 use Rattle.wf_ast.specs.WellTyped.{number_of}
+use Rattle.wf_ast.specs.NodeKinds.{is_slice_at, node_number, node_slice}
 use Rattle.wf_meaning.specs.Entry.{short_read}
 use Rattle.wf_meaning.specs.Remaining.{hands_on}
 use Rattle.c_text.specs.declared.ids.CExprId.{CExprId}
@@ -30,9 +29,7 @@ use Rattle.c_text.specs.CNodes.{Nodes, args_in, expr_of, value_in}
 use Rattle.c_text.specs.CTree.{ExprTree, Code, finish}
 use Rattle.c_text.specs.CTree as c
 use Rattle.wf_exprs.specs.Exprs.{status_constant}
-use Rattle.wf_exprs.specs.Making.{is_slice_at}
 use Rattle.wf_exprs.specs.Words.{num, two, args}
-use Rattle.wf_exprs_nodes.specs.Trees.{node_number, node_slice}
 use Rattle.wf_lower_stmts.specs.BodyNodes.{AreAlike, is_target, target_in}
 use Rattle.wf_lower_stmts.specs.Forms.{Form, count_local, held_local, status_local, got_local, suspend, when}
 use Rattle.wf_lower_stmts.specs.Statements.{put_into, callee_name, receiver_code, values_codes}

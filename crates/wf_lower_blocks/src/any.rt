@@ -5,9 +5,9 @@ ghost use Rattle.std.specs.Prelude.{◌≡◌, IsTrue, IfOk};
 ghost use Rattle.wf_ast.specs.TypedInvariant.{is_expr};
 ghost use Rattle.wf_exprs.specs.Exprs.{compared, given as given_code, lowered_cond, lowered_expr, lowered_slice, path_code};
 ghost use Rattle.wf_ast.specs.TypedTree.{equal, local};
+ghost use Rattle.wf_ast.specs.NodeKinds.{is_condition_at, is_number_at, is_slice_at, node_cond, node_number, node_slice};
 ghost use Rattle.wf_exprs.specs.Grown.{Grows, HasExpr};
-ghost use Rattle.wf_exprs.specs.Making.{HasPair, is_condition_at, is_number_at, is_slice_at};
-ghost use Rattle.wf_exprs_nodes.specs.Trees.{node_cond, node_number, node_slice};
+ghost use Rattle.wf_exprs.specs.Making.{HasPair};
 ghost use Rattle.wf_lower_stmts.specs.BodyNodes.{form_in};
 
 use c_text::{CExprId, COp, Unit};

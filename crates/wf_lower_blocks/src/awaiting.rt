@@ -14,8 +14,8 @@ ghost use Rattle.wf_exprs.specs.Exprs.{end_code, given as given_code, place_code
 ghost use Rattle.wf_exprs.specs.Grown.{Grows, HasCode, HasExpr};
 ghost use Rattle.wf_exprs.specs.Names.{Names};
 ghost use Rattle.wf_ast.specs.TypedInvariant.{is_expr};
+ghost use Rattle.wf_ast.specs.NodeKinds.{node_number};
 ghost use Rattle.wf_exprs.specs.Words.{num, two as two_codes, uint_of};
-ghost use Rattle.wf_exprs_nodes.specs.Trees.{node_number};
 ghost use Rattle.wf_lower_stmts.specs.BodyNodes.{form_in, is_target, target_in};
 ghost use Rattle.wf_lower_stmts.specs.Forms.{count_local, held_local, suspend as suspend_code, when as when_code};
 ghost use Rattle.wf_lower_stmts.specs.Statements.{awoken_call as awoken_code, begun_call as begun_code, is_big_endian as is_big_endian_form, is_used_up as is_used_up_code, next_byte as next_byte_code, put_into as put_into_code, step_on as step_on_code, take_byte as take_byte_code, take_bytes as take_bytes_code, with_byte as with_byte_code, written_byte as written_byte_code};

@@ -12,7 +12,7 @@ use Rattle.wf_ast.specs.declared.types.Ty.{Ty}
 use Rattle.wf_ast.specs.TypedTree.{CondTree, ValueTree, Target, to_nothing, Simple, Site, Block, end}
 use Rattle.wf_ast.specs.TypedTree as typed
 use Rattle.wf_ast.specs.TypedTrees.{Sort, arithmetic, ordering, joining, sort_of, num_in, cond_in, slice_in, chain_of, answer_of}
-use Rattle.wf_ast.specs.OperatorForms.{gives_number, updates}
+use Rattle.wf_ast.specs.OperatorForms.{updates, is_arithmetic}
 use Rattle.wf_ast.proofs.BoolLemmas.{both, and-true}
 use Rattle.wf_named.specs.declared.nodes.NamedCallee.{NamedCallee}
 use Rattle.wf_named.specs.declared.nodes.NamedCallee.TheVariants as callees
@@ -177,7 +177,7 @@ module _ (s : Setting) where
       (slice_of d d (path_tree s on) (path_within s on d d)) (call_within r target false (callees.Base on sig) at mark args g h d l t)
 
   -- The operator of an `op=` is one part more, round the value.
-  update_within : (sort : Sort) (at sign : Place) (ty : Ty) (a b : ValueTree) (d : ℕ) → gives_number sort ≡ true → 1 ≤ d → num_within (d - 1) (num_in a) ≡ true → num_within (d - 1) (num_in b) ≡ true
+  update_within : (sort : Sort) (at sign : Place) (ty : Ty) (a b : ValueTree) (d : ℕ) → is_arithmetic sort ≡ true → 1 ≤ d → num_within (d - 1) (num_in a) ≡ true → num_within (d - 1) (num_in b) ≡ true
       → value_within d (chain_of at (sign ∷ []) ty sort (a ∷ b ∷ [])) ≡ true
   update_within (arithmetic op) at sign ty a b d g l h k =
       and-true (nat_le 1 d) (num_within (d - 1) (num_in a) && num_within (d - 1) (num_in b)) (one_left d l) (and-true (num_within (d - 1) (num_in a)) (num_within (d - 1) (num_in b)) h k)

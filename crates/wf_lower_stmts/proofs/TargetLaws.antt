@@ -17,8 +17,8 @@ use Rattle.wf_ast.specs.TypedTree.{Path, local, field, arg, Arith, Order, equal,
 use Rattle.wf_ast.specs.TypedTrees.{Sort, arithmetic, ordering, joining, named, num_in, cond_in, num_chain, cond_chain, comparison, chain_of, answer_of, target_of}
 use Rattle.wf_ast.specs.TypedTrees.{type_of_node, tree_of, made, made_or_number, sort_of}
 use Rattle.wf_ast.specs.TypedInvariant.{chain_fits, is_list, is_numeric, node_fits}
+use Rattle.wf_ast.specs.NodeKinds.{is_number_at, is_slice_at}
 use Rattle.wf_ast.proofs.Arena.{both_true}
-use Rattle.wf_exprs.specs.Making.{is_number_at, is_slice_at}
 use Rattle.wf_lower_stmts.specs.BodyNodes.{AreAlike}
 
 lt_more : (k m n : ℕ) → m < n → nat_lt k m ≡ true → nat_lt k n ≡ true

@@ -1,5 +1,5 @@
 -- What lowering knows of a method, by the nodes of its package and the table of its points.
-use Rattle.std.specs.Prelude.{◌≡◌, ◌<◌, ◌^◌, ◌&&◌, ◌||◌, ◌++◌, ℕ, Bool, true, false, not, List, [], ◌∷◌, codes, Option, None, Some, length, map, nat_eq, nat_lt, unwrap_or, ⊤, IsTrue}
+use Rattle.std.specs.Prelude.{◌≡◌, ◌<◌, ◌^◌, ◌&&◌, ◌||◌, ◌++◌, ℕ, Bool, true, false, not, List, [], ◌∷◌, codes, Option, None, Some, length, map, nat_eq, nat_lt, unwrap_or}
 use Rattle.std.specs.List.{list_all}
 use Rattle.wf_ast.specs.declared.declarations.Method.{Method}
 use Rattle.wf_ast.specs.declared.declarations.Struct.{Struct}
@@ -19,20 +19,18 @@ use Rattle.wf_ast.specs.declared.typed_nodes.TypedNodes.{TypedNodes}
 use Rattle.wf_ast.specs.declared.types.Ty.{Ty}
 use Rattle.wf_ast.specs.TypedInvariant.{IsTyped, is_expr, has_few_variables}
 use Rattle.wf_ast.specs.TypedPackage.{Variable, package_of, method_of}
-use Rattle.wf_ast.specs.TypedTree.{Path, ValueTree, Simple, break_from, continue_in, Site, Block, end, plain, choose, loop, Target, to_number, to_element, to_flag, to_status, to_slice, to_nothing}
+use Rattle.wf_ast.specs.TypedTree.{ValueTree, Simple, break_from, continue_in, Site, Block, end, plain, choose, loop, Target, to_element, to_flag, to_slice, to_nothing}
 use Rattle.wf_ast.specs.TypedTrees.{no_place, block_of, text_of, tree_of, onto, stmt_makers}
-use Rattle.wf_ast.specs.WellTyped.{breaks, io_handed, is_that}
+use Rattle.wf_ast.specs.WellTyped.{io_handed, is_that}
+use Rattle.wf_ast.specs.NodeKinds.{is_number_at, is_slice_at, node_number, node_slice}
 use Rattle.wf_points.specs.PointNumbers.{number_at}
 use Rattle.c_text.specs.CSpelling.{is_word_byte}
-use Rattle.c_text.specs.CTree.{ExprTree, Code, variable, assign}
+use Rattle.c_text.specs.CTree.{Code, variable, assign}
 use Rattle.wf_exprs.specs.Exprs.{Pair, io_code, place_code, end_code}
-use Rattle.wf_exprs.specs.Making.{is_number_at, is_slice_at}
 use Rattle.wf_exprs.specs.Names.{Names, local_pointer, local_length, saved_field, names_of, struct_called, struct_type}
 use Rattle.wf_exprs.specs.Words.{of_self}
-use Rattle.wf_exprs_nodes.specs.Trees.{node_number, node_slice}
 use Rattle.wf_exprs.specs.Scopes.{ScopeTree, are_named, path_of}
 use Rattle.wf_lower_stmts.specs.Forms.{Form, form_of, stays, holds_something, counts_bytes, awaits, keeps, size_local, place_in, end_of, put, get}
-use Rattle.wf_lower_stmts.specs.Lower.{continues}
 use Rattle.wf_lower_stmts.specs.Statements.{is_passed, target_code, is_wanted, set_slice}
 use Rattle.wf_lower_stmts.specs.declared.places.Picked.{Picked}
 use Rattle.wf_lower_stmts.specs.declared.places.Picked.TheVariants as picked

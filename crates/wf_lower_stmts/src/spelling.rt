@@ -44,7 +44,7 @@ pub fn point_field(u: &mut Unit, method: &[u8]) -> Result<CNameId, NoMemory>
 }
 
 /// The field that keeps what a started statement has.
-pub fn held_field(u: &mut Unit, method: &[u8]) -> Result<CNameId, NoMemory>
+pub(crate) fn held_field(u: &mut Unit, method: &[u8]) -> Result<CNameId, NoMemory>
     requires { list_all is_word_byte method.now ≡ true }
     ensures grows { Grows u.old u.new }
     ensures made { IfOk result (λ n. HasNamed u.new n.0 (held_name method.now)) }
@@ -53,7 +53,7 @@ pub fn held_field(u: &mut Unit, method: &[u8]) -> Result<CNameId, NoMemory>
 }
 
 /// The field that keeps how many bytes that is.
-pub fn count_field(u: &mut Unit, method: &[u8]) -> Result<CNameId, NoMemory>
+pub(crate) fn count_field(u: &mut Unit, method: &[u8]) -> Result<CNameId, NoMemory>
     requires { list_all is_word_byte method.now ≡ true }
     ensures grows { Grows u.old u.new }
     ensures made { IfOk result (λ n. HasNamed u.new n.0 (count_name method.now)) }

@@ -6,8 +6,7 @@ ghost use Rattle.wf_ast.specs.TypedInvariant.{IsTyped, block_below, is_expr, is_
 ghost use Rattle.wf_ast.specs.TypedTree.{break_from, continue_in};
 ghost use Rattle.wf_ast.specs.TypedTrees.{block_of, tree_of, type_of_node};
 ghost use Rattle.wf_ast.specs.WellTyped.{breaks as breaks_in};
-ghost use Rattle.wf_exprs.specs.Making.{is_number_at};
-ghost use Rattle.wf_exprs_nodes.specs.Trees.{node_number};
+ghost use Rattle.wf_ast.specs.NodeKinds.{is_number_at, node_number};
 ghost use Rattle.wf_lower_stmts.specs.BodyNodes.{base_counts, base_holds, base_sought, call_sought, is_sought, stands, stands_among, stands_at, stands_in_arms, stands_in_else, stands_in_if as among_if, stands_of};
 ghost use Rattle.wf_lower_stmts.specs.Forms.{counts_bytes, holds_something, keeps, stays as stays_number};
 ghost use Rattle.wf_lower_stmts.specs.Lower.{continues as continues_in};
@@ -247,7 +246,7 @@ fn counts(sig: BaseSig, args: usize) -> bool
 }
 
 /// The type of an expression. Its tree is of the kind of that type.
-pub fn type_at(t: &Typed, e: ExprId) -> Ty
+pub(crate) fn type_at(t: &Typed, e: ExprId) -> Ty
     requires node { IsTrue (is_expr t.now e) }
     ensures is { result ≡ type_of_node t.now e.0 }
     ensures kind { is_tree_of result (tree_of t.now e) ≡ true }

@@ -13,10 +13,12 @@ use Rattle.wf_ast.specs.TypedTree.{Arith, NumTree, ValueTree, link}
 use Rattle.wf_ast.specs.TypedTrees.{Sort, arithmetic, ordering, joining, num_in, num_chain, chain_of, num_type, tree_of, type_of_node}
 use Rattle.wf_ast.specs.TypedInvariant.{is_expr, is_numeric, chain_fits}
 use Rattle.wf_ast.specs.Value.{State, applied, value}
+use Rattle.wf_ast.specs.NodeKinds.{node_number, is_number_at}
+use Rattle.wf_ast.specs.OperatorForms.{is_arithmetic, arith_in}
 use Rattle.wf_ast.proofs.Arena.{both_true}
 use Rattle.wf_ast.proofs.ChainKinds.{junction_gives_condition, comparison_gives_condition, numeric_operands}
 use Rattle.wf_ast.proofs.TypeKinds.{number_no_condition}
-use Rattle.wf_mean_exprs.specs.Operands.{node_number, is_number_at, is_arithmetic, arith_in, chain_value}
+use Rattle.wf_mean_exprs.specs.Operands.{chain_value}
 
 -- A chain that gives a number is arithmetic, and its operands are numbers that stand before it.
 pub record IsOfNumbers (nodes : TypedNodes) (sort : Sort) (es : List ExprId) : Type 0 where

@@ -7,14 +7,15 @@ use Rattle.wf_ast.specs.declared.numbers.ExprId.{ExprId}
 use Rattle.wf_ast.specs.declared.types.Ty.{Ty}
 use Rattle.wf_ast.specs.declared.typed_nodes.TypedNodes.{TypedNodes}
 use Rattle.wf_ast.specs.TypedTree.{CondTree, junction, ValueTree}
-use Rattle.wf_ast.specs.TypedTrees.{Sort, arithmetic, ordering, joining, num_in, cond_in, status_in, cond_chain, chain_of, comparison, first_sign, tree_of, type_of_node}
-use Rattle.wf_ast.specs.TypedInvariant.{is_expr, is_logical, is_state, chain_fits, compares_kinds, is_tree_of}
-use Rattle.wf_ast.specs.Value.{State, value, truth_of, status_value}
+use Rattle.wf_ast.specs.TypedTrees.{Sort, arithmetic, ordering, joining, cond_in, cond_chain, chain_of, tree_of, type_of_node}
+use Rattle.wf_ast.specs.TypedInvariant.{is_expr, is_logical, chain_fits, compares_kinds}
+use Rattle.wf_ast.specs.Value.{State, truth_of}
+use Rattle.wf_ast.specs.OperatorForms.{is_ordering, is_joining}
+use Rattle.wf_ast.specs.NodeKinds.{node_cond, is_condition_at}
 use Rattle.wf_ast.proofs.Arena.{both_true}
-use Rattle.wf_ast.proofs.ChainKinds.{gives_number, logical_operands, operand_kinds, compares_numbers, compares_statuses}
+use Rattle.wf_ast.proofs.ChainKinds.{gives_number, logical_operands, operand_kinds}
 use Rattle.wf_ast.proofs.TypeKinds.{number_no_condition}
-use Rattle.wf_mean_exprs.specs.Operands.{order_in, is_ordering}
-use Rattle.wf_mean_exprs.specs.Conditions.{node_cond, is_condition_at, is_joining, joins_both, chain_truth, numbers_compare, statuses_same, is_equal}
+use Rattle.wf_mean_exprs.specs.Conditions.{joins_both, chain_truth}
 
 -- A chain of conditions has conditions before it as its operands.
 pub record IsOfConditions (nodes : TypedNodes) (es : List ExprId) : Type 0 where
@@ -55,21 +56,6 @@ module _ (s : State) where
       ap (chain_truth s both (truth_of s (node_cond nodes e))) (sym (map_twice nodes es)) ∙ sym (cond_chain_truth at both false (node_cond nodes e) (map (tree_of nodes) es))
   junction_begins nodes at signs ty (ordering op) es d j l = absurd (cc j)
   junction_begins nodes at signs ty (arithmetic op) es d j l = absurd (cc j)
-
-  -- Numbers.
-  pub numbers_compared : (at : Place) (signs : List Place) (ty tya : Ty) (sort : Sort) (a b : ValueTree) → is_ordering sort ≡ true → is_state tya ≡ false → is_tree_of tya a ≡ true
-      → numbers_compare (order_in sort) (value s (num_in a)) (value s (num_in b)) ≡ truth_of s (cond_in (chain_of at signs ty sort (a ∷ b ∷ [])))
-  numbers_compared at signs ty tya (ordering op) a b o h k = ap (λ t. truth_of s (cond_in t)) (sym (compares_numbers at (first_sign at signs) op a b tya h k))
-  numbers_compared at signs ty tya (joining both) a b o h k = absurd (cc o)
-  numbers_compared at signs ty tya (arithmetic op) a b o h k = absurd (cc o)
-
-  -- Statuses.
-  pub statuses_compared : (at : Place) (signs : List Place) (ty tya tyb : Ty) (sort : Sort) (a b : ValueTree) → is_ordering sort ≡ true → is_state tya ≡ true → is_tree_of tya a ≡ true → compares_kinds sort tya tyb ≡ true
-      → statuses_same (is_equal (order_in sort)) (status_value s (status_in a)) (status_value s (status_in b)) ≡ truth_of s (cond_in (chain_of at signs ty sort (a ∷ b ∷ [])))
-  statuses_compared at signs ty tya tyb (ordering op) a b o h k c =
-      compares_statuses (λ op a. statuses_same (is_equal op) (status_value s (status_in a)) (status_value s (status_in b)) ≡ truth_of s (cond_in (comparison at (first_sign at signs) op a b))) (λ x. refl) (λ x. refl) op a tya tyb h k c
-  statuses_compared at signs ty tya tyb (joining both) a b o h k c = absurd (cc o)
-  statuses_compared at signs ty tya tyb (arithmetic op) a b o h k c = absurd (cc o)
 
 -- What is compared is of kinds that compare.
 pub compared_kinds : (nodes : TypedNodes) (ty : Ty) (sort : Sort) (es : List ExprId) (d : ExprId) → is_ordering sort ≡ true → chain_fits nodes sort es ty ≡ true

@@ -5,33 +5,12 @@ use Rattle.wf_base.specs.declared.base_methods.Gives.{Gives}
 use Rattle.wf_base.specs.declared.base_methods.Gives.TheVariants as answers
 use Rattle.wf_base.specs.declared.marks.Mark.TheVariants.{Pure}
 use Rattle.wf_base.specs.BaseTable.{row_of}
-use Rattle.wf_ast.specs.declared.numbers.ExprId.{ExprId}
-use Rattle.wf_ast.specs.declared.typed_nodes.TypedNodes.{TypedNodes}
-use Rattle.wf_ast.specs.TypedTree.{Order, equal, CondTree, StatusTree}
-use Rattle.wf_ast.specs.TypedTrees.{Sort, joining, cond_in, status_in, tree_of, type_of_node}
-use Rattle.wf_ast.specs.TypedInvariant.{is_expr, is_logical, is_state}
+use Rattle.wf_ast.specs.TypedTree.{Order, CondTree}
+use Rattle.wf_ast.specs.TypedTrees.{Sort, joining}
 use Rattle.wf_ast.specs.WellTyped.{same_mark}
 use Rattle.wf_ast.specs.Value.{State, truth_of, compares, same_truth}
 
--- The trees of a node.
-abbrev pub node_cond : TypedNodes → ExprId → CondTree
-node_cond nodes e = cond_in (tree_of nodes e)
-
-abbrev pub node_status : TypedNodes → ExprId → StatusTree
-node_status nodes e = status_in (tree_of nodes e)
-
--- The node is there, and has a truth value; or a status.
-abbrev pub is_condition_at : TypedNodes → ExprId → Bool
-is_condition_at nodes e = is_expr nodes e && is_logical (type_of_node nodes e.0)
-
-abbrev pub is_status_at : TypedNodes → ExprId → Bool
-is_status_at nodes e = is_expr nodes e && is_state (type_of_node nodes e.0)
-
--- `and` or `or`.
-abbrev pub is_joining : Sort → Bool
-is_joining (joining both) = true
-is_joining sort = false
-
+-- An operator that joins conditions is `and`.
 abbrev pub joins_both : Sort → Bool
 joins_both (joining both) = both
 joins_both sort = false
@@ -51,10 +30,6 @@ numbers_compare op m n = option_and_then (λ x. option_map (compares op x) n) m
 
 abbrev pub statuses_same : (one : Bool) → Option ℕ → Option ℕ → Option Bool
 statuses_same one m n = option_and_then (λ x. option_map (λ y. same_truth one (nat_eq x y)) n) m
-
-abbrev pub is_equal : Order → Bool
-is_equal equal = true
-is_equal op = false
 
 -- The method answers a truth value.
 abbrev pub is_flag : Gives → Bool

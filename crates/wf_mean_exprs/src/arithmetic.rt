@@ -5,7 +5,7 @@ ghost use Rattle.wf_base.specs.BaseTable.{bits_of};
 ghost use Rattle.wf_ast.specs.TypedTree.{divided, remainder as remains, shift_left as shifts_left, shift_right as shifts_right, mod_shift_left as shifts_within};
 ghost use Rattle.wf_ast.specs.TypedTrees.{sort_of};
 ghost use Rattle.wf_ast.specs.Value.{applied, fitted, compares};
-ghost use Rattle.wf_mean_exprs.specs.Operands.{arith_in, is_arithmetic, order_in, is_ordering};
+ghost use Rattle.wf_ast.specs.OperatorForms.{arith_in, is_arithmetic, order_in, is_ordering};
 
 use wf_ast::Op;
 use wf_base::Width;

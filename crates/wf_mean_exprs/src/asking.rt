@@ -6,8 +6,8 @@ ghost use Rattle.wf_ast.specs.TypedTree.{numeric, asked, peek, arg};
 ghost use Rattle.wf_ast.specs.TypedTrees.{named, io_in, place_of_node, tree_of, type_of_node};
 ghost use Rattle.wf_ast.specs.TypedInvariant.{is_expr, is_io};
 ghost use Rattle.wf_ast.specs.Value.{value, told, only_if};
+ghost use Rattle.wf_ast.specs.NodeKinds.{node_number};
 ghost use Rattle.wf_mean_exprs.specs.MachineState.{seen_from};
-ghost use Rattle.wf_mean_exprs.specs.Operands.{node_number};
 ghost use Rattle.wf_mean_exprs.specs.Questions.{question_of};
 
 use crate::reading::Scene;

@@ -9,9 +9,10 @@ ghost use Rattle.wf_ast.specs.TypedTree.{logical, closed, has_category, negation
 ghost use Rattle.wf_ast.specs.TypedTrees.{named, answer_of, chain_of, io_in, status_in, place_of_node, signs_of_node, sort_of, tree_of, type_of_node};
 ghost use Rattle.wf_ast.specs.TypedInvariant.{chain_fits, compares_kinds, has_kind, is_expr, is_io, is_state, is_tree_of};
 ghost use Rattle.wf_ast.specs.Value.{truth_of, status_value, same_category, same_truth};
+ghost use Rattle.wf_ast.specs.OperatorForms.{order_in, is_ordering, is_joining, is_equal};
+ghost use Rattle.wf_ast.specs.NodeKinds.{node_cond, node_status, is_condition_at, is_status_at};
 ghost use Rattle.wf_mean_exprs.specs.MachineState.{seen_from};
-ghost use Rattle.wf_mean_exprs.specs.Operands.{order_in, is_ordering};
-ghost use Rattle.wf_mean_exprs.specs.Conditions.{node_cond, node_status, is_condition_at, is_status_at, is_joining, joins_both, junction_of, numbers_compare, statuses_same, is_equal, gives_truth};
+ghost use Rattle.wf_mean_exprs.specs.Conditions.{joins_both, junction_of, numbers_compare, statuses_same, gives_truth};
 
 use crate::arithmetic::compare;
 use crate::numbers::number;
@@ -298,7 +299,7 @@ fn same_kind(a: Category, b: Category) -> bool
 }
 
 /// A status, by its number in the package; None where it is stuck.
-pub fn status(scene: &Scene, e: ExprId) -> Option<u32>
+pub(crate) fn status(scene: &Scene, e: ExprId) -> Option<u32>
     requires { IsTrue (is_status_at scene.now.package.now e) }
     ensures { result ≡ status_value (seen_from scene.now) (node_status scene.now.package.now e) }
 {

@@ -8,8 +8,10 @@ ghost use Rattle.wf_ast.specs.TypedTree.{numeric, element, convert, length_of, c
 ghost use Rattle.wf_ast.specs.TypedTrees.{named, answer_of, chain_of, end_in, first_sign, num_type, place_of_node, signs_of_node, sort_of, tree_of, type_of_node};
 ghost use Rattle.wf_ast.specs.TypedInvariant.{has_kind, is_expr};
 ghost use Rattle.wf_ast.specs.Value.{value, span_of, end_value, element_of, part_of, applied, fitted};
+ghost use Rattle.wf_ast.specs.NodeKinds.{is_number_at, is_slice_at, node_number, node_slice, end_fits, gives_number};
+ghost use Rattle.wf_ast.specs.OperatorForms.{is_arithmetic, arith_in};
 ghost use Rattle.wf_mean_exprs.specs.MachineState.{seen_from, span_seen};
-ghost use Rattle.wf_mean_exprs.specs.Operands.{is_number_at, is_slice_at, node_number, node_slice, end_fits, is_arithmetic, arith_in, gives_number, count_or_zero};
+ghost use Rattle.wf_mean_exprs.specs.Operands.{count_or_zero};
 
 use crate::arithmetic::{apply, fit};
 use crate::asking::{Asked, ask};

@@ -120,13 +120,6 @@ module _ (nodes : TypedNodes) (level : ℕ) (s : StmtId) (at : Place) (head : He
       → o ≡ turned_on nodes level old here head body rest behind (past_if hold)
   breaks_out w hold e h f = f ∙ breaks nodes level old here head body rest behind hold w.0 (same_number w e) h
 
-  other_number : (w : StmtId) → (w.0 ≡ s.0 → ⊥) → nat_eq s.0 w.0 ≡ false
-  other_number w n = by_bool (nat_eq s.0 w.0) refl
-    where
-      by_bool : (t : Bool) → nat_eq s.0 w.0 ≡ t → t ≡ false
-      by_bool true e = absurd (n (grind (arith, nat_tests, e)))
-      by_bool false e = refl
-
 pub never_into : (hold : Bool) → past_if hold ≡ Into → ⊥
 never_into true e = cc e
 never_into false e = cc e

@@ -134,17 +134,6 @@ pub by_node : (nodes : TypedNodes) (s : StmtId) (read : Stmt)
     → (st : Stmt) → read ≡ st → (rest : Block) → made_of nodes s rest ≡ stmt_made nodes (tree_of nodes) (onto (stmt_makers nodes)) s.0 (record { stmt = st; at = place_of nodes s.0; inner = inner_of nodes s.0 }) rest
 by_node nodes s read made st same rest = made rest ∙ ap (λ it. stmt_made nodes (tree_of nodes) (onto (stmt_makers nodes)) s.0 (record { stmt = it; at = place_of nodes s.0; inner = inner_of nodes s.0 }) rest) same
 
--- The numbers of the first statements lie below a number; and so do those of one more.
-all_below : (ss : List StmtId) (top new : ℕ) → top ≤ new → list_all (λ (s : StmtId). nat_lt s.0 top) ss ≡ true → list_all (λ (s : StmtId). nat_lt s.0 new) ss ≡ true
-all_below [] top new h k = refl
-all_below (s ∷ ss) top new h k =
-    let p = both_true (nat_lt s.0 top) (list_all (λ (s : StmtId). nat_lt s.0 top) ss) k in
-    let q : nat_lt s.0 new ≡ true = less p.0 in
-    rw (q, all_below ss top new h p.1) refl
-  where
-    less : nat_lt s.0 top ≡ true → nat_lt s.0 new ≡ true
-    less e = grind (arith, nat_tests, e, h)
-
 pub one_below : (ss : List StmtId) (i top new : ℕ) (d : StmtId) → i < length ss → list_all (λ (s : StmtId). nat_lt s.0 top) (take i ss) ≡ true → top ≤ new → (get_or ss i d).0 < new → list_all (λ (s : StmtId). nat_lt s.0 new) (take (suc i) ss) ≡ true
 one_below [] i top new d h k l m = absurd (omega (arith, h))
 one_below (s ∷ ss) zero top new d h k l m = let q : nat_lt s.0 new ≡ true = grind (arith, nat_tests, m) in rw q refl

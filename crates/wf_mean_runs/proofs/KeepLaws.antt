@@ -3,13 +3,13 @@ use Rattle.std.proofs.Common.{◌≡◌, ℕ, zero, suc, ◌+◌, ◌<◌, ◌�
 use Rattle.std.specs.Prelude.{slice_get, option_map, option_and_then, unwrap_or, All}
 use Rattle.wf_ast.specs.declared.declarations.Method.{Method}
 use Rattle.wf_ast.specs.declared.typed_nodes.TypedNodes.{TypedNodes}
-use Rattle.wf_ast.specs.TypedPackage.{MethodTree, PackageTree}
+use Rattle.wf_ast.specs.TypedPackage.{PackageTree}
 use Rattle.wf_meaning.specs.SourceState.{Object, Remaining}
 use Rattle.wf_meaning.specs.World.{updated}
 use Rattle.wf_meaning.specs.SourceCall.{set_remaining}
 use Rattle.wf_mean_exprs.specs.declared.objects.KeptBody.{KeptBody}
 use Rattle.wf_mean_exprs.specs.declared.objects.ObjectState.{ObjectState}
-use Rattle.wf_mean_exprs.specs.MachineState.{all_remaining, object_seen, remaining_in, remaining_seen}
+use Rattle.wf_mean_exprs.specs.MachineState.{all_remaining, object_seen, remaining_seen}
 use Rattle.wf_mean_stmts.specs.Stages.{kept_lengths}
 use Rattle.wf_mean_stmts.proofs.StoringLemmas.{set_same}
 use Rattle.wf_mean_runs.specs.Bodies.{HasRoom, kept_in}
@@ -66,14 +66,6 @@ get_map : {X Y : Type 0} (f : X → Y) (xs : List X) (i : ℕ) → slice_get (ma
 get_map f [] i = refl
 get_map f (x ∷ xs) zero = refl
 get_map f (x ∷ xs) (suc i) = get_map f xs i
-
--- A body whose point isn't kept, and one whose point is.
-pub none_kept : (p : PackageTree) (m : ℕ) (k : KeptBody) → k.point ≡ None → remaining_seen p m k ≡ None
-none_kept p m k e = by_method (slice_get p.methods m)
-  where
-    by_method : (o : Option MethodTree) → option_and_then (λ (method : MethodTree). remaining_in method.body k) o ≡ None
-    by_method None = refl
-    by_method (Some method) = rw e refl
 
 -- What remains of a called method is what is kept of it.
 pub kept_remains : (p : PackageTree) (objects : List ObjectState) (object m : ℕ)

@@ -9,7 +9,7 @@ use Rattle.wf_ast.specs.TypedPackage.{package_of}
 use Rattle.wf_ast.specs.Value.{Value}
 use Rattle.wf_meaning.specs.World.{World}
 use Rattle.wf_meaning.specs.SourceStep.{Call}
-use Rattle.wf_meaning.specs.SourceCall.{all_bodies, bodies, run_if}
+use Rattle.wf_meaning.specs.SourceCall.{bodies, run_if}
 use Rattle.wf_mean_exprs.specs.declared.objects.Frame.{Frame}
 use Rattle.wf_mean_flows.specs.Flows.{calls_below}
 use Rattle.wf_mean_runs.specs.Calls.{frame_of}
@@ -36,15 +36,6 @@ some_is : {X : Type 0} (x y : X) → Some x ≡ Some y → x ≡ y
 some_is x y h = cc (h)
 
 module _ (nodes : TypedNodes) where
-  -- All methods may be called where every frame is there.
-  pub all_below : calls_below nodes (length nodes.order) ≡ all_bodies (package_of nodes)
-  unfolding calls_below package_of
-  all_below = ap (λ ms. bodies (package_of nodes) (reverse ms)) (take_all nodes.order)
-    where
-      take_all : (xs : List ℕ) → take (length xs) xs ≡ xs
-      take_all [] = refl
-      take_all (x ∷ xs) = ap (λ ys. x ∷ ys) (take_all xs)
-
   calls_more : (level x : ℕ) → slice_get nodes.order level ≡ Some x → (call : Call) (n : ℕ) (w : World)
       → calls_below nodes (suc level) call n w ≡ (if nat_eq x call.method then run_if (package_of nodes) (calls_below nodes level) (slice_get (package_of nodes).methods x) call n w else calls_below nodes level call n w)
   unfolding calls_below bodies

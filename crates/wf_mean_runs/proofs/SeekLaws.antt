@@ -6,8 +6,6 @@ use Rattle.wf_text.specs.declared.place.Place.{Place}
 use Rattle.wf_ast.specs.declared.numbers.StmtId.{StmtId}
 use Rattle.wf_ast.specs.declared.typed_code.Arm.{Arm}
 use Rattle.wf_ast.specs.declared.typed_code.Block as typed_code
-use Rattle.wf_ast.specs.declared.typed_code.Stmt.{Stmt}
-use Rattle.wf_ast.specs.declared.typed_code.Stmt.TheVariants as stmts
 use Rattle.wf_ast.specs.declared.typed_nodes.TypedNodes.{TypedNodes}
 use Rattle.wf_ast.specs.TypedTree.{CondTree, Simple, Site, Head, Block, end, plain, choose, loop}
 use Rattle.wf_ast.specs.TypedTrees.{cond_in, if_made, onto, otherwise_made, stmt_makers, tree_of}
@@ -153,18 +151,6 @@ pub sought_like : (nodes : TypedNodes) (level : ℕ) (at : Place) (done : Done) 
 sought_like nodes level at done part like old new found same h = λ rest behind.
     let P : Block → Type 0 = λ b. Sought nodes level at done b rest behind old found new in
     subst P (sym (same rest)) (h rest behind)
-
--- Statements that are no points and hold none.
-abbrev pub is_quiet : Stmt → Bool
-is_quiet (stmts.Assign target op value) = true
-is_quiet (stmts.Call target keep callee args) = false
-is_quiet (stmts.If arms otherwise) = false
-is_quiet (stmts.While head body) = false
-is_quiet (stmts.Break w) = true
-is_quiet (stmts.Continue w) = true
-is_quiet (stmts.Return value) = true
-is_quiet (stmts.Yield s) = false
-is_quiet (stmts.Assert goal axiom_ref) = true
 
 and_false : (p : Bool) → (p && false) ≡ false
 and_false true = refl

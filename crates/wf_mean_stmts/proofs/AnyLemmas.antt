@@ -1,6 +1,6 @@
 -- A part that isn't of the kind that is wanted stands for the first local.
-use Rattle.std.proofs.Common.{◌≡◌, ℕ, ◌<◌, Bool, true, false, length, Option, Some, None, refl, ap, ◌∙◌, nat_eq, nat_lt, arith}
-use Rattle.std.specs.Prelude.{option_map, option_and_then, IsTrue}
+use Rattle.std.proofs.Common.{◌≡◌, ℕ, ◌<◌, true, false, length, Option, Some, None, refl, ap, nat_eq, nat_lt, arith}
+use Rattle.std.specs.Prelude.{option_map, option_and_then}
 use Rattle.std.proofs.lemmas.Bool.Decides.{nat_tests}
 use Rattle.wf_ast.specs.declared.numbers.ExprId.{ExprId}
 use Rattle.wf_ast.specs.declared.types.Ty.{Ty}
@@ -10,9 +10,8 @@ use Rattle.wf_ast.specs.TypedTree.{local, equal, ValueTree, numeric, logical, st
 use Rattle.wf_ast.specs.TypedTrees.{num_in, cond_in, slice_in, io_in, tree_of, type_of_node}
 use Rattle.wf_ast.specs.TypedInvariant.{IsTyped, is_expr, is_numeric, is_logical, is_list, is_io, is_tree_of}
 use Rattle.wf_ast.specs.Value.{State, value, truth_of, span_of, compares}
+use Rattle.wf_ast.specs.NodeKinds.{node_cond, node_number, node_slice}
 use Rattle.wf_ast.proofs.Accessors.{tree_kind}
-use Rattle.wf_mean_exprs.specs.Conditions.{node_cond}
-use Rattle.wf_mean_exprs.specs.Operands.{node_number, node_slice}
 use Rattle.wf_mean_stmts.specs.Entries.{itself}
 
 lt_from : (m n : ℕ) → nat_lt m n ≡ true → m < n

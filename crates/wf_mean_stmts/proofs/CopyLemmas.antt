@@ -1,5 +1,5 @@
 -- Changes of the elements of a store.
-use Rattle.std.proofs.Common.{◌≡◌, ℕ, zero, suc, ◌+◌, ◌-◌, ◌<◌, ◌≤◌, Bool, true, false, ◌&&◌, List, [], ◌∷◌, ◌++◌, length, map, min, take, drop, set, Option, Some, None, ◌⊎◌, inl, inr, refl, sym, ap, ◌∙◌, subst, arith, append_assoc, nat_eq, nat_le}
+use Rattle.std.proofs.Common.{◌≡◌, ℕ, zero, suc, ◌+◌, ◌-◌, ◌<◌, ◌≤◌, Bool, true, false, ◌&&◌, List, [], ◌∷◌, length, min, take, drop, set, Option, Some, None, ◌⊎◌, inl, inr, refl, sym, ap, ◌∙◌, subst, arith, append_assoc, nat_eq, nat_le}
 use Rattle.std.specs.Prelude.{slice_get, unwrap_or, option_map, option_and_then}
 use Rattle.std.proofs.lemmas.Bool.Decides.{nat_tests}
 use Rattle.std.specs.List.{list_all}
@@ -231,9 +231,6 @@ module _ (t s : Store) (tf sf c n : ℕ) (w0 : World) (test : ℕ → Bool) (wit
 
   those_long : length (those t s tf sf c n w0) ≡ n
   those_long = length-take-le n (whole t s tf sf c n w0) within
-
-  pub begins_up : CopiedUp t s tf sf c n w0 0 w0
-  begins_up = let e : tf + 0 ≡ tf = omega arith in record { rest = rw e refl; source = λ k h. refl }
 
   pub begins_down : CopiedDown t s tf sf c n w0 n w0
   begins_down = record { rest = sym (rw (drop_whole (those t s tf sf c n w0) n (omega (arith, those_long))) (unchanged t w0)); source = λ k h. refl }

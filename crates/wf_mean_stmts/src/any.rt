@@ -6,9 +6,8 @@ ghost use Rattle.wf_ast.specs.TypedTree.{local};
 ghost use Rattle.wf_ast.specs.TypedTrees.{io_in, tree_of};
 ghost use Rattle.wf_ast.specs.TypedInvariant.{IsTyped, is_expr, is_numeric, is_logical, is_list, is_io as is_stream};
 ghost use Rattle.wf_ast.specs.Value.{span_of, truth_of, value, value_of};
-ghost use Rattle.wf_mean_exprs.specs.Conditions.{node_cond};
+ghost use Rattle.wf_ast.specs.NodeKinds.{node_cond, node_number, node_slice};
 ghost use Rattle.wf_mean_exprs.specs.MachineState.{seen_from, slot_seen, span_seen};
-ghost use Rattle.wf_mean_exprs.specs.Operands.{node_number, node_slice};
 ghost use Rattle.wf_mean_stmts.specs.Entries.{itself};
 ghost use Rattle.wf_mean_stmts.specs.Stages.{sight_on};
 

@@ -40,7 +40,7 @@ const SHORT_READ: u32 = 1;
 const SHORT_WRITE: u32 = 2;
 
 /// A read takes the bytes that are there, as many as it lacks. With all of its bytes its number goes to the target.
-pub fn read(
+pub(crate) fn read(
     t: &Typed,
     stage: &mut Stage,
     target: Option<ExprId>,

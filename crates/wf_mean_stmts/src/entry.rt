@@ -61,7 +61,7 @@ fn enter_with(state: &mut ObjectState, mark: Mark, number: u32, fit: bool) -> Op
     None
 }
 
-pub fn is_pure(mark: Mark) -> bool
+pub(crate) fn is_pure(mark: Mark) -> bool
     ensures { result ≡ is_marked_pure mark }
 {
     matches!(mark, Mark::Pure)

@@ -7,9 +7,9 @@ ghost use Rattle.wf_text.specs.declared.place.Place.{Place};
 ghost use Rattle.wf_ast.specs.TypedTrees.{named, num_type, target_of, optional_target, tree_of, place_of_node, type_of_node};
 ghost use Rattle.wf_ast.specs.TypedInvariant.{IsTyped, is_expr, is_numeric, is_optional_expr};
 ghost use Rattle.wf_ast.specs.Value.{num};
+ghost use Rattle.wf_ast.specs.NodeKinds.{is_number_at, node_number, node_slice};
 ghost use Rattle.wf_meaning.specs.World.{Body, Vars, in_range, put_value, set_element as set_in_meaning};
 ghost use Rattle.wf_mean_exprs.specs.MachineState.{slot_seen, span_seen};
-ghost use Rattle.wf_mean_exprs.specs.Operands.{is_number_at, node_number, node_slice};
 ghost use Rattle.wf_mean_stmts.specs.Stages.{body_on, vars_on, shape, Comes};
 ghost use Rattle.wf_mean_stmts.specs.Targets.{stored_if, taken_by};
 

@@ -120,9 +120,6 @@ module _ (num : Site → ℕ) where
   missing k block behind others apart s =
       some_or_none _ (λ items e. let t = source k block behind items e in apart t.point s.point t.has s.has (t.numbered ∙ sym s.numbered))
 
-  first_none : (a b : Option Items) → a ≡ None → first a b ≡ b
-  first_none a b e = rw e refl
-
   module _ (top : Block) where
     record Found (block : Block) (behind : Behind) : Type 0 where
       found : (k : ℕ) (items : Items) → rest_in num k block behind ≡ Some items → rest_in num k top stop ≡ Some items

@@ -10,8 +10,8 @@ use Rattle.wf_base.specs.BaseOps as ops
 use Rattle.wf_base.specs.BaseTable.{lacking}
 use Rattle.wf_ast.specs.TypedTree.{Path, local, field, arg, Target, to_number, to_element, to_flag, to_status, to_slice, to_nothing, Awaited, take_number, skip, write, Written, skip_fast, write_fast, copy_to_writer, copy_to_slice, Block}
 use Rattle.wf_ast.specs.Value.{Value, num, truth_value, status_number, span, Store, nowhere, host_array, field_array, value, span_of, only_if}
-use Rattle.wf_meaning.specs.SourceState.{Object, Behind, Done}
-use Rattle.wf_meaning.specs.World.{World, Body, Vars, updated, set_path, set_element, put_value, with_cells, with_buffer, with_object, cells_at, fits_store, view}
+use Rattle.wf_meaning.specs.SourceState.{Behind, Done}
+use Rattle.wf_meaning.specs.World.{World, Body, Vars, updated, set_path, set_element, put_value, with_cells, with_buffer, cells_at, fits_store, view}
 use Rattle.wf_meaning.specs.SourceStep.{state_of, at_block, with_some, suspending, change_buffer, io_of, io_number, buffer_of, with_target, skipped_fast, written_fast, copied_to_writer, copied_to_slice, elements_of, are_bytes, takes_all, performed, awaited, skip_on, bytes_so_far}
 use Rattle.wf_meaning.proofs.Lists2.{and_then_made, map_made, only_if_made, two_made, some_same}
 use Rattle.wf_meaning.proofs.WorldSteps.{Kept, kept-some, kept-either, go}
@@ -64,9 +64,6 @@ cells-same (host_array a) change w h = ap (λ (xs : List ℕ). (map capacity w.h
   where
     by : (x : List ℕ) → slice_get w.host.arrays a ≡ Some x → length (change x) ≡ length x
     by x e = let P : Option (List ℕ) → Type 0 = λ o. length (change (unwrap_or o [])) ≡ length (unwrap_or o []) in subst P e h
-
-pub object-same : (number : ℕ) (change : Object → Object) (w : World) → Same w (with_object number change w)
-object-same number change w = refl
 
 path-same : (b : Body) (path : Path) (v : Value) (vars : Vars) → Same vars.world (set_path b path v vars).world
 path-same b (local n) v vars = refl

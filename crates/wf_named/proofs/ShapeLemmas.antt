@@ -28,10 +28,10 @@ use Rattle.wf_named.proofs.StmtLemmas.{stmts_push}
 pub NamedTypeBelow-more : (k l : ℕ) → k ≤ l → (t : NamedType) → NamedTypeBelow k t → NamedTypeBelow l t
 NamedTypeBelow-more k l m t h = (all_map (PrefixBelow k) (PrefixBelow l) (PrefixBelow-more k l m) t.prefixes h.0, BoundsBelow-more k l m t.bounds h.1)
 
-module _ (t u e f : ℕ) (m : t ≤ u) (n : e ≤ f) where
-  pub ArgsBelow-more : (es : List ExprId) → ArgsBelow e es → ArgsBelow f es
-  ArgsBelow-more es h = all_map (λ x. x.0 < e) (λ x. x.0 < f) (λ x p. omega (arith, p, n)) es h
+pub ArgsBelow-more : (k l : ℕ) → k ≤ l → (es : List ExprId) → ArgsBelow k es → ArgsBelow l es
+ArgsBelow-more k l m es h = all_map (λ e. e.0 < k) (λ e. e.0 < l) (λ e p. omega (arith, p, m)) es h
 
+module _ (t u e f : ℕ) (m : t ≤ u) (n : e ≤ f) where
   pub NamedTargetBelow-more : (x : NamedTarget) → NamedTargetBelow e x → NamedTargetBelow f x
   NamedTargetBelow-more (targets.Path path) h = tt
   NamedTargetBelow-more (targets.Element base place at) h = omega (arith, h, n)
@@ -46,8 +46,8 @@ module _ (t u e f : ℕ) (m : t ≤ u) (n : e ≤ f) where
 
   pub NamedStmtParts-more : (k : ℕ) (s : NamedStmt) → NamedStmtParts t e k s → NamedStmtParts u f k s
   NamedStmtParts-more k (stmts.Assign target op sign value) h = (NamedTargetBelow-more target h.0, omega (arith, h.1, n))
-  NamedStmtParts-more k (stmts.Keep target c) h = (NamedTargetBelow-more target h.0, ArgsBelow-more c.args h.1)
-  NamedStmtParts-more k (stmts.Call c) h = ArgsBelow-more c.args h
+  NamedStmtParts-more k (stmts.Keep target c) h = (NamedTargetBelow-more target h.0, ArgsBelow-more e f n c.args h.1)
+  NamedStmtParts-more k (stmts.Call c) h = ArgsBelow-more e f n c.args h
   NamedStmtParts-more k (stmts.If arms otherwise) h =
       (all_map (λ a. (a.condition.0 < e) × BlockBelow k a.body) (λ a. (a.condition.0 < f) × BlockBelow k a.body) (λ a p. (omega (arith, p.0, n), p.1)) arms h.0, h.1)
   NamedStmtParts-more k (stmts.While condition clauses body) h =

@@ -15,6 +15,7 @@ use Rattle.wf_ast.specs.declared.parsed.Name.{Name}
 use Rattle.wf_ast.specs.declared.parsed.Prefix.{Prefix}
 use Rattle.wf_ast.specs.declared.parsed.Prefix.TheVariants as prefixes
 use Rattle.wf_ast.specs.declared.parsed.Via.{Via}
+use Rattle.wf_ast.specs.Places.{no_place}
 use Rattle.wf_named.specs.declared.nodes.NamedCall.{NamedCall}
 use Rattle.wf_named.specs.declared.nodes.NamedCore.{NamedCore}
 use Rattle.wf_named.specs.declared.nodes.NamedCore.TheVariants as cores
@@ -34,10 +35,7 @@ use Rattle.wf_named.specs.declared.declarations.NamedVar.{NamedVar}
 use Rattle.wf_named.specs.NamedTree as tree
 use Rattle.wf_named.specs.NamedTree.{NamedExprTree, NamedPartTree, NamedLinkTrees, NamedArgTrees, NamedCallTree, NamedTypeTree, NamedBoundsTree, NamedTargetTree, NamedClauseTrees, Word, LetterTrees, NamedViaTree, NamedStmtTree, NamedBlockTree, NamedArmTrees, VarTree, ConstTree, NamedStructTree, NamedMethodTree}
 
--- The place of no token, and what a number stands for that names no node: no package has them.
-abbrev pub no_place : Place
-no_place = record { file = 0; line = 0; col = 0 }
-
+-- What a number stands for that names no node: no package has them.
 abbrev pub expr_or : Option NamedExprTree → NamedExprTree
 expr_or (Some e) = e
 expr_or None = tree.status 0 no_place
@@ -88,9 +86,9 @@ type_at ts t = all_prefixed ts t.prefixes (core_at ts t.core t.bounds)
 -- The tree that a node makes of the trees before it.
 abbrev pub expr_made : List NamedExprTree → NamedExpr → Place → NamedExprTree
 expr_made ts (exprs.Number value) at = tree.number value at
+expr_made ts (exprs.Path path) at = tree.path path
 expr_made ts (exprs.Status number) at = tree.status number.0 at
 expr_made ts (exprs.Truth value) at = tree.truth value at
-expr_made ts (exprs.Path path) at = tree.path path
 expr_made ts (exprs.Index base place) at = tree.index base (expr_at ts place) at
 expr_made ts (exprs.Slice base from to) at = tree.slice base (part_at ts from) (part_at ts to) at
 expr_made ts (exprs.Call c) at = tree.answer (call_at ts c)

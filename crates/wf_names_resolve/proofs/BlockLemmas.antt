@@ -11,13 +11,13 @@ use Rattle.wf_ast.specs.declared.parsed.Stmt.TheVariants as stmts
 use Rattle.wf_ast.specs.ParsedTree.{ExprTree, StmtTree, ArmTrees}
 use Rattle.wf_ast.specs.ParsedTrees as parsed
 use Rattle.wf_ast.specs.ParsedParts.{BlockBelow, StmtParts}
-use Rattle.wf_ast.proofs.TreeLemmas.{all_map, all_push, BlockBelow-more}
+use Rattle.wf_ast.proofs.TreeLemmas.{all_map, all_push, BlockBelow-more, ElseBelow-more}
+use Rattle.wf_ast.proofs.AboveLemmas.{stmts_above, else_above, arms_above, arms_more}
 use Rattle.wf_named.specs.NamedTree as tree
 use Rattle.wf_named.specs.NamedTree.{NamedExprTree, NamedClauseTrees, NamedStmtTree, NamedBlockTree, NamedArmTrees}
 use Rattle.wf_named.specs.NamedTrees.{expr_at, stmt_or, stmt_at, items_at, block_at, arms_at}
 use Rattle.wf_named.specs.NamedParts.{NamedParts, exprs_of, stmts_of}
 use Rattle.wf_named.proofs.StmtLemmas.{block_at-same, arms_at-same}
-use Rattle.wf_names_rules.proofs.StmtLemmas.{stmts_above, else_above, arms_above, else_more, arms_more}
 use Rattle.wf_names_rules.proofs.WalkLemmas.{drop-one}
 use Rattle.wf_names_resolve.specs.Standing.{Standing}
 use Rattle.wf_names_resolve.specs.Resolved.{with_stmt, resolved_expr, resolved_stmt, resolved_block, resolved_arms}
@@ -45,7 +45,7 @@ stmt_more e k l m (stmts.Var name of) h = h
 stmt_more e k l m (stmts.Assign target op sign value) h = h
 stmt_more e k l m (stmts.Keep target c) h = h
 stmt_more e k l m (stmts.Call c) h = h
-stmt_more e k l m (stmts.If arms otherwise) h = (arms_more e k l m arms h.0, else_more k l m otherwise h.1)
+stmt_more e k l m (stmts.If arms otherwise) h = (arms_more e k l m arms h.0, ElseBelow-more k l m otherwise h.1)
 stmt_more e k l m (stmts.While label condition clauses body) h = (h.0, h.1, BlockBelow-more k l m body h.2)
 stmt_more e k l m (stmts.Break label) h = h
 stmt_more e k l m (stmts.Continue label) h = h

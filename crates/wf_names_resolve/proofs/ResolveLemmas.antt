@@ -20,18 +20,18 @@ use Rattle.wf_ast.specs.ParsedTree as parsed_tree
 use Rattle.wf_ast.specs.ParsedTree.{ExprTree, GivenTrees, TypeTree}
 use Rattle.wf_ast.specs.ParsedTrees as parsed
 use Rattle.wf_ast.specs.ParsedParts.{LinksBelow, GivenBelow, PrefixBelow}
-use Rattle.wf_ast.proofs.TreeLemmas.{all_map, all_push, GivenBelow-more, PrefixBelow-more}
+use Rattle.wf_ast.proofs.TreeLemmas.{all_map, all_push, GivenBelow-more, PrefixBelow-more, LinksBelow-more}
 use Rattle.wf_named.specs.declared.nodes.BaseType.TheVariants as bases
 use Rattle.wf_named.specs.declared.nodes.NamedCallee.{NamedCallee}
 use Rattle.wf_named.specs.declared.nodes.NamedCore.{NamedCore}
 use Rattle.wf_named.specs.NamedTree as tree
-use Rattle.wf_named.specs.NamedTree.{NamedExprTree, NamedLinkTrees, NamedArgTrees, NamedTypeTree}
+use Rattle.wf_named.specs.NamedTree.{NamedExprTree, NamedLinkTrees, NamedTypeTree}
 use Rattle.wf_named.specs.NamedTrees.{expr_at, links_at, args_at, bounds_at, core_at, prefixed, all_prefixed}
 use Rattle.wf_named.specs.NamedParts.{NamedParts, exprs_of, ArgsBelow}
 use Rattle.wf_names_rules.specs.declared.callees.Callee.{Callee}
 use Rattle.wf_names_rules.specs.declared.callees.Callee.TheVariants as callees
 use Rattle.wf_names_rules.specs.Declarations.{is_spelt}
-use Rattle.wf_names_rules.proofs.WalkLemmas.{drop-one, LinksBelow-more}
+use Rattle.wf_names_rules.proofs.WalkLemmas.{drop-one}
 use Rattle.wf_names_resolve.specs.Standing.{Standing}
 use Rattle.wf_names_resolve.specs.Resolved.{base_type_named, callee_at, resolved_mark, resolved_call, resolved_bounds, NamedGiven, with_arg, args_named, args_spelt, args_for, resolved_expr, resolved_links, resolved_given, resolved_type}
 use Rattle.wf_names_resolve.specs.Ordered.{value_in, values_named, values_spelt, values_for, given_tree, given_trees}

@@ -4,15 +4,16 @@ use Rattle.wf_ast.specs.declared.parsed.Given.{Given}
 use Rattle.wf_ast.specs.declared.parsed.Name.{Name}
 use Rattle.wf_ast.specs.ParsedParts.{JoinsText, GivenBelow}
 use Rattle.wf_ast.proofs.TreeLemmas.{all_map, all_push, slice_get-front}
+use Rattle.wf_ast.proofs.AboveLemmas.{given_at_place}
 use Rattle.wf_named.specs.declared.nodes.NamedExprNode.{NamedExprNode}
 use Rattle.wf_named.specs.declared.nodes.NamedStmtNode.{NamedStmtNode}
 use Rattle.wf_named.specs.NamedTree as tree
-use Rattle.wf_named.specs.NamedTree.{NamedExprTree, LetterTrees, Word}
+use Rattle.wf_named.specs.NamedTree.{NamedExprTree, LetterTrees}
 use Rattle.wf_named.specs.NamedTrees.{text_or, word_at, expr_at, letters_at}
 use Rattle.wf_named.specs.NamedParts.{NamedParts, exprs_of, stmts_of, named_package, LettersBelow}
 use Rattle.wf_named.proofs.StmtLemmas.{word_at-same, letters_at-same}
 use Rattle.wf_names_rules.specs.Declarations.{bytes_in}
-use Rattle.wf_names_rules.proofs.WalkLemmas.{drop-one, given_at_place}
+use Rattle.wf_names_rules.proofs.WalkLemmas.{drop-one}
 use Rattle.wf_names_resolve.specs.Standing.{Standing}
 use Rattle.wf_names_resolve.specs.Resolved.{NamedGiven, word_of, letters_of}
 use Rattle.wf_names_resolve.specs.Ordered.{given_trees}

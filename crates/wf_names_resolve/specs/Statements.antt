@@ -7,11 +7,11 @@ use Rattle.wf_ast.specs.declared.parsed.Arm.{Arm}
 use Rattle.wf_ast.specs.declared.parsed.Stmt.{Stmt}
 use Rattle.wf_ast.specs.declared.parsed.Stmt.TheVariants as parsed
 use Rattle.wf_ast.specs.ParsedParts.{BlockBelow}
+use Rattle.wf_ast.specs.Above.{above_block, above_else, above_arms}
 use Rattle.wf_named.specs.declared.nodes.NamedStmt.{NamedStmt}
 use Rattle.wf_named.specs.NamedTree.{NamedExprTree, NamedStmtTree}
 use Rattle.wf_named.specs.NamedTrees.{stmt_at, stmt_made}
 use Rattle.wf_named.specs.NamedParts.{NamedStmtParts}
-use Rattle.wf_names_rules.specs.Above.{above_block, above_else, above_arms}
 
 -- What may be none, as a list.
 abbrev pub listed : {X : Type 0} → Option X → List X

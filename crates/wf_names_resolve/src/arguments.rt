@@ -100,7 +100,7 @@ fn base_args(
 }
 
 /// The values for the arguments of what is called, in order of declaration. An argument that isn't given has none.
-pub fn values(
+pub(crate) fn values(
     alloc: Global,
     parsed: &PackageNodes,
     tables: &Tables,

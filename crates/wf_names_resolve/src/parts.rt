@@ -36,7 +36,7 @@ pub fn number_or(number: Option<u32>) -> u32
 }
 
 /// The number of a status of the package.
-pub fn own_status(tables: &Tables, text: TextId) -> StatusId
+pub(crate) fn own_status(tables: &Tables, text: TextId) -> StatusId
     ensures { result.0 ≡ or_zero (number_at tables.now.statuses text.0) }
 {
     StatusId(number_or(tables.statuses.numbers.get(&text.0).copied()))
@@ -64,7 +64,7 @@ fn base_error(text: &[u8]) -> StatusId
 }
 
 /// The number of a status of the language, by its text after `base.`.
-pub fn base_status(text: &[u8]) -> StatusId
+pub(crate) fn base_status(text: &[u8]) -> StatusId
     ensures { result.0 ≡ base_status_number text.now }
 {
     if text == b"$short read".as_slice() {
@@ -137,7 +137,7 @@ fn variable(tables: &Tables, scope: &Scope, root: Root, text: TextId) -> Variabl
 }
 
 /// What a path stands for.
-pub fn path(tables: &Tables, scope: &Scope, path: Path) -> NamedPath
+pub(crate) fn path(tables: &Tables, scope: &Scope, path: Path) -> NamedPath
     ensures { (texts : _) → result ≡ resolved_path (standing_by texts tables.now scope.now) path }
 {
     NamedPath {

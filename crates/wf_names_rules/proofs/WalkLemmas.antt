@@ -1,25 +1,19 @@
 -- Walks over expressions: what a walk past one list of uses and then another comes to.
-use Rattle.std.proofs.Common.{◌≡◌, ℕ, zero, suc, ◌+◌, ◌<◌, ◌≤◌, Bool, true, false, ◌&&◌, List, [], ◌∷◌, ◌++◌, length, drop, slice_index_or, Option, Some, None, Result, map, OnOk, refl, sym, ap, ◌∙◌, subst, arith, add-one, drop-cons}
-use Rattle.std.specs.List.{list_all, flat_map, AllByRecursion}
+use Rattle.std.proofs.Common.{◌≡◌, ℕ, ◌+◌, ◌<◌, Bool, true, false, ◌&&◌, List, [], ◌∷◌, ◌++◌, length, drop, slice_index_or, Option, Result, map, OnOk, refl, sym, ap, ◌∙◌, subst, add-one, drop-cons}
+use Rattle.std.specs.List.{list_all, flat_map}
 use Rattle.wf_text.specs.declared.faults.NoMemory.{NoMemory}
 use Rattle.wf_text.specs.declared.rules.Refusal.{Refusal}
 use Rattle.wf_text.specs.Precedence.{sooner}
-use Rattle.wf_ast.specs.declared.numbers.ExprId.{ExprId}
-use Rattle.wf_ast.specs.declared.parsed.Bounds.{Bounds}
 use Rattle.wf_ast.specs.declared.parsed.Given.{Given}
 use Rattle.wf_ast.specs.declared.parsed.Link.{Link}
 use Rattle.wf_ast.specs.declared.parsed.Name.{Name}
 use Rattle.wf_ast.specs.declared.parsed.Prefix.{Prefix}
 use Rattle.wf_ast.specs.declared.parsed.Prefix.TheVariants as prefixes
 use Rattle.wf_ast.specs.declared.parsed.Receiver.{Receiver}
-use Rattle.wf_ast.specs.declared.parsed.TypeExpr.{TypeExpr}
 use Rattle.wf_ast.specs.declared.parsed.WrittenMark.{WrittenMark}
 use Rattle.wf_ast.specs.ParsedTree.{ExprTree, GivenTrees, TypeTree, call}
 use Rattle.wf_ast.specs.ParsedTrees.{expr_at, given_at, links_at, prefixed, all_prefixed}
-use Rattle.wf_ast.specs.ParsedParts.{GivenBelow, LinksBelow, PrefixBelow, BoundsBelow, TypeBelow, IsBelow}
-use Rattle.wf_ast.proofs.TreeLemmas.{all_map}
 use Rattle.wf_names_rules.specs.declared.seen.Seen.{Seen}
-use Rattle.wf_names_rules.specs.Above.{above_part, above_given, above_links, above_prefix, above_prefixes, above_bounds, above_type}
 use Rattle.wf_names_rules.specs.Uses.{Use, method, uses_of, given_uses, link_uses, receiver_uses, type_uses}
 use Rattle.wf_names_rules.specs.NodeUses.{prefix_uses}
 use Rattle.wf_names_rules.specs.Meanings.{Known, GivenValue, given_values, has_meaning, is_known, callee_of, call_args, parameters_of}
@@ -90,56 +84,6 @@ call_walked k seen on fresh given all r rec name mark gs e1 e2 e3 e4 e5 =
     ap (λ (s : Seen). s.known) e5 ∙ ap (λ (s : Seen). on.known && s.known) e4 ∙ swapped on.known is given.known ∙ ap (λ b. (on.known && b) && is) known
     ∙ ap (λ b. b && is) (sym (walked-known k on (given_uses gs))) in
     seen_same r (walked_one k (walked k on (given_uses gs)) (method c)) first second ∙ sym way
-
--- Numbers above those of parts.
-pub given_above : (k : ℕ) (gs : List Given) → GivenBelow k gs → above_given gs ≤ k
-given_above k [] h = omega arith
-given_above k (g ∷ gs) h = omega (arith, h.0, given_above k gs h.1)
-
-pub links_above : (k : ℕ) (ls : List Link) → LinksBelow k ls → above_links ls ≤ k
-links_above k [] h = omega arith
-links_above k (l ∷ ls) h = omega (arith, h.0, links_above k ls h.1)
-
-prefix_above : (k : ℕ) (p : Prefix) → PrefixBelow k p → above_prefix p ≤ k
-prefix_above k (prefixes.Slice at) h = omega arith
-prefix_above k (prefixes.Array length at) h = omega (arith, h)
-
-prefixes_above : (k : ℕ) (ps : List Prefix) → AllByRecursion (PrefixBelow k) ps → above_prefixes ps ≤ k
-prefixes_above k [] h = omega arith
-prefixes_above k (p ∷ ps) h = omega (arith, prefix_above k p h.0, prefixes_above k ps h.1)
-
-part_above : (k : ℕ) (e : Option ExprId) → IsBelow k e → above_part e ≤ k
-part_above k None h = omega arith
-part_above k (Some e) h = omega (arith, h)
-
-bounds_above : (k : ℕ) (b : Option Bounds) → BoundsBelow k b → above_bounds b ≤ k
-bounds_above k None h = omega arith
-bounds_above k (Some b) h = omega (arith, part_above k b.low h.0, h.1)
-
-pub type_above : (k : ℕ) (t : TypeExpr) → TypeBelow k t → above_type t ≤ k
-type_above k t h = omega (arith, prefixes_above k t.prefixes h.0, bounds_above k t.bounds h.1)
-
-pub LinksBelow-more : (k l : ℕ) → k ≤ l → (ls : List Link) → LinksBelow k ls → LinksBelow l ls
-LinksBelow-more k l m ls h = all_map (λ x. x.operand.0 < k) (λ x. x.operand.0 < l) (λ x p. omega (arith, p, m)) ls h
-
--- Parts by their place in a list.
-pub given_at_place : (k : ℕ) (gs : List Given) (i : ℕ) (d : Given) → i < length gs → GivenBelow k gs
-    → ((slice_index_or gs i d).value.0 + 1 ≤ above_given gs) × ((slice_index_or gs i d).value.0 < k)
-given_at_place k [] i d h b = absurd (omega (arith, h))
-given_at_place k (g ∷ gs) zero d h b = (omega arith, b.0)
-given_at_place k (g ∷ gs) (suc i) d h b = let r = given_at_place k gs i d (omega (arith, h)) b.1 in (omega (arith, r.0), r.1)
-
-pub link_at_place : (k : ℕ) (ls : List Link) (i : ℕ) (d : Link) → i < length ls → LinksBelow k ls
-    → ((slice_index_or ls i d).operand.0 + 1 ≤ above_links ls) × ((slice_index_or ls i d).operand.0 < k)
-link_at_place k [] i d h b = absurd (omega (arith, h))
-link_at_place k (l ∷ ls) zero d h b = (omega arith, b.0)
-link_at_place k (l ∷ ls) (suc i) d h b = let r = link_at_place k ls i d (omega (arith, h)) b.1 in (omega (arith, r.0), r.1)
-
-pub prefix_at_place : (k : ℕ) (ps : List Prefix) (i : ℕ) (d : Prefix) → i < length ps → AllByRecursion (PrefixBelow k) ps
-    → (above_prefix (slice_index_or ps i d) ≤ above_prefixes ps) × PrefixBelow k (slice_index_or ps i d)
-prefix_at_place k [] i d h b = absurd (omega (arith, h))
-prefix_at_place k (p ∷ ps) zero d h b = (omega arith, b.0)
-prefix_at_place k (p ∷ ps) (suc i) d h b = let r = prefix_at_place k ps i d (omega (arith, h)) b.1 in (omega (arith, r.0), r.1)
 
 module _ (k : Known) (ts : List ExprTree) (seen next : Seen) where
   pub given_step : (gs : List Given) (i : ℕ) (d : Given) → i < length gs → next ≡ walked k seen (uses_of (expr_at ts (slice_index_or gs i d).value))

@@ -1,4 +1,4 @@
-// The rules of names: from the parsed tree of a package to the first refusal. What each rule asks stands as
+// The rules of names: their table, and the passes and walks over parts of a package. What each rule asks stands as
 // definitions over the mathematical tree; each pass of this crate is exact against its part of them.
 #![tactic(auto)]
 

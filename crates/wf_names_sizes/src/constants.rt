@@ -174,7 +174,7 @@ fn noted(
 }
 
 /// The values of a package's constants by their names; of constants of one name that of the first.
-pub fn constants(
+pub(crate) fn constants(
     alloc: Global,
     parsed: &PackageNodes,
 ) -> Result<IndexMap<u32, Option<Value>>, NoMemory>

@@ -75,7 +75,7 @@ fn converted(width: Option<Width>, of: Option<Value>) -> Option<Value>
 /// The value of an expression by the values of the constants, of which the names in `hidden` are hidden by locals.
 /// None where it isn't constant, or breaks a rule of values.
 #[cycle(values)]
-pub fn value(
+pub(crate) fn value(
     parsed: &PackageNodes,
     constants: &IndexMap<u32, Option<Value>>,
     hidden: &IndexSet<u32>,

@@ -107,8 +107,8 @@ method_f owner body =
     ∷ variable "src" (at 8 48) (base "io_reader" (at 8 53)) ∷ variable "dst" (at 8 69) (base "io_writer" (at 8 74)) ∷ variable "part" (at 8 90) (struct "p" (at 8 96)) ∷ []) body
 
 -- pub status "#bad", constants, pub struct s?(FIELDS), pub struct p?(), and the methods; `f` is looked at.
-abbrev pub package_of : List Constant → (fields : List Variable) → (owner : Name) → (body : BlockTree) → Declared
-package_of constants fields owner body =
+abbrev pub package_with : List Constant → (fields : List Variable) → (owner : Name) → (body : BlockTree) → Declared
+package_with constants fields owner body =
     record {
       texts = texts;
       statuses = name "#bad" (at 1 12) ∷ [];
@@ -132,19 +132,19 @@ abbrev pub body_of : StmtTree → BlockTree
 body_of st = tree.more_stmts (tree.var (name "v" (at 8 109)) (base "u32" (at 8 113)) (at 8 105)) (tree.more_stmts st nothing)
 
 abbrev pub doing : StmtTree → Declared
-doing st = package_of (constant_k 2 ∷ []) fields_of_s owner_s (body_of st)
+doing st = package_with (constant_k 2 ∷ []) fields_of_s owner_s (body_of st)
 
 -- The package has these constants.
 abbrev pub with_constants : List Constant → Declared
-with_constants constants = package_of constants fields_of_s owner_s nothing
+with_constants constants = package_with constants fields_of_s owner_s nothing
 
 -- The struct has one field more, of this type.
 abbrev pub with_field : TypeTree → Declared
-with_field of = package_of (constant_k 2 ∷ []) (variable "v" (at 3 37) of ∷ fields_of_s) owner_s nothing
+with_field of = package_with (constant_k 2 ∷ []) (variable "v" (at 3 37) of ∷ fields_of_s) owner_s nothing
 
 -- The method is declared for the struct of this name.
 abbrev pub owned_by : Name → Declared
-owned_by owner = package_of (constant_k 2 ∷ []) fields_of_s owner nothing
+owned_by owner = package_with (constant_k 2 ∷ []) fields_of_s owner nothing
 
 -- return E, v = E
 abbrev pub give : ExprTree → StmtTree

@@ -5,7 +5,7 @@ ghost use Rattle.std.specs.Prelude.{◌≡◌, Some, None, ◌∷◌, [], map};
 ghost use Rattle.wf_text.specs.declared.rules.Rule.TheVariants.{N1, N2, N6, N7, N8};
 ghost use Rattle.wf_ast.specs.ParsedTree as tree;
 ghost use Rattle.wf_names_scopes.specs.UsesFound.{uses_found};
-ghost use Rattle.wf_names_uses.specs.Examples.{at, here, refused, name, bare, field, arg, one, sum, base, up_to, struct, variable, constant, constant_k, constant_l, package_of, fields_of_s, owner_s, body_of, doing, with_constants, with_field, owned_by, give, set, set_v, given, calls_this, calls_on, statements_with, packages_with};
+ghost use Rattle.wf_names_uses.specs.Examples.{at, here, refused, name, bare, field, arg, one, sum, base, up_to, struct, variable, constant, constant_k, constant_l, package_with, fields_of_s, owner_s, body_of, doing, with_constants, with_field, owned_by, give, set, set_v, given, calls_this, calls_on, statements_with, packages_with};
 
 /// Statuses: one that the package declares and one that it doesn't; one of the language, one that isn't, and one of the
 /// package where one of the language should stand.
@@ -102,8 +102,8 @@ pub fn the_least_place_decides_among_uses()
     ensures unknown_and_twice { uses_found (doing (calls_this "g" (given "k" 12 (one 15) (given "a" 18 (one 21) (given "a" 24 (one 27) (given "b" 30 (one 33) tree.no_given)))))) None ≡ refused N6 (here 12) }
     ensures missing_and_private { uses_found (doing (calls_on (field "x" 5) "shut" 12 tree.no_given)) None ≡ refused N7 (here 12) }
     ensures twice_and_unknown_at_one_place { uses_found (doing (calls_this "g" (given "a" 12 (one 15) (given "b" 18 (one 21) (given "k" 24 (one 27) (given "k" 30 (one 33) tree.no_given)))))) None ≡ refused N6 (here 24) }
-    ensures owner_in_front_of_a_constant { uses_found (package_of (constant_l 9 (tree.path (bare "gone" 26)) ∷ []) fields_of_s (name "gone" (at 8 10)) (body_of (give (one 12)))) None ≡ refused N1 (at 8 10) }
-    ensures the_struct_of_a_field { uses_found (package_of [] (variable "x" (at 3 15) (struct "gone" (at 3 19)) ∷ []) owner_s (body_of (calls_on (field "x" 5) "open" 12 tree.no_given))) None ≡ refused N1 (at 3 19) }
+    ensures owner_in_front_of_a_constant { uses_found (package_with (constant_l 9 (tree.path (bare "gone" 26)) ∷ []) fields_of_s (name "gone" (at 8 10)) (body_of (give (one 12)))) None ≡ refused N1 (at 8 10) }
+    ensures the_struct_of_a_field { uses_found (package_with [] (variable "x" (at 3 15) (struct "gone" (at 3 19)) ∷ []) owner_s (body_of (calls_on (field "x" 5) "open" 12 tree.no_given))) None ≡ refused N1 (at 3 19) }
     ensures found_in_front { uses_found (doing (set_v (tree.path (bare "gone" 9)))) (refused N2 (at 8 12)) ≡ refused N2 (at 8 12) }
     ensures found_behind { uses_found (doing (set_v (tree.path (bare "gone" 9)))) (refused N2 (at 9 12)) ≡ refused N1 (here 9) }
     ensures found_before_alone { uses_found (doing (set_v (tree.path (bare "v" 9)))) (refused N2 (at 9 12)) ≡ refused N2 (at 9 12) }

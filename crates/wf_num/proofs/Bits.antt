@@ -57,6 +57,23 @@ least-turned xs ys r h = record {
   under = λ p q i j. omega (arith, or_comm p q, h.under q p j i);
 }
 
+-- x and y of two spans have `op x y` = r.
+pub record Reaches (op : ℕ → ℕ → ℕ) (xs ys : Span) (x y r : ℕ) : Type 0 where
+  pub x_in : In xs x
+  pub y_in : In ys y
+  pub reached : op x y ≡ r
+
+-- Where all have the bit m, what two numbers reach above it, they reach with it on top.
+both-reached : (m : ℕ) (xs ys : Span) (x y r : ℕ) → IsBit m → m ≤ xs.lo → xs.lo ≤ xs.hi → xs.hi < m + m → m ≤ ys.lo → ys.lo ≤ ys.hi → ys.hi < m + m → Reaches bit_or (above m xs) (above m ys) x y r → Reaches bit_or xs ys (m + x) (m + y) (m + r)
+both-reached m xs ys x y r bit xm xsome xtop ym ysome ytop h = record {
+  x_in = within xs _ (omega (arith, h.x_in.from)) (omega (arith, h.x_in.to));
+  y_in = within ys _ (omega (arith, h.y_in.from)) (omega (arith, h.y_in.to));
+  reached =
+      let s : (m + x) - m ≡ x = omega arith in
+      let t : (m + y) - m ≡ y = omega arith in
+      cc (h.reached, or_tops m (m + x) (m + y) bit (omega arith) (omega (arith, h.x_in.to)) (omega arith) (omega (arith, h.y_in.to)));
+}
+
 -- ---- the greatest
 
 -- No x has the bit m, and some y has it: the greatest is with such a y.
@@ -102,22 +119,21 @@ greatest-either m xs ys bit either xsome xhi xtop ysome yhi ytop = elim either [
 
 -- All have the bit m.
 pub greatest-both : (m : ℕ) (xs ys : Span) (r : ℕ) → IsBit m → m ≤ xs.lo → xs.lo ≤ xs.hi → xs.hi < m + m → m ≤ ys.lo → ys.lo ≤ ys.hi → ys.hi < m + m → IsGreatest bit_or (above m xs) (above m ys) r → IsGreatest bit_or xs ys (m + r)
-greatest-both m xs ys r bit xm xsome xtop ym ysome ytop h = record {
-  x = m + h.x;
-  y = m + h.y;
-  x_in = within xs _ (omega (arith, h.x_in.from)) (omega (arith, h.x_in.to));
-  y_in = within ys _ (omega (arith, h.y_in.from)) (omega (arith, h.y_in.to));
-  reached =
-      let s : (m + h.x) - m ≡ h.x = omega arith in
-      let t : (m + h.y) - m ≡ h.y = omega arith in
-      cc (h.reached, or_tops m (m + h.x) (m + h.y) bit (omega arith) (omega (arith, h.x_in.to)) (omega arith) (omega (arith, h.y_in.to)));
-  over = λ p q i j. omega (
-    arith,
-    or_tops m p q bit (omega (arith, i.from)) (omega (arith, i.to)) (omega (arith, j.from)) (omega (arith, j.to)),
-    h.over (p - m) (q - m) (within (above m xs) _ (omega (arith, i.from)) (omega (arith, i.to)))
-        (within (above m ys) _ (omega (arith, j.from)) (omega (arith, j.to))),
-  );
-}
+greatest-both m xs ys r bit xm xsome xtop ym ysome ytop h =
+    let n = both-reached m xs ys h.x h.y r bit xm xsome xtop ym ysome ytop (record { x_in = h.x_in; y_in = h.y_in; reached = h.reached }) in
+    record {
+      x = m + h.x;
+      y = m + h.y;
+      x_in = n.x_in;
+      y_in = n.y_in;
+      reached = n.reached;
+      over = λ p q i j. omega (
+        arith,
+        or_tops m p q bit (omega (arith, i.from)) (omega (arith, i.to)) (omega (arith, j.from)) (omega (arith, j.to)),
+        h.over (p - m) (q - m) (within (above m xs) _ (omega (arith, i.from)) (omega (arith, i.to)))
+            (within (above m ys) _ (omega (arith, j.from)) (omega (arith, j.to))),
+      );
+    }
 
 pub ruleset greatest_steps = (greatest-one, greatest-other, greatest-either, greatest-both)
 
@@ -182,21 +198,20 @@ least-other m xs ys r bit yh xl xsome xtop h =
 
 -- All have the bit m.
 pub least-both : (m : ℕ) (xs ys : Span) (r : ℕ) → IsBit m → m ≤ xs.lo → xs.lo ≤ xs.hi → xs.hi < m + m → m ≤ ys.lo → ys.lo ≤ ys.hi → ys.hi < m + m → IsLeast bit_or (above m xs) (above m ys) r → IsLeast bit_or xs ys (m + r)
-least-both m xs ys r bit xm xsome xtop ym ysome ytop h = record {
-  x = m + h.x;
-  y = m + h.y;
-  x_in = within xs _ (omega (arith, h.x_in.from)) (omega (arith, h.x_in.to));
-  y_in = within ys _ (omega (arith, h.y_in.from)) (omega (arith, h.y_in.to));
-  reached =
-      let s : (m + h.x) - m ≡ h.x = omega arith in
-      let t : (m + h.y) - m ≡ h.y = omega arith in
-      cc (h.reached, or_tops m (m + h.x) (m + h.y) bit (omega arith) (omega (arith, h.x_in.to)) (omega arith) (omega (arith, h.y_in.to)));
-  under = λ p q i j. omega (
-    arith,
-    or_tops m p q bit (omega (arith, i.from)) (omega (arith, i.to)) (omega (arith, j.from)) (omega (arith, j.to)),
-    h.under (p - m) (q - m) (within (above m xs) _ (omega (arith, i.from)) (omega (arith, i.to)))
-        (within (above m ys) _ (omega (arith, j.from)) (omega (arith, j.to))),
-  );
-}
+least-both m xs ys r bit xm xsome xtop ym ysome ytop h =
+    let n = both-reached m xs ys h.x h.y r bit xm xsome xtop ym ysome ytop (record { x_in = h.x_in; y_in = h.y_in; reached = h.reached }) in
+    record {
+      x = m + h.x;
+      y = m + h.y;
+      x_in = n.x_in;
+      y_in = n.y_in;
+      reached = n.reached;
+      under = λ p q i j. omega (
+        arith,
+        or_tops m p q bit (omega (arith, i.from)) (omega (arith, i.to)) (omega (arith, j.from)) (omega (arith, j.to)),
+        h.under (p - m) (q - m) (within (above m xs) _ (omega (arith, i.from)) (omega (arith, i.to)))
+            (within (above m ys) _ (omega (arith, j.from)) (omega (arith, j.to))),
+      );
+    }
 
 pub ruleset least_steps = (least-one, least-other, least-both)

@@ -5,8 +5,8 @@ use Rattle.std.proofs.lemmas.Nat.{or_lt, and_le_l, pow-add, pow_pos}
 use Rattle.std.proofs.lemmas.Nat.Bits.{bit_at_and, bit_at_or, bit_at_lowest, bit_at-suc, bit_at-lt, same_from_bits_below}
 use Rattle.wf_num.specs.declared.spans.Span.{Span}
 use Rattle.wf_num.specs.Extremes.{greatest, least}
-use Rattle.wf_num.specs.Spans.{IsGreatest, IsLeast, complement}
-use Rattle.wf_num.proofs.Bits.{within}
+use Rattle.wf_num.specs.Spans.{In, IsGreatest, IsLeast, complement}
+use Rattle.wf_num.proofs.Bits.{Reaches, within}
 use Rattle.wf_num.proofs.ExtremeLaws.{greatest-same, least-same}
 
 twice : (k : ℕ) → 2 ^ suc k ≡ 2 * 2 ^ k
@@ -38,50 +38,56 @@ and-not k ones x y one p q =
       bit_at-lt y i,
     ))
 
+module _ (k ones : ℕ) (one : ones ≡ 2 ^ k - 1) where
+  -- A number of a span, and its complement in the span of complements.
+  complemented : (xs : Span) (n : ℕ) → xs.hi < 2 ^ k → In xs n → In (complement ones xs) (ones - n)
+  complemented xs n top i = within (complement ones xs) _ (omega (arith, one, top, pow_pos k, i.to)) (omega (arith, one, top, pow_pos k, i.from))
+
+  restored : (xs : Span) (n : ℕ) → xs.lo ≤ xs.hi → xs.hi < 2 ^ k → In (complement ones xs) n → In xs (ones - n)
+  restored xs n some top i = within xs _ (omega (arith, one, some, top, pow_pos k, i.to)) (omega (arith, one, top, pow_pos k, i.from))
+
+  and-within : (xs ys : Span) (p q : ℕ) → xs.hi < 2 ^ k → ys.hi < 2 ^ k → In xs p → In ys q → bit_and p q ≡ ones - bit_or (ones - p) (ones - q)
+  and-within xs ys p q xt yt i j = and-not k ones p q one (omega (arith, xt, i.to)) (omega (arith, yt, j.to))
+
+  -- What complements reach by `|`, the numbers reach by `&`.
+  and-reached : (xs ys : Span) (x y r : ℕ) → xs.lo ≤ xs.hi → ys.lo ≤ ys.hi → xs.hi < 2 ^ k → ys.hi < 2 ^ k → Reaches bit_or (complement ones xs) (complement ones ys) x y r → Reaches bit_and xs ys (ones - x) (ones - y) (ones - r)
+  and-reached xs ys x y r xs_some ys_some xt yt h =
+      let p = restored xs x xs_some xt h.x_in in
+      let q = restored ys y ys_some yt h.y_in in
+      let e : ones - (ones - x) ≡ x = omega (arith, one, xt, pow_pos k, h.x_in.to) in
+      let f : ones - (ones - y) ≡ y = omega (arith, one, yt, pow_pos k, h.y_in.to) in
+      record { x_in = p; y_in = q; reached = cc (e, f, h.reached, and-within xs ys (ones - x) (ones - y) xt yt p q) }
+
 pub and-greatest : (k ones : ℕ) (xs ys : Span) (r : ℕ) → ones ≡ 2 ^ k - 1 → xs.lo ≤ xs.hi → ys.lo ≤ ys.hi → xs.hi < 2 ^ k → ys.hi < 2 ^ k → IsLeast bit_or (complement ones xs) (complement ones ys) r → ones - r ≡ greatest bit_and xs.lo xs.hi ys.lo ys.hi
-and-greatest k ones xs ys r one a b xt yt h = greatest-same bit_and xs ys (ones - r) a b record {
-  x = ones - h.x;
-  y = ones - h.y;
-  x_in = within xs _ (omega (arith, one, xt, yt, pow_pos k, h.x_in.to)) (omega (arith, one, xt, yt, pow_pos k, h.x_in.from));
-  y_in = within ys _ (omega (arith, one, xt, yt, pow_pos k, h.y_in.to)) (omega (arith, one, xt, yt, pow_pos k, h.y_in.from));
-  reached =
-      let e : ones - (ones - h.x) ≡ h.x = omega (arith, one, xt, yt, pow_pos k, h.x_in.to, h.x_in.from) in
-      let f : ones - (ones - h.y) ≡ h.y = omega (arith, one, xt, yt, pow_pos k, h.y_in.to, h.y_in.from) in
-      cc (e, f, h.reached, and-not k ones (ones - h.x) (ones - h.y) one (omega (arith, one, xt, yt, pow_pos k, h.x_in.to, h.y_in.to)) (omega (arith, one, xt, yt, pow_pos k, h.x_in.to, h.y_in.to)));
-  over = λ p q i j. omega (
-    arith,
-    one,
-    xt,
-    yt,
-    pow_pos k,
-    and-not k ones p q one (omega (arith, one, xt, yt, pow_pos k, i.to)) (omega (arith, one, xt, yt, pow_pos k, j.to)),
-    h.under (ones - p) (ones - q)
-        (within (complement ones xs) _ (omega (arith, one, xt, yt, pow_pos k, i.to)) (omega (arith, one, xt, yt, pow_pos k, i.from)))
-        (within (complement ones ys) _ (omega (arith, one, xt, yt, pow_pos k, j.to)) (omega (arith, one, xt, yt, pow_pos k, j.from))),
-  );
-}
+and-greatest k ones xs ys r one a b xt yt h =
+    let n = and-reached k ones one xs ys h.x h.y r a b xt yt (record { x_in = h.x_in; y_in = h.y_in; reached = h.reached }) in
+    greatest-same bit_and xs ys (ones - r) a b record {
+      x = ones - h.x;
+      y = ones - h.y;
+      x_in = n.x_in;
+      y_in = n.y_in;
+      reached = n.reached;
+      over = λ p q i j. omega (
+        arith,
+        and-within k ones one xs ys p q xt yt i j,
+        h.under (ones - p) (ones - q) (complemented k ones one xs p xt i) (complemented k ones one ys q yt j),
+      );
+    }
 
 pub and-least : (k ones : ℕ) (xs ys : Span) (r : ℕ) → ones ≡ 2 ^ k - 1 → xs.lo ≤ xs.hi → ys.lo ≤ ys.hi → xs.hi < 2 ^ k → ys.hi < 2 ^ k → IsGreatest bit_or (complement ones xs) (complement ones ys) r → ones - r ≡ least bit_and xs.lo xs.hi ys.lo ys.hi
-and-least k ones xs ys r one a b xt yt h = least-same bit_and xs ys (ones - r) a b record {
-  x = ones - h.x;
-  y = ones - h.y;
-  x_in = within xs _ (omega (arith, one, xt, yt, pow_pos k, h.x_in.to)) (omega (arith, one, xt, yt, pow_pos k, h.x_in.from));
-  y_in = within ys _ (omega (arith, one, xt, yt, pow_pos k, h.y_in.to)) (omega (arith, one, xt, yt, pow_pos k, h.y_in.from));
-  reached =
-      let e : ones - (ones - h.x) ≡ h.x = omega (arith, one, xt, yt, pow_pos k, h.x_in.to, h.x_in.from) in
-      let f : ones - (ones - h.y) ≡ h.y = omega (arith, one, xt, yt, pow_pos k, h.y_in.to, h.y_in.from) in
-      cc (e, f, h.reached, and-not k ones (ones - h.x) (ones - h.y) one (omega (arith, one, xt, yt, pow_pos k, h.x_in.to, h.y_in.to)) (omega (arith, one, xt, yt, pow_pos k, h.x_in.to, h.y_in.to)));
-  under = λ p q i j. omega (
-    arith,
-    one,
-    xt,
-    yt,
-    pow_pos k,
-    and-not k ones p q one (omega (arith, one, xt, yt, pow_pos k, i.to)) (omega (arith, one, xt, yt, pow_pos k, j.to)),
-    h.over (ones - p) (ones - q)
-        (within (complement ones xs) _ (omega (arith, one, xt, yt, pow_pos k, i.to)) (omega (arith, one, xt, yt, pow_pos k, i.from)))
-        (within (complement ones ys) _ (omega (arith, one, xt, yt, pow_pos k, j.to)) (omega (arith, one, xt, yt, pow_pos k, j.from))),
-  );
-}
+and-least k ones xs ys r one a b xt yt h =
+    let n = and-reached k ones one xs ys h.x h.y r a b xt yt (record { x_in = h.x_in; y_in = h.y_in; reached = h.reached }) in
+    least-same bit_and xs ys (ones - r) a b record {
+      x = ones - h.x;
+      y = ones - h.y;
+      x_in = n.x_in;
+      y_in = n.y_in;
+      reached = n.reached;
+      under = λ p q i j. omega (
+        arith,
+        and-within k ones one xs ys p q xt yt i j,
+        h.over (ones - p) (ones - q) (complemented k ones one xs p xt i) (complemented k ones one ys q yt j),
+      );
+    }
 
 pub ruleset ends = (and-greatest, and-least)

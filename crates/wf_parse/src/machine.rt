@@ -225,7 +225,7 @@ impl Machine {
 
     /// One token. `limited` tells whether brackets and statements have their limits. S5 or S6 where the token can't
     /// stand here, L4 at a bracket too many, L5 at a statement too many.
-    pub fn step(&mut self, limited: bool, token: Token) -> Result<(), StepFault>
+    pub(crate) fn step(&mut self, limited: bool, token: Token) -> Result<(), StepFault>
         requires sound { IsSound self.old.maker }
         requires size { size self.old + 32 < 2 ^ 32 }
         ensures answers { AnswersToken limited token (state_of self.old) (state_of self.new) result }

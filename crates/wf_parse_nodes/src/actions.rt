@@ -116,7 +116,7 @@ pub(crate) fn kind_of(action: Action) -> ActionKind
 
 /// The value that an action makes for which memory may be wanted.
 #[inline(always)]
-pub fn grown(action: Action, values: &mut Stack<Value>) -> Result<Value, NoMemory>
+pub(crate) fn grown(action: Action, values: &mut Stack<Value>) -> Result<Value, NoMemory>
     requires fit { fits (takes action) values.old ≡ true }
     requires kind { kind_of action ≡ kinds.Grown }
     ensures { IfOk result (λ value. making action values.old ≡ record { product = makes.Value value; vals = values.new }) }

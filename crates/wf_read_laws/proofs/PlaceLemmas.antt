@@ -1,5 +1,5 @@
 -- Places that may be told or not: those that are told lie in a region.
-use Rattle.std.proofs.Common.{◌≡◌, Bool, true, false, cond, if◌then◌else◌, List, [], ◌∷◌, Option, None, Some, IfSome, option_map, option_and_then, subst}
+use Rattle.std.proofs.Common.{◌≡◌, Bool, true, false, cond, if◌then◌else◌, List, [], ◌∷◌, Option, None, Some, IfSome, option_and_then, subst}
 use Rattle.std.specs.List.{AllByRecursion, find}
 use Rattle.wf_text.specs.declared.place.Place.{Place}
 use Rattle.wf_types_rules.specs.Operands.{first_of}
@@ -17,10 +17,6 @@ find-in P test (x ∷ xs) a = by_case (test x) (find-in P test xs a.1)
 pub either-in : {X : Type 0} (P : X → Type 0) (b : Bool) (first second : Option X) → IfSome first P → IfSome second P → IfSome (if b then first else second) P
 either-in P true first second h k = h
 either-in P false first second h k = k
-
-pub mapped-in : {X Y : Type 0} (P : X → Type 0) (Q : Y → Type 0) (f : X → Y) → ((x : X) → P x → Q (f x)) → (found : Option X) → IfSome found P → IfSome (option_map f found) Q
-mapped-in P Q f h None k = tt
-mapped-in P Q f h (Some x) k = h x k
 
 pub then-in : {X Y : Type 0} (P : X → Type 0) (Q : Y → Type 0) (f : X → Option Y) → ((x : X) → P x → IfSome (f x) Q) → (found : Option X) → IfSome found P → IfSome (option_and_then f found) Q
 then-in P Q f h None k = tt

@@ -267,7 +267,7 @@ fn all_given(alloc: Global, given: &[Option<Arg>]) -> Result<Vec<Arg>, LineFault
 
 /// The arguments of a call, in declared order.
 #[tactic(auto, unfolding(wf_script_rules::specs::Values::args_of))]
-pub fn args_of(
+pub(crate) fn args_of(
     alloc: Global,
     names: &Names,
     args: &[ArgDecl],

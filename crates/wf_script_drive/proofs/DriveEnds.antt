@@ -6,7 +6,7 @@ use Rattle.pens.specs.Pens.{PenState, WroteFrom, Wrote, Prints, failed_at}
 use Rattle.wf_script_rules.specs.Report.{Report}
 use Rattle.wf_script_drive.specs.declared.driving.DriveEnd.{DriveEnd}
 use Rattle.wf_script_drive.specs.declared.driving.DriveEnd.TheVariants.{Done, Turns, Undefined, OutFailed}
-use Rattle.wf_script_drive.specs.Driving.{EndsAs, Drives, CountsDrive, FitsDrive}
+use Rattle.wf_script_drive.specs.Driving.{EndsAs, Drives, FitsDrive}
 
 -- A lost pen's last answer isn't Ok.
 pub stays_lost : (a b : PenState) (r : Result (Unit {0}) SinkFault) (u : Unit {0}) → Wrote a b [] → r ≡ failed_at b.failed b.sent → r ≡ Ok u → a.failed ≡ true → ⊥
@@ -15,12 +15,6 @@ stays_lost a b r u wrote answer ok lost =
     let failed : b.failed ≡ true = ap (λ (s : PenState). s.failed) same ∙ lost in
     let e : r ≡ failed_at true b.sent = subst (λ (f : Bool). r ≡ failed_at f b.sent) failed answer in
     absurd (cc (e, ok))
-
-pub count_kept : (before now : ℕ) (end : DriveEnd) (report : Report) (lost : Bool) → EndsAs end report.end lost → (lost ≡ true → ⊥) → now ≡ before → CountsDrive before now end
-count_kept before now Done report lost is fine h = h
-count_kept before now (Turns line) report lost is fine h = h
-count_kept before now (Undefined line) report lost is fine h = h
-count_kept before now OutFailed report lost is fine h = absurd (fine is)
 
 room_some : (room : ℕ) (now : Option ℕ) (end : DriveEnd) (report : Report) (lost : Bool) (count : ℕ) (u : Unit {0}) → EndsAs end report.end lost → (lost ≡ true → ⊥) → FitsRoom (Some room) now (Ok u) count → FitsDrive (Some room) now end count
 room_some room now Done report lost count u is fine h = λ enough. (refl, (h enough).1)

@@ -5,8 +5,8 @@ use Rattle.std.specs.List.{list_all}
 use Rattle.std.proofs.lemmas.Bool.{and_parts}
 use Rattle.std.proofs.lemmas.Bool.Decides.{nat_tests}
 use Rattle.std.proofs.lemmas.List.{length-reverse, get_or-reverse}
-use Rattle.std.proofs.lemmas.List.Elements.{All-nil, All-head, All-tail, All-append, All-take, All-drop}
-use Rattle.std.proofs.lemmas.Nat.{pow_pos, pow-add}
+use Rattle.std.proofs.lemmas.List.Elements.{All-nil, All-append, All-take, All-drop}
+use Rattle.std.proofs.lemmas.Nat.{pow_pos}
 use Rattle.turns.specs.Run.{Go}
 use Rattle.wf_text.specs.declared.place.Place.{Place}
 use Rattle.wf_text.specs.declared.rules.Rule.TheVariants.{B8}
@@ -15,7 +15,7 @@ use Rattle.wf_base.specs.declared.widths.Width.TheVariants.{W8, W32}
 use Rattle.wf_base.specs.declared.base_methods.ReadForm.{ReadForm}
 use Rattle.wf_base.specs.declared.base_methods.ReadForm.TheVariants.{ReadU8, ReadU16Be, ReadU16Le, ReadU32Be, ReadU32Le, ReadU64Be, ReadU64Le}
 use Rattle.wf_base.specs.BaseTable.{bits_of, bytes_of, read_width, read_value, lacking, gathered, is_whole}
-use Rattle.wf_base.specs.BaseOps.{Buffer, AreBytes, little_endian, big_endian, unread, taken}
+use Rattle.wf_base.specs.BaseOps.{Buffer, AreBytes, big_endian, unread, taken}
 use Rattle.wf_base.specs.BaseOps as ops
 use Rattle.wf_ast.specs.declared.things.Thing.{Thing}
 use Rattle.wf_ast.specs.declared.things.Thing.TheVariants as things
@@ -42,24 +42,13 @@ use Rattle.wf_sound.proofs.EndSteps.{goes-first, goes-second, left-at, reached}
 use Rattle.wf_sound.proofs.BranchEnds.{kept-well}
 use Rattle.wf_sound.proofs.BufferWrites.{skipped-lawful, appended-lawful, room-open, one-byte}
 use Rattle.wf_sound.proofs.IoArgs.{IoAt, reader-at, writer-at, buffer-put}
+use Rattle.wf_facts_exprs.proofs.Peeks.{little-small}
 use Rattle.wf_sound.proofs.PerformSteps.{answered, handed-number, none-is-nothing}
 
 All-reverse : (P : ℕ → Type 0) (xs : List ℕ) → All P xs → All P (reverse xs)
 All-reverse P xs h = λ k d l.
     let long : k < length xs = omega (arith, l, length-reverse xs) in
     subst P (sym (get_or-reverse xs k d long)) (h (length xs - 1 - k) d (omega (arith, long)))
-
--- What bytes spell is a number of as many bits.
-little-small : (n : ℕ) (xs : List ℕ) → length xs ≤ n → All (λ cell. cell < 2 ^ 8) xs → little_endian xs < 2 ^ (8 * n)
-little-small n [] h all = pow_pos (8 * n)
-little-small zero (x ∷ xs) h all = absurd (omega (arith, h))
-little-small (suc n) (x ∷ xs) h all =
-    let first : x < 2 ^ 8 = All-head (λ cell. cell < 2 ^ 8) x xs all in
-    let rest : little_endian xs < 2 ^ (8 * n) = little-small n xs (omega (arith, h)) (All-tail (λ cell. cell < 2 ^ 8) x xs all) in
-    let same : 2 ^ (8 + 8 * n) ≡ 2 ^ 8 * 2 ^ (8 * n) = pow-add 2 8 (8 * n) in
-    let more : 8 * suc n ≡ 8 + 8 * n = omega arith in
-    let P : ℕ → Type 0 = λ k. x + 2 ^ 8 * little_endian xs < 2 ^ k in
-    subst P (sym more) (omega (arith, first, rest, same))
 
 big-small : (n : ℕ) (xs : List ℕ) → length xs ≤ n → All (λ cell. cell < 2 ^ 8) xs → big_endian xs < 2 ^ (8 * n)
 big-small n xs h all = little-small n (reverse xs) (omega (arith, h, length-reverse xs)) (All-reverse (λ cell. cell < 2 ^ 8) xs all)

@@ -12,7 +12,7 @@ use Rattle.wf_base.specs.BaseOps as ops
 use Rattle.wf_ast.specs.declared.types.Ty.{Ty}
 use Rattle.wf_ast.specs.declared.types.Ty.TheVariants as types
 use Rattle.wf_ast.specs.TypedTree.{Path, local, field, arg, NumType}
-use Rattle.wf_ast.specs.WellTyped.{Context, type_at, variable_at, field_at, same_num_type, is_number, is_array, is_slice, is_flag, is_status, is_reader, is_writer}
+use Rattle.wf_ast.specs.WellTyped.{Context, type_at, field_at, same_num_type, is_number, is_array, is_slice, is_flag, is_status, is_reader, is_writer}
 use Rattle.wf_ast.specs.Value.{Store, nowhere, host_array, field_array, Span, Value, num, truth_value, status_number, span, buffer, State}
 use Rattle.wf_facts_exprs.specs.LawfulState.{IsOf, HasElements, unrefined, IsLawful}
 use Rattle.wf_meaning.specs.SourceState.{Held, held_num, held_truth, held_status, held_cells, held_part, Remaining}
@@ -181,9 +181,6 @@ module _ (R : (method : ℕ) → Remaining → Type 0) (shape : Shape) (b : Body
     typed : (test : Option Ty → Bool) (o : Option Ty) → test None ≡ false → test o ≡ true → (ty : Ty) × (o ≡ Some ty) × (test (Some ty) ≡ true)
     typed test None none h = absurd (cc (none, h))
     typed test (Some ty) none h = (ty, refl, h)
-
-    abbrev local_type : ℕ → Option Ty
-    local_type n = variable_at b.method.locals n
 
     numbers-in : (p : Path) (of : NumType) → is_number of (type_at c p) ≡ true → (n : ℕ) × (s.number_at p ≡ Some n) × IsOf of n
     numbers-in (local n) of h =

@@ -138,9 +138,6 @@ module _ (b : Body) where
       handed (returned (Some (buffer v))) = record { fact = tt }
 
 module _ (R : (method : ℕ) → Remaining → Type 0) (shape : Shape) (b : Body) (typed : IsWellTyped b) (sole : AreApart b.args) (calls : Callees) (turns : ℕ) where
-  abbrev w0 : Vars → World
-  w0 vars = vars.world
-
   -- A call of a method.
   invoke-kept : (site : Site) (at : _) (target : Target) (keep : Bool) (m : Mark) (called : Called) (vs : List ValueTree) (rest : Block) (done : Done) (behind : Behind) (vars : Vars)
       → (x : Stands R shape b typed sole (record { done = done; block = plain site (invoke at target keep m called vs) rest; behind = behind; vars = vars }))

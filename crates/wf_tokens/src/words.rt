@@ -121,7 +121,7 @@ fn find_word(text: &[u8]) -> Option<Word>
 }
 
 /// The word that is written so, if one is.
-pub fn word_of(text: &[u8]) -> Option<Word>
+pub(crate) fn word_of(text: &[u8]) -> Option<Word>
     ensures found { IfSome result (λ word. text.now ≡ word_text word) }
     ensures none { IfNone result ((word : Word) → text.now ≢ word_text word) }
 {

@@ -12,7 +12,7 @@ use Rattle.wf_tool_runs.specs.Runs.{DrivesScript}
 use Rattle.wf_tool.specs.declared.ending.Ending.{Ending}
 use Rattle.wf_tool.specs.declared.ending.Ending.TheVariants as endings
 use Rattle.wf_tool.specs.declared.tool.Answer.{Answer}
-use Rattle.wf_tool.specs.Answer.{WritesPart, WritesText}
+use Rattle.wf_tool.specs.Answer.{WritesPart}
 use Rattle.wf_tool.specs.Lines.{script_line}
 use Rattle.wf_tool.specs.Runs.{IsReportOf, ScriptCallsFor}
 use Rattle.wf_tool.specs.Told.{IsTold}
@@ -42,15 +42,6 @@ module _ (surface : Surface) (report : Script → Report) (bytes : List ℕ) (sc
 
 -- What was driven is what the run calls for, whatever its end; or the sink failed.
 module _ (surface : Surface) (report : Script → Report) (bytes : List ℕ) (old new : Option (List ℕ)) (room left : Option ℕ) where
-  pub done-run : DrivesScript surface report bytes old new room left Done → WritesText (ScriptCallsFor surface report bytes) old new endings.Done
-  done-run d = record { text = (report d.script).text; called = report-is surface report bytes d.script d.reads finished d.drives.1; wrote = d.drives.0 }
-
-  pub turned-run : (line : ℕ) → DrivesScript surface report bytes old new room left (Turns line) → WritesText (ScriptCallsFor surface report bytes) old new endings.Turns
-  turned-run line d = record { text = (report d.script).text; called = (line, report-is surface report bytes d.script d.reads (out_of_turns line) d.drives.1); wrote = d.drives.0 }
-
-  pub undefined-run : (line : ℕ) → DrivesScript surface report bytes old new room left (Undefined line) → WritesText (ScriptCallsFor surface report bytes) old new endings.Undefined
-  undefined-run line d = record { text = (report d.script).text; called = (line, report-is surface report bytes d.script d.reads (not_defined line) d.drives.1); wrote = d.drives.0 }
-
   pub failed-run : DrivesScript surface report bytes old new room left OutFailed → WritesPart (ScriptCallsFor surface report bytes) old new room
   failed-run d =
       let it = by-end surface report bytes d.script d.reads (report d.script).end refl in

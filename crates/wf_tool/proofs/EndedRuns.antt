@@ -1,6 +1,5 @@
 -- How the program ends where a script was run, and what it has written then.
-use Rattle.std.proofs.Common.{◌≡◌, ◌≤◌, ℕ, List, [], length, Option, None, Some, IfOk, IsErr, MatchResult, Result, Ok, Err, string_bytes, refl, sym, ◌∙◌, subst}
-use Rattle.std.specs.Io.KnownBytes.{Keeps}
+use Rattle.std.proofs.Common.{◌≡◌, ◌≤◌, ℕ, List, [], length, Option, IfOk, IsErr, MatchResult, Result, Ok, Err, string_bytes, sym, ◌∙◌, subst}
 use Rattle.wf_text.specs.Surface.{Surface}
 use Rattle.wf_text.specs.declared.faults.NoMemory.{NoMemory as Wants}
 use Rattle.c_text.specs.CTree.{ItemTree}
@@ -24,7 +23,7 @@ use Rattle.wf_tool.specs.Answer.{Writes}
 use Rattle.wf_tool.specs.Lines.{script_line, text_line}
 use Rattle.wf_tool.specs.Runs.{IsReportOf, IsTextReportOf, ScriptCallsFor, TextCallsFor}
 use Rattle.wf_tool.specs.Told.{EndsRun, IsTold}
-use Rattle.wf_tool.proofs.DrivenRuns.{done-run, turned-run, undefined-run, failed-run, refused-run}
+use Rattle.wf_tool.proofs.DrivenRuns.{failed-run, refused-run}
 use Rattle.wf_tool.proofs.WritingLemmas.{writes-after, writes-more}
 
 -- No fault is counted where nothing was driven.
@@ -32,29 +31,10 @@ pub uncounted : {F : Type 0} (before now : ℕ) (r : Result DriveEnd F) → Coun
 uncounted before now (Ok end) counts is = absurd (cc is)
 uncounted before now (Err fault) counts is = counts
 
-kept-same : (old new : Option (List ℕ)) → new ≡ old → Keeps old new
-kept-same old new same = subst (Keeps old) (sym same) (kept old)
-  where
-    kept : (told : Option (List ℕ)) → Keeps told told
-    kept None = tt
-    kept (Some bytes) = refl
-
 -- Whatever script was run.
 module _ (mid : Option (List ℕ)) (left : Option ℕ) where
-  pub ends-done : EndsRun (Ok Done) mid mid left endings.Done
-  ends-done surface report bytes old room d = done-run surface report bytes old mid room left d
-
-  pub ends-turned : (line : ℕ) → EndsRun (Ok (Turns line)) mid mid left endings.Turns
-  ends-turned line surface report bytes old room d = turned-run surface report bytes old mid room left line d
-
-  pub ends-undefined : (line : ℕ) → EndsRun (Ok (Undefined line)) mid mid left endings.Undefined
-  ends-undefined line surface report bytes old room d = undefined-run surface report bytes old mid room left line d
-
   pub ends-failed : EndsRun (Ok OutFailed) mid mid left endings.OutputFault
   ends-failed surface report bytes old room d = failed-run surface report bytes old mid room left d
-
-  pub ends-without : EndsRun (Err script_faults.Memory) mid mid left endings.NoMemory
-  ends-without surface report bytes old room r = kept-same old mid r.1
 
 pub ends-refused : {S F : Type 0} (spelt : S → List ℕ) (mid new : Option (List ℕ)) (left : Option ℕ) (ending : Ending) (rule : XRule) (number : ℕ) (line : Result S F) (text : Answer → S)
     (told : (it : Answer) → spelt (text it) ≡ string_bytes it.line) (r : Result Answer Wants)
@@ -133,6 +113,3 @@ module _ (seen : SeenOf) (surface : Surface) (bytes text : List ℕ) where
     text-refused spelt fault line of told r runs writes made wrote =
         writes-more (IsTold r) (TextCallsFor seen surface bytes text) (text-told spelt fault line of told r runs.script runs.reads runs.runs.0 writes made) old new room ending
         (writes-after (IsTold r) old mid new room left ending runs.runs.1 runs.runs.2 wrote)
-
-    pub text-without : RunsText seen surface bytes text old mid room left (Err run_faults.Memory) → Keeps old mid
-    text-without runs = kept-same old mid runs.0

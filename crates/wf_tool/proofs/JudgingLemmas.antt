@@ -9,20 +9,18 @@ use Rattle.wf_text.specs.Precedence.{Decides, IsFirst}
 use Rattle.wf_text.proofs.PrecedenceLaws.{Decides-map}
 use Rattle.wf_ast.specs.ParsedParts.{Parsed}
 use Rattle.wf_ast.specs.ParsedTree.{DeclTree, status, constant, structure, method}
-use Rattle.wf_ast.specs.StatementOrder.{stand_in_order}
 use Rattle.wf_ast.specs.declared.typed_nodes.TypedNodes.{TypedNodes}
 use Rattle.wf_ast.specs.declared.declarations.Method.{Method}
 use Rattle.wf_ast.specs.declared.typed_code.Block as typed_code
 use Rattle.wf_ast.specs.TypedPackage as typed
 use Rattle.wf_ast.specs.TypedPackage.{PackageTree, package_of}
 use Rattle.wf_ast.specs.ReadPackage.{decls_of}
-use Rattle.wf_named.specs.Grammar.{package_by_grammar}
 use Rattle.wf_parse.specs.Parsing.{IsParsed}
 use Rattle.wf_named.specs.NamedParts.{NamedParts, named_package}
 use Rattle.wf_named.specs.NamedTree.{NamedMethodTree, NamedPackageTree}
 use Rattle.wf_names_rules.specs.Declarations.{Declared, declared, methods_of}
-use Rattle.wf_names.specs.Naming.{IsMisnamed, IsResolved}
-use Rattle.wf_names_resolve.specs.Package.{resolved_methods, resolved_package}
+use Rattle.wf_names.specs.Naming.{IsResolved}
+use Rattle.wf_names_resolve.specs.Package.{resolved_methods}
 use Rattle.wf_names_laws.specs.Ordered.{HasOrder}
 use Rattle.wf_types_rules.specs.TypeRules.{Breaks}
 use Rattle.wf_typed_tree.specs.ElaboratedStmts.{count_block}
@@ -146,10 +144,6 @@ module _ (read : Parsed) where
       let J : NamedPackageTree → Type 0 = λ p. JudgesNamed p result in
       let O : NamedPackageTree → Type 0 = HasOrder in
       ordered-judged is.order result is.kept (subst O is.tree is.ordered) (subst J is.tree h)
-
-  pub misnamed-judged : (fault : PhaseFault) → IsMisnamed read fault → JudgesRead read (Err fault)
-  misnamed-judged (phase.Refused refusal) h = inl h
-  misnamed-judged phase.Memory h = tt
 
 -- As many methods are typed as are resolved.
 typed-long : (p : NamedPackageTree) (n : ℕ) (ms : List NamedMethodTree) → length (typed_methods p n ms) ≡ length ms

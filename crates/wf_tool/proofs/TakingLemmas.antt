@@ -2,16 +2,16 @@
 use Rattle.std.proofs.Common.{◌≡◌, ◌≤◌, ◌<◌, ◌+◌, ◌-◌, ℕ, zero, suc, Bool, if◌then◌else◌, map, List, [], ◌∷◌, ◌++◌, length, drop, Option, None, Some, IfSome, refl, sym, ap, ◌∙◌, subst, arith, true, false, append_assoc, append-nil, nat_le}
 use Rattle.std.proofs.lemmas.List.{length-map, map-append}
 use Rattle.std.proofs.lemmas.List.Sums.{sum_by-cons}
-use Rattle.std.specs.List.{slice_get, sum_by}
+use Rattle.std.specs.List.{sum_by}
 use Rattle.std.specs.Option.{option_or}
 use Rattle.wf_text.specs.declared.rules.Refusal.{Refusal}
-use Rattle.wf_text.specs.declared.rules.Rule.TheVariants.{L1, L2}
+use Rattle.wf_text.specs.declared.rules.Rule.TheVariants.{L1}
 use Rattle.wf_tokens.specs.Places.{first_place}
 use Rattle.wf_tool.specs.declared.taking.TakingFault.{TakingFault}
 use Rattle.wf_tool.specs.declared.taking.TakingFault.TheVariants.{Refused, Failed, Memory}
 use Rattle.wf_tool.specs.Answer.{AreHeld, FailsAt, file_name, text_or}
 use Rattle.wf_tool.specs.Sizes.{too_large, too_long, too_many, most_bytes}
-use Rattle.wf_tool.specs.Taken.{AreTooLarge, NamesFailed, NamesFile, StopsFile, StopsFiles, StopsPackage, TakesFile, TakesFiles, TakesPackage}
+use Rattle.wf_tool.specs.Taken.{AreTooLarge, StopsFile, StopsFiles, StopsPackage, TakesFile, TakesFiles, TakesPackage}
 
 -- what names hold, and nothing where it isn't told
 abbrev pub told_files : (held : List ℕ → Option (List ℕ)) → List (List ℕ) → List (List ℕ)
@@ -38,9 +38,6 @@ pub record HasTaken (held : List ℕ → Option (List ℕ)) (most : ℕ) (names 
   pub sizes : (rest : List (List ℕ)) → too_long 0 most (files ++ rest) ≡ too_long number left rest
   pub fails : (index : ℕ) → FailsAt held left (drop number names) [] index → FailsAt held most names [] (number + index)
 
-pub HasTaken-none : (held : List ℕ → Option (List ℕ)) (most : ℕ) (names : List (List ℕ)) → HasTaken held most names 0 most []
-HasTaken-none held most names = record { hold = λ rest h. h; sizes = λ rest. refl; fails = λ index h. subst (FailsAt held most names []) (omega arith) h }
-
 too_long-within : (number most : ℕ) (bytes : List ℕ) (rest : List (List ℕ)) → length bytes ≤ most → too_long number most (bytes ∷ rest) ≡ too_long (number + 1) (most - length bytes) rest
 too_long-within number most bytes rest within =
     let is : nat_le (length bytes) most ≡ true = grind (arith, within) in
@@ -66,12 +63,6 @@ HasTaken-next held most names number left files name bytes had is takes =
           let spot : number + suc index ≡ number + 1 + index = omega arith in
           subst N spot (had.fails (suc index) (subst (F index) (sym is) (bytes, takes.0, takes.1, h)));
     }
-
-drop-get : (names : List (List ℕ)) (n : ℕ) (name : List ℕ) (rest : List (List ℕ)) → drop n names ≡ name ∷ rest → slice_get names n ≡ Some name
-drop-get [] zero name rest is = absurd (cc is)
-drop-get [] (suc n) name rest is = absurd (cc is)
-drop-get (first ∷ names) zero name rest is = let same : first ≡ name = cc is in ap Some same
-drop-get (first ∷ names) (suc n) name rest is = drop-get names n name rest is
 
 name-at : {X : Type 0} (f : X → List ℕ) (xs : List X) (n : ℕ) (name : List ℕ) → n < length xs → name ≡ file_name (map f xs) n → drop n (map f xs) ≡ name ∷ drop (n + 1) (map f xs)
 name-at f [] n name within is = absurd (omega (arith, within))
@@ -100,14 +91,6 @@ stops-at held most names number left files name (Failed at) had is same =
     (number + 0, same ∙ omega arith, had.fails 0 (subst F (sym is) tt))
 stops-at held most names number left files name Memory had is stops = tt
 
-pub names-at : (held : List ℕ → Option (List ℕ)) (names : List (List ℕ)) (number left : ℕ) (name : List ℕ) (failed : Option (List ℕ)) (fault : TakingFault)
-    → drop number names ≡ name ∷ drop (number + 1) names → StopsFile held left number name fault → NamesFile failed name fault → NamesFailed failed names fault
-names-at held names number left name failed (Refused refusal) is stops last = tt
-names-at held names number left name None (Failed at) is same last = tt
-names-at held names number left name (Some failed) (Failed at) is same last =
-    last ∙ sym (ap (λ n. text_or (slice_get names n)) same ∙ ap text_or (drop-get names number name (drop (number + 1) names) is))
-names-at held names number left name failed Memory is stops last = tt
-
 -- all were taken
 pub takes-all : (held : List ℕ → Option (List ℕ)) (most : ℕ) (names : List (List ℕ)) (number left : ℕ) (files : List (List ℕ))
     → HasTaken held most names number left files → drop number names ≡ [] → TakesFiles held most names files
@@ -124,9 +107,6 @@ none-of-test false n most other refusal is none = absurd (cc none)
 pub short-first : (number most : ℕ) (bytes : List ℕ) (rest : List (List ℕ)) → too_long number most (bytes ∷ rest) ≡ None → (length bytes ≤ most) × (too_long (number + 1) (most - length bytes) rest ≡ None)
 short-first number most bytes rest none = none-of-test (nat_le (length bytes) most) (length bytes) most (too_long (number + 1) (most - length bytes) rest) (record { rule = L1; at = first_place number }) refl none
 
-pub few-names : (count : ℕ) → too_many count ≡ None → count ≤ 16
-few-names count none = (none-of-test (nat_le count 16) count 16 None (record { rule = L2; at = first_place 16 }) refl none).0
-
 pub few-bytes : {X : Type 0} (f : X → List ℕ) (xs : List X) (number most : ℕ) → too_long number most (map f xs) ≡ None → sum_by (λ x. length (f x)) xs ≤ most
 few-bytes f [] number most none = omega arith
 few-bytes f (x ∷ xs) number most none =
@@ -137,9 +117,6 @@ few-bytes f (x ∷ xs) number most none =
 or-none : (a b : Option Refusal) → option_or a b ≡ None → (a ≡ None) × (b ≡ None)
 or-none None b none = (refl, none)
 or-none (Some refusal) b none = absurd (cc none)
-
-pub sized-few : (files : List (List ℕ)) → too_large files ≡ None → length files ≤ 16
-sized-few files none = few-names (length files) (or-none (too_many (length files)) (too_long 0 most_bytes files) none).0
 
 pub sized-both : (files : List (List ℕ)) → too_large files ≡ None → (too_many (length files) ≡ None) × (too_long 0 most_bytes files ≡ None)
 sized-both files none = or-none (too_many (length files)) (too_long 0 most_bytes files) none

@@ -1,12 +1,12 @@
 -- What is written, by what is called for.
-use Rattle.std.proofs.Common.{◌≡◌, ◌≤◌, ◌<◌, ℕ, Bool, true, false, nat_le, List, length, take, Option, None, Some, IfSome, Err, refl, subst, arith}
+use Rattle.std.proofs.Common.{◌≡◌, ◌<◌, ℕ, Bool, true, false, nat_le, List, length, take, Option, None, Some, IfSome, Err, refl, subst, arith}
 use Rattle.std.proofs.lemmas.Bool.Decides.{nat_tests}
 use Rattle.std.specs.Io.KnownBytes.{Appends}
 use Rattle.wf_outside.specs.declared.sinks.SinkFault.{SinkFault}
 use Rattle.wf_outside.specs.Sinks.{FitsRoom}
 use Rattle.wf_tool.specs.declared.ending.Ending.{Ending}
 use Rattle.wf_tool.specs.declared.ending.Ending.TheVariants.{Done, Refused, Usage, InputFault, OutputFault, ScriptRefused, NoMemory, Turns, TextRefused, Undefined}
-use Rattle.wf_tool.specs.Answer.{CountsInputs, CountsSink, IsAnswered, Writes, WritesPart, WritesText}
+use Rattle.wf_tool.specs.Answer.{Writes, WritesPart, WritesText}
 
 -- What calls for more.
 module _ (calls others : Ending → List ℕ → Type 0) (more : (e : Ending) (text : List ℕ) → calls e text → others e text) (old new : Option (List ℕ)) (room : Option ℕ) where
@@ -24,34 +24,6 @@ module _ (calls others : Ending → List ℕ → Type 0) (more : (e : Ending) (t
   writes-more Turns w = text-more Turns w
   writes-more TextRefused w = text-more TextRefused w
   writes-more Undefined w = text-more Undefined w
-
--- How the inputs' faults are counted where that is called for by each ending.
-module _ (calls : Ending → List ℕ → Type 0) (before now : ℕ) (counted : (e : Ending) (text : List ℕ) → calls e text → CountsInputs before now e) (rise : before ≤ now) (old new : Option (List ℕ)) (room : Option ℕ) where
-  pub writes-counted : (ending : Ending) → Writes calls old new room ending → CountsInputs before now ending
-  writes-counted Done w = counted Done w.text w.called
-  writes-counted Refused w = counted Refused w.text w.called
-  writes-counted Usage w = counted Usage w.text w.called
-  writes-counted InputFault w = counted InputFault w.text w.called
-  writes-counted OutputFault w = rise
-  writes-counted ScriptRefused w = counted ScriptRefused w.text w.called
-  writes-counted NoMemory w = rise
-  writes-counted Turns w = counted Turns w.text w.called
-  writes-counted TextRefused w = counted TextRefused w.text w.called
-  writes-counted Undefined w = counted Undefined w.text w.called
-
--- With no fault.
-module _ (calls : Ending → List ℕ → Type 0) (before now had has : ℕ) (old new : Option (List ℕ)) (room : Option ℕ) where
-  pub writes-answered : (ending : Ending) → Writes calls old new room ending → CountsInputs before now ending → CountsSink had has ending → now ≡ before → has ≡ had → IsAnswered calls old new ending
-  writes-answered Done w inputs sink no_input no_sink = w
-  writes-answered Refused w inputs sink no_input no_sink = w
-  writes-answered Usage w inputs sink no_input no_sink = w
-  writes-answered InputFault w inputs sink no_input no_sink = absurd (omega (arith, inputs, no_input))
-  writes-answered OutputFault w inputs sink no_input no_sink = absurd (omega (arith, sink, no_sink))
-  writes-answered ScriptRefused w inputs sink no_input no_sink = w
-  writes-answered NoMemory w inputs sink no_input no_sink = w
-  writes-answered Turns w inputs sink no_input no_sink = w
-  writes-answered TextRefused w inputs sink no_input no_sink = w
-  writes-answered Undefined w inputs sink no_input no_sink = w
 
 -- A part of what is called for, where a put has failed.
 no-room : (room left : Option ℕ) (fault : SinkFault) (count : ℕ) → FitsRoom room left (Err fault) count → IfSome room (λ it. it < count)

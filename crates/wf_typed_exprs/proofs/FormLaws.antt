@@ -5,7 +5,6 @@ use Rattle.std.specs.Prelude.{option_and_then, option_map, if◌then◌else◌, 
 use Rattle.std.specs.Bool.{⊤}
 use Rattle.std.proofs.lemmas.Bool.Decides.{nat_tests}
 use Rattle.wf_text.specs.declared.place.Place.{Place}
-use Rattle.wf_text.specs.declared.numbers.StatusId.{StatusId}
 use Rattle.wf_base.specs.declared.marks.Mark.{Mark}
 use Rattle.wf_base.specs.declared.marks.Mark.TheVariants.{Pure, Impure, Coroutine}
 use Rattle.wf_base.specs.declared.widths.Width.{Width}
@@ -14,7 +13,7 @@ use Rattle.wf_base.specs.declared.base_methods.Gives.TheVariants as gives
 use Rattle.wf_base.specs.declared.base_methods.Kind.{Kind}
 use Rattle.wf_base.specs.declared.base_methods.Kind.TheVariants as kinds
 use Rattle.wf_base.specs.declared.base_methods.BaseSig.{BaseSig}
-use Rattle.wf_base.specs.BaseTable.{bits_of, row_of}
+use Rattle.wf_base.specs.BaseTable.{row_of}
 use Rattle.wf_ast.specs.declared.numbers.ExprId.{ExprId}
 use Rattle.wf_ast.specs.declared.types.Ty.{Ty}
 use Rattle.wf_ast.specs.declared.types.Ty.TheVariants as types
@@ -22,28 +21,28 @@ use Rattle.wf_ast.specs.declared.typed_code.Expr.{Expr}
 use Rattle.wf_ast.specs.declared.typed_code.Expr.TheVariants as exprs
 use Rattle.wf_ast.specs.declared.typed_nodes.TypedNodes.{TypedNodes}
 use Rattle.wf_ast.specs.TypedTree as typed
-use Rattle.wf_ast.specs.TypedTree.{ValueTree, numeric, logical, state, elements, element, cut}
-use Rattle.wf_ast.specs.TypedTrees.{made_or_number, tree_of, type_of_node, end_in, num_type, num_in, cond_in, slice_in, answer_of}
+use Rattle.wf_ast.specs.TypedTree.{ValueTree, numeric, elements, element, cut}
+use Rattle.wf_ast.specs.TypedTrees.{made_or_number, tree_of, type_of_node, end_in, num_type, num_in, slice_in, answer_of}
 use Rattle.wf_ast.specs.TypedInvariant.{parts_below, is_numeric, is_logical, is_state, is_list, is_io, is_given, has_kind, node_fits, optional_numeric}
 use Rattle.wf_ast.specs.WellTyped.{is_pure, same_mark}
 use Rattle.wf_named.specs.declared.nodes.NamedCallee.TheVariants as callees
 use Rattle.wf_named.specs.declared.nodes.NamedPath.{NamedPath}
 use Rattle.wf_named.specs.declared.nodes.Variable.{Variable}
 use Rattle.wf_named.specs.declared.nodes.Variable.TheVariants as variables
-use Rattle.wf_named.specs.NamedTree.{NamedExprTree, number, status, truth, path, index, slice, answer, convert, negation, NamedPartTree, absent, present, NamedArgTrees, call, NamedTypeTree}
+use Rattle.wf_named.specs.NamedTree.{NamedExprTree, number, path, index, slice, answer, convert, negation, NamedPartTree, absent, present, NamedArgTrees, call, NamedTypeTree}
 use Rattle.wf_named.specs.WellNamed as names
-use Rattle.wf_named.specs.WellNamed.{is_there, named_expr, named_part, named_links, named_args, named_type, type_of_variable, kind_of, is_wanted, args_wanted, count_args}
+use Rattle.wf_named.specs.WellNamed.{is_there, named_expr, named_part, named_args, named_type, type_of_variable, kind_of, is_wanted, args_wanted, count_args}
 use Rattle.wf_named.specs.Grammar.{end_by_grammar}
 use Rattle.wf_types_rules.specs.declared.meanings.Meaning.{Meaning}
 use Rattle.wf_types_rules.specs.declared.meanings.Meaning.TheVariants as meanings
 use Rattle.wf_types_rules.specs.declared.settings.Role.TheVariants as roles
 use Rattle.wf_types_rules.specs.Meanings as meant
 use Rattle.wf_types_rules.specs.declared.settings.Setting.{Setting}
-use Rattle.wf_types_rules.specs.Meanings.{all_of, there, as_constant, variable, is_value, constant_number}
+use Rattle.wf_types_rules.specs.Meanings.{all_of, there, as_constant, variable, is_value}
 use Rattle.wf_types_rules.specs.DeclaredTypes.{may_be}
 use Rattle.wf_types_rules.specs.ExprTypes as told
 use Rattle.wf_types_rules.specs.ExprTypes.{only_where, element_of, if_number, if_end, given_by_base, pure_answer, plain_width, converted, meaning}
-use Rattle.wf_typed_tree.specs.ElaboratedExprs.{variable_tree, path_tree, type_meant, number_or, end_tree, expr_tree}
+use Rattle.wf_typed_tree.specs.ElaboratedExprs.{variable_tree, path_tree, type_meant, end_tree, expr_tree}
 use Rattle.wf_typed_tree.specs.MeaningTrees.{kind_meant}
 use Rattle.wf_typed_tree.proofs.NumberLemmas.{both, and-true, then-parts, map-parts, where-parts, in-64}
 use Rattle.wf_typed_tree.proofs.ExprLaws.{numbered, kind-wanted}
@@ -66,10 +65,6 @@ number-numeric m h = absurd (cc h)
 pub flag-logical : (m : Meaning) → meant.is_flag m ≡ true → is_logical (type_meant (Some m)) ≡ true
 flag-logical (meanings.Typed types.Flag) h = refl
 flag-logical m h = absurd (cc h)
-
-flag-no-number : (m : Meaning) → meant.is_flag m ≡ true → number_meant (Some m) ≡ None
-flag-no-number (meanings.Typed ty) h = refl
-flag-no-number (meanings.Constant w v) h = absurd (cc h)
 
 pub status-state : (m : Meaning) → meant.is_status m ≡ true → is_state (type_meant (Some m)) ≡ true
 status-state (meanings.Typed types.Status) h = refl
@@ -220,25 +215,6 @@ gives-given gives.Nothing ty h = absurd (cc h)
 gives-given (gives.Num w) ty h = let e : all_of w ≡ ty = cc h in subst (λ t. is_numeric t ≡ true) e refl
 gives-given gives.Flag ty h = let e : types.Flag ≡ ty = cc h in subst (λ t. is_logical t ≡ true) e refl
 
--- What `as` makes of a number.
-converted-made : (nodes : TypedNodes) (at : Place) (width : Width) (from m : Meaning) (t : ValueTree) (e : ExprId) → converted (Some width) from ≡ Some m
-    → type_of_node nodes e.0 ≡ type_meant (Some from) → tree_of nodes e ≡ t
-    → (node_fits nodes (type_meant (Some m)) (number_meant (Some m)) (exprs.Convert e width) ≡ true)
-    × (made_or_number (tree_of nodes) at [] (type_meant (Some m)) (number_meant (Some m)) (exprs.Convert e width)
-    ≡ number_or at (number_meant (Some m)) (numeric (typed.convert at at (num_type (type_meant (Some m))).bits (num_in t))))
-converted-made nodes at width (meanings.Constant own v) m t e h ty is =
-    let p = where-parts (nat_lt v (2 ^ bits_of width)) (meanings.Constant (Some width) v) m h in
-    let P : Meaning → Type 0 = λ n. (node_fits nodes (type_meant (Some n)) (number_meant (Some n)) (exprs.Convert e width) ≡ true)
-    × (made_or_number (tree_of nodes) at [] (type_meant (Some n)) (number_meant (Some n)) (exprs.Convert e width)
-    ≡ number_or at (number_meant (Some n)) (numeric (typed.convert at at (num_type (type_meant (Some n))).bits (num_in t)))) in
-    subst P p.1 (constant-fits nodes (Some width) v (exprs.Convert e width) (in-64 (Some width) v p.0), refl)
-converted-made nodes at width (meanings.Typed from) m t e h ty is =
-    let p = where-parts (meant.is_number (meanings.Typed from)) (meanings.Typed (all_of width)) m h in
-    let P : Meaning → Type 0 = λ n. (node_fits nodes (type_meant (Some n)) (number_meant (Some n)) (exprs.Convert e width) ≡ true)
-    × (made_or_number (tree_of nodes) at [] (type_meant (Some n)) (number_meant (Some n)) (exprs.Convert e width)
-    ≡ number_or at (number_meant (Some n)) (numeric (typed.convert at at (num_type (type_meant (Some n))).bits (num_in t)))) in
-    subst P p.1 (rw ty (number-numeric (meanings.Typed from) p.0), rw is refl)
-
 module _ (s : Setting) (nodes : TypedNodes) where
   pub path-makes : (p : NamedPath) → IsRightPath s (length nodes.statuses) p
       → Makes p.at (path_tree s p) (variable s p.of) nodes (record { node = record { expr = naming p.of; at = p.at; signs = [] }; of = variable s p.of })
@@ -268,24 +244,6 @@ module _ (s : Setting) (nodes : TypedNodes) where
       let F : Option Meaning → Type 0 = λ o. node_fits nodes (type_meant o) (number_meant o) (naming p.of) ≡ true in
       let T : Option Meaning → Type 0 = λ o. made_or_number (tree_of nodes) p.at [] (type_meant o) (number_meant o) (naming p.of) ≡ path_tree s p in
       record { placed = refl; means = refl; below = made.below; fits = subst F same made.fits; tree_is = subst T same made.tree_is }
-
-  -- Literals.
-  pub number-makes : (v : ℕ) (at : Place) → IsRight s (length nodes.statuses) (number v at)
-      → MakesExpr s (number v at) nodes (record { node = record { expr = exprs.Number v; at = at; signs = [] }; of = Some (meanings.Constant None v) })
-  number-makes v at right = record { placed = refl; means = refl; below = refl; fits = constant-fits nodes None v (exprs.Number v) right.grammar; tree_is = refl }
-
-  pub status-makes : (n : StatusId) (at : Place) → IsRight s (length nodes.statuses) (status n.0 at)
-      → MakesExpr s (status n.0 at) nodes (record { node = record { expr = exprs.Status n; at = at; signs = [] }; of = Some (meanings.Typed types.Status) })
-  status-makes n at right = record {
-    placed = refl;
-    means = refl;
-    below = refl;
-    fits = let P : ℕ → Type 0 = λ k. nat_lt n.0 k ≡ true in subst P (sym right.around.told) right.named;
-    tree_is = refl;
-  }
-
-  pub truth-makes : (b : Bool) (at : Place) → MakesExpr s (truth b at) nodes (record { node = record { expr = exprs.Truth b; at = at; signs = [] }; of = Some (meanings.Typed types.Flag) })
-  truth-makes b at = record { placed = refl; means = refl; below = refl; fits = refl; tree_is = refl }
 
   -- An element.
   pub index-right : (k : ℕ) (p : NamedPath) (t : NamedExprTree) (at : Place) → IsRight s k (index p t at) → IsRightPath s k p × IsRight s k t
@@ -334,24 +292,6 @@ module _ (s : Setting) (nodes : TypedNodes) where
   negation-right k t at right =
       let it = then-parts (only_where meant.is_flag) (meaning s t) right.of right.means in
       record { around = right.around; grammar = right.grammar; named = right.named; of = it.of; means = it.is }
-
-  pub negation-makes : (t : NamedExprTree) (at : Place) (e : ExprId) → IsRight s (length nodes.statuses) (negation t at) → StandsForExpr s t nodes e
-      → MakesExpr s (negation t at) nodes (record { node = record { expr = exprs.Not e; at = at; signs = [] }; of = option_and_then (only_where meant.is_flag) (meaning s t) })
-  negation-makes t at e right inside =
-      let it = then-parts (only_where meant.is_flag) (meaning s t) right.of right.means in
-      let flag = where-parts (meant.is_flag it.of) it.of right.of it.gives in
-      let logical_of : is_logical (type_meant (Some right.of)) ≡ true = let P : Meaning → Type 0 = λ m. is_logical (type_meant (Some m)) ≡ true in subst P flag.1 (flag-logical it.of flag.0) in
-      let inner : is_logical (type_of_node nodes e.0) ≡ true = rw (inside.typed, it.is) (flag-logical it.of flag.0) in
-      let none : number_meant (Some right.of) ≡ None = let P : Meaning → Type 0 = λ m. number_meant (Some m) ≡ None in subst P flag.1 (flag-no-number it.of flag.0) in
-      let F : Option Meaning → Type 0 = λ o. node_fits nodes (type_meant o) (number_meant o) (exprs.Not e) ≡ true in
-      let T : Option Meaning → Type 0 = λ o. made_or_number (tree_of nodes) at [] (type_meant o) (number_meant o) (exprs.Not e) ≡ logical (typed.negation at (cond_in (expr_tree s t))) in
-      record {
-        placed = refl;
-        means = refl;
-        below = and-true (nat_lt e.0 (length nodes.exprs)) true (lower e.0 (length nodes.exprs) inside.there) refl;
-        fits = subst F (sym right.means) (rw none (and-true (is_logical (type_meant (Some right.of))) (is_logical (type_of_node nodes e.0)) logical_of inner));
-        tree_is = subst T (sym right.means) (rw (none, inside.tree_is) refl);
-      }
 
   -- An end of a slice.
   pub end-right : (k : ℕ) (around : Around s k) (part : NamedPartTree) (x : Option Ty) (ty : Ty) → end_by_grammar part ≡ true → named_part around.names part ≡ true
@@ -470,23 +410,4 @@ module _ (s : Setting) (nodes : TypedNodes) where
         below = and-true (nat_lt b.0 (length nodes.exprs)) true (lower b.0 (length nodes.exprs) base.there) refl;
         fits = subst F (sym is) (and-true (same_mark (row_of sig).mark Pure) _ (pure-mark (row_of sig).mark pure.pure) (and-true (has_kind (row_of sig).on (type_of_node nodes b.0)) (is_given (row_of sig).gives pure.of) has (gives-given (row_of sig).gives pure.of pure.gives)));
         tree_is = subst T (sym is) (rw base.tree_is refl);
-      }
-
-  -- `as`.
-  pub convert-makes : (t : NamedExprTree) (to : NamedTypeTree) (at : Place) (width : Width) (e : ExprId) → plain_width to ≡ Some width → IsRight s (length nodes.statuses) (convert t to at)
-      → StandsForExpr s t nodes e
-      → MakesExpr s (convert t to at) nodes (record { node = record { expr = exprs.Convert e width; at = at; signs = [] }; of = option_and_then (converted (Some width)) (meaning s t) })
-  convert-makes t to at width e plain right inside =
-      let same : option_and_then (converted (Some width)) (meaning s t) ≡ meaning s (convert t to at) = rw plain refl in
-      let it = then-parts (converted (Some width)) (meaning s t) right.of (same ∙ right.means) in
-      let made = converted-made nodes at width it.of right.of (expr_tree s t) e it.gives (inside.typed ∙ ap type_meant it.is) inside.tree_is in
-      let F : Option Meaning → Type 0 = λ o. node_fits nodes (type_meant o) (number_meant o) (exprs.Convert e width) ≡ true in
-      let T : Option Meaning → Type 0 = λ o. made_or_number (tree_of nodes) at [] (type_meant o) (number_meant o) (exprs.Convert e width)
-      ≡ number_or at (number_meant o) (numeric (typed.convert at at (num_type (type_meant o)).bits (num_in (expr_tree s t)))) in
-      record {
-        placed = refl;
-        means = same;
-        below = and-true (nat_lt e.0 (length nodes.exprs)) true (lower e.0 (length nodes.exprs) inside.there) refl;
-        fits = subst F (sym right.means) made.0;
-        tree_is = subst T (sym right.means) made.1;
       }

@@ -213,11 +213,6 @@ module _ (rest : TypedNodes) (old new : Columns) (x : TypedExpr) (built : IsBuil
   pushed_counted e at p =
       ap (λ q. constant_of_node q e.0) (pushed_is p) ∙ ap (constant_of_node more) at ∙ constant_last before built.typed built.counted x.node x.ty x.constant
 
-  pub pushed_there : (e : ExprId) → e.0 ≡ length old.exprs.items → IsPushed old new x → e.0 < length (with_columns rest new).exprs
-  pushed_there e at p =
-      let all = ap (λ (xs : List ExprNode). length xs) p.exprs in
-      omega (arith, at, all, length-append old.exprs.items (x.node ∷ []))
-
   pub pushed_built : (added : Bool) → length old.exprs.items < 4294967295 → parts_below (length old.exprs.items) x.node.expr ≡ true → node_fits before x.ty x.constant x.node.expr ≡ true
       → new.exprs.items ≡ (if added then old.exprs.items ++ x.node ∷ [] else old.exprs.items) → new.types.items ≡ (if added then old.types.items ++ x.ty ∷ [] else old.types.items)
       → new.constants.items ≡ (if added then old.constants.items ++ x.constant ∷ [] else old.constants.items) → IsBuilt (with_columns rest new)

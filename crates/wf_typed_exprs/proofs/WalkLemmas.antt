@@ -1,24 +1,23 @@
 -- One step of the walk after another, and the operands of a chain one by one.
 use Rattle.std.proofs.Common.{◌≡◌, ℕ, zero, suc, ◌+◌, ◌<◌, List, [], ◌∷◌, ◌++◌, length, drop, slice_index_or, Option, Some, None, refl, sym, ap, ◌∙◌, subst, arith}
 use Rattle.std.specs.Prelude.{option_map}
-use Rattle.std.proofs.lemmas.List.{append_assoc, append-nil}
+use Rattle.std.proofs.lemmas.List.{append_assoc}
 use Rattle.wf_text.specs.declared.place.Place.{Place}
 use Rattle.wf_ast.specs.declared.parsed.Link.{Link}
 use Rattle.wf_ast.specs.declared.typed_nodes.TypedNodes.{TypedNodes}
-use Rattle.wf_named.specs.NamedTree.{NamedExprTree, NamedPartTree, NamedLinkTrees, no_link, link}
+use Rattle.wf_named.specs.NamedTree.{NamedExprTree, NamedPartTree, NamedLinkTrees, link}
 use Rattle.wf_named.specs.NamedTrees.{expr_at, links_at}
 use Rattle.wf_types_rules.specs.declared.meanings.Meaning.{Meaning}
 use Rattle.wf_types_rules.specs.declared.meanings.Operand.{Operand}
 use Rattle.wf_types_rules.specs.declared.settings.Setting.{Setting}
 use Rattle.wf_types_rules.specs.Meanings.{place_of}
 use Rattle.wf_types_rules.specs.ExprTypes.{meaning, in_front, operand_at, operands_behind}
-use Rattle.wf_types_rules.specs.Judgements.{value_of}
 use Rattle.wf_types_exprs.specs.Judged.{operand_pushed, operand_behind, operands_joined}
-use Rattle.wf_types_exprs.proofs.ListLemmas.{drop-one, joined-none, operands_begun}
+use Rattle.wf_types_exprs.proofs.ListLemmas.{drop-one}
 use Rattle.wf_typed_tree.specs.ElaboratedExprs.{signs_in, expr_tree}
 use Rattle.wf_typed_exprs.specs.declared.elaborated.MadeOperands.{MadeOperands}
 use Rattle.wf_typed_exprs.specs.Growth.{Grows}
-use Rattle.wf_typed_exprs.specs.Chains.{AddsOperand, AddsLinks, AreOperands}
+use Rattle.wf_typed_exprs.specs.Chains.{AddsOperand, AddsLinks}
 use Rattle.wf_typed_exprs.specs.Right.{IsRight, IsRightEnd, AreRight}
 use Rattle.wf_typed_exprs.proofs.GrowthLemmas.{grows_more, statuses_kept, stands_kept}
 
@@ -29,9 +28,6 @@ module _ (s : Setting) (p q : TypedNodes) (g : Grows p q) where
 
   pub end_right_kept : (t : NamedPartTree) → IsRightEnd s (length p.statuses) t → IsRightEnd s (length q.statuses) t
   end_right_kept t h = subst (λ k. IsRightEnd s k t) (sym (statuses_kept p q g)) h
-
-  pub rights_kept : (links : NamedLinkTrees) → AreRight s (length p.statuses) links → AreRight s (length q.statuses) links
-  rights_kept links h = subst (λ k. AreRight s k links) (sym (statuses_kept p q g)) h
 
 -- An operand after the first, by its place.
 pub link_right : (s : Setting) (k : ℕ) (ts : List NamedExprTree) (ls : List Link) (i : ℕ) (d : Link) → i < length ls → AreRight s k (links_at ts ls)
@@ -52,16 +48,6 @@ behind-joined : (os : Option (List Operand)) (at : Place) (m : Option Meaning) (
     → operands_joined (operand_behind os (record { of = m; at = at })) rest ≡ operands_joined os (in_front (option_map (operand_at at) m) rest)
 behind-joined None at m rest = refl
 behind-joined (Some os) at m rest = pushed-joined os at m rest
-
--- No operand after the others, and one before the rest.
-pub adds_none : (s : Setting) (nodes : TypedNodes) (all : MadeOperands) → AddsLinks s no_link nodes all all
-adds_none s nodes all = record {
-  others = [];
-  stand = tt;
-  parts = sym (append-nil all.parts);
-  signs = sym (append-nil all.signs);
-  means = sym (joined-none all.of);
-}
 
 pub adds_more : (s : Setting) (sign : Place) (t : NamedExprTree) (others : NamedLinkTrees) (mid after : TypedNodes) (before next all : MadeOperands)
     → AddsOperand s t mid (record before { signs = before.signs ++ sign ∷ [] }) next → Grows mid after → AddsLinks s others after next all
@@ -86,20 +72,3 @@ left_next s ts ls i d p q before all next h left g a after last grows rest =
     let l = slice_index_or ls i d in
     let more = adds_more s l.sign (expr_at ts l.operand) (links_at ts (drop (i + 1) ls)) q after all next last a grows rest in
     left after last (grows_more p q after g grows) (subst (λ xs. AddsLinks s (links_at ts xs) after all last) (sym (drop-one ls i d h)) more)
-
--- The first operand, then those after it.
-pub operands_all : (s : Setting) (first : NamedExprTree) (links : NamedLinkTrees) (mid after : TypedNodes) (none begun all : MadeOperands) → none ≡ record { parts = []; signs = []; of = Some [] }
-    → AddsOperand s first mid none begun → Grows mid after → AddsLinks s links after begun all → AreOperands s first links after all
-operands_all s first links mid after none begun all empty a g b =
-    let parts : begun.parts ≡ a.node ∷ [] = a.parts ∙ ap (λ (n : MadeOperands). n.parts ++ a.node ∷ []) empty in
-    let signs : begun.signs ≡ [] = a.signs ∙ ap (λ (n : MadeOperands). n.signs) empty in
-    let means : begun.of ≡ operand_behind (Some []) (value_of s first) = a.means ∙ ap (λ (n : MadeOperands). operand_behind n.of (value_of s first)) empty in
-    record {
-      head = a.node;
-      others = b.others;
-      stands = stands_kept (expr_tree s first) (meaning s first) mid after a.node g a.stands;
-      stand = b.stand;
-      parts = b.parts ∙ ap (λ xs. xs ++ b.others) parts;
-      signs = b.signs ∙ ap (λ xs. xs ++ signs_in links) signs;
-      means = b.means ∙ operands_begun s first links begun.of means;
-    }

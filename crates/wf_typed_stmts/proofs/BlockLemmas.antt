@@ -10,8 +10,8 @@ use Rattle.wf_ast.specs.declared.typed_code.Arm.{Arm}
 use Rattle.wf_ast.specs.declared.typed_code.Block as typed_code
 use Rattle.wf_ast.specs.declared.typed_nodes.TypedNodes.{TypedNodes}
 use Rattle.wf_ast.specs.TypedTree.{ValueTree, Site, Block, end, choose}
-use Rattle.wf_ast.specs.TypedTrees.{cond_in, tree_of, block_made, otherwise_made, if_made, stmt_makers, onto, block_of}
-use Rattle.wf_ast.specs.TypedInvariant.{is_expr, block_below, optional_block_below}
+use Rattle.wf_ast.specs.TypedTrees.{cond_in, tree_of, block_made, otherwise_made, if_made, stmt_makers, onto}
+use Rattle.wf_ast.specs.TypedInvariant.{is_expr, block_below}
 use Rattle.wf_ast.proofs.Arena.{both_true}
 use Rattle.wf_named.specs.NamedParts.{NamedParts}
 use Rattle.wf_named.specs.NamedTree.{NamedExprTree, NamedStmtTree, NamedArmTrees, no_else}
@@ -29,16 +29,12 @@ use Rattle.wf_typed_stmts.specs.Blocks.{arms_onto, arm_exists, StandsForArm, Sta
 use Rattle.wf_typed_stmts.specs.Right.{Known, IsRightStmt, IsRightBlock, AreRightArms}
 use Rattle.wf_typed_stmts.specs.StmtGrowth.{GrowsStmts, Adds, IsBegun, StandsForStmt, StandsForBlock}
 use Rattle.wf_typed_stmts.proofs.EntryLemmas.{EntriesTo, entries_to_next, entries_to_end}
-use Rattle.wf_typed_stmts.proofs.GrowthLemmas.{below, less, all_more, expr_more, tree_kept, maker_kept, adds_self, adds_more}
+use Rattle.wf_typed_stmts.proofs.GrowthLemmas.{below, less, all_more, expr_more, tree_kept, maker_kept, adds_more}
 use Rattle.wf_typed_stmts.proofs.ListLemmas.{all_push}
 
 -- Numbers of statements that are there.
 pub ids_more : (m n : ℕ) → m ≤ n → (ss : List StmtId) → list_all (λ s. nat_lt s.0 m) ss ≡ true → list_all (λ s. nat_lt s.0 n) ss ≡ true
 ids_more m n l ss h = all_more (λ (s : StmtId). nat_lt s.0 m) (λ s. nat_lt s.0 n) ss (λ s k. less s.0 n (let b = below s.0 m k in omega (arith, b, l))) h
-
-pub optional_ids_more : (m n : ℕ) → m ≤ n → (b : Option typed_code.Block) → optional_block_below m b ≡ true → optional_block_below n b ≡ true
-optional_ids_more m n l None h = refl
-optional_ids_more m n l (Some b) h = ids_more m n l b.items h
 
 -- Statements before a block.
 abbrev pub onto_all : (StmtId → Block → Block) → List StmtId → Block → Block
@@ -62,14 +58,6 @@ module _ (p q : TypedNodes) (g : GrowsStmts p q) where
 
   pub made_kept : (ss : List StmtId) → list_all (λ s. nat_lt s.0 (length p.stmts)) ss ≡ true → block_made (onto (stmt_makers q)) ss ≡ block_made (onto (stmt_makers p)) ss
   made_kept ss h = onto_end (onto (stmt_makers q)) ss ∙ onto_kept ss end h ∙ sym (onto_end (onto (stmt_makers p)) ss)
-
-  -- A block keeps its tree.
-  pub block_kept : (b : typed_code.Block) → block_below (length p.stmts) b ≡ true → block_of q b ≡ block_of p b
-  block_kept b h = made_kept b.items h
-
-  pub else_kept : (b : Option typed_code.Block) → optional_block_below (length p.stmts) b ≡ true → else_made (onto (stmt_makers q)) b ≡ else_made (onto (stmt_makers p)) b
-  else_kept None h = refl
-  else_kept (Some b) h = made_kept b.items h
 
   pub arms_kept : (of : Site) (behind : Bool → Block → Block) (chained : Bool) (arms : List Arm) (rest : Block) → list_all (arm_exists p) arms ≡ true
       → arms_onto (tree_of q) (onto (stmt_makers q)) of chained arms behind rest ≡ arms_onto (tree_of p) (onto (stmt_makers p)) of chained arms behind rest
@@ -102,13 +90,6 @@ pub record StmtsMade (s : Setting) (k : Known) (loops : List ℕ) (named : Named
   pub entries : EntriesTo p q (block_entries s (items_at ts (drop i items) at)) (block_entries s (items_at ts items at))
 
 module _ (s : Setting) (k : Known) (loops : List ℕ) (named : NamedParts) (ts : List NamedStmtTree) (at : Place) where
-  pub stmts_start : (items : List StmtId) (p : TypedNodes) (made : List StmtId) → made ≡ [] → IsBegun named p → IsRightBlock s k (length loops) (items_at ts items at)
-      → StmtsMade s k loops named ts at items 0 p p made
-  stmts_start items p made e b r =
-      let P : List StmtId → Type 0 = λ m. StmtsMade s k loops named ts at items 0 p p m in
-      let none : StmtsMade s k loops named ts at items 0 p p [] = record { adds = adds_self loops p; begun = b; there = refl; count = refl; trees = refl; right = r; entries = λ after h. h } in
-      subst P (sym e) none
-
   pub stmt_right : (items : List StmtId) (i : ℕ) (d : StmtId) → i < length items → IsRightBlock s k (length loops) (items_at ts (drop i items) at)
       → IsRightStmt s k (length loops) (stmt_at ts (slice_index_or items i d)) × IsRightBlock s k (length loops) (items_at ts (drop (i + 1) items) at)
   stmt_right items i d h r = let P : List StmtId → Type 0 = λ xs. IsRightBlock s k (length loops) (items_at ts xs at) in subst P (drop-one items i d h) r
@@ -196,14 +177,6 @@ pub record ArmsMade (s : Setting) (k : Known) (loops : List ℕ) (named : NamedP
   pub long : length made ≡ i
 
 module _ (s : Setting) (k : Known) (loops : List ℕ) (named : NamedParts) (es : List NamedExprTree) (ts : List NamedStmtTree) where
-  pub arms_start : (arms : List parsed.Arm) (p : TypedNodes) (made : List Arm) → made ≡ [] → IsBegun named p → AreRightArms s k (length loops) (arms_at es ts arms no_else)
-      → ArmsMade s k loops named es ts arms 0 p p made
-  arms_start arms p made e b r =
-      let P : List Arm → Type 0 = λ m. ArmsMade s k loops named es ts arms 0 p p m in
-      let none : ArmsMade s k loops named es ts arms 0 p p [] =
-      record { adds = adds_self loops p; begun = b; there = refl; count = λ last. refl; makes = λ of chained last rest. refl; right = r; entries = λ after h. h; long = refl } in
-      subst P (sym e) none
-
   module _ (arms : List parsed.Arm) (i : ℕ) (x : parsed.Arm) (item : x ≡ slice_index_or arms i x) (h : i < length arms) where
     split : drop i arms ≡ x ∷ drop (i + 1) arms
     split = drop-one arms i x h ∙ ap (λ y. y ∷ drop (i + 1) arms) (sym item)

@@ -31,8 +31,8 @@ use Rattle.wf_types_rules.specs.declared.meanings.Meaning.{Meaning}
 use Rattle.wf_typed_tree.proofs.NumberLemmas.{and-true}
 use Rattle.wf_typed_exprs.specs.Growth.{Keeps, Grows}
 use Rattle.wf_typed_exprs.specs.Nodes.{Stands}
-use Rattle.wf_typed_exprs.proofs.GrowthLemmas.{grows_self, grows_more}
-use Rattle.wf_typed_stmts.specs.StmtGrowth.{with_stmts, stmt_there, AreStmtsBuilt, jump_below, jumps_below, loops_below, GrowsStmts, GrowsExprs, Adds, AddsParts, IsBegun}
+use Rattle.wf_typed_exprs.proofs.GrowthLemmas.{grows_more}
+use Rattle.wf_typed_stmts.specs.StmtGrowth.{with_stmts, stmt_there, AreStmtsBuilt, GrowsStmts, GrowsExprs, Adds, IsBegun}
 use Rattle.wf_typed_stmts.specs.Parts.{HasTree}
 use Rattle.wf_typed_stmts.proofs.StmtLemmas.{after_same}
 use Rattle.wf_typed_stmts.proofs.PushLemmas.{numbered_more, trees_stay, tree_stays}
@@ -157,14 +157,6 @@ begun_more named p q b g = record {
   stmts = built_more p q b.stmts g;
 }
 
-pub begun_stmts : (named : NamedParts) (p q : TypedNodes) → IsBegun named p → GrowsStmts p q → AreStmtsBuilt q → IsBegun named q
-begun_stmts named p q b g built = record {
-  texts = ap (λ (n : TypedNodes). n.texts) g.rest ∙ b.texts;
-  statuses = ap (λ (n : TypedNodes). length n.statuses) g.rest ∙ b.statuses;
-  marks = ap (λ (n : TypedNodes). map (λ m. m.mark) n.methods) g.rest ∙ b.marks;
-  stmts = built;
-}
-
 -- The same of the parts that the code keeps.
 module _ (b c : TypedNodes) (items : List StmtNode) (g : Grows b c) where
   pub step_grows : AreStmtsBuilt (with_stmts b items) → GrowsExprs (with_stmts b items) (with_stmts c items)
@@ -186,18 +178,11 @@ operator_made b c items e left right op sign ty n is made =
     ∙ ap (λ t. chain_of sign (sign ∷ []) ty (sort_of op) (t ∷ tree_of b right ∷ [])) (sym (tree_stays b items left))
     ∙ ap (λ t. chain_of sign (sign ∷ []) ty (sort_of op) (tree_of (with_stmts b items) left ∷ t ∷ [])) (sym (tree_stays b items right))
 
--- One step after another.
-pub exprs_self : (p : TypedNodes) → GrowsExprs p p
-exprs_self p = record { exprs = grows_self p; makers = refl }
-
 pub exprs_more_still : (p q r : TypedNodes) → GrowsExprs p q → GrowsExprs q r → GrowsExprs p r
 exprs_more_still p q r g h = record { exprs = grows_more p q r g.exprs h.exprs; makers = h.makers ∙ g.makers }
 
 keeps_more : {X : Type 0} (m n : ℕ) (xs ys zs : List X) → m ≤ n → Keeps m xs ys → Keeps n ys zs → Keeps m xs zs
 keeps_more m n xs ys zs l p q i h = p i h ∙ q i (omega (arith, h, l))
-
-pub stmts_self : (p : TypedNodes) → GrowsStmts p p
-stmts_self p = record { exprs = omega arith; stmts = omega arith; same_trees = λ i h. refl; same_types = λ i h. refl; same_constants = λ i h. refl; same_makers = λ i h. refl; rest = refl }
 
 pub stmts_more : (p q r : TypedNodes) → GrowsStmts p q → GrowsStmts q r → GrowsStmts p r
 stmts_more p q r g h = record {
@@ -224,36 +209,12 @@ stmts_of_exprs p q g = record {
   rest = ap (λ n. with_stmts n []) g.exprs.rest;
 }
 
--- Jumps.
-pub loops_more : (m n : ℕ) → m ≤ n → (loops : List ℕ) → loops_below m loops ≡ true → loops_below n loops ≡ true
-loops_more m n l loops h = all_more (λ w. nat_lt w m) (λ w. nat_lt w n) loops (λ w k. less_more w m n l k) h
-
-jump_more : (m n : ℕ) → m ≤ n → (st : Stmt) → jump_below m st ≡ true → jump_below n st ≡ true
-jump_more m n l (stmts.Break w) h = less_more w.0 m n l h
-jump_more m n l (stmts.Continue w) h = less_more w.0 m n l h
-jump_more m n l st h = refl
-
-pub jumps_more : (m n : ℕ) → m ≤ n → (nodes : List StmtNode) → jumps_below m nodes ≡ true → jumps_below n nodes ≡ true
-jumps_more m n l nodes h = all_more (λ (node : StmtNode). jump_below m node.stmt) (λ node. jump_below n node.stmt) nodes (λ node k. jump_more m n l node.stmt k) h
-
 module _ (loops : List ℕ) where
-  pub adds_self : (p : TypedNodes) → Adds loops p p
-  adds_self p = record { grows = stmts_self p; jumps = λ limit a b c. c }
-
-  pub adds_exprs : (p q : TypedNodes) → GrowsExprs p q → Adds loops p q
-  adds_exprs p q g = record {
-    grows = stmts_of_exprs p q g;
-    jumps = λ limit a b c. ap (λ (n : TypedNodes). jumps_below limit n.stmts) g.exprs.rest ∙ c;
-  }
-
   pub adds_more : (p q r : TypedNodes) → Adds loops p q → Adds loops q r → Adds loops p r
   adds_more p q r g h = record {
     grows = stmts_more p q r g.grows h.grows;
     jumps = λ limit a b c. h.jumps limit a b (g.jumps limit a (omega (arith, b, h.grows.stmts)) c);
   }
-
-  pub adds_parts : (p q : TypedNodes) → Adds loops p q → AddsParts loops p q
-  adds_parts p q g = record { grows = g.grows; jumps = λ limit a b c. g.jumps limit a (omega (arith, b)) c }
 
 -- What stands for something keeps doing so.
 pub stands_kept : (t : ValueTree) (of : Option Meaning) (p q : TypedNodes) (e : ExprId) → GrowsStmts p q → Stands t of p e → Stands t of q e
@@ -266,9 +227,6 @@ stands_kept t of p q e g h = record {
 
 pub tree_kept : (p q : TypedNodes) → GrowsStmts p q → (e : ExprId) → is_expr p e ≡ true → tree_of q e ≡ tree_of p e
 tree_kept p q g e h = ap (λ o. unwrap_or o lost) (sym (g.same_trees e.0 (below e.0 (length p.exprs) h)))
-
-pub has_tree : (t : ValueTree) (of : Option Meaning) (p : TypedNodes) (e : ExprId) → Stands t of p e → HasTree t p e
-has_tree t of p e h = record { there = less e.0 (length p.exprs) h.there; is = h.tree_is }
 
 pub has_kept : (t : ValueTree) (p q : TypedNodes) (e : ExprId) → GrowsStmts p q → HasTree t p e → HasTree t q e
 has_kept t p q e g h = record { there = expr_more p q g.exprs e h.there; is = tree_kept p q g e h.there ∙ h.is }

@@ -2,7 +2,7 @@
 use Rattle.std.proofs.Common.{◌≡◌, ◌∙◌, refl, sym, ap, subst, ℕ, zero, suc, ◌+◌, ◌<◌, Bool, true, List, [], ◌∷◌, ◌++◌, length, map, drop, slice_index_or, Option, Some, None, nat_lt, arith}
 use Rattle.std.specs.Prelude.{slice_get, unwrap_or}
 use Rattle.std.specs.List.{list_all}
-use Rattle.std.proofs.lemmas.List.{append-nil, append_assoc, map-append}
+use Rattle.std.proofs.lemmas.List.{append_assoc, map-append}
 use Rattle.wf_ast.specs.declared.numbers.ExprId.{ExprId}
 use Rattle.wf_ast.specs.declared.numbers.TextId.{TextId}
 use Rattle.wf_ast.specs.declared.parsed.Clause.{Clause}
@@ -24,11 +24,11 @@ use Rattle.wf_typed_tree.proofs.NumberLemmas.{and-true}
 use Rattle.wf_typed_tree.specs.Entries.{expr_entries, handed_entries, arg_entries, clause_entries, letter_entries}
 use Rattle.wf_typed_exprs.specs.Growth.{AddsEntries}
 use Rattle.wf_typed_exprs.specs.Right.{IsRight}
-use Rattle.wf_typed_stmts.specs.Parts.{HasTree, StandForArgs, conditions_made, StandForClauses, letter_exists, letters_made, StandForLetters}
+use Rattle.wf_typed_stmts.specs.Parts.{HasTree, conditions_made, letter_exists, letters_made}
 use Rattle.wf_typed_stmts.specs.Right.{Known, IsRightArg, AreRightArgs, AreRightClauses, AreRightLetters}
 use Rattle.wf_typed_stmts.specs.StmtGrowth.{GrowsExprs, IsBegun}
-use Rattle.wf_typed_stmts.proofs.EntryLemmas.{EntriesTo, entries_to_next, entries_to_end}
-use Rattle.wf_typed_stmts.proofs.GrowthLemmas.{less, exprs_self, exprs_more_still, exprs_more, conditions_more, letters_more, stmts_of_exprs, tree_kept}
+use Rattle.wf_typed_stmts.proofs.EntryLemmas.{EntriesTo, entries_to_next}
+use Rattle.wf_typed_stmts.proofs.GrowthLemmas.{less, exprs_more_still, exprs_more, conditions_more, letters_more, stmts_of_exprs, tree_kept}
 
 -- Items before others.
 chained : {Y : Type 0} (a b : List Y) (x y : Y) (rest all : List Y) → a ≡ b → x ≡ y → b ++ (y ∷ rest) ≡ all → (a ++ x ∷ []) ++ rest ≡ all
@@ -53,12 +53,6 @@ pub record ArgsMade (s : Setting) (k : Known) (named : NamedParts) (es : List Na
   pub entries : EntriesTo p q (arg_entries s (args_at es (drop i args))) (arg_entries s (args_at es args))
 
 module _ (s : Setting) (k : Known) (named : NamedParts) (es : List NamedExprTree) where
-  pub args_start : (args : List ExprId) (p : TypedNodes) (made : List ExprId) → made ≡ [] → IsBegun named p → AreRightArgs s k (args_at es args) → ArgsMade s k named es args 0 p p made
-  args_start args p made e b r =
-      let P : List ExprId → Type 0 = λ m. ArgsMade s k named es args 0 p p m in
-      let none : ArgsMade s k named es args 0 p p [] = record { grows = exprs_self p; begun = b; there = refl; trees = refl; right = r; entries = λ after h. h } in
-      subst P (sym e) none
-
   pub arg_right : (args : List ExprId) (i : ℕ) (d : ExprId) → i < length args → AreRightArgs s k (args_at es (drop i args))
       → IsRightArg s k (expr_at es (slice_index_or args i d)) × AreRightArgs s k (args_at es (drop (i + 1) args))
   arg_right args i d h r = let P : List ExprId → Type 0 = λ xs. AreRightArgs s k (args_at es xs) in subst P (drop-one args i d h) r
@@ -84,16 +78,6 @@ module _ (s : Setting) (k : Known) (named : NamedParts) (es : List NamedExprTree
             (ap (λ xs. arg_entries s (args_at es xs)) (drop-one args i d h)) one;
       }
 
-  pub args_entries : (args : List ExprId) (i : ℕ) (p q : TypedNodes) (made : List ExprId) → drop i args ≡ [] → ArgsMade s k named es args i p q made → AddsEntries p q (arg_entries s (args_at es args))
-  args_entries args i p q made over m =
-      entries_to_end p q (arg_entries s (args_at es (drop i args))) (arg_entries s (args_at es args)) m.entries (ap (λ xs. arg_entries s (args_at es xs)) over)
-
-  pub args_made : (args : List ExprId) (i : ℕ) (p q : TypedNodes) (made : List ExprId) → drop i args ≡ [] → ArgsMade s k named es args i p q made → StandForArgs s (args_at es args) q made
-  args_made args i p q made over m = record {
-    there = m.there;
-    trees = sym (append-nil (map (tree_of q) made)) ∙ sym (ap (λ xs. map (tree_of q) made ++ arg_trees s (args_at es xs)) over) ∙ m.trees;
-  }
-
 -- Promises.
 pub record ClausesMade (s : Setting) (k : Known) (named : NamedParts) (es : List NamedExprTree) (clauses : List LoopClause) (i : ℕ) (p q : TypedNodes) (made : List (Clause × ExprId)) : Type 0 where
   pub grows : GrowsExprs p q
@@ -104,13 +88,6 @@ pub record ClausesMade (s : Setting) (k : Known) (named : NamedParts) (es : List
   pub entries : EntriesTo p q (clause_entries s (clauses_at es (drop i clauses))) (clause_entries s (clauses_at es clauses))
 
 module _ (s : Setting) (k : Known) (named : NamedParts) (es : List NamedExprTree) where
-  pub clauses_start : (clauses : List LoopClause) (p : TypedNodes) (made : List (Clause × ExprId)) → made ≡ [] → IsBegun named p → AreRightClauses s k (clauses_at es clauses)
-      → ClausesMade s k named es clauses 0 p p made
-  clauses_start clauses p made e b r =
-      let P : List (Clause × ExprId) → Type 0 = λ m. ClausesMade s k named es clauses 0 p p m in
-      let none : ClausesMade s k named es clauses 0 p p [] = record { grows = exprs_self p; begun = b; there = refl; trees = refl; right = r; entries = λ after h. h } in
-      subst P (sym e) none
-
   pub clause_right : (clauses : List LoopClause) (i : ℕ) (d : LoopClause) → i < length clauses → AreRightClauses s k (clauses_at es (drop i clauses))
       → IsRight s k.statuses (expr_at es (slice_index_or clauses i d).condition) × AreRightClauses s k (clauses_at es (drop (i + 1) clauses))
   clause_right clauses i d h r = let P : List LoopClause → Type 0 = λ xs. AreRightClauses s k (clauses_at es xs) in subst P (drop-one clauses i d h) r
@@ -143,18 +120,6 @@ module _ (s : Setting) (k : Known) (named : NamedParts) (es : List NamedExprTree
             (clause_entries s (clauses_at es clauses)) m.entries (ap (λ xs. clause_entries s (clauses_at es xs)) (drop-one clauses i d h)) added;
       }
 
-  pub clauses_entries : (clauses : List LoopClause) (i : ℕ) (p q : TypedNodes) (made : List (Clause × ExprId)) → drop i clauses ≡ [] → ClausesMade s k named es clauses i p q made
-      → AddsEntries p q (clause_entries s (clauses_at es clauses))
-  clauses_entries clauses i p q made over m =
-      entries_to_end p q (clause_entries s (clauses_at es (drop i clauses))) (clause_entries s (clauses_at es clauses)) m.entries (ap (λ xs. clause_entries s (clauses_at es xs)) over)
-
-  pub clauses_made : (clauses : List LoopClause) (i : ℕ) (p q : TypedNodes) (made : List (Clause × ExprId)) → drop i clauses ≡ [] → ClausesMade s k named es clauses i p q made
-      → StandForClauses s (clauses_at es clauses) q made
-  clauses_made clauses i p q made over m = record {
-    there = m.there;
-    trees = sym (append-nil (conditions_made (tree_of q) made)) ∙ sym (ap (λ xs. conditions_made (tree_of q) made ++ clause_trees s (clauses_at es xs)) over) ∙ m.trees;
-  }
-
 -- Letters.
 text_same : (texts own : List (List ℕ)) (t : TextId) → own ≡ texts → unwrap_or (slice_get own t.0) [] ≡ text_or (slice_get texts t.0)
 text_same texts own t e = ap (λ ts. unwrap_or (slice_get ts t.0) []) e ∙ by_text (slice_get texts t.0)
@@ -175,13 +140,6 @@ pub record LettersMade (s : Setting) (k : Known) (named : NamedParts) (es : List
   pub entries : EntriesTo p q (letter_entries s (letters_at named.texts es (drop i given))) (letter_entries s (letters_at named.texts es given))
 
 module _ (s : Setting) (k : Known) (named : NamedParts) (es : List NamedExprTree) where
-  pub letters_start : (given : List Given) (p : TypedNodes) (made : List (TextId × ExprId)) → made ≡ [] → IsBegun named p → AreRightLetters s k (letters_at named.texts es given)
-      → LettersMade s k named es given 0 p p made
-  letters_start given p made e b r =
-      let P : List (TextId × ExprId) → Type 0 = λ m. LettersMade s k named es given 0 p p m in
-      let none : LettersMade s k named es given 0 p p [] = record { grows = exprs_self p; begun = b; there = refl; trees = refl; right = r; entries = λ after h. h } in
-      subst P (sym e) none
-
   pub letter_right : (given : List Given) (i : ℕ) (d : Given) → i < length given → AreRightLetters s k (letters_at named.texts es (drop i given))
       → IsRight s k.statuses (expr_at es (slice_index_or given i d).value) × AreRightLetters s k (letters_at named.texts es (drop (i + 1) given))
   letter_right given i d h r = let P : List Given → Type 0 = λ xs. AreRightLetters s k (letters_at named.texts es xs) in subst P (drop-one given i d h) r
@@ -218,19 +176,6 @@ module _ (s : Setting) (k : Known) (named : NamedParts) (es : List NamedExprTree
             entries_to_next p q r (expr_entries s (expr_at es x.value)) (letter_entries s (letters_at named.texts es (drop (i + 1) given))) (letter_entries s (letters_at named.texts es (drop i given)))
             (letter_entries s (letters_at named.texts es given)) m.entries (ap (λ xs. letter_entries s (letters_at named.texts es xs)) (drop-one given i d h)) added;
       }
-
-  pub letters_entries : (given : List Given) (i : ℕ) (p q : TypedNodes) (made : List (TextId × ExprId)) → drop i given ≡ [] → LettersMade s k named es given i p q made
-      → AddsEntries p q (letter_entries s (letters_at named.texts es given))
-  letters_entries given i p q made over m =
-      entries_to_end p q (letter_entries s (letters_at named.texts es (drop i given))) (letter_entries s (letters_at named.texts es given)) m.entries
-      (ap (λ xs. letter_entries s (letters_at named.texts es xs)) over)
-
-  pub letters_all_made : (given : List Given) (i : ℕ) (p q : TypedNodes) (made : List (TextId × ExprId)) → drop i given ≡ [] → LettersMade s k named es given i p q made
-      → StandForLetters s (letters_at named.texts es given) q made
-  letters_all_made given i p q made over m = record {
-    there = m.there;
-    trees = sym (append-nil (letters_made q (tree_of q) made)) ∙ sym (ap (λ xs. letters_made q (tree_of q) made ++ letter_trees s (letters_at named.texts es xs)) over) ∙ m.trees;
-  }
 
 pub given_there : (t e : ℕ) (gs : List Given) (i : ℕ) (d : Given) → i < length gs → LettersBelow t e gs → (slice_index_or gs i d).name.text.0 < t
 given_there t e [] i d h b = absurd (omega (arith, h))

@@ -16,7 +16,7 @@ use Rattle.wf_ast.specs.TypedTree.{Arith}
 use Rattle.wf_ast.specs.TypedTrees.{Sort, arithmetic, sort_of}
 use Rattle.wf_ast.specs.TypedInvariant.{is_numeric}
 use Rattle.wf_ast.specs.WellTyped.{is_pure, is_shift}
-use Rattle.wf_ast.specs.OperatorForms.{gives_number, updates}
+use Rattle.wf_ast.specs.OperatorForms.{updates, is_arithmetic}
 use Rattle.wf_named.specs.declared.nodes.NamedCallee.{NamedCallee}
 use Rattle.wf_named.specs.declared.nodes.NamedCallee.TheVariants as callees
 use Rattle.wf_named.specs.declared.nodes.NamedPath.{NamedPath}
@@ -67,7 +67,7 @@ kind-whole kind (meanings.Typed (types.Part part)) h = absurd (cc h)
 kind-whole kind of h = refl
 
 -- The operands of an operator with `=`.
-number-sort : (sort : Sort) → gives_number sort ≡ true → (op : Arith) × (sort ≡ arithmetic op)
+number-sort : (sort : Sort) → is_arithmetic sort ≡ true → (op : Arith) × (sort ≡ arithmetic op)
 number-sort (arithmetic op) h = (op, refl)
 number-sort sort h = absurd (cc h)
 
@@ -201,7 +201,7 @@ module _ (p : NamedPackageTree) (m : NamedMethodTree) (is : MethodIs p m) (whole
   value-right (answer c) h g k = answer-right c h g k
   value-right e h g k = expr-right e h g k
 
-  update-right : (t : NamedTargetTree) (op : Op) (e : NamedExprTree) → AllFine p around (assigned t (Some op) e ∷ (target_parts t ++ expr_parts e)) → gives_number (sort_of op) ≡ true
+  update-right : (t : NamedTargetTree) (op : Op) (e : NamedExprTree) → AllFine p around (assigned t (Some op) e ∷ (target_parts t ++ expr_parts e)) → is_arithmetic (sort_of op) ≡ true
       → target_by_grammar t ≡ true → by_grammar e ≡ true → named_target names t ≡ true → named_expr names e ≡ true → IsRightUpdate around known t op e
   update-right t op e h number gt ge kt ke =
       let parts = fine-split p around (target_parts t) (expr_parts e) h.1 in

@@ -6,7 +6,7 @@ use Rattle.wf_ast.specs.declared.operators.Op.{Op}
 use Rattle.wf_ast.specs.TypedTrees.{sort_of}
 use Rattle.wf_ast.specs.TypedInvariant.{is_numeric, has_kind}
 use Rattle.wf_ast.specs.WellTyped.{is_pure}
-use Rattle.wf_ast.specs.OperatorForms.{gives_number}
+use Rattle.wf_ast.specs.OperatorForms.{is_arithmetic}
 use Rattle.wf_named.specs.declared.nodes.NamedCallee.{NamedCallee}
 use Rattle.wf_named.specs.declared.nodes.NamedCallee.TheVariants as callees
 use Rattle.wf_named.specs.NamedTree.{NamedExprTree, path, index, answer, NamedArgTrees, no_arg, more_args, NamedCallTree, call, NamedTargetTree, to_path, to_element, NamedClauseTrees, no_clause, more_clauses, LetterTrees, no_letter, more_letters, NamedViaTree, by_itself, via, NamedStmtTree, assign, keep, do_call, branch, loop, leave, again, back, suspend, claim, NamedBlockTree, close, more_stmts, NamedArmTrees, no_else, otherwise, arm, NamedPackageTree}
@@ -68,7 +68,7 @@ IsRightTarget s k (to_element p i at) = IsRight s k.statuses (index p i at)
 
 -- An operator with `=` stands between two numbers and gives one.
 pub record IsRightUpdate (s : Setting) (k : Known) (t : NamedTargetTree) (op : Op) (e : NamedExprTree) : Type 0 where
-  pub gives : gives_number (sort_of op) ≡ true
+  pub gives : is_arithmetic (sort_of op) ≡ true
   pub target : is_numeric (type_meant (target_meaning s t)) ≡ true
   pub result : is_numeric (type_of_update s t) ≡ true
   pub value : is_numeric (type_of s e) ≡ true

@@ -13,12 +13,12 @@ use Rattle.wf_ast.specs.declared.operators.Op.{Op}
 use Rattle.wf_ast.specs.declared.types.Ty.{Ty}
 use Rattle.wf_ast.specs.declared.types.Ty.TheVariants as types
 use Rattle.wf_ast.specs.BaseStatuses.{base_statuses}
-use Rattle.wf_ast.specs.TypedTree.{Arith, NumTree, link, numeric, state, Target, ValueTree}
+use Rattle.wf_ast.specs.TypedTree.{Arith, NumTree, link, numeric, Target, ValueTree}
 use Rattle.wf_ast.specs.TypedTree as typed
-use Rattle.wf_ast.specs.TypedTrees.{Sort, arithmetic, sort_of, num_in, cond_in, chain_of, arith_in}
+use Rattle.wf_ast.specs.TypedTrees.{Sort, arithmetic, sort_of, num_in, cond_in, chain_of, arithmetic_of}
 use Rattle.wf_ast.specs.Same.{same_arith, arith_number}
 use Rattle.wf_ast.specs.WellTyped.{Context, is_coroutine, may_go_into, is_shift, is_whole_number, well_part, well_num, well_cond, fits_type, well_assigned, is_operator, well_returned, is_suspension, well_axiom, well_simple}
-use Rattle.wf_ast.specs.OperatorForms.{gives_number, updates}
+use Rattle.wf_ast.specs.OperatorForms.{updates, is_arithmetic}
 use Rattle.wf_named.specs.NamedTree.{NamedExprTree, status, answer, NamedPartTree, absent, present, NamedTypeTree, NamedTargetTree, LetterTrees, no_letter, more_letters, NamedViaTree, by_itself, via, Word, NamedMethodTree, NamedPackageTree}
 use Rattle.wf_named.specs.WellNamed.{named_expr, named_part, named_target, named_letters, named_via}
 use Rattle.wf_named.specs.Grammar.{by_grammar, end_by_grammar, target_by_grammar, letters_by_grammar, via_by_grammar}
@@ -32,7 +32,7 @@ use Rattle.wf_types_rules.specs.ExprTypes.{operand_at, meaning}
 use Rattle.wf_types_rules.specs.declared.settings.Role.TheVariants as roles
 use Rattle.wf_types_rules.specs.DeclaredTypes.{declared, for_types}
 use Rattle.wf_types_rules.specs.Parts.{expr_parts, end_parts, letters_parts, via_parts, condition_parts, target_parts, value_parts, assigned, returned, yielded}
-use Rattle.wf_types_rules.specs.Judgements.{fails, both_fail, target_meaning, type_in, target_type, target_place, wrong_assigned, updated, wrong_update, unfit_update, wrong_result, is_wrong_return, wrong_return, yielded_outside, wrong_yield, is_suspension_text, wrong_letter}
+use Rattle.wf_types_rules.specs.Judgements.{fails, both_fail, target_meaning, type_in, target_type, target_place, wrong_assigned, updated, wrong_update, unfit_update, wrong_result, wrong_return, yielded_outside, wrong_yield, is_suspension_text, wrong_letter}
 use Rattle.wf_types_rules.specs.Judgements as judged
 use Rattle.wf_types_rules.proofs.TypeRows as rows
 use Rattle.wf_typed_tree.specs.ElaboratedExprs.{type_meant, number_or, expr_tree}
@@ -54,7 +54,7 @@ use Rattle.wf_typed_tree.proofs.CallStmtLaws.{target-is}
 use Rattle.wf_typed_tree.proofs.AssignedCallLaws.{call-assigned-keeps}
 
 -- An operator with `=` gives a number of its target's width.
-number-sort : (sort : Sort) → gives_number sort ≡ true → (op : Arith) × (sort ≡ arithmetic op)
+number-sort : (sort : Sort) → is_arithmetic sort ≡ true → (op : Arith) × (sort ≡ arithmetic op)
 number-sort (arithmetic op) h = (op, refl)
 number-sort sort h = absurd (cc h)
 
@@ -155,8 +155,8 @@ module _ (p : NamedPackageTree) (n : ℕ) (m : NamedMethodTree) (is : MethodIs p
       to.accepts.assigned of (fits-value (context p n m is) to.ty it.of of taken (value-is p n m is it.of of it.tree) it.tree)
 
   updated-value : (loops : List ℕ) (t : NamedTargetTree) (op : Op) (sign : Place) (e : NamedExprTree) → AllFine p (around p n m is) (assigned t (Some op) e ∷ (target_parts t ++ expr_parts e))
-      → gives_number (sort_of op) ≡ true → target_by_grammar t ≡ true → by_grammar e ≡ true → named_target (names p n m is) t ≡ true → named_expr (names p n m is) e ≡ true
-      → well_simple (context p n m is) loops (typed.assign (target_tree (around p n m is) t) (arith_in (sort_of op)) (update_tree (around p n m is) t op sign e)) ≡ true
+      → is_arithmetic (sort_of op) ≡ true → target_by_grammar t ≡ true → by_grammar e ≡ true → named_target (names p n m is) t ≡ true → named_expr (names p n m is) e ≡ true
+      → well_simple (context p n m is) loops (typed.assign (target_tree (around p n m is) t) (arithmetic_of (sort_of op)) (update_tree (around p n m is) t op sign e)) ≡ true
   updated-value loops t op sign e h number gt ge kt ke =
       let parts = fine-split p (around p n m is) (target_parts t) (expr_parts e) h.1 in
       let to = target-is p n m is whole t parts.0 gt kt in
@@ -176,7 +176,7 @@ module _ (p : NamedPackageTree) (n : ℕ) (m : NamedMethodTree) (is : MethodIs p
       let target : Target = target_tree (around p n m is) t in
       let left : ValueTree = written_to (around p n m is) t in
       let right : ValueTree = expr_tree (around p n m is) e in
-      let Q : Sort → Type 0 = λ s. well_simple (context p n m is) loops (typed.assign target (arith_in s) (chain_of sign (sign ∷ []) (type_of_update (around p n m is) t) s (left ∷ right ∷ []))) ≡ true in
+      let Q : Sort → Type 0 = λ s. well_simple (context p n m is) loops (typed.assign target (arithmetic_of s) (chain_of sign (sign ∷ []) (type_of_update (around p n m is) t) s (left ∷ right ∷ []))) ≡ true in
       let R : Option Meaning → Type 0 = λ x. well_simple (context p n m is) loops (typed.assign target (Some sort.0) (chain_of sign (sign ∷ []) (unrefined (type_meant x)) (arithmetic sort.0) (left ∷ right ∷ []))) ≡ true in
       subst Q (sym sort.1)
       (subst R (sym to.means)

@@ -47,12 +47,6 @@ node_kept s old new e l at g h = stands_kept (path_tree s (local_path l at)) (va
 pub nodes_kept : (s : Setting) (old new : TypedNodes) (first : ℕ) (places : List Place) → GrowsStmts old new → HaveNodes s old first places → HaveNodes s new first places
 nodes_kept s old new first places g h l at e = node_kept s old new (first + l) l at g (h l at e)
 
-methods_kept : (p : NamedPackageTree) (old new : TypedNodes) (es : List ExprId) (ms : List NamedMethodTree) → GrowsStmts old new → MethodsHaveNodes p old es ms → MethodsHaveNodes p new es ms
-methods_kept p old new [] [] g h = tt
-methods_kept p old new [] (m ∷ ms) g h = absurd h
-methods_kept p old new (e ∷ es) [] g h = absurd h
-methods_kept p old new (e ∷ es) (m ∷ ms) g h = (nodes_kept (in_method p m) old new e.0 (places_of m.locals) g h.0, methods_kept p old new es ms g h.1)
-
 -- One local more.
 module _ (s : Setting) (old new : TypedNodes) (places : List Place) (first n : ℕ) (at : Place) (e : ExprId) where
   pub first_more : GrowsExprs old new → slice_get places n ≡ Some at → e.0 ≡ first + n → StandsForPath s (local_path n at) new e → FirstHaveNodes s old first n places

@@ -14,8 +14,8 @@ use Rattle.wf_typed_tree.specs.Entries.{package_entries}
 use Rattle.wf_types.specs.Bodies.{without_bodies}
 use Rattle.wf_types.specs.DeclaredNodes.{declared_nodes}
 
--- A package is refused by what decides of all that it breaks of the rules of types and effects. Want of memory says nothing
--- of it.
+-- A package that breaks rules of types and effects is refused by the first refusal of all that it breaks. Want of memory says
+-- nothing of it.
 abbrev pub IsMistyped : NamedParts → PhaseFault → Type 0
 IsMistyped named (phase.Refused refusal) = IsFirst (Breaks (named_package named)) refusal
 IsMistyped named phase.Memory = ⊤

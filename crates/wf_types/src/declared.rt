@@ -74,7 +74,7 @@ pub(crate) fn structure(
 }
 
 /// All structs of a package, where `fields` are the types of their fields.
-pub fn structs(
+pub(crate) fn structs(
     alloc: Global,
     nodes: &NamedNodes,
     fields: &[Sequence<Option<Ty>>],
@@ -112,7 +112,7 @@ pub(crate) fn method(alloc: Global, of: &NamedMethod, head: &Head) -> Result<Met
 }
 
 /// All methods of a package, where `heads` are the types of what they declare.
-pub fn methods(
+pub(crate) fn methods(
     alloc: Global,
     nodes: &NamedNodes,
     heads: &[Head],

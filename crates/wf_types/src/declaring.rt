@@ -44,7 +44,11 @@ fn names_copied(
 }
 
 /// What a package declares that was judged. `Err` also comes where it has more texts than there are numbers.
-pub fn declared(alloc: Global, nodes: &NamedNodes, judged: &Judged) -> Result<TypedNodes, NoMemory>
+pub(crate) fn declared(
+    alloc: Global,
+    nodes: &NamedNodes,
+    judged: &Judged,
+) -> Result<TypedNodes, NoMemory>
     requires { IsJudged (named_package nodes.now) judged.now }
     ensures { IfOk result (λ all. all ≡ declared_nodes nodes.now) }
 {

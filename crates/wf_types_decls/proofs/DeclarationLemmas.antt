@@ -1,5 +1,5 @@
 -- What is found at declarations, one after the other.
-use Rattle.std.proofs.Common.{◌≡◌, ◌∙◌, refl, sym, ap, subst, ℕ, ◌+◌, ◌<◌, ◌≤◌, Bool, false, true, not, ◌&&◌, ◌||◌, List, [], ◌∷◌, ◌++◌, length, drop, slice_get, slice_index_or, map, Option, Some, None, option_map, option_and_then, nat_eq}
+use Rattle.std.proofs.Common.{◌≡◌, ◌∙◌, refl, sym, ap, subst, ℕ, ◌+◌, ◌<◌, ◌≤◌, Bool, false, not, ◌&&◌, ◌||◌, List, [], ◌∷◌, ◌++◌, length, drop, slice_get, slice_index_or, map, Option, Some, None, option_map, option_and_then, nat_eq}
 use Rattle.std.specs.List.{flat_map}
 use Rattle.std.proofs.lemmas.List.{append_assoc, drop_all}
 use Rattle.std.proofs.lemmas.Grind.{flat_map-append}
@@ -120,27 +120,6 @@ questions_begun (b ∷ bs) = questions_same b bs
     questions_same : (b : ℕ) (bs : List ℕ) → questions_behind (nat_eq b 63) bs ≡ two_questions (b ∷ bs)
     questions_same b [] = refl
     questions_same b (c ∷ bs) = ap (λ q. (nat_eq b 63 && nat_eq c 63) || q) (questions_same c bs)
-
-module _ (bs : List ℕ) (i d : ℕ) (h : i < length bs) (before whole : Bool) (e : questions_behind before (drop i bs) ≡ whole) where
-  behind_one : ((before && nat_eq (slice_index_or bs i d) 63) || questions_behind (nat_eq (slice_index_or bs i d) 63) (drop (i + 1) bs)) ≡ whole
-  behind_one = sym (ap (questions_behind before) (drop-one bs i d h)) ∙ e
-
-  pub question_passed : (before && nat_eq (slice_index_or bs i d) 63) ≡ false → questions_behind (nat_eq (slice_index_or bs i d) 63) (drop (i + 1) bs) ≡ whole
-  question_passed apart = sym (ap (λ q. q || questions_behind (nat_eq (slice_index_or bs i d) 63) (drop (i + 1) bs)) apart) ∙ behind_one
-
-  pub question_found : (before && nat_eq (slice_index_or bs i d) 63) ≡ true → true ≡ whole
-  question_found found = sym (ap (λ q. q || questions_behind (nat_eq (slice_index_or bs i d) 63) (drop (i + 1) bs)) found) ∙ behind_one
-
--- Parts of two settings, one list after the other.
-pub two_settings : (s inner : Setting) (found head last : Option Refusal) (xs ys : List Part) → head ≡ judged s found xs → last ≡ judged inner head ys → last ≡ decided found (at_sites s xs ++ at_sites inner ys)
-two_settings s inner found head last xs ys first next =
-    next ∙ sym (decided-sites inner head ys) ∙ ap (λ f. decided f (at_sites inner ys)) (first ∙ sym (decided-sites s found xs)) ∙ sym (decided-append found (at_sites s xs) (at_sites inner ys))
-
--- A method: what it declares, then its body.
-pub method_decided : (s inner : Setting) (found head whole last : Option Refusal) (xs ys : List Part) (x : Part) → head ≡ judged s found xs → whole ≡ judged inner head (x ∷ []) → last ≡ judged inner whole ys
-    → last ≡ decided found (at_sites s xs ++ at_sites inner (x ∷ ys))
-method_decided s inner found head whole last xs ys x first middle next =
-    two_settings s inner found head last xs (x ∷ ys) first (next ∙ ap (λ f. judged inner f ys) middle ∙ sym (judged-append inner head (x ∷ []) ys))
 
 -- The types of a struct's fields.
 pub own_fields : (p : NamedPackageTree) (n : ℕ) → types_or_none (slice_get (field_types p) n) ≡ types_in p roles.Field (fields_in p (Some n))

@@ -1,4 +1,4 @@
--- What decides of the parts of a package with what stands round each, and what a walk over it keeps.
+-- The first refusal of the parts of a package with what stands round each, and what a walk over it keeps.
 use Rattle.std.specs.Prelude.{◌≡◌, ℕ, Bool, false, ◌&&◌, ◌||◌, List, [], ◌∷◌, ◌++◌, map, Option, None, Some, nat_eq}
 use Rattle.std.specs.List.{flat_map}
 use Rattle.wf_text.specs.declared.rules.Refusal.{Refusal}

@@ -243,7 +243,10 @@ fn base_statuses(alloc: Global) -> Result<Sequence<Sequence<u8>>, NoMemory>
 }
 
 /// The texts of all statuses, by number.
-pub fn status_texts(alloc: Global, nodes: &NamedNodes) -> Result<Sequence<Sequence<u8>>, NoMemory>
+pub(crate) fn status_texts(
+    alloc: Global,
+    nodes: &NamedNodes,
+) -> Result<Sequence<Sequence<u8>>, NoMemory>
     ensures { IfOk result (λ all. all ≡ texts_of_language ++ map (λ w. w.text) (map (word_at nodes.now.texts) nodes.now.statuses)) }
 {
     let mut all = base_statuses(alloc)?;

@@ -50,11 +50,6 @@ soonest-append : (found : Option Refusal) (xs ys : List (Option Refusal)) → so
 soonest-append found [] ys = refl
 soonest-append found (x ∷ xs) ys = soonest-append (sooner found x) xs ys
 
--- What `judged` comes to.
-pub judged-is : (s : Setting) (found : Option Refusal) (parts : List Part) → judged s found parts ≡ soonest found (flat_map (refusals_at s) parts)
-unfolding judged
-judged-is s found parts = refl
-
 pub judged-append : (s : Setting) (found : Option Refusal) (xs ys : List Part) → judged s found (xs ++ ys) ≡ judged s (judged s found xs) ys
 unfolding judged
 judged-append s found xs ys = ap (soonest found) (flat_map-append (refusals_at s) xs ys) ∙ soonest-append found (flat_map (refusals_at s) xs) (flat_map (refusals_at s) ys)

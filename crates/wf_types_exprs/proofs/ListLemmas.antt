@@ -1,6 +1,6 @@
 -- Operands and arguments, one after the other.
 use Rattle.std.proofs.Common.{◌≡◌, ◌∙◌, refl, sym, ap, ℕ, ◌+◌, ◌<◌, Bool, true, false, ◌&&◌, List, [], ◌∷◌, ◌++◌, length, drop, slice_index_or, Option, Some, None, option_map, add-one, drop-cons}
-use Rattle.std.proofs.lemmas.List.{append-nil, append_assoc}
+use Rattle.std.proofs.lemmas.List.{append_assoc}
 use Rattle.wf_text.specs.declared.place.Place.{Place}
 use Rattle.wf_text.specs.declared.rules.Refusal.{Refusal}
 use Rattle.wf_ast.specs.declared.numbers.ExprId.{ExprId}
@@ -22,11 +22,6 @@ use Rattle.wf_types_exprs.proofs.JudgedLaws.{judged-append}
 
 pub drop-one : {X : Type 0} (xs : List X) (i : ℕ) (d : X) → i < length xs → drop i xs ≡ slice_index_or xs i d ∷ drop (i + 1) xs
 drop-one xs i d h = rw (add-one, drop-cons xs i d) refl
-
--- Operands.
-pub joined-none : (os : Option (List Operand)) → operands_joined os (Some []) ≡ os
-joined-none None = refl
-joined-none (Some os) = ap Some (append-nil os)
 
 pushed-joined : (os : List Operand) (at : Place) (m : Option Meaning) (rest : Option (List Operand))
     → operands_joined (operand_pushed os at m) rest ≡ operands_joined (Some os) (in_front (option_map (operand_at at) m) rest)
@@ -116,10 +111,6 @@ args_parts-more callee n (answer c) others = refl
 args_parts-more callee n (chain op first links at) others = refl
 args_parts-more callee n (convert e t at) others = refl
 args_parts-more callee n (negation e at) others = refl
-
-pub and_true : (b : Bool) → (b && true) ≡ b
-and_true true = refl
-and_true false = refl
 
 and_and : (a b c : Bool) → ((a && b) && c) ≡ (a && (b && c))
 and_and true b c = refl

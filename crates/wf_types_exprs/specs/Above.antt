@@ -1,35 +1,7 @@
--- A number above those of the parts of a node: what a walk's measure counts from.
-use Rattle.std.specs.Prelude.{ℕ, ◌+◌, max, Option, Some, None, List, [], ◌∷◌}
-use Rattle.wf_ast.specs.declared.numbers.ExprId.{ExprId}
-use Rattle.wf_ast.specs.declared.parsed.Bounds.{Bounds}
-use Rattle.wf_ast.specs.declared.parsed.Link.{Link}
-use Rattle.wf_ast.specs.declared.parsed.Prefix.{Prefix}
-use Rattle.wf_ast.specs.declared.parsed.Prefix.TheVariants as prefixes
+-- A number above those of the parts of a type: what a walk's measure counts from.
+use Rattle.std.specs.Prelude.{ℕ, max}
+use Rattle.wf_ast.specs.Above.{above_prefixes, above_bounds}
 use Rattle.wf_named.specs.declared.nodes.NamedType.{NamedType}
-
-abbrev pub above_part : Option ExprId → ℕ
-above_part None = 0
-above_part (Some e) = e.0 + 1
-
-abbrev pub above_args : List ExprId → ℕ
-above_args [] = 0
-above_args (e ∷ es) = max (e.0 + 1) (above_args es)
-
-abbrev pub above_links : List Link → ℕ
-above_links [] = 0
-above_links (l ∷ ls) = max (l.operand.0 + 1) (above_links ls)
-
-abbrev pub above_prefix : Prefix → ℕ
-above_prefix (prefixes.Slice at) = 0
-above_prefix (prefixes.Array length at) = length.0 + 1
-
-abbrev pub above_prefixes : List Prefix → ℕ
-above_prefixes [] = 0
-above_prefixes (p ∷ ps) = max (above_prefix p) (above_prefixes ps)
-
-abbrev pub above_bounds : Option Bounds → ℕ
-above_bounds None = 0
-above_bounds (Some b) = max (above_part b.low) (b.high.0 + 1)
 
 abbrev pub above_type : NamedType → ℕ
 above_type t = max (above_prefixes t.prefixes) (above_bounds t.bounds)

@@ -178,7 +178,7 @@ fn value_of_two(op: Op, width: Option<Width>, os: &[Operand]) -> Option<u64>
 
 /// The value of an arithmetic operator on operands that are all constant, and None where it has none: it leaves the
 /// width, its divisor is 0, or its shift isn't below the width. Takes time in proportion to the operands.
-pub fn constant_value(op: Op, width: Option<Width>, os: &[Operand]) -> Option<u64>
+pub(crate) fn constant_value(op: Op, width: Option<Width>, os: &[Operand]) -> Option<u64>
     ensures { result ≡ value_by (sort_of op) (bits_in width) (numbers os.now) }
 {
     match op {

@@ -68,8 +68,8 @@ method_f mark gives body =
       body = body;
     }
 
-abbrev pub package_of : NamedMethodTree → NamedPackageTree
-package_of f =
+abbrev pub package_doing : NamedMethodTree → NamedPackageTree
+package_doing f =
     record {
       package_name = codes "demo";
       consts = [];
@@ -81,11 +81,11 @@ package_of f =
 
 -- A method without a result that does this alone.
 abbrev pub doing : Mark → NamedStmtTree → NamedPackageTree
-doing mark st = package_of (method_f mark None (more_stmts st (close (at 10 1))))
+doing mark st = package_doing (method_f mark None (more_stmts st (close (at 10 1))))
 
 -- And one with a result.
 abbrev pub giving : NamedBlockTree → NamedPackageTree
-giving body = package_of (method_f Pure (Some (base (bases.Number W8))) body)
+giving body = package_doing (method_f Pure (Some (base (bases.Number W8))) body)
 
 abbrev pub x_path : NamedTargetTree
 x_path = to_path (local 0 (here 5))

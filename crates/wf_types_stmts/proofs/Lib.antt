@@ -1,3 +1,2 @@
-pub mod AboveLemmas
 pub mod BlockLemmas
 pub mod StatementLemmas

@@ -10,7 +10,7 @@ use Rattle.wf_ast.specs.declared.parsed.Given.{Given}
 use Rattle.wf_ast.specs.declared.parsed.LoopClause.{LoopClause}
 use Rattle.wf_named.specs.declared.nodes.NamedCallee.{NamedCallee}
 use Rattle.wf_named.specs.declared.nodes.NamedPath.{NamedPath}
-use Rattle.wf_named.specs.NamedTree.{NamedExprTree, number, status, truth, path, index, slice, answer, chain, convert, negation, NamedPartTree, absent, present, NamedArgTrees, NamedCallTree, call, NamedTargetTree, to_path, to_element, NamedBlockTree}
+use Rattle.wf_named.specs.NamedTree.{NamedExprTree, number, status, truth, path, index, slice, answer, chain, convert, negation, NamedPartTree, absent, present, NamedArgTrees, call, NamedTargetTree, to_path, to_element, NamedBlockTree}
 use Rattle.wf_named.specs.NamedTrees.{expr_at, clauses_at, letters_at}
 use Rattle.wf_types_rules.specs.declared.meanings.Meaning.{Meaning}
 use Rattle.wf_types_rules.specs.declared.meanings.Value.{Value}
@@ -115,18 +115,6 @@ plain_lacks s (answer c) h = absurd (cc h)
 plain_lacks s (chain op first links at) h = refl
 plain_lacks s (convert e of at) h = refl
 plain_lacks s (negation e at) h = refl
-
-pub call_of_expr : (e : NamedExprTree) (c : NamedCallTree) → call_in e ≡ Some c → e ≡ answer c
-call_of_expr (answer d) c h = ap answer (let same : d ≡ c = cc h in same)
-call_of_expr (number v at) c h = absurd (cc h)
-call_of_expr (status n at) c h = absurd (cc h)
-call_of_expr (truth v at) c h = absurd (cc h)
-call_of_expr (path p) c h = absurd (cc h)
-call_of_expr (index p i at) c h = absurd (cc h)
-call_of_expr (slice p from to at) c h = absurd (cc h)
-call_of_expr (chain op first links at) c h = absurd (cc h)
-call_of_expr (convert e of at) c h = absurd (cc h)
-call_of_expr (negation e at) c h = absurd (cc h)
 
 -- An operator with `=`.
 update_alone : (s : Setting) (found : Option Refusal) (t : NamedTargetTree) (op : Op) (e : NamedExprTree)

@@ -1,5 +1,4 @@
-use Rattle.std.proofs.Common.{Option, sym, ◌∙◌, ap}
-use Rattle.c_step_calls.proofs.Calls.{rests_after_init, can_init}
+use Rattle.c_step_calls.proofs.Calls.{rests_after_init}
 use Rattle.c_step_calls.proofs.Endings.{done_so}
 use Rattle.c_step_calls.proofs.calling.init_receiver.Goals as goal
 

@@ -1,6 +1,6 @@
 use Rattle.std.proofs.Common.{sym, ◌∙◌, arith}
 use Rattle.wf_ast.specs.TypedTrees.{constant_of_node, place_of_node, signs_of_node, tree_of, type_of_node}
-use Rattle.wf_facts_exprs.specs.Operands.{node_cond}
+use Rattle.wf_ast.specs.NodeKinds.{node_cond}
 use Rattle.wf_bounds.proofs.RoomLemmas.{node-alone, room-left}
 use Rattle.wf_bounds.proofs.branching.has_room.Goals as goal
 

@@ -1,9 +1,9 @@
 use Rattle.std.proofs.Common.{◌≡◌, [], Some, None, ap, sym, ◌∙◌}
 use Rattle.std.specs.Prelude.{unwrap_or}
 use Rattle.wf_ast.specs.TypedTrees.{text_of}
+use Rattle.wf_ast.specs.NodeKinds.{node_cond}
 use Rattle.wf_facts_exprs.specs.Claims.{claims_in}
 use Rattle.wf_facts_exprs.specs.Demands.{unless_refused}
-use Rattle.wf_facts_exprs.specs.Operands.{node_cond}
 use Rattle.wf_axioms.specs.Matching.{given_trees}
 use Rattle.wf_bounds_stmts.specs.Assertions.{axiom_named, axiom_refusal}
 use Rattle.wf_bounds_stmts.proofs.AssertLemmas.{named-is}

@@ -1,8 +1,8 @@
 use Rattle.std.proofs.Common.{refl, sym, ◌∙◌}
 use Rattle.wf_ast.specs.TypedTrees.{text_of}
+use Rattle.wf_ast.specs.NodeKinds.{node_cond}
 use Rattle.wf_facts_exprs.specs.Claims.{claims_in}
 use Rattle.wf_facts_exprs.specs.Demands.{cond_refusal}
-use Rattle.wf_facts_exprs.specs.Operands.{node_cond}
 use Rattle.wf_axioms.specs.Matching.{given_trees}
 use Rattle.wf_bounds_stmts.specs.Assertions.{axiom_named, axiom_refusal, given_refusal}
 use Rattle.wf_bounds_stmts.proofs.OutcomeLemmas.{third-of}

@@ -5,9 +5,9 @@ use Rattle.wf_base.specs.declared.widths.Width.TheVariants.{W64}
 use Rattle.wf_ast.specs.declared.things.Thing.TheVariants as things
 use Rattle.wf_ast.specs.TypedTree.{elements}
 use Rattle.wf_ast.specs.TypedTrees.{optional_target, tree_of}
+use Rattle.wf_ast.specs.NodeKinds.{node_slice}
 use Rattle.wf_facts_exprs.specs.Claims.{claims_in}
 use Rattle.wf_facts_exprs.specs.Demands.{or_else}
-use Rattle.wf_facts_exprs.specs.Operands.{node_slice}
 use Rattle.wf_facts.specs.FactLists.{without}
 use Rattle.wf_bounds_stmts.specs.Requirements.{all_handed}
 use Rattle.wf_bounds_stmts.specs.Targets.{answer_refusal}

@@ -4,10 +4,10 @@ use Rattle.wf_text.specs.declared.rules.Rule.TheVariants.{B8, B9}
 use Rattle.wf_base.specs.declared.widths.Width.TheVariants.{W8}
 use Rattle.wf_ast.specs.TypedTree.{asked, at_least, number, numeric, write_fast, writer_length}
 use Rattle.wf_ast.specs.TypedTrees.{io_in, tree_of}
+use Rattle.wf_ast.specs.NodeKinds.{node_number}
 use Rattle.wf_facts_exprs.specs.Claims.{claims_in, single}
 use Rattle.wf_facts_exprs.specs.Demands.{demand, unless_refused}
 use Rattle.wf_facts_exprs.specs.Given.{gives_sides}
-use Rattle.wf_facts_exprs.specs.Operands.{node_number}
 use Rattle.wf_bounds_stmts.specs.Requirements.{all_handed, number_type}
 use Rattle.wf_bounds_stmts.specs.Calls.{all_of, premise_refusal}
 use Rattle.wf_bounds_stmts.proofs.OutcomeLemmas.{is-fine}

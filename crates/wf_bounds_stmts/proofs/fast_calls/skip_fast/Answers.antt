@@ -4,9 +4,9 @@ use Rattle.wf_text.specs.declared.rules.Rule.TheVariants.{B8}
 use Rattle.wf_ast.specs.declared.things.Thing.TheVariants as things
 use Rattle.wf_ast.specs.TypedTree.{skip_fast}
 use Rattle.wf_ast.specs.TypedTrees.{io_in, optional_target, tree_of}
+use Rattle.wf_ast.specs.NodeKinds.{node_number}
 use Rattle.wf_facts_exprs.specs.Claims.{Claim, claims_in}
 use Rattle.wf_facts_exprs.specs.Demands.{or_else}
-use Rattle.wf_facts_exprs.specs.Operands.{node_number}
 use Rattle.wf_facts.specs.declared.changes.Change.TheVariants.{Shortened}
 use Rattle.wf_facts.specs.FactLists.{changed}
 use Rattle.wf_bounds_stmts.specs.Requirements.{all_handed}

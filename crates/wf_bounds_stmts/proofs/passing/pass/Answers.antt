@@ -5,9 +5,9 @@ use Rattle.wf_ast.specs.TypedTree.{assign, break_from, continue_in, give_back, y
 use Rattle.std.proofs.lemmas.Bool.{and_parts}
 use Rattle.wf_ast.specs.TypedInvariant.{axiom_exists, is_expr}
 use Rattle.wf_ast.specs.TypedTrees.{assigned_by, axiom_made, call_made, optional_target, target_of, tree_of}
+use Rattle.wf_ast.specs.NodeKinds.{node_cond}
 use Rattle.wf_facts_exprs.specs.Claims.{claims_in}
 use Rattle.wf_facts_exprs.specs.Demands.{unless_refused}
-use Rattle.wf_facts_exprs.specs.Operands.{node_cond}
 use Rattle.wf_facts.specs.FactLists.{with_condition}
 use Rattle.wf_loops.specs.LoopNodes.{head_at}
 use Rattle.wf_loops.specs.LoopRules.{break_refusal, way_back_refusal}

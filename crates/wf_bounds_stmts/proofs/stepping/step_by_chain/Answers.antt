@@ -1,6 +1,6 @@
 use Rattle.std.proofs.Common.{◌∙◌}
 use Rattle.wf_ast.specs.TypedTrees.{sort_of, tree_of}
-use Rattle.wf_facts_exprs.specs.Operands.{node_number}
+use Rattle.wf_ast.specs.NodeKinds.{node_number}
 use Rattle.wf_bounds_stmts.proofs.StepLemmas.{chain-two, chain-more}
 use Rattle.wf_bounds_stmts.proofs.stepping.step_by_chain.Goals as goal
 

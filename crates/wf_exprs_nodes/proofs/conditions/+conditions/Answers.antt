@@ -2,12 +2,13 @@ use Rattle.std.proofs.Common.{◌∙◌, List, sym, ap, subst, get_or, arith, ru
 use Rattle.wf_ast.specs.TypedTree.{ValueTree}
 use Rattle.wf_ast.specs.TypedTrees.{cond_in, sort_of, type_of_node, place_of_node, signs_of_node}
 use Rattle.wf_ast.specs.TypedInvariant.{is_expr, is_logical}
+use Rattle.wf_ast.specs.NodeKinds.{node_cond}
 use Rattle.wf_ast.proofs.Arena.{both_true}
 use Rattle.c_text.specs.CTree.{Operands, no_operand}
 use Rattle.c_text.specs.declared.ids.CExprId.{CExprId}
 use Rattle.wf_exprs.specs.Exprs.{with_operand, lowered_cond}
 use Rattle.wf_exprs.proofs.Growing.{grows_on, kept_expr, retell}
-use Rattle.wf_exprs_nodes.specs.Trees.{HasOperands, node_cond}
+use Rattle.wf_exprs_nodes.specs.Trees.{HasOperands}
 use Rattle.wf_ast.proofs.ChainKinds.{all_there}
 use Rattle.wf_exprs_nodes.proofs.ConditionLaws.{behind_end, behind_next, junction_is}
 use Rattle.wf_exprs_nodes.proofs.KindLaws.{of_conditions, of_comparison, condition_below}

@@ -1,8 +1,9 @@
 use Rattle.std.proofs.Common.{◌≡◌, ◌+◌, ◌*◌, ◌≤◌, drop, get_or, map}
+use Rattle.wf_ast.specs.NodeKinds.{node_cond}
 use Rattle.c_text.specs.CTree.{Operands}
 use Rattle.wf_exprs.specs.Exprs.{lowered_cond}
 use Rattle.wf_exprs.specs.Grown.{Grows, HasExpr}
-use Rattle.wf_exprs_nodes.specs.Trees.{HasOperands, conditions_behind, node_cond}
+use Rattle.wf_exprs_nodes.specs.Trees.{HasOperands, conditions_behind}
 use Rattle.wf_exprs_nodes.proofs.ChainLaws.{appended}
 use Rattle.wf_exprs_nodes.proofs.conditions.+conditions.Given as goal
 

@@ -7,13 +7,14 @@ use Rattle.wf_ast.specs.declared.numbers.ExprId.{ExprId}
 use Rattle.wf_ast.specs.TypedTree.{ValueTree}
 use Rattle.wf_ast.specs.TypedTrees.{answer_of, chain_of, end_in, num_in, num_type, sort_of, tree_of, type_of_node, place_of_node, signs_of_node}
 use Rattle.wf_ast.specs.TypedInvariant.{chain_fits, has_kind, is_expr, is_given, is_list, is_numeric}
+use Rattle.wf_ast.specs.NodeKinds.{node_number, node_slice}
 use Rattle.wf_ast.proofs.Arena.{both_true}
 use Rattle.c_text.specs.CGrammar.{is_literal}
 use Rattle.c_text.specs.CTree.{Operands, no_operand}
 use Rattle.c_text.specs.declared.ids.CExprId.{CExprId}
 use Rattle.wf_exprs.specs.Exprs.{with_operand, lowered, lowered_expr, lowered_slice}
 use Rattle.wf_exprs.proofs.Growing.{grows_on, kept_expr}
-use Rattle.wf_exprs_nodes.specs.Trees.{HasOperands, node_number, node_slice}
+use Rattle.wf_exprs_nodes.specs.Trees.{HasOperands}
 use Rattle.wf_exprs_nodes.proofs.ChainLaws.{behind_end, behind_next, link_is, links_begin, links_next, operation_is}
 use Rattle.wf_ast.proofs.ChainKinds.{no_slice_chain}
 use Rattle.wf_exprs_nodes.proofs.KindLaws.{of_numbers, number_below, answers_a_number, list_given}

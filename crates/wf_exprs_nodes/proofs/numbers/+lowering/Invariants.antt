@@ -1,10 +1,11 @@
 use Rattle.std.proofs.Common.{◌≡◌, ◌+◌, ◌*◌, ◌≤◌, drop, get_or, map}
 use Rattle.wf_ast.specs.TypedTrees.{num_type, sort_of, type_of_node}
+use Rattle.wf_ast.specs.NodeKinds.{node_number}
 use Rattle.c_text.specs.CTree.{Operands}
 use Rattle.wf_exprs.specs.Exprs.{Rated, lowered}
 use Rattle.wf_exprs.specs.Grown.{Grows}
 use Rattle.wf_exprs.specs.Making.{HasRated}
-use Rattle.wf_exprs_nodes.specs.Trees.{HasOperands, chain_on, node_number, numbers_behind}
+use Rattle.wf_exprs_nodes.specs.Trees.{HasOperands, chain_on, numbers_behind}
 use Rattle.wf_exprs_nodes.proofs.ChainLaws.{appended}
 use Rattle.wf_exprs_nodes.proofs.numbers.+lowering.Given as goal
 

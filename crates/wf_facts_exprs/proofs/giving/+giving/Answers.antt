@@ -4,7 +4,8 @@ use Rattle.wf_ast.specs.declared.numbers.ExprId.{ExprId}
 use Rattle.wf_ast.specs.TypedTree.{ValueTree}
 use Rattle.wf_ast.specs.TypedTrees.{cond_in, sort_of, tree_of, type_of_node, place_of_node, signs_of_node}
 use Rattle.wf_ast.specs.TypedInvariant.{is_expr}
-use Rattle.wf_facts_exprs.specs.Claims.{claims_in, is_condition_at}
+use Rattle.wf_ast.specs.NodeKinds.{is_condition_at}
+use Rattle.wf_facts_exprs.specs.Claims.{claims_in}
 use Rattle.wf_facts_exprs.specs.Demands.{cond_refusal}
 use Rattle.wf_facts_exprs.specs.Given.{gives, is_standing}
 use Rattle.wf_facts_exprs.proofs.PassLemmas.{both_of, lt_from}

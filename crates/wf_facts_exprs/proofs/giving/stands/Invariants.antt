@@ -1,7 +1,7 @@
 use Rattle.std.proofs.Common.{◌≡◌, drop}
+use Rattle.wf_ast.specs.NodeKinds.{node_cond}
 use Rattle.wf_facts_exprs.specs.Claims.{claims_in}
 use Rattle.wf_facts_exprs.specs.Given.{is_standing}
-use Rattle.wf_facts_exprs.specs.Operands.{node_cond}
 use Rattle.wf_facts_exprs.proofs.giving.stands.Given as goal
 
 -- It isn't among the facts so far, so it is among those that are left where it is among all.

@@ -10,11 +10,13 @@ use Rattle.wf_text.specs.declared.rules.Rule.TheVariants.{B2}
 use Rattle.wf_ast.specs.TypedTree.{ValueTree, less, at_most, number}
 use Rattle.wf_ast.specs.TypedTrees.{chain_of, first_sign, num_in, num_type, sort_of, tree_of, type_of_node, place_of_node, signs_of_node, no_place}
 use Rattle.wf_ast.specs.TypedInvariant.{chain_fits, is_expr}
-use Rattle.wf_facts_exprs.specs.Claims.{claims_in, is_number_at, side_in, single}
+use Rattle.wf_ast.specs.NodeKinds.{is_number_at, node_number, node_slice}
+use Rattle.wf_ast.specs.OperatorForms.{is_arithmetic}
+use Rattle.wf_facts_exprs.specs.Claims.{claims_in, side_in, single}
 use Rattle.wf_facts_exprs.specs.RangeOf.{first_rule, is_ordered}
 use Rattle.wf_facts_exprs.specs.Given.{second_rule}
 use Rattle.wf_facts_exprs.specs.Shapes.{shape_tree}
-use Rattle.wf_facts_exprs.specs.Operands.{arith_of, is_arithmetic, is_operator, judged, one_more, ruled, node_number, node_slice, part_number}
+use Rattle.wf_facts_exprs.specs.Operands.{arith_of, is_operator, judged, one_more, ruled, part_number}
 use Rattle.wf_facts_exprs.proofs.PassLemmas.{both_of, lt_from}
 use Rattle.wf_facts_exprs.proofs.ShapeLemmas.{number-below}
 use Rattle.wf_facts_exprs.proofs.ChainLemmas.{item-true, more-unordered, next_at, chain-stops, chain-goes-on, chain-ends, first-refused, chain-begins}

@@ -3,7 +3,8 @@ use Rattle.wf_num.specs.Ranges.{IsSmall}
 use Rattle.wf_ast.specs.TypedTrees.{place_of_node, signs_of_node}
 use Rattle.wf_facts_exprs.specs.Claims.{claims_in}
 use Rattle.wf_ast.specs.TypedTrees.{num_type, type_of_node}
-use Rattle.wf_facts_exprs.specs.Operands.{arith_of, chain_on, node_number, part_number, ruled}
+use Rattle.wf_ast.specs.NodeKinds.{node_number}
+use Rattle.wf_facts_exprs.specs.Operands.{arith_of, chain_on, part_number, ruled}
 use Rattle.wf_facts_exprs.proofs.judging.+judging.Given as goal
 
 abbrev pub decreases-judge : goal.decreases-judge

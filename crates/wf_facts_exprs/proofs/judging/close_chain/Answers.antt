@@ -4,9 +4,10 @@ use Rattle.wf_num.specs.Ranges.{fits_width}
 use Rattle.wf_ast.specs.TypedTree.{ValueTree}
 use Rattle.wf_ast.specs.TypedTrees.{num_in, num_type, sort_of, first_sign, tree_of, type_of_node, place_of_node, signs_of_node}
 use Rattle.wf_ast.specs.TypedInvariant.{is_expr}
+use Rattle.wf_ast.specs.NodeKinds.{node_number}
 use Rattle.std.proofs.Common.{length, drop, ◌-◌}
 use Rattle.wf_facts_exprs.specs.Demands.{demand}
-use Rattle.wf_facts_exprs.specs.Operands.{width_demand, node_number}
+use Rattle.wf_facts_exprs.specs.Operands.{width_demand}
 use Rattle.wf_facts_exprs.proofs.PassLemmas.{both_of}
 use Rattle.wf_facts_exprs.proofs.JudgeLemmas.{chain-closes, closed-ok, closed-err}
 use Rattle.wf_facts_exprs.proofs.judging.close_chain.Goals as goal

@@ -1,7 +1,7 @@
 use Rattle.std.proofs.Common.{◌∙◌, Err, ap, sym}
 use Rattle.std.proofs.lemmas.Result.{err_from_is_err_and}
+use Rattle.wf_ast.specs.NodeKinds.{node_cond}
 use Rattle.wf_facts_exprs.specs.Claims.{claims_in}
-use Rattle.wf_facts_exprs.specs.Operands.{node_cond}
 use Rattle.wf_loops.proofs.LoopLemmas.{condition_refusal}
 use Rattle.wf_loops.proofs.AskingLemmas.{has_no_value, err_is_some}
 use Rattle.wf_loops.proofs.asking.require.Goals as goal

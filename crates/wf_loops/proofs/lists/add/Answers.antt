@@ -1,5 +1,5 @@
+use Rattle.wf_ast.specs.NodeKinds.{node_cond}
 use Rattle.wf_facts_exprs.specs.Claims.{claims_in, facts_of}
-use Rattle.wf_facts_exprs.specs.Operands.{node_cond}
 use Rattle.wf_loops.proofs.AskingLemmas.{found_no_room}
 use Rattle.wf_loops.proofs.lists.add.Goals as goal
 

@@ -2,8 +2,8 @@ use Rattle.std.proofs.Common.{◌+◌, ◌∙◌, true, Err, ap, sym, arith}
 use Rattle.std.specs.Prelude.{drop, slice_index_or}
 use Rattle.std.proofs.lemmas.Result.{err_from_is_err_and}
 use Rattle.wf_ast.specs.declared.parsed.Clause.TheVariants.{Pre}
+use Rattle.wf_ast.specs.NodeKinds.{node_cond}
 use Rattle.wf_facts_exprs.specs.Claims.{claims_in}
-use Rattle.wf_facts_exprs.specs.Operands.{node_cond}
 use Rattle.wf_loops.specs.LoopRules.{limit, with_promises, is_asked}
 use Rattle.wf_loops.specs.LoopNodes.{promises_in}
 use Rattle.wf_facts.specs.FactLists.{with_condition}

@@ -1,7 +1,7 @@
 use Rattle.std.proofs.Common.{◌∙◌, ap, sym}
 use Rattle.wf_ast.specs.declared.typed_nodes.TypedNodes.{TypedNodes}
+use Rattle.wf_ast.specs.NodeKinds.{is_condition_at}
 use Rattle.wf_exprs.specs.Exprs.{lowered_cond}
-use Rattle.wf_exprs.specs.Making.{is_condition_at}
 use Rattle.wf_exprs.proofs.Growing.{retell}
 use Rattle.wf_lower_stmts.specs.BodyNodes.{form_in}
 use Rattle.wf_lower_blocks.proofs.KindLaws.{no_condition_at}

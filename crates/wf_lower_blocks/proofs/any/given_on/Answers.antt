@@ -1,8 +1,8 @@
 use Rattle.std.proofs.Common.{◌∙◌, ap, sym}
 use Rattle.wf_ast.specs.declared.typed_nodes.TypedNodes.{TypedNodes}
 use Rattle.wf_ast.specs.TypedTree.{local}
+use Rattle.wf_ast.specs.NodeKinds.{is_number_at}
 use Rattle.wf_exprs.specs.Exprs.{given, path_code}
-use Rattle.wf_exprs.specs.Making.{is_number_at}
 use Rattle.wf_exprs.specs.Scopes.{ScopeTree}
 use Rattle.wf_exprs.proofs.Growing.{retell}
 use Rattle.wf_lower_stmts.specs.BodyNodes.{form_in}

@@ -1,8 +1,8 @@
 use Rattle.std.proofs.Common.{◌∙◌, ap, sym}
 use Rattle.wf_ast.specs.declared.typed_nodes.TypedNodes.{TypedNodes}
 use Rattle.wf_ast.specs.TypedTree.{local}
+use Rattle.wf_ast.specs.NodeKinds.{is_slice_at}
 use Rattle.wf_exprs.specs.Exprs.{lowered_slice, path_pair}
-use Rattle.wf_exprs.specs.Making.{is_slice_at}
 use Rattle.wf_exprs.specs.Scopes.{ScopeTree}
 use Rattle.wf_lower_stmts.specs.BodyNodes.{form_in}
 use Rattle.wf_lower_blocks.proofs.KindLaws.{no_slice_at, retell_pair}

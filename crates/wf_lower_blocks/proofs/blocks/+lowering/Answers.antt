@@ -2,11 +2,11 @@ use Rattle.std.proofs.Common.{◌≡◌, ◌-◌, List, true, IfOk, arith, refl,
 use Rattle.wf_ast.specs.declared.typed_code.Arm.{Arm}
 use Rattle.wf_ast.specs.TypedTree.{Block}
 use Rattle.wf_ast.specs.TypedTrees.{block_of}
+use Rattle.wf_ast.specs.NodeKinds.{node_cond}
 use Rattle.c_text.specs.CGrammar.{FitsElse}
 use Rattle.c_text.specs.CNodes.{code_of}
 use Rattle.c_text.specs.CTree.{Code, branch, finish}
 use Rattle.wf_exprs.specs.Exprs.{lowered_cond}
-use Rattle.wf_exprs_nodes.specs.Trees.{node_cond}
 use Rattle.wf_exprs.specs.Grown.{HasCode}
 use Rattle.wf_exprs.proofs.Growing.{grows_on}
 use Rattle.wf_lower_stmts.specs.BodyNodes.{form_in, points_by}

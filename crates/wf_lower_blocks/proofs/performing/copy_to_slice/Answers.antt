@@ -1,12 +1,12 @@
 use Rattle.std.proofs.Common.{◌∙◌, ap, subst}
 use Rattle.wf_ast.specs.declared.typed_nodes.TypedNodes.{TypedNodes}
+use Rattle.wf_ast.specs.NodeKinds.{node_slice}
 use Rattle.wf_base.specs.BaseTable.{bits_of}
 use Rattle.c_text.specs.CNodes.{code_of}
 use Rattle.wf_exprs.specs.Exprs.{lowered_slice}
 use Rattle.wf_exprs.specs.Making.{HasPair}
 use Rattle.wf_exprs.specs.Scopes.{ScopeTree}
 use Rattle.wf_exprs.proofs.Growing.{grows_on}
-use Rattle.wf_exprs_nodes.specs.Trees.{node_slice}
 use Rattle.wf_lower_stmts.specs.BodyNodes.{form_in, target_in}
 use Rattle.wf_lower_stmts.specs.Statements.{slice_bits}
 use Rattle.wf_lower_blocks.proofs.CopyLaws.{copied}

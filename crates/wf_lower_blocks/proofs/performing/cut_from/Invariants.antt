@@ -1,6 +1,5 @@
 use Rattle.std.proofs.Common.{◌≡◌, IsTrue}
-use Rattle.wf_exprs.specs.Making.{is_slice_at}
-use Rattle.wf_exprs_nodes.specs.Trees.{node_slice}
+use Rattle.wf_ast.specs.NodeKinds.{is_slice_at, node_slice}
 use Rattle.wf_lower_stmts.specs.Statements.{slice_bits}
 use Rattle.wf_lower_blocks.proofs.performing.cut_from.Given as goal
 

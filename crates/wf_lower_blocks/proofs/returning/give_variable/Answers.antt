@@ -1,6 +1,6 @@
 use Rattle.std.proofs.Common.{sym}
+use Rattle.wf_ast.specs.NodeKinds.{node_status}
 use Rattle.c_text.specs.CNodes.{code_of}
-use Rattle.wf_exprs_nodes.specs.Trees.{node_status}
 use Rattle.wf_lower_stmts.specs.BodyNodes.{form_in}
 use Rattle.wf_lower_stmts.proofs.HereLaws.{retell_code}
 use Rattle.wf_lower_blocks.proofs.ReturnLaws.{asked_is, unasked_is}

@@ -1,7 +1,7 @@
 use Rattle.wf_exprs.proofs.Growing.{grows_on}
 use Rattle.std.proofs.Common.{ap, ◌∙◌}
+use Rattle.wf_ast.specs.NodeKinds.{node_slice}
 use Rattle.c_text.specs.CGrammar.{is_literal}
-use Rattle.wf_exprs_nodes.specs.Trees.{node_slice}
 use Rattle.wf_lower_stmts.proofs.PointerLaws.{no_literal}
 use Rattle.wf_lower_stmts.proofs.targets.element_of.Goals as goal
 

@@ -3,9 +3,10 @@ use Rattle.wf_ast.specs.TypedTree.{ValueTree}
 use Rattle.wf_ast.specs.TypedTrees.{cond_in, sort_of, type_of_node, place_of_node, signs_of_node}
 use Rattle.wf_ast.specs.TypedInvariant.{is_expr, is_logical}
 use Rattle.wf_ast.specs.Value.{truth_of}
+use Rattle.wf_ast.specs.NodeKinds.{node_cond}
 use Rattle.wf_ast.proofs.Arena.{both_true}
 use Rattle.wf_mean_exprs.specs.MachineState.{seen_from}
-use Rattle.wf_mean_exprs.specs.Conditions.{chain_truth, joins_both, node_cond}
+use Rattle.wf_mean_exprs.specs.Conditions.{chain_truth, joins_both}
 use Rattle.wf_ast.proofs.ChainKinds.{all_there}
 use Rattle.wf_mean_exprs.proofs.Junctions.{of_conditions, of_comparison, condition_below, junction_begins}
 use Rattle.wf_mean_exprs.proofs.conditions.+deciding.Goals as goal

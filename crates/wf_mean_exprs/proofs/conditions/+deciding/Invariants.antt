@@ -1,8 +1,9 @@
 use Rattle.std.proofs.Common.{◌≡◌, ◌+◌, ◌*◌, ◌≤◌, drop, map}
 use Rattle.wf_ast.specs.TypedTrees.{sort_of}
 use Rattle.wf_ast.specs.Value.{truth_of}
+use Rattle.wf_ast.specs.NodeKinds.{node_cond}
 use Rattle.wf_mean_exprs.specs.MachineState.{seen_from}
-use Rattle.wf_mean_exprs.specs.Conditions.{chain_truth, joins_both, node_cond}
+use Rattle.wf_mean_exprs.specs.Conditions.{chain_truth, joins_both}
 use Rattle.wf_mean_exprs.proofs.conditions.+deciding.Given as goal
 
 abbrev pub decreases-truth : goal.decreases-truth

@@ -6,9 +6,11 @@ use Rattle.wf_ast.specs.TypedTree.{ValueTree}
 use Rattle.wf_ast.specs.TypedTrees.{chain_of, num_in, num_type, sort_of, tree_of, type_of_node, place_of_node, signs_of_node}
 use Rattle.wf_ast.specs.TypedInvariant.{chain_fits, is_expr, is_numeric, is_list}
 use Rattle.wf_ast.specs.Value.{value, applied}
+use Rattle.wf_ast.specs.OperatorForms.{arith_in}
+use Rattle.wf_ast.specs.NodeKinds.{node_number}
 use Rattle.wf_ast.proofs.Arena.{both_true}
 use Rattle.wf_mean_exprs.specs.MachineState.{seen_from}
-use Rattle.wf_mean_exprs.specs.Operands.{arith_in, chain_value, node_number}
+use Rattle.wf_mean_exprs.specs.Operands.{chain_value}
 use Rattle.wf_ast.proofs.ChainKinds.{no_slice_chain}
 use Rattle.wf_mean_exprs.proofs.Chains.{of_numbers, chain_begins, chain_next, chain_ends, number_below}
 use Rattle.wf_mean_exprs.proofs.numbers.+valuing.Goals as goal

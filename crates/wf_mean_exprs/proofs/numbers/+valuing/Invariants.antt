@@ -1,8 +1,10 @@
 use Rattle.std.proofs.Common.{◌≡◌, ◌+◌, ◌*◌, ◌≤◌, drop, map}
 use Rattle.wf_ast.specs.TypedTrees.{num_type, sort_of, type_of_node}
 use Rattle.wf_ast.specs.Value.{value}
+use Rattle.wf_ast.specs.OperatorForms.{arith_in}
+use Rattle.wf_ast.specs.NodeKinds.{node_number}
 use Rattle.wf_mean_exprs.specs.MachineState.{seen_from}
-use Rattle.wf_mean_exprs.specs.Operands.{arith_in, chain_value, node_number}
+use Rattle.wf_mean_exprs.specs.Operands.{chain_value}
 use Rattle.wf_mean_exprs.proofs.numbers.+valuing.Given as goal
 
 abbrev pub decreases-number : goal.decreases-number

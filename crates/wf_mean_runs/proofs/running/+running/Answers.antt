@@ -223,10 +223,9 @@ seek_block-returns-in-Some-clause-sought t c =
     let ss = c.args.block.now.items in
     let done = done_seen c.args.point.done in
     let read = c.as_slice-items.result.now in
-    let mid = c.seek_stmt.new.stage in
     let first = first_in nodes ss read c.as_slice-items.ensures l.i _ c.loop-i-test.true in
-    let one = moved nodes level (length l.below) c.args.point.at done _ c.args.stage.now l.stage (Some c.in-Some.flow) mid l.invariant.stays.count l.invariant.same c.in-Some.ensures.sought in
-    leaves_there nodes level c.args.point.at done c.args.stage.now ss l.i _ first l.invariant.so_far l.invariant.stands c.in-Some.flow mid one (sym c.if-falls.ensures)
+    let one = moved nodes level (length l.below) c.args.point.at done _ c.args.stage.now l.stage (Some c.in-Some.flow) c.seek_stmt.new.stage l.invariant.stays.count l.invariant.same c.in-Some.ensures.sought in
+    leaves_there nodes level c.args.point.at done c.args.stage.now ss l.i _ first l.invariant.so_far l.invariant.stands c.in-Some.flow c.seek_stmt.new.stage one (sym c.if-falls.ensures)
 
 pub seek_if-returns-in-Some-clause-sought : goal.seek_if-returns-in-Some-clause-sought
 seek_if-returns-in-Some-clause-sought t c =

@@ -2,7 +2,7 @@ use Rattle.std.proofs.Common.{◌≡◌, ◌∙◌, ap, arith, subst, ℕ}
 use Rattle.wf_meaning.specs.World.{Vars, fits_store}
 use Rattle.wf_mean_exprs.specs.MachineState.{span_seen, store_seen}
 use Rattle.wf_mean_stmts.specs.Stages.{vars_on}
-use Rattle.wf_mean_stmts.proofs.CopyLemmas.{CopiedUp, begins_up, ends_up, goes_up, vars_are}
+use Rattle.wf_mean_stmts.proofs.CopyLemmas.{CopiedUp, ends_up, goes_up, vars_are}
 use Rattle.wf_mean_stmts.proofs.copying.copy_up.Goals as goal
 
 pub loop-i-preserved : goal.loop-i-preserved

@@ -1,9 +1,9 @@
-use Rattle.std.proofs.Common.{◌≡◌, ◌∙◌, sym, ap, subst, Option}
+use Rattle.std.proofs.Common.{◌∙◌, sym, ap, subst, Option}
 use Rattle.std.specs.Prelude.{option_map}
 use Rattle.wf_ast.specs.TypedTrees.{num_type, place_of_node, type_of_node}
+use Rattle.wf_ast.specs.NodeKinds.{node_number, node_slice}
 use Rattle.wf_meaning.specs.World.{Vars, in_range}
 use Rattle.wf_mean_exprs.specs.MachineState.{span_seen}
-use Rattle.wf_mean_exprs.specs.Operands.{node_number, node_slice}
 use Rattle.wf_mean_stmts.specs.Stages.{Comes, vars_on}
 use Rattle.wf_mean_stmts.proofs.TargetLemmas.{element_put}
 use Rattle.wf_mean_stmts.proofs.targets.number_to_element.Goals as goal

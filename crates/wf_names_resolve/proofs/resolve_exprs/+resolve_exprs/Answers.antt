@@ -2,11 +2,11 @@ use Rattle.std.proofs.Common.{◌∙◌, length, refl, ap, arith}
 use Rattle.std.proofs.lemmas.List.{drop_all}
 use Rattle.wf_ast.specs.ParsedTrees.{expr_trees}
 use Rattle.wf_ast.specs.ParsedParts.{LinksBelow}
-use Rattle.wf_ast.proofs.TreeLemmas.{IsBelow-more, GivenBelow-more, TypeBelow-more}
+use Rattle.wf_ast.proofs.TreeLemmas.{IsBelow-more, GivenBelow-more, TypeBelow-more, LinksBelow-more}
+use Rattle.wf_ast.proofs.AboveLemmas.{given_above, links_above, type_above, given_at_place, link_at_place, prefix_at_place}
 use Rattle.wf_named.specs.NamedTree as tree
 use Rattle.wf_named.specs.NamedTrees.{expr_at}
 use Rattle.wf_named.specs.NamedParts.{exprs_of}
-use Rattle.wf_names_rules.proofs.WalkLemmas.{given_above, links_above, type_above, LinksBelow-more, given_at_place, link_at_place, prefix_at_place}
 use Rattle.wf_names_resolve.specs.Standing.{standing_here}
 use Rattle.wf_names_resolve.specs.Resolved.{resolved_type}
 use Rattle.wf_names_resolve.proofs.Growth.{grows_self, grows_more, ok_grows, ok_is, expr_kept, part_kept}

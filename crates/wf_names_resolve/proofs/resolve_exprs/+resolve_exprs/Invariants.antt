@@ -1,6 +1,6 @@
 use Rattle.std.proofs.Common.{◌+◌, ◌*◌, max}
 use Rattle.wf_ast.specs.ParsedTrees.{expr_trees}
-use Rattle.wf_names_rules.specs.Above.{above_part, above_given, above_links, above_prefix, above_prefixes, above_bounds, above_type}
+use Rattle.wf_ast.specs.Above.{above_part, above_given, above_links, above_prefix, above_prefixes, above_bounds, above_type}
 use Rattle.wf_names_resolve.specs.Standing.{standing_here}
 use Rattle.wf_names_resolve.proofs.ResolveLemmas.{LinksMade, GivenMade, PrefixesMade}
 use Rattle.wf_names_resolve.proofs.resolve_exprs.+resolve_exprs.Given as goal

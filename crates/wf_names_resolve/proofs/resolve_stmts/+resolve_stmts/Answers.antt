@@ -4,11 +4,11 @@ use Rattle.std.proofs.lemmas.List.{drop_all}
 use Rattle.wf_ast.specs.declared.numbers.StmtId.{StmtId}
 use Rattle.wf_ast.specs.declared.parsed.LoopClause.{LoopClause}
 use Rattle.wf_ast.specs.ParsedTrees.{expr_trees, stmt_trees}
+use Rattle.wf_ast.specs.Above.{above_stmts, above_arms}
+use Rattle.wf_ast.proofs.AboveLemmas.{stmt_at_place, arm_at_place}
 use Rattle.wf_named.specs.NamedTree as tree
 use Rattle.wf_named.specs.NamedTrees.{arms_at}
 use Rattle.wf_named.specs.NamedParts.{exprs_of, stmts_of}
-use Rattle.wf_names_rules.specs.Above.{above_stmts, above_arms}
-use Rattle.wf_names_rules.proofs.StmtLemmas.{stmt_at_place, arm_at_place}
 use Rattle.wf_names_resolve.specs.Standing.{standing_here}
 use Rattle.wf_names_resolve.specs.Resolved.{resolved_stmt}
 use Rattle.wf_names_resolve.specs.Statements.{stmt_in, ArmsBelow, above_stmt}

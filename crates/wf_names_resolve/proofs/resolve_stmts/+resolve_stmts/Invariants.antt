@@ -1,6 +1,6 @@
 use Rattle.std.proofs.Common.{◌≡◌, ◌+◌, ◌*◌, max}
 use Rattle.wf_ast.specs.ParsedTrees.{expr_trees, stmt_trees}
-use Rattle.wf_names_rules.specs.Above.{above_block, above_else, above_arms}
+use Rattle.wf_ast.specs.Above.{above_block, above_else, above_arms}
 use Rattle.wf_names_resolve.specs.Standing.{standing_here}
 use Rattle.wf_names_resolve.specs.Statements.{above_stmt}
 use Rattle.wf_names_resolve.proofs.BlockLemmas.{StmtsMade, ArmsMade}

@@ -1,14 +1,15 @@
 use Rattle.std.proofs.Common.{◌∙◌, Bool, true, length, refl, sym, ap, arith}
 use Rattle.wf_ast.specs.ParsedTrees.{expr_trees, expr_at, part_at, links_at, given_at, core_at, type_at}
 use Rattle.wf_ast.specs.ParsedParts.{LinksBelow}
-use Rattle.wf_ast.proofs.TreeLemmas.{GivenBelow-more, TypeBelow-more}
+use Rattle.wf_ast.proofs.TreeLemmas.{GivenBelow-more, TypeBelow-more, LinksBelow-more}
+use Rattle.wf_ast.proofs.AboveLemmas.{given_above, links_above, type_above, given_at_place, link_at_place, prefix_at_place}
 use Rattle.wf_names_rules.specs.declared.seen.Seen.{Seen}
 use Rattle.wf_names_rules.specs.Here.{known_here}
 use Rattle.wf_names_rules.specs.Uses.{uses_of, part_uses, link_uses, type_uses}
 use Rattle.wf_names_rules.specs.Judged.{walked}
 use Rattle.wf_names_rules.specs.Called.{with_calls}
 use Rattle.wf_names_rules.proofs.CalledLemmas.{ok_row, row_append, row_call, row_given_step, row_link_step, row_prefix_step, type_calls}
-use Rattle.wf_names_rules.proofs.WalkLemmas.{walked-append, ok_same, call_walked, given_above, links_above, type_above, LinksBelow-more, given_at_place, link_at_place, prefix_at_place, given_step, link_step, prefix_step, type_walked}
+use Rattle.wf_names_rules.proofs.WalkLemmas.{walked-append, ok_same, call_walked, given_step, link_step, prefix_step, type_walked}
 use Rattle.wf_names_rules.proofs.walk_exprs.+walk_exprs.Goals as goal
 
 pub walk_call-returns-clause-seen : goal.walk_call-returns-clause-seen

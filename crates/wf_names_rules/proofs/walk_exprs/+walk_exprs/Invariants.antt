@@ -1,7 +1,7 @@
 use Rattle.std.proofs.Common.{◌≡◌, ◌+◌, ◌*◌, max, drop}
 use Rattle.std.specs.List.{flat_map}
 use Rattle.wf_ast.specs.ParsedTrees.{expr_trees, links_at, given_at}
-use Rattle.wf_names_rules.specs.Above.{above_part, above_given, above_links, above_prefix, above_prefixes, above_bounds, above_type}
+use Rattle.wf_ast.specs.Above.{above_part, above_given, above_links, above_prefix, above_prefixes, above_bounds, above_type}
 use Rattle.wf_names_rules.specs.Uses.{link_uses, given_uses}
 use Rattle.wf_names_rules.specs.NodeUses.{prefix_uses}
 use Rattle.wf_names_rules.specs.Here.{known_here}

@@ -4,11 +4,12 @@ use Rattle.wf_ast.specs.declared.numbers.StmtId.{StmtId}
 use Rattle.wf_ast.specs.declared.parsed.Arm.{Arm}
 use Rattle.wf_ast.specs.ParsedTrees.{expr_trees, expr_at, stmt_trees, block_at, else_at, target_at, call_at, via_at, clauses_at}
 use Rattle.wf_ast.specs.ParsedParts.{BlockBelow}
-use Rattle.wf_ast.proofs.TreeLemmas.{BlockBelow-more}
-use Rattle.wf_names_rules.specs.Above.{above_stmts}
+use Rattle.wf_ast.specs.Above.{above_stmts}
+use Rattle.wf_ast.proofs.TreeLemmas.{BlockBelow-more, ElseBelow-more}
+use Rattle.wf_ast.proofs.AboveLemmas.{stmts_above, else_above, arms_above, arms_more, stmt_at_place, arm_at_place}
 use Rattle.wf_names_rules.specs.Uses.{uses_of, call_uses, target_uses, clause_uses, block_uses, via_uses}
 use Rattle.wf_names_rules.specs.Here.{known_here}
-use Rattle.wf_names_rules.proofs.StmtLemmas.{ok_append, ok_append_more, stmts_above, else_above, arms_above, else_more, arms_more, stmt_at_place, arm_at_place, stmt_step, arm_step}
+use Rattle.wf_names_rules.proofs.StmtLemmas.{ok_append, ok_append_more, stmt_step, arm_step}
 use Rattle.wf_names_rules.proofs.JumpLemmas.{stmt_jumps_step, arm_jumps_step}
 use Rattle.wf_names_rules.proofs.CalledLemmas.{row_append, row_append_more, row_stmt_step, row_arm_step}
 use Rattle.wf_names_rules.proofs.walk_stmts.+walk_stmts.Goals as goal
@@ -68,7 +69,7 @@ walk_stmt-walk_arms-requires t c =
     let first = arms_above (length c.args.here.now.parsed.now.exprs) c.args.s.0 c.as_slice.result.now arms in
     let second = else_above c.args.s.0 c.in-If.otherwise parts.1 in (
       omega (arith, first, second, c.decreases),
-      (arms_more (length c.args.here.now.parsed.now.exprs) c.args.s.0 (length c.args.here.now.parsed.now.stmts) more c.as_slice.result.now arms, else_more c.args.s.0 (length c.args.here.now.parsed.now.stmts) more c.in-If.otherwise parts.1),
+      (arms_more (length c.args.here.now.parsed.now.exprs) c.args.s.0 (length c.args.here.now.parsed.now.stmts) more c.as_slice.result.now arms, ElseBelow-more c.args.s.0 (length c.args.here.now.parsed.now.stmts) more c.in-If.otherwise parts.1),
     )
 
 pub walk_stmt-walk_loop-requires : goal.walk_stmt-walk_loop-requires

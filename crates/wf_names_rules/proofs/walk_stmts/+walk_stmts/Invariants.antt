@@ -1,6 +1,6 @@
 use Rattle.std.proofs.Common.{◌≡◌, ◌+◌, ◌*◌, max, drop}
 use Rattle.wf_ast.specs.ParsedTrees.{expr_trees, stmt_trees, items_at, arms_at, else_at}
-use Rattle.wf_names_rules.specs.Above.{above_block, above_else, above_arms}
+use Rattle.wf_ast.specs.Above.{above_block, above_else, above_arms}
 use Rattle.wf_names_rules.specs.Uses.{block_uses, arm_uses}
 use Rattle.wf_names_rules.specs.Jumps.{block_jumps, arm_jumps, jumped}
 use Rattle.wf_names_rules.specs.Here.{known_here}

@@ -1,9 +1,10 @@
 use Rattle.std.proofs.Common.{◌∙◌, length, take, Option, sym, ap, subst, arith}
 use Rattle.wf_ast.specs.ParsedTrees.{expr_trees, links_at}
 use Rattle.wf_ast.specs.ParsedParts.{LinksBelow}
+use Rattle.wf_ast.proofs.AboveLemmas.{links_above, link_at_place}
+use Rattle.wf_ast.proofs.TreeLemmas.{LinksBelow-more}
 use Rattle.wf_names_rules.specs.Declarations.{bytes_of}
 use Rattle.wf_names_rules.specs.ConstantValues.{Running, started, ended, run_on}
-use Rattle.wf_names_rules.proofs.WalkLemmas.{links_above, LinksBelow-more, link_at_place}
 use Rattle.wf_names_sizes.specs.Capped.{sized, Runs}
 use Rattle.wf_names_sizes.specs.ValuesBy.{constant_by, links_by}
 use Rattle.wf_names_sizes.proofs.ValueLemmas.{links_more, take-whole}

@@ -1,6 +1,6 @@
 use Rattle.std.proofs.Common.{◌+◌, ◌*◌, take}
 use Rattle.wf_ast.specs.ParsedTrees.{expr_trees, links_at}
-use Rattle.wf_names_rules.specs.Above.{above_links}
+use Rattle.wf_ast.specs.Above.{above_links}
 use Rattle.wf_names_rules.specs.Declarations.{bytes_of}
 use Rattle.wf_names_rules.specs.ConstantValues.{started}
 use Rattle.wf_names_sizes.specs.Capped.{sized, ChainStays, Runs}

@@ -1,11 +1,12 @@
 use Rattle.std.proofs.Common.{◌≡◌, ◌∙◌, ◌∷◌, ◌++◌, [], length, sym, ap, arith}
 use Rattle.wf_ast.specs.ParsedParts.{LinksBelow}
+use Rattle.wf_ast.proofs.AboveLemmas.{links_above, link_at_place}
+use Rattle.wf_ast.proofs.TreeLemmas.{LinksBelow-more}
 use Rattle.wf_named.specs.NamedTree.{index, slice, chain}
 use Rattle.wf_named.specs.NamedTrees.{expr_trees, expr_at, part_at, links_at, args_at, type_at}
 use Rattle.wf_types_rules.specs.declared.meanings.Value.{Value}
 use Rattle.wf_types_rules.specs.Meanings.{variable}
 use Rattle.wf_types_rules.specs.ExprTypes.{meaning}
-use Rattle.wf_types_exprs.proofs.AboveLemmas.{links_above, links_more, link_at_place}
 use Rattle.wf_typed_tree.specs.ElaboratedExprs.{path_tree}
 use Rattle.wf_typed_tree.specs.Entries.{path_entry, end_entries, expr_entries}
 use Rattle.wf_typed_exprs.proofs.FormLaws.{value-makes, index-right, index-makes, slice-right, slice-makes, convert-right, convert-width, negation-right}
@@ -105,7 +106,7 @@ elaborate_node-elaborate_chain-requires t c =
     let below : LinksBelow c.args.e.0 c.as_slice.result.now = rw c.as_slice.ensures parts.1 in
     let right = rw (c.expr-node.ensures.made, c.in-Chain.is, ← c.as_slice.ensures) at c.requires.right in (
       omega (arith, parts.0, links_above c.args.e.0 c.as_slice.result.now below, c.decreases),
-      (omega (arith, parts.0, c.requires.there), (links_more c.args.e.0 (length c.args.here.now.nodes.now.exprs) (omega (arith, c.requires.there)) c.as_slice.result.now below, right)),
+      (omega (arith, parts.0, c.requires.there), (LinksBelow-more c.args.e.0 (length c.args.here.now.nodes.now.exprs) (omega (arith, c.requires.there)) c.as_slice.result.now below, right)),
     )
 
 pub elaborate_node-returns-in-Path-clause-made : goal.elaborate_node-returns-in-Path-clause-made

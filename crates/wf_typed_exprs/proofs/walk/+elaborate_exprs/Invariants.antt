@@ -1,6 +1,6 @@
 use Rattle.std.proofs.Common.{◌+◌, ◌*◌, max, drop}
+use Rattle.wf_ast.specs.Above.{above_part, above_links}
 use Rattle.wf_named.specs.NamedTrees.{expr_trees}
-use Rattle.wf_types_exprs.specs.Above.{above_part, above_links}
 use Rattle.wf_typed_exprs.specs.Growth.{Grows}
 use Rattle.wf_typed_exprs.proofs.EntryLemmas.{EntriesLeft}
 use Rattle.wf_typed_exprs.proofs.WalkLemmas.{LeftToAdd}

@@ -4,11 +4,12 @@ use Rattle.std.proofs.lemmas.List.{drop_all}
 use Rattle.wf_ast.specs.declared.numbers.StmtId.{StmtId}
 use Rattle.wf_ast.specs.declared.parsed.Arm.{Arm}
 use Rattle.wf_ast.specs.ParsedParts.{BlockBelow}
+use Rattle.wf_ast.specs.Above.{above_stmts}
+use Rattle.wf_ast.proofs.AboveLemmas.{block_above, else_above, arms_above, arms_more, stmt_at_place, arm_at_place}
+use Rattle.wf_ast.proofs.TreeLemmas.{BlockBelow-more, ElseBelow-more}
 use Rattle.wf_named.specs.NamedParts.{named_package}
 use Rattle.wf_named.specs.NamedTree.{no_else}
 use Rattle.wf_named.specs.NamedTrees.{expr_trees, stmt_trees, arms_at, else_at}
-use Rattle.wf_types_stmts.specs.Above.{above_stmts}
-use Rattle.wf_types_stmts.proofs.AboveLemmas.{block_above, else_above, arms_above, block_more, else_more, arms_more, stmt_at_place, arm_at_place}
 use Rattle.wf_typed_tree.specs.Entries.{arms_entries}
 use Rattle.wf_typed_exprs.proofs.EntryLemmas.{adds_then}
 use Rattle.wf_typed_stmts.specs.Right.{known_in}
@@ -27,7 +28,7 @@ elaborate_node-elaborate_if-requires t c =
       omega (arith, arms_above e k c.as_slice.result.now arms, else_above k c.in-If.otherwise parts.1, c.decreases),
       (
         arms_more e k (length c.args.here.now.nodes.now.stmts) (omega (arith, c.requires.there)) c.as_slice.result.now arms,
-        (else_more k (length c.args.here.now.nodes.now.stmts) (omega (arith, c.requires.there)) c.in-If.otherwise parts.1, (c.requires.begun, rw c.as_slice.ensures right)),
+        (ElseBelow-more k (length c.args.here.now.nodes.now.stmts) (omega (arith, c.requires.there)) c.in-If.otherwise parts.1, (c.requires.begun, rw c.as_slice.ensures right)),
       ),
     )
 
@@ -41,7 +42,7 @@ elaborate_node-elaborate_loop-requires t c =
         parts.0,
         (
           rw c.as_slice-in-While.ensures parts.1,
-          (block_more k (length c.args.here.now.nodes.now.stmts) (omega (arith, c.requires.there)) c.in-While.body parts.2, (c.requires.begun, rw c.as_slice-in-While.ensures right)),
+          (BlockBelow-more k (length c.args.here.now.nodes.now.stmts) (omega (arith, c.requires.there)) c.in-While.body parts.2, (c.requires.begun, rw c.as_slice-in-While.ensures right)),
         ),
       ),
     )

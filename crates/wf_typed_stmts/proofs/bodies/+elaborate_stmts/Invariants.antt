@@ -1,7 +1,7 @@
 use Rattle.std.proofs.Common.{◌+◌, ◌*◌, max}
+use Rattle.wf_ast.specs.Above.{above_block, above_else, above_arms}
 use Rattle.wf_named.specs.NamedParts.{named_package}
 use Rattle.wf_named.specs.NamedTrees.{expr_trees, stmt_trees}
-use Rattle.wf_types_stmts.specs.Above.{above_block, above_else, above_arms}
 use Rattle.wf_typed_stmts.specs.Right.{known_in}
 use Rattle.wf_typed_stmts.proofs.BlockLemmas.{StmtsMade, ArmsMade}
 use Rattle.wf_typed_stmts.proofs.bodies.+elaborate_stmts.Given as goal

@@ -3,8 +3,9 @@ use Rattle.std.specs.List.{AllByRecursion}
 use Rattle.wf_ast.specs.declared.numbers.StmtId.{StmtId}
 use Rattle.wf_ast.specs.declared.parsed.Arm.{Arm}
 use Rattle.wf_ast.specs.ParsedParts.{BlockBelow}
-use Rattle.wf_types_stmts.specs.Above.{above_stmts}
-use Rattle.wf_types_stmts.proofs.AboveLemmas.{block_above, else_above, arms_above, block_more, else_more, arms_more, stmt_at_place, arm_at_place}
+use Rattle.wf_ast.specs.Above.{above_stmts}
+use Rattle.wf_ast.proofs.AboveLemmas.{block_above, else_above, arms_above, arms_more, stmt_at_place, arm_at_place}
+use Rattle.wf_ast.proofs.TreeLemmas.{BlockBelow-more, ElseBelow-more}
 use Rattle.wf_typed_stmts.proofs.counting.+counting.Goals as goal
 
 pub count_stmt-count_arms-requires : goal.count_stmt-count_arms-requires
@@ -14,14 +15,14 @@ count_stmt-count_arms-requires t c =
     let parts = rw c.in-If.is at c.stmt-node.ensures.parts in
     let arms : AllByRecursion (λ (a : Arm). (a.condition.0 < e) × BlockBelow k a.body) c.as_slice.result.now = rw c.as_slice.ensures parts.0 in (
       omega (arith, arms_above e k c.as_slice.result.now arms, else_above k c.in-If.otherwise parts.1, c.decreases),
-      (arms_more e k (length c.args.named.now.stmts) (omega (arith, c.requires)) c.as_slice.result.now arms, else_more k (length c.args.named.now.stmts) (omega (arith, c.requires)) c.in-If.otherwise parts.1),
+      (arms_more e k (length c.args.named.now.stmts) (omega (arith, c.requires)) c.as_slice.result.now arms, ElseBelow-more k (length c.args.named.now.stmts) (omega (arith, c.requires)) c.in-If.otherwise parts.1),
     )
 
 pub count_stmt-count_block-requires : goal.count_stmt-count_block-requires
 count_stmt-count_block-requires t c =
     let k = c.args.s.0 in
     let parts = rw c.in-While.is at c.stmt-node.ensures.parts in
-    (omega (arith, block_above k c.in-While.body parts.2, c.decreases), block_more k (length c.args.named.now.stmts) (omega (arith, c.requires)) c.in-While.body parts.2)
+    (omega (arith, block_above k c.in-While.body parts.2, c.decreases), BlockBelow-more k (length c.args.named.now.stmts) (omega (arith, c.requires)) c.in-While.body parts.2)
 
 pub count_block-count_stmt-requires : goal.count_block-count_stmt-requires
 count_block-count_stmt-requires t c =

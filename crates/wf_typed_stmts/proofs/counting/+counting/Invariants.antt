@@ -1,7 +1,7 @@
 use Rattle.std.proofs.Common.{◌≡◌, ◌+◌, ◌*◌, max, drop}
+use Rattle.wf_ast.specs.Above.{above_block, above_else, above_arms}
 use Rattle.wf_named.specs.NamedTrees.{expr_trees, stmt_trees, items_at, block_at, else_at, arms_at}
 use Rattle.wf_typed_tree.specs.ElaboratedStmts.{count_block, count_arms}
-use Rattle.wf_types_stmts.specs.Above.{above_block, above_else, above_arms}
 use Rattle.wf_typed_stmts.proofs.counting.+counting.Given as goal
 
 abbrev pub decreases-count_stmt : goal.decreases-count_stmt

@@ -1,7 +1,7 @@
 use Rattle.std.proofs.Common.{length, arith}
+use Rattle.wf_ast.proofs.AboveLemmas.{block_above}
 use Rattle.wf_named.specs.NamedParts.{exprs_of, stmts_of}
 use Rattle.wf_named.specs.NamedTrees.{expr_at, clauses_at, block_at}
-use Rattle.wf_types_stmts.proofs.AboveLemmas.{block_above}
 use Rattle.wf_types_stmts.proofs.BlockLemmas.{closes}
 use Rattle.wf_typed_stmts.proofs.HeadLemmas.{head_made_so}
 use Rattle.wf_typed_stmts.proofs.heads.add_head.Goals as goal

@@ -1,7 +1,7 @@
 use Rattle.std.proofs.Common.{◌≡◌, ◌+◌, ◌*◌, drop}
+use Rattle.wf_ast.specs.Above.{above_links}
 use Rattle.wf_named.specs.NamedTrees.{expr_trees, links_at}
 use Rattle.wf_types_rules.specs.Judgements.{links_name_others}
-use Rattle.wf_types_exprs.specs.Above.{above_links}
 use Rattle.wf_types_exprs.proofs.reading.+names_others.Given as goal
 
 abbrev pub decreases-names_others : goal.decreases-names_others

@@ -1,11 +1,14 @@
 use Rattle.std.proofs.Common.{◌≡◌, ◌∙◌, ℕ, ◌-◌, ◌++◌, Some, length, drop, sym, ap, subst, arith}
 use Rattle.std.proofs.lemmas.List.{drop_all}
 use Rattle.wf_ast.specs.ParsedParts.{LinksBelow}
+use Rattle.wf_ast.proofs.AboveLemmas.{exprs_above, links_above, expr_at_place, link_at_place, prefix_at_place}
+use Rattle.wf_ast.proofs.TreeLemmas.{LinksBelow-more}
 use Rattle.wf_named.specs.NamedTrees.{expr_trees, expr_at, part_at, links_at, args_at, type_at, all_prefixed}
+use Rattle.wf_named.proofs.ShapeLemmas.{ArgsBelow-more, NamedTypeBelow-more}
 use Rattle.wf_types_rules.specs.Judgements.{value_of}
 use Rattle.wf_types_rules.specs.Parts.{expr_parts, end_parts, links_parts, args_parts}
 use Rattle.wf_types_exprs.specs.Judged.{judged, operand_behind, TellsType}
-use Rattle.wf_types_exprs.proofs.AboveLemmas.{args_above, links_above, type_above, args_more, links_more, type_more, arg_at_place, link_at_place, prefix_at_place}
+use Rattle.wf_types_exprs.proofs.AboveLemmas.{type_above}
 use Rattle.wf_types_exprs.proofs.JudgedLaws.{judged-append, judged-none}
 use Rattle.wf_types_exprs.proofs.ListLemmas.{operands_begun, link_found, link_joined, arg_found, args_fit}
 use Rattle.wf_types_exprs.proofs.ExprLemmas.{number_found, status_found, truth_found, path_found, index_found, slice_found, chain_judged, conversion_judged, negation_found, call_found, argument_behind, path_handed, argument_fits}
@@ -15,18 +18,18 @@ use Rattle.wf_types_exprs.proofs.walk.+judge_exprs.Goals as goal
 pub judge_expr-judge_call-requires : goal.judge_expr-judge_call-requires
 judge_expr-judge_call-requires t c =
     let parts = rw c.in-Call.is at c.expr-node.ensures.parts in
-    (omega (arith, args_above c.args.e.0 c.in-Call.call.args parts, c.decreases), args_more c.args.e.0 (length c.args.here.now.nodes.now.exprs) (omega (arith, c.requires)) c.in-Call.call.args parts)
+    (omega (arith, exprs_above c.args.e.0 c.in-Call.call.args parts, c.decreases), ArgsBelow-more c.args.e.0 (length c.args.here.now.nodes.now.exprs) (omega (arith, c.requires)) c.in-Call.call.args parts)
 
 pub judge_expr-judge_operands-requires : goal.judge_expr-judge_operands-requires
 judge_expr-judge_operands-requires t c =
     let parts = rw c.in-Chain.is at c.expr-node.ensures.parts in
     let below : LinksBelow c.args.e.0 c.as_slice.result.now = rw c.as_slice.ensures parts.1 in
-    (omega (arith, parts.0, links_above c.args.e.0 c.as_slice.result.now below, c.decreases), (omega (arith, parts.0, c.requires), links_more c.args.e.0 (length c.args.here.now.nodes.now.exprs) (omega (arith, c.requires)) c.as_slice.result.now below))
+    (omega (arith, parts.0, links_above c.args.e.0 c.as_slice.result.now below, c.decreases), (omega (arith, parts.0, c.requires), LinksBelow-more c.args.e.0 (length c.args.here.now.nodes.now.exprs) (omega (arith, c.requires)) c.as_slice.result.now below))
 
 pub judge_expr-judge_conversion-requires : goal.judge_expr-judge_conversion-requires
 judge_expr-judge_conversion-requires t c =
     let parts = rw c.in-Convert.is at c.expr-node.ensures.parts in
-    (omega (arith, parts.0, type_above c.args.e.0 c.in-Convert.to parts.1, c.decreases), (omega (arith, parts.0, c.requires), type_more c.args.e.0 (length c.args.here.now.nodes.now.exprs) (omega (arith, c.requires)) c.in-Convert.to parts.1))
+    (omega (arith, parts.0, type_above c.args.e.0 c.in-Convert.to parts.1, c.decreases), (omega (arith, parts.0, c.requires), NamedTypeBelow-more c.args.e.0 (length c.args.here.now.nodes.now.exprs) (omega (arith, c.requires)) c.in-Convert.to parts.1))
 
 pub judge_expr-returns-in-Number-clause-found : goal.judge_expr-returns-in-Number-clause-found
 judge_expr-returns-in-Number-clause-found t c =
@@ -156,7 +159,7 @@ judge_argument-returns-in_ok-v-in-None-clause-fit t c =
 
 pub judge_args-judge_argument-requires : goal.judge_args-judge_argument-requires
 judge_args-judge_argument-requires t c =
-    let place = arg_at_place (length c.args.here.now.nodes.now.exprs) c.args.args.now c.loop-n.n _ c.loop-n-test.true c.requires in
+    let place = expr_at_place (length c.args.here.now.nodes.now.exprs) c.args.args.now c.loop-n.n _ c.loop-n-test.true c.requires in
     (omega (arith, place.0, c.decreases), place.1)
 
 pub judge_args-loop-n-preserved : goal.judge_args-loop-n-preserved

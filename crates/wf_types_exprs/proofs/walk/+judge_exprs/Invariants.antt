@@ -1,11 +1,12 @@
 use Rattle.std.proofs.Common.{◌≡◌, ◌+◌, ◌-◌, ◌*◌, ◌≤◌, ◌&&◌, max, drop, length, Option}
 use Rattle.wf_text.specs.declared.rules.Refusal.{Refusal}
+use Rattle.wf_ast.specs.Above.{above_part, above_exprs, above_links, above_prefix, above_prefixes, above_bounds}
 use Rattle.wf_named.specs.NamedTree.{NamedTypeTree}
 use Rattle.wf_named.specs.NamedTrees.{expr_trees, links_at, args_at, all_prefixed}
 use Rattle.wf_types_rules.specs.ExprTypes.{operands_behind}
 use Rattle.wf_types_rules.specs.Judgements.{are_arguments}
 use Rattle.wf_types_rules.specs.Parts.{links_parts, args_parts}
-use Rattle.wf_types_exprs.specs.Above.{above_part, above_args, above_links, above_prefix, above_prefixes, above_bounds, above_type}
+use Rattle.wf_types_exprs.specs.Above.{above_type}
 use Rattle.wf_types_exprs.specs.Judged.{judged, operands_joined, TellsType}
 use Rattle.wf_types_exprs.proofs.walk.+judge_exprs.Given as goal
 
@@ -34,10 +35,10 @@ abbrev pub decreases-judge_argument : goal.decreases-judge_argument
 decreases-judge_argument l = 16 * l.e.0 + 14
 
 abbrev pub decreases-judge_args : goal.decreases-judge_args
-decreases-judge_args l = 16 * above_args l.args.now
+decreases-judge_args l = 16 * above_exprs l.args.now
 
 abbrev pub decreases-judge_call : goal.decreases-judge_call
-decreases-judge_call l = 16 * above_args l.call.now.args + 1
+decreases-judge_call l = 16 * above_exprs l.call.now.args + 1
 
 abbrev pub decreases-judge_conversion : goal.decreases-judge_conversion
 decreases-judge_conversion l = 16 * max (l.of.0 + 1) (above_type l.to.now) + 4

@@ -3,8 +3,9 @@ use Rattle.std.specs.List.{AllByRecursion}
 use Rattle.wf_ast.specs.declared.numbers.StmtId.{StmtId}
 use Rattle.wf_ast.specs.declared.parsed.Arm.{Arm}
 use Rattle.wf_ast.specs.ParsedParts.{BlockBelow}
-use Rattle.wf_types_stmts.specs.Above.{above_stmts}
-use Rattle.wf_types_stmts.proofs.AboveLemmas.{block_above, else_above, arms_above, block_more, else_more, arms_more, stmt_at_place, arm_at_place}
+use Rattle.wf_ast.specs.Above.{above_stmts}
+use Rattle.wf_ast.proofs.AboveLemmas.{block_above, else_above, arms_above, arms_more, stmt_at_place, arm_at_place}
+use Rattle.wf_ast.proofs.TreeLemmas.{BlockBelow-more, ElseBelow-more}
 use Rattle.wf_types_stmts.proofs.ends.+leaving.Goals as goal
 
 pub stmt_leaves-arms_leave-requires : goal.stmt_leaves-arms_leave-requires
@@ -18,7 +19,7 @@ stmt_leaves-arms_leave-requires t c =
       omega (arith, in_arms, in_else, c.decreases),
       (
         arms_more e k (length c.args.nodes.now.stmts) (omega (arith, c.requires.s)) c.as_slice.result.now arms,
-        (else_more k (length c.args.nodes.now.stmts) (omega (arith, c.requires.s)) c.in-If.otherwise parts.1, (omega (arith, in_arms, c.requires.few), omega (arith, in_else, c.requires.few))),
+        (ElseBelow-more k (length c.args.nodes.now.stmts) (omega (arith, c.requires.s)) c.in-If.otherwise parts.1, (omega (arith, in_arms, c.requires.few), omega (arith, in_else, c.requires.few))),
       ),
     )
 
@@ -28,7 +29,7 @@ stmt_leaves-block_leaves-requires t c =
     let parts = rw c.in-While.is at c.stmt-node.ensures.parts in
     let inside = block_above k c.in-While.body parts.2 in (
       omega (arith, inside, c.decreases),
-      (block_more k (length c.args.nodes.now.stmts) (omega (arith, c.requires.s)) c.in-While.body parts.2, omega (arith, inside, c.requires.few, c.further.ensures)),
+      (BlockBelow-more k (length c.args.nodes.now.stmts) (omega (arith, c.requires.s)) c.in-While.body parts.2, omega (arith, inside, c.requires.few, c.further.ensures)),
     )
 
 pub block_leaves-stmt_leaves-requires : goal.block_leaves-stmt_leaves-requires

@@ -1,7 +1,7 @@
 use Rattle.std.proofs.Common.{◌≡◌, ◌+◌, ◌*◌, max, drop}
+use Rattle.wf_ast.specs.Above.{above_block, above_else, above_arms}
 use Rattle.wf_named.specs.NamedTrees.{expr_trees, stmt_trees, items_at, block_at, else_at, arms_at}
 use Rattle.wf_types_rules.specs.Judgements.{block_leaves, arms_leave}
-use Rattle.wf_types_stmts.specs.Above.{above_block, above_else, above_arms}
 use Rattle.wf_types_stmts.proofs.ends.+leaving.Given as goal
 
 abbrev pub decreases-stmt_leaves : goal.decreases-stmt_leaves

@@ -3,8 +3,9 @@ use Rattle.std.specs.List.{AllByRecursion}
 use Rattle.wf_ast.specs.declared.numbers.StmtId.{StmtId}
 use Rattle.wf_ast.specs.declared.parsed.Arm.{Arm}
 use Rattle.wf_ast.specs.ParsedParts.{BlockBelow}
-use Rattle.wf_types_stmts.specs.Above.{above_stmts}
-use Rattle.wf_types_stmts.proofs.AboveLemmas.{else_above, arms_above, else_more, arms_more, stmt_at_place, arm_at_place}
+use Rattle.wf_ast.specs.Above.{above_stmts}
+use Rattle.wf_ast.proofs.AboveLemmas.{else_above, arms_above, arms_more, stmt_at_place, arm_at_place}
+use Rattle.wf_ast.proofs.TreeLemmas.{ElseBelow-more}
 use Rattle.wf_types_stmts.proofs.ends.+stopping.Goals as goal
 
 pub stmt_stops-arms_stop-requires : goal.stmt_stops-arms_stop-requires
@@ -14,7 +15,7 @@ stmt_stops-arms_stop-requires t c =
     let parts = rw c.in-If.is at c.stmt-node.ensures.parts in
     let arms : AllByRecursion (λ (a : Arm). (a.condition.0 < e) × BlockBelow k a.body) c.as_slice.result.now = rw c.as_slice.ensures parts.0 in (
       omega (arith, arms_above e k c.as_slice.result.now arms, else_above k c.in-If.otherwise parts.1, c.decreases),
-      (arms_more e k (length c.args.nodes.now.stmts) (omega (arith, c.requires)) c.as_slice.result.now arms, else_more k (length c.args.nodes.now.stmts) (omega (arith, c.requires)) c.in-If.otherwise parts.1),
+      (arms_more e k (length c.args.nodes.now.stmts) (omega (arith, c.requires)) c.as_slice.result.now arms, ElseBelow-more k (length c.args.nodes.now.stmts) (omega (arith, c.requires)) c.in-If.otherwise parts.1),
     )
 
 pub block_stops-stmt_stops-requires : goal.block_stops-stmt_stops-requires

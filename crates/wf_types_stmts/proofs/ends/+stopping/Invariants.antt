@@ -1,7 +1,7 @@
 use Rattle.std.proofs.Common.{◌≡◌, ◌+◌, ◌*◌, max, drop}
+use Rattle.wf_ast.specs.Above.{above_block, above_else, above_arms}
 use Rattle.wf_named.specs.NamedTrees.{expr_trees, stmt_trees, items_at, block_at, else_at, arms_at}
 use Rattle.wf_types_rules.specs.Judgements.{block_stops, arms_stop}
-use Rattle.wf_types_stmts.specs.Above.{above_block, above_else, above_arms}
 use Rattle.wf_types_stmts.proofs.ends.+stopping.Given as goal
 
 abbrev pub decreases-stmt_stops : goal.decreases-stmt_stops

@@ -1,5 +1,5 @@
 use Rattle.std.proofs.Common.{length, arith}
-use Rattle.wf_types_stmts.proofs.AboveLemmas.{block_above}
+use Rattle.wf_ast.proofs.AboveLemmas.{block_above}
 use Rattle.wf_types_stmts.proofs.ends.loop_stops.Goals as goal
 
 pub block_leaves-requires : goal.block_leaves-requires

@@ -5,12 +5,13 @@ use Rattle.wf_text.specs.declared.rules.Refusal.{Refusal}
 use Rattle.wf_ast.specs.declared.numbers.StmtId.{StmtId}
 use Rattle.wf_ast.specs.declared.parsed.Arm.{Arm}
 use Rattle.wf_ast.specs.ParsedParts.{BlockBelow}
+use Rattle.wf_ast.specs.Above.{above_stmts}
+use Rattle.wf_ast.proofs.AboveLemmas.{block_above, else_above, arms_above, arms_more, stmt_at_place, arm_at_place}
+use Rattle.wf_ast.proofs.TreeLemmas.{BlockBelow-more, ElseBelow-more}
 use Rattle.wf_named.specs.NamedTrees.{expr_trees, stmt_trees, expr_at, clauses_at, items_at, block_at, else_at, arms_at}
 use Rattle.wf_types_rules.specs.Parts.{condition_parts, clauses_parts, block_parts, arms_parts}
 use Rattle.wf_types_exprs.specs.Judged.{judged}
 use Rattle.wf_types_exprs.proofs.JudgedLaws.{judged-none}
-use Rattle.wf_types_stmts.specs.Above.{above_stmts}
-use Rattle.wf_types_stmts.proofs.AboveLemmas.{block_above, else_above, arms_above, block_more, else_more, arms_more, stmt_at_place, arm_at_place}
 use Rattle.wf_types_stmts.proofs.BlockLemmas.{two_parts, three_parts, stmt_next, arm_next}
 use Rattle.wf_types_stmts.proofs.statements.+judge_stmts.Goals as goal
 
@@ -21,7 +22,7 @@ judge_stmt-judge_arms-requires t c =
     let parts = rw c.in-If.is at c.stmt-node.ensures.parts in
     let arms : AllByRecursion (λ (a : Arm). (a.condition.0 < e) × BlockBelow k a.body) c.as_slice.result.now = rw c.as_slice.ensures parts.0 in (
       omega (arith, arms_above e k c.as_slice.result.now arms, else_above k c.in-If.otherwise parts.1, c.decreases),
-      (arms_more e k (length c.args.here.now.nodes.now.stmts) (omega (arith, c.requires)) c.as_slice.result.now arms, else_more k (length c.args.here.now.nodes.now.stmts) (omega (arith, c.requires)) c.in-If.otherwise parts.1),
+      (arms_more e k (length c.args.here.now.nodes.now.stmts) (omega (arith, c.requires)) c.as_slice.result.now arms, ElseBelow-more k (length c.args.here.now.nodes.now.stmts) (omega (arith, c.requires)) c.in-If.otherwise parts.1),
     )
 
 pub judge_stmt-returns-in-If : goal.judge_stmt-returns-in-If
@@ -31,7 +32,7 @@ pub judge_stmt-judge_block-requires : goal.judge_stmt-judge_block-requires
 judge_stmt-judge_block-requires t c =
     let k = c.args.s.0 in
     let parts = rw c.in-While.is at c.stmt-node.ensures.parts in
-    (omega (arith, block_above k c.in-While.body parts.2, c.decreases), block_more k (length c.args.here.now.nodes.now.stmts) (omega (arith, c.requires)) c.in-While.body parts.2)
+    (omega (arith, block_above k c.in-While.body parts.2, c.decreases), BlockBelow-more k (length c.args.here.now.nodes.now.stmts) (omega (arith, c.requires)) c.in-While.body parts.2)
 
 pub judge_stmt-returns-in_ok-judge_head-in-While : goal.judge_stmt-returns-in_ok-judge_head-in-While
 judge_stmt-returns-in_ok-judge_head-in-While t c =

@@ -1,8 +1,8 @@
 use Rattle.std.proofs.Common.{◌≡◌, ◌+◌, ◌*◌, max, drop}
+use Rattle.wf_ast.specs.Above.{above_block, above_else, above_arms}
 use Rattle.wf_named.specs.NamedTrees.{expr_trees, stmt_trees, items_at, block_at, else_at, arms_at}
 use Rattle.wf_types_rules.specs.Parts.{block_parts, arms_parts}
 use Rattle.wf_types_exprs.specs.Judged.{judged}
-use Rattle.wf_types_stmts.specs.Above.{above_block, above_else, above_arms}
 use Rattle.wf_types_stmts.proofs.statements.+judge_stmts.Given as goal
 
 abbrev pub decreases-judge_stmt : goal.decreases-judge_stmt

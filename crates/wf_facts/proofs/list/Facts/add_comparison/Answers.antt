@@ -4,8 +4,9 @@ use Rattle.wf_ast.specs.declared.numbers.ExprId.{ExprId}
 use Rattle.wf_ast.specs.TypedTree.{ValueTree}
 use Rattle.wf_ast.specs.TypedTrees.{cond_in, sort_of, type_of_node, place_of_node, signs_of_node}
 use Rattle.wf_ast.specs.TypedInvariant.{is_expr}
+use Rattle.wf_ast.specs.NodeKinds.{node_cond}
 use Rattle.wf_facts_exprs.specs.Claims.{Claim, claim_in, claims_in, facts_of, stands, turned}
-use Rattle.wf_facts_exprs.specs.Operands.{node_cond, part_number}
+use Rattle.wf_facts_exprs.specs.Operands.{part_number}
 use Rattle.wf_facts_exprs.proofs.PassLemmas.{both_of, lt_from}
 use Rattle.wf_facts_exprs.proofs.ConditionLemmas.{pair-parts}
 use Rattle.wf_facts.specs.FactLists.{all_added}

@@ -19,6 +19,10 @@ abbrev pub above_given : List Given → ℕ
 above_given [] = 0
 above_given (g ∷ gs) = max (g.value.0 + 1) (above_given gs)
 
+abbrev pub above_exprs : List ExprId → ℕ
+above_exprs [] = 0
+above_exprs (e ∷ es) = max (e.0 + 1) (above_exprs es)
+
 abbrev pub above_links : List Link → ℕ
 above_links [] = 0
 above_links (l ∷ ls) = max (l.operand.0 + 1) (above_links ls)
