@@ -14,7 +14,9 @@ use Rattle.wf_read_laws.proofs.PlaceLemmas.{told-in}
 use Rattle.wf_read_laws.proofs.PartPlaces.{PartIsIn, SiteIsIn, sites-in}
 use Rattle.wf_read_laws.proofs.JudgedPlaces as judged
 
+infixr 4 ◌&◌
 ◌&◌ : {A B : Type 0} → A → B → A × B
+a & b = (a, b)
 
 module _ (In : Place → Type 0) (p : NamedPackageTree) (there : PackageIsIn In p) where
   part-in : (s : Setting) (x : Part) → IsPart p s x → PartIsIn In x
