@@ -3,10 +3,11 @@
 
 The rules are the sections of docs/RULES.md. A rule's definitions are the rows of tables, the constructors and the
 definitions in specs/ that name it, its functions those in src/ that answer it, its tests the examples of its section, the
-files of tests/ with a row that expects it, and the file of tests/second_opinion/ that refuses by it. A row of the rules of types names its judgement, and the function that decides it in src/ has
-the same name, with the kind of part after it where each kind has its own. --check writes nothing and fails where the page
-isn't what would be written, a rule lacks one of these, a row of the rules of types has no such function, or a function in
-wf_types_* answers such a rule that has no row's name.
+files of tests/ with a row that expects it, and the file of tests/second_opinion/ that refuses by it. A row of the rules of
+types or of names, what code is judged by and the function that decides it in src/ have one name, with the kind of part after
+it where each kind has its own. --check writes nothing and fails where the page isn't what would be written, a rule lacks one
+of these, a row of these two tables has no such function, or a function in wf_types_* or wf_names_* answers such a rule that
+has no row's name, nor that of a definition beside the table.
 """
 import pathlib
 import re
@@ -16,13 +17,13 @@ TOP = pathlib.Path(__file__).resolve().parent.parent
 PAGE = TOP / "docs" / "RULE-MAP.md"
 HEAD = """# Where each rule stands
 
-Made by `tests/rule_map.py` from docs/RULES.md, the crates and tests/; `tests/rule_map.py --check` runs in `.ci/run`. The
-table that is the rule's definition comes first; what else names the rule in specs/ states what code finds of it. A row of the
-rules of types, its judgement and the function that decides it have one name, with the kind of part after it where each kind
-has a function of its own; the judgements stand in wf_types_rules/specs/Judgements. Every rule has its printed name, and its
-rank among rules at one place, in wf_text (`specs/RuleNames`, `specs/Precedence`). Tests are the files of tests/ with a row that
-expects the rule, and the file of the second checker, tests/second_opinion/, that refuses by it. In the column
-of specs/ `wf_types_rules/Judgements: NAME` is NAME in `crates/wf_types_rules/specs/Judgements.antt`; in that of src/
+Made by `tests/rule_map.py` from docs/RULES.md, the crates and tests/; `tests/rule_map.py --check` runs in `.ci/run`. The table
+that is the rule's definition comes first; what else names the rule in specs/ states what code finds of it. A row of the rules
+of types or of names, what code is judged by and the function that decides it have one name, with the kind of part after it
+where each kind has a function of its own; the judgements of types stand in wf_types_rules/specs/Judgements. Every rule has its
+printed name, and its rank among rules at one place, in wf_text (`specs/RuleNames`, `specs/Precedence`). Tests are the files of
+tests/ with a row that expects the rule, and the file of the second checker, tests/second_opinion/, that refuses by it. In the
+column of specs/ `wf_types_rules/Judgements: NAME` is NAME in `crates/wf_types_rules/specs/Judgements.antt`; in that of src/
 `wf_tool/taking: NAME` is NAME in `crates/wf_tool/src/taking.rt`.
 
 | Rule | Definition (specs/) | Code (src/) | Tests |
@@ -33,11 +34,10 @@ DEFINED = re.compile(r"^(?:unfoldable |abbrev )?(?:pub )?(?:record |data )?([A-Z
 CONSTRUCTOR = re.compile(r"^  ([a-z][\w-]*) :")
 # A row of a table: a rule with the definition that tells where it is broken.
 ROW = re.compile(r"^\s+(?:∷ )?\(([A-Z]\d+), ([a-z][\w-]*)\)$")
-# The table whose rows have the names of functions in src/, and the crates that these stand in.
-NAMED_ROWS = "crates/wf_types_rules/specs/TypeRules.antt"
-NAMED_CRATES = "crates/wf_types_*/src/*.rt"
-# The table of the rules of names, some of whose rows have a function of their name.
-NAMES_TABLE = ("wf_names_rules", "NameRules")
+# A comment above a constructor, with the rules that it is a row of.
+TOLD = re.compile(r"\s*-- ([A-Z]\d+(?:, [A-Z]\d+)*):")
+# The tables whose rows have the names of functions in src/, each with what the names of the crates that these stand in begin with.
+NAMED_ROWS = {"crates/wf_types_rules/specs/TypeRules.antt": "wf_types_", "crates/wf_names_rules/specs/NameRules.antt": "wf_names_"}
 # Files of tests/ that name rules and expect none of them.
 NO_TESTS = ("rule_map.py", "rule_examples.py", "rules.py", "wrong_rules.py")
 FUNCTION = re.compile(r"^\s*(?:pub(?:\([a-z]+\))? )?(?:const )?(?:fn|const) (\w+)")
@@ -71,7 +71,7 @@ def named_in_specs(rules):
         for line in file.read_text().splitlines():
             if line.startswith("use "):
                 continue
-            comment = re.match(r"\s*-- ([A-Z]\d+(?:, [A-Z]\d+)*):", line)
+            comment = TOLD.match(line)
             if comment:
                 told = comment.group(1).split(", ")
                 continue
@@ -95,23 +95,46 @@ def named_in_specs(rules):
     return found
 
 
+def rows_of(table):
+    """The rows of a table, each with its rule: a rule with a definition, or a constructor below a comment that tells its rules."""
+    told = []
+    for line in table.read_text().splitlines():
+        comment, row, constructor = TOLD.match(line), ROW.match(line), CONSTRUCTOR.match(line)
+        if comment:
+            told = comment.group(1).split(", ")
+        elif row:
+            yield row.group(1), row.group(2)
+        elif constructor:
+            yield from ((rule, constructor.group(1)) for rule in told)
+            told = []
+
+
+def functions_of(crates):
+    """The functions of the crates whose names begin so, each with its crate and file."""
+    return [((file.relative_to(TOP).parts[1], file.stem), function.group(1)) for file in sorted(TOP.glob(f"crates/{crates}*/src/*.rt"))
+            for line in file.read_text().splitlines() if (function := FUNCTION.match(line))]
+
+
 def rows_with_functions():
-    """For each rule of the table of types: its rows' names, each with the functions of that name."""
-    functions = [function.group(1) for file in sorted(TOP.glob(NAMED_CRATES)) for line in file.read_text().splitlines()
-                 if (function := FUNCTION.match(line))]
+    """For each rule of the tables: its rows' names, each with the functions of that name, with their crates and files."""
     found = {}
-    for line in (TOP / NAMED_ROWS).read_text().splitlines():
-        row = ROW.match(line)
-        if row:
-            kinds = re.compile(rf"{row.group(2)}(_(in|of|by|with)_\w+)?")
-            found.setdefault(row.group(1), {})[row.group(2)] = [name for name in functions if kinds.fullmatch(name)]
+    for table, crates in NAMED_ROWS.items():
+        functions = functions_of(crates)
+        for rule, row in rows_of(TOP / table):
+            kinds = re.compile(rf"{row}(_(in|of|by|with)_\w+)?")
+            found.setdefault(rule, {})[row] = [function for function in functions if kinds.fullmatch(function[1])]
     return found
+
+
+def names_beside(table):
+    """The definitions of a table's file that aren't rows."""
+    return {definition.group(1) for line in (TOP / table).read_text().splitlines() if not line.startswith(" ") and (definition := DEFINED.match(line))}
 
 
 def named_in_code(rules, rows):
     """For each rule: crate, file and functions that answer it, those that have a row's name in place of who calls them."""
     found = {rule: {} for rule in rules}
-    named = {rule: {name for names in rows.get(rule, {}).values() for name in names} for rule in rules}
+    named = {rule: {name for functions in rows.get(rule, {}).values() for _, name in functions} for rule in rules}
     for file in sorted(TOP.glob("crates/*/src/**/*.rt")):
         crate = file.relative_to(TOP).parts[1]
         if crate == "wf_text" or crate.endswith("_tests"):
@@ -131,15 +154,23 @@ def named_in_code(rules, rows):
     return found
 
 
-def add_functions_of_rows(code, specs):
-    """Adds the functions that have the name of a row of the rules of names."""
-    for file in sorted(TOP.glob("crates/wf_names_*/src/*.rt")):
-        functions = [function.group(1) for line in file.read_text().splitlines() if (function := FUNCTION.match(line))]
-        for rule, places in specs.items():
-            for name in places.get(NAMES_TABLE, []):
-                names = code[rule].setdefault((file.relative_to(TOP).parts[1], file.stem), []) if name in functions else [name]
-                if name not in names:
-                    names.append(name)
+def add_functions_of_rows(code, rows):
+    """Adds the functions that have a row's name."""
+    for rule, named in rows.items():
+        for place, name in [function for functions in named.values() for function in functions]:
+            names = code[rule].setdefault(place, [])
+            if name not in names:
+                names.append(name)
+
+
+def without_a_row(rule, code, rows):
+    """The functions that answer a rule of the two tables and have neither a row's name nor that of a definition beside the table."""
+    named = {name for functions in rows.get(rule, {}).values() for _, name in functions}
+    for table, crates in NAMED_ROWS.items():
+        beside = names_beside(table)
+        for (crate, file), names in code[rule].items():
+            if crate.startswith(crates):
+                yield from (f"{name} of {crate}/{file}" for name in names if name not in named | beside)
 
 
 def named_in_tests(rules):
@@ -168,17 +199,16 @@ def main():
     rules = sections((TOP / "docs" / "RULES.md").read_text())
     table = rows_with_functions()
     specs, code, tests = named_in_specs(rules), named_in_code(rules, table), named_in_tests(rules)
-    add_functions_of_rows(code, specs)
+    add_functions_of_rows(code, table)
     rows, lacks = [], []
     for rule, examples in rules.items():
         shown = ([f"{examples} examples"] if examples else []) + tests[rule]
         rows.append(f"| [{rule}](RULES.md#{rule.lower()}) | {listed(specs[rule])} | {listed(code[rule])} | {', '.join(shown)} |\n")
-        lacks += [f"{rule}'s judgement {row} has no function of its name" for row, names in table.get(rule, {}).items() if not names]
+        lacks += [f"{rule}'s row {row} has no function of its name" for row, functions in table.get(rule, {}).items() if not functions]
         for what, there in (("definition", specs[rule]), ("code", code[rule]), ("test", shown)):
             if not there:
                 lacks.append(f"{rule} has no {what}")
-        lacks += [f"{rule} is answered by {name} of {crate}/{file}, which has no row's name" for (crate, file), names in code[rule].items()
-                  if crate.startswith("wf_types_") for name in names if not any(name in of_row for of_row in table.get(rule, {}).values())]
+        lacks += [f"{rule} is answered by {function}, which has no row's name" for function in without_a_row(rule, code, table)]
     text = HEAD + "".join(rows)
     if sys.argv[1:] == ["--check"]:
         if not PAGE.exists() or PAGE.read_text() != text:

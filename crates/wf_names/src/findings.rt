@@ -5,6 +5,7 @@ ghost use Rattle.std.specs.Prelude.{◌≡◌, ◌<◌, ◌-◌, ◌^◌, None, 
 ghost use Rattle.wf_text.specs.Precedence.{Decides};
 ghost use Rattle.wf_names_rules.specs.NameRules.{Breaks};
 ghost use Rattle.wf_names_decls.specs.DeclarationPass.{declarations_found};
+ghost use Rattle.wf_names_decls.specs.NameLists.{AreNameLists};
 ghost use Rattle.wf_names_scopes.specs.Agreeing.{package_of, TellsPackage};
 ghost use Rattle.wf_names_scopes.specs.CallRows.{AreRows};
 ghost use Rattle.wf_names_scopes.specs.UsesFound.{names_found};
@@ -18,6 +19,7 @@ use wf_names_cycles::cycles_found::{NamedCycles, cycle_breaks};
 use wf_names_cycles::methods::method_cycles;
 use wf_names_cycles::structs::struct_cycles;
 use wf_names_decls::declarations::declarations;
+use wf_names_decls::gathering::{NameLists, name_lists};
 use wf_names_rules::tables::Tables;
 use wf_names_scopes::tables::tables;
 use wf_names_scopes::uses::uses;
@@ -44,12 +46,14 @@ fn named(
     found: &mut Found,
     parsed: &PackageNodes,
     tables: &Tables,
+    names: &NameLists,
 ) -> Result<Vec<Row>, NoMemory>
-    requires { TellsPackage (package_of parsed.now) tables.now }
+    requires tables { TellsPackage (package_of parsed.now) tables.now }
+    requires names { AreNameLists (package_of parsed.now) names.now }
     ensures found { OnOk result (found.new ≡ names_found (package_of parsed.now) (declarations_found (package_of parsed.now) found.old)) }
     ensures rows { IfOk result (λ rows. AreRows (package_of parsed.now) rows.items (length (package_of parsed.now).methods)) }
 {
-    declarations(alloc, found, parsed)?;
+    declarations(alloc, found, parsed, names, &tables.constants)?;
     uses(alloc, found, parsed, tables)
 }
 
@@ -86,10 +90,12 @@ pub(crate) fn look_through(alloc: Global, parsed: &PackageNodes) -> Result<Findi
     ensures { IfOk result (AreFindings (package_of parsed.now)) }
 {
     let tables = tables(alloc, parsed)?;
-    let structs = struct_cycles(alloc, parsed, &tables.structs)?;
+    let names = name_lists(alloc, parsed)?;
     let mut found = Found::nothing();
-    let rows = named(alloc, &mut found, parsed, &tables)?;
-    let methods = method_cycles(alloc, parsed, rows.as_slice())?;
+    let rows = named(alloc, &mut found, parsed, &tables, &names)?;
+    let (structs, methods) = names.into_structs_and_methods();
+    let structs = struct_cycles(alloc, parsed, &tables.structs, structs)?;
+    let methods = method_cycles(alloc, methods, rows.as_slice())?;
     deciding(alloc, &mut found, parsed, &tables, &structs, &methods)?;
     Ok(Findings {
         refusal: found.first(),

@@ -30,12 +30,6 @@ append-assoc [] ys zs = refl
 append-assoc (x ∷ xs) ys zs = ap (λ l. x ∷ l) (append-assoc xs ys zs)
 
 -- Declarations one by one.
-names-split : (d : DeclTree) (ds : List DeclTree) → names_of (structs_of (d ∷ ds)) ≡ names_of (structs_of (d ∷ [])) ++ names_of (structs_of ds)
-names-split (tree.status public text at) ds = refl
-names-split (tree.constant public name of value at) ds = refl
-names-split (tree.structure public name mark fields at) ds = refl
-names-split (tree.method public owner name mark args result body at) ds = refl
-
 rows-split : (f : ℕ → Option ℕ) (d : DeclTree) (ds : List DeclTree) → held_rows f (structs_of (d ∷ ds)) ≡ held_rows f (structs_of (d ∷ [])) ++ held_rows f (structs_of ds)
 rows-split f (tree.status public text at) ds = refl
 rows-split f (tree.constant public name of value at) ds = refl
@@ -45,15 +39,6 @@ rows-split f (tree.method public owner name mark args result body at) ds = refl
 module _ (es : List ExprTree) (ts : List StmtTree) (nodes : List DeclNode) (i : ℕ) (x : DeclNode) where
   made-step : x ≡ slice_index_or nodes i x → i < length nodes → decls_made es ts (drop i nodes) ≡ decl_made es ts x.public x.decl x.at ∷ decls_made es ts (drop (i + 1) nodes)
   made-step is h = ap (decls_made es ts) (drop-one nodes i x h ∙ ap (λ y. y ∷ drop (i + 1) nodes) (sym is))
-
-  pub names-step : x ≡ slice_index_or nodes i x → i < length nodes → (old new : List Name) → new ≡ old ++ names_of (structs_of (decl_made es ts x.public x.decl x.at ∷ []))
-      → new ++ names_of (structs_of (decls_made es ts (drop (i + 1) nodes))) ≡ old ++ names_of (structs_of (decls_made es ts (drop i nodes)))
-  names-step is h old new e =
-      let one = names_of (structs_of (decl_made es ts x.public x.decl x.at ∷ [])) in
-      let others = names_of (structs_of (decls_made es ts (drop (i + 1) nodes))) in
-      ap (λ l. l ++ others) e ∙ append-assoc old one others
-      ∙ ap (λ l. old ++ l) (sym (names-split (decl_made es ts x.public x.decl x.at) (decls_made es ts (drop (i + 1) nodes))))
-      ∙ ap (λ l. old ++ names_of (structs_of l)) (sym (made-step is h))
 
   pub rows-step : (f : ℕ → Option ℕ) → x ≡ slice_index_or nodes i x → i < length nodes → (old new : List (List ℕ)) → new ≡ old ++ held_rows f (structs_of (decl_made es ts x.public x.decl x.at ∷ []))
       → new ++ held_rows f (structs_of (decls_made es ts (drop (i + 1) nodes))) ≡ old ++ held_rows f (structs_of (decls_made es ts (drop i nodes)))
@@ -217,14 +202,10 @@ rows-few : (f : ℕ → Option ℕ) (es : List ExprTree) (ts : List StmtTree) (n
 rows-few f es ts nodes rows n e h =
     omega (arith, h, ap length e, rows-long f (structs_of (decls_made es ts nodes)), structs-few es ts nodes)
 
--- The same of the names and rows that are made of a package's nodes.
+-- The same of the rows that are made of a package's nodes.
 module _ (texts : List (List ℕ)) (exprs : List ExprNode) (stmts : List StmtNode) (nodes : List DeclNode) where
   pub rows-made : (f : ℕ → Option ℕ) (rows : List (List ℕ)) → ((text : ℕ) → f text ≡ struct_named (declared texts (decl_trees exprs stmts nodes)) text)
       → ((es : List ExprTree) (ts : List StmtTree) → rows ≡ held_rows f (structs_of (decls_made es ts nodes))) → length nodes < 2 ^ 32 - 1 → AreStructRows (declared texts (decl_trees exprs stmts nodes)) rows
   unfolding decl_trees
   rows-made f rows numbered made few =
       rows-are (declared texts (decl_trees exprs stmts nodes)) f rows numbered (made (expr_trees exprs) (stmt_trees exprs stmts)) (rows-few f [] [] nodes rows _ (made [] []) few)
-
-  pub names-made : (names : List Name) → ((es : List ExprTree) (ts : List StmtTree) → names ≡ names_of (structs_of (decls_made es ts nodes))) → names ≡ names_of (declared texts (decl_trees exprs stmts nodes)).structs
-  unfolding decl_trees
-  names-made names named = named (expr_trees exprs) (stmt_trees exprs stmts)

@@ -37,13 +37,13 @@ impl NamedCycles {
     }
 }
 
-// N4 at the names on cycles joins what was found before.
-fn on_cycles(found: &mut Found, named: &NamedCycles)
-    ensures { (rows : List (List ℕ)) → AreCyclesOf rows named.now → DecidesWith (IsOnCycle Rule.N4 rows named.now.names.items) found.old found.new }
+// The rule at the names on cycles joins what was found before.
+fn on_cycles(found: &mut Found, rule: Rule, named: &NamedCycles)
+    ensures { (rows : List (List ℕ)) → AreCyclesOf rows named.now → DecidesWith (IsOnCycle rule rows named.now.names.items) found.old found.new }
 {
     flagged(
         found,
-        Rule::N4,
+        rule,
         named.cycles.flags.as_slice(),
         named.names.as_slice(),
     );
@@ -53,14 +53,14 @@ fn on_cycles(found: &mut Found, named: &NamedCycles)
 fn holds_itself(found: &mut Found, structs: &NamedCycles)
     ensures { (d : Declared) → AreStructCycles d structs.now → DecidesWith (HoldsItself d) found.old found.new }
 {
-    on_cycles(found, structs);
+    on_cycles(found, Rule::N4, structs);
 }
 
 // N4 at methods that can reach themselves by calls joins what was found before.
 fn recursion(found: &mut Found, methods: &NamedCycles)
     ensures { (d : Declared) → AreMethodCycles d methods.now → DecidesWith (Recursion d) found.old found.new }
 {
-    on_cycles(found, methods);
+    on_cycles(found, Rule::N4, methods);
 }
 
 /// N4 at structs that hold themselves and methods that can reach themselves by calls joins what was found before.

@@ -17,38 +17,11 @@ use wf_ast::{PackageNodes, TextId};
 use wf_names_rules::tables::Numbers;
 use wf_text::faults::NoMemory;
 
-fn add_name(names: &mut Vec<Name>, decl: &Decl) -> Result<(), NoMemory>
-    ensures { OnOk result ((es : _) (ts : _) (public : _) (at : _) → names.new.items ≡ names.old.items ++ names_of (structs_of (decl_made es ts public decl.now at ∷ []))) }
-{
-    match decl {
-        Decl::Struct { name, .. } => {
-            names.push(*name)?;
-            Ok(())
-        }
-        Decl::Status(_) => Ok(()),
-        Decl::Const { .. } => Ok(()),
-        Decl::Method { .. } => Ok(()),
-    }
-}
-
-// The names of the structs that are declared, in order. `Err` where memory was refused.
-fn struct_names(alloc: Global, decls: &[DeclNode]) -> Result<Vec<Name>, NoMemory>
-    ensures { IfOk result (λ names. (es : _) (ts : _) → names.items ≡ names_of (structs_of (decls_made es ts decls.now))) }
-{
-    let mut names = Vec::new(alloc);
-    for node in decls {
-        add_name(&mut names, &node.decl)?;
-    }
-    Ok(names)
-}
-
 fn number(structs: &Numbers, name: TextId) -> Option<usize>
     ensures { result ≡ number_at structs.now name.0 }
 {
-    match structs.numbers.get(&name.0) {
-        Some(number) => Some(*number as usize),
-        None => None,
-    }
+    let number = structs.numbers.get(&name.0)?;
+    Some(*number as usize)
 }
 
 // The struct that a type is.
@@ -121,19 +94,20 @@ fn struct_rows(alloc: Global, structs: &Numbers, decls: &[DeclNode]) -> Result<V
     Ok(rows)
 }
 
-/// The structs that are declared, and the cycles of their graph, which lists for each those that it holds: the structs that
-/// are the whole types of its fields. `Err` where memory was refused. The time is in proportion to the structs and all
-/// their fields.
+/// The structs that are declared, by their names in order, and the cycles of their graph, which lists for each those that it
+/// holds: the structs that are the whole types of its fields. `Err` where memory was refused. The time is in proportion to
+/// the structs and all their fields.
 pub fn struct_cycles(
     alloc: Global,
     parsed: &PackageNodes,
     structs: &Numbers,
+    names: Vec<Name>,
 ) -> Result<NamedCycles, NoMemory>
     requires few { length parsed.now.decls < 2 ^ 32 - 1 }
     requires numbers { TellsNumbers 0 (λ s. s.name) (package_of parsed.now).structs structs.now }
+    requires names { names.items ≡ names_of (package_of parsed.now).structs }
     ensures { IfOk result (AreStructCycles (package_of parsed.now)) }
 {
-    let names = struct_names(alloc, parsed.decls())?;
     let rows = struct_rows(alloc, structs, parsed.decls())?;
     let cycles = find_cycles(alloc, rows.as_slice())?;
     Ok(NamedCycles { names, cycles })

@@ -76,6 +76,9 @@ constants_in ds = map (λ c. c.name) (constants_of ds)
 abbrev pub structs_in : List DeclTree → List Name
 structs_in ds = map (λ s. s.name) (structs_of ds)
 
+abbrev pub method_names_in : List DeclTree → List Name
+method_names_in ds = map (λ m. m.name) (methods_of ds)
+
 abbrev pub methods_in : List DeclTree → List Owned
 methods_in ds = map owned (methods_of ds)
 
@@ -90,6 +93,12 @@ structs-split (tree.status public text at) ds = refl
 structs-split (tree.constant public name of value at) ds = refl
 structs-split (tree.structure public name mark fields at) ds = refl
 structs-split (tree.method public owner name mark args result body at) ds = refl
+
+pub method-names-split : (d : DeclTree) (ds : List DeclTree) → method_names_in (d ∷ ds) ≡ method_names_in (d ∷ []) ++ method_names_in ds
+method-names-split (tree.status public text at) ds = refl
+method-names-split (tree.constant public name of value at) ds = refl
+method-names-split (tree.structure public name mark fields at) ds = refl
+method-names-split (tree.method public owner name mark args result body at) ds = refl
 
 pub methods-split : (d : DeclTree) (ds : List DeclTree) → methods_in (d ∷ ds) ≡ methods_in (d ∷ []) ++ methods_in ds
 methods-split (tree.status public text at) ds = refl

@@ -17,7 +17,7 @@ use Rattle.wf_names_rules.specs.NameRules as rules
 use Rattle.wf_names_rules.specs.NameRules.{AreApart, DeclarationBreaks, IsMethod, IsRepeated, IsStructure, declared_names, later_of, names_owned, twice, variable_names}
 use Rattle.wf_names_rules.proofs.ListLaws.{doubles-sound, doubles-complete, reserved-sound, reserved-complete, initializes-sound, initializes-complete}
 use Rattle.wf_names_decls.specs.Gathering.{constant_names, struct_names, owned, owned_names}
-use Rattle.wf_names_decls.specs.DeclarationPass.{names_judged, owned_doubles, methods_judged, first_spelt, hidden_item, hidden_of, args_judged, locals_judged, struct_judged, method_judged, statuses_found, constants_found, structs_found, methods_found, names_found, fields_found, variables_found, declarations_found}
+use Rattle.wf_names_decls.specs.DeclarationPass.{names_judged, declared_twice_in_struct, methods_judged, first_spelt, local_and_constant, locals_and_constants, args_judged, locals_judged, struct_judged, method_judged, statuses_found, constants_found, structs_found, methods_found, names_found, fields_found, variables_found, declarations_found}
 use Rattle.wf_names_decls.proofs.PassLaws.{Each, Adds, adds-then, adds-finds, adds-one, adds-each}
 use Rattle.wf_names_decls.proofs.OwnedLaws.{RepeatsOwned, owned-sound, owned-complete}
 
@@ -60,11 +60,11 @@ Hides constant locals s = (i : ℕ) × (v : Name) × (c : Name) × ((slice_get l
 inner : (x y : Option Refusal) → Some x ≡ Some y → x ≡ y
 inner x y e = cc e
 
-hidden-cause : (constant : ℕ → Option Name) (locals : List Name) (s : Refusal) (i : ℕ) → slice_get (hidden_of constant locals) i ≡ Some (Some s) → Hides constant locals s
+hidden-cause : (constant : ℕ → Option Name) (locals : List Name) (s : Refusal) (i : ℕ) → slice_get (locals_and_constants constant locals) i ≡ Some (Some s) → Hides constant locals s
 hidden-cause constant [] s i e = absurd (cc e)
-hidden-cause constant (v ∷ vs) s zero e = by_constant (constant v.text.0) refl (inner (hidden_item (constant v.text.0) v) (Some s) e)
+hidden-cause constant (v ∷ vs) s zero e = by_constant (constant v.text.0) refl (inner (local_and_constant (constant v.text.0) v) (Some s) e)
   where
-    by_constant : (item : Option Name) → constant v.text.0 ≡ item → hidden_item item v ≡ Some s → Hides constant (v ∷ vs) s
+    by_constant : (item : Option Name) → constant v.text.0 ≡ item → local_and_constant item v ≡ Some s → Hides constant (v ∷ vs) s
     by_constant None is k = absurd (cc k)
     by_constant (Some c) is k = (0, v, c, (refl, (is, let same : later_of v c ≡ s = inner_some k in sym same)))
       where
@@ -73,16 +73,16 @@ hidden-cause constant (v ∷ vs) s zero e = by_constant (constant v.text.0) refl
 hidden-cause constant (v ∷ vs) s (suc i) e = let r = hidden-cause constant vs s i e in (suc r.0, r.1, r.2, r.3)
 
 hidden-found : (constant : ℕ → Option Name) (locals : List Name) (i : ℕ) (v c : Name) → slice_get locals i ≡ Some v → constant v.text.0 ≡ Some c
-    → slice_get (hidden_of constant locals) i ≡ Some (Some (later_of v c))
+    → slice_get (locals_and_constants constant locals) i ≡ Some (Some (later_of v c))
 hidden-found constant [] i v c e h = absurd (cc e)
 hidden-found constant (w ∷ ws) zero v c e h =
     let same : w ≡ v = cc e in
-    ap (λ (x : Name). Some (hidden_item (constant x.text.0) x)) same ∙ ap (λ item. Some (hidden_item item v)) h
+    ap (λ (x : Name). Some (local_and_constant (constant x.text.0) x)) same ∙ ap (λ item. Some (local_and_constant item v)) h
 hidden-found constant (w ∷ ws) (suc i) v c e h = hidden-found constant ws i v c e h
 
-hidden-adds : (constant : ℕ → Option Name) (locals : List Name) → Adds (λ found. soonest found (hidden_of constant locals)) (Hides constant locals)
+hidden-adds : (constant : ℕ → Option Name) (locals : List Name) → Adds (λ found. soonest found (locals_and_constants constant locals)) (Hides constant locals)
 hidden-adds constant locals =
-    adds-finds (hidden_of constant locals) (Hides constant locals) (λ s f. hidden-cause constant locals s f.0 f.1)
+    adds-finds (locals_and_constants constant locals) (Hides constant locals) (λ s f. hidden-cause constant locals s f.0 f.1)
     (λ s h. (h.0, hidden-found constant locals h.0 h.1 h.2 h.3.0 h.3.1.0 ∙ ap (λ x. Some (Some x)) (sym h.3.1.1)))
 
 -- Methods.
@@ -93,7 +93,7 @@ MethodCause texts ms s =
 methods-add : (texts : List (List ℕ)) (ms : List Method) → Adds (λ found. methods_judged texts found (map owned ms)) (MethodCause texts ms)
 methods-add texts ms =
     let names = owned_names (map owned ms) in
-    let doubles : Option Refusal → Option Refusal = λ found. soonest found (owned_doubles [] (map owned ms)) in
+    let doubles : Option Refusal → Option Refusal = λ found. soonest found (declared_twice_in_struct [] (map owned ms)) in
     let kept : Option Refusal → Option Refusal = λ found. soonest found (reserved_of texts names) in
     let begun : Option Refusal → Option Refusal = λ found. soonest found (initializes_of texts names) in
     let over : Option Refusal → Option Refusal = λ found. sooner found (beyond L6 1024 names) in
@@ -102,7 +102,7 @@ methods-add texts ms =
     let Begun : Refusal → Type 0 = InitializesName texts names in
     adds-then (λ found. begun (kept (doubles found))) over (λ s. (Doubles s ⊎ Kept s) ⊎ Begun s) (Beyond L6 1024 names)
     (adds-then (λ found. kept (doubles found)) begun (λ s. Doubles s ⊎ Kept s) Begun
-    (adds-then doubles kept Doubles Kept (adds-finds (owned_doubles [] (map owned ms)) Doubles (owned-sound ms) (owned-complete ms)) (reserved-add texts names))
+    (adds-then doubles kept Doubles Kept (adds-finds (declared_twice_in_struct [] (map owned ms)) Doubles (owned-sound ms) (owned-complete ms)) (reserved-add texts names))
     (adds-finds (initializes_of texts names) Begun (initializes-sound texts names) (initializes-complete texts names)))
     (beyond-adds L6 1024 names)
 
@@ -120,9 +120,9 @@ LocalCause constant texts locals s = (Misnamed texts locals s ⊎ Hides constant
 
 locals-add : (constant : ℕ → Option Name) (texts : List (List ℕ)) (locals : List Name) → Adds (λ found. locals_judged constant texts found locals) (LocalCause constant texts locals)
 locals-add constant texts locals =
-    adds-then (λ found. soonest (names_judged texts found locals) (hidden_of constant locals)) (λ found. sooner found (beyond L7 256 locals))
+    adds-then (λ found. soonest (names_judged texts found locals) (locals_and_constants constant locals)) (λ found. sooner found (beyond L7 256 locals))
     (λ s. Misnamed texts locals s ⊎ Hides constant locals s) (Beyond L7 256 locals)
-    (adds-then (λ found. names_judged texts found locals) (λ found. soonest found (hidden_of constant locals)) (Misnamed texts locals) (Hides constant locals)
+    (adds-then (λ found. names_judged texts found locals) (λ found. soonest found (locals_and_constants constant locals)) (Misnamed texts locals) (Hides constant locals)
     (names-add texts locals) (hidden-adds constant locals))
     (beyond-adds L7 256 locals)
 
@@ -220,7 +220,7 @@ borne name [] i x e = absurd (cc e)
 borne name (y ∷ ys) zero x e = let same : y ≡ x = cc e in ap (λ z. Some (name z)) same
 borne name (y ∷ ys) (suc i) x e = borne name ys i x e
 
-owned-names : (ms : List Method) → owned_names (map owned ms) ≡ map (λ m. m.name) ms
+pub owned-names : (ms : List Method) → owned_names (map owned ms) ≡ map (λ m. m.name) ms
 owned-names [] = refl
 owned-names (m ∷ ms) = ap (λ names. m.name ∷ names) (owned-names ms)
 

@@ -5,32 +5,29 @@ use Rattle.wf_text.specs.declared.rules.Refusal.{Refusal}
 use Rattle.wf_text.specs.Precedence.{sooner, Decides}
 use Rattle.wf_text.proofs.PrecedenceLaws.{Decides-map, Decides-sooner}
 use Rattle.wf_names_rules.specs.Declarations.{Method, Declared, text_of}
-use Rattle.wf_names_rules.specs.Passes.{refused_if, reserved_item}
+use Rattle.wf_names_rules.specs.Passes.{refused_if}
 use Rattle.wf_names_rules.specs.Reserved.{is_reserved}
-use Rattle.wf_names_rules.specs.Jumps.{Jump, labelled, to_label, to_innermost, has_label, block_jumps, jump_judged, jumped, method_labels, labels_found}
+use Rattle.wf_names_rules.specs.Jumps.{Jump, labelled, to_label, to_innermost, has_label, label_twice, reserved_label, unknown_label, outside_loops, block_jumps, jump_judged, jumped, method_labels, labels_found}
 use Rattle.wf_names_rules.specs.NameRules as rules
 use Rattle.wf_names_rules.specs.NameRules.{Jumps, LabelBreaks}
 use Rattle.wf_names_decls.proofs.PassLaws.{refused-cause, Each, fold-decides}
 
 -- What a labelled loop or a jump gives cause for.
 abbrev Broken : List (List ℕ) → Jump → Refusal → Type 0
-Broken texts (labelled loops label) s = (refused_if (has_label loops label.text.0) N2 label.at ≡ Some s) ⊎ (reserved_item texts label ≡ Some s)
-Broken texts (to_label loops label) s = refused_if (not (has_label loops label.text.0)) N5 label.at ≡ Some s
-Broken texts (to_innermost [] at) s = refused_if true N5 at ≡ Some s
-Broken texts (to_innermost (loop ∷ loops) at) s = ⊥
+Broken texts (labelled loops label) s = (label_twice loops label ≡ Some s) ⊎ (reserved_label texts label ≡ Some s)
+Broken texts (to_label loops label) s = unknown_label loops label ≡ Some s
+Broken texts (to_innermost loops at) s = outside_loops loops at ≡ Some s
 
 judge-decides : (texts : List (List ℕ)) (P : Refusal → Type 0) (found : Option Refusal) (j : Jump) → Decides P found → Decides (λ s. P s ⊎ Broken texts j s) (jump_judged texts found j)
 judge-decides texts P found (labelled loops label) h =
-    let double = refused_if (has_label loops label.text.0) N2 label.at in
-    let kept = reserved_item texts label in
+    let double = label_twice loops label in
+    let kept = reserved_label texts label in
     Decides-map (λ s. (P s ⊎ (double ≡ Some s)) ⊎ (kept ≡ Some s)) (λ s. P s ⊎ Broken texts (labelled loops label) s) (sooner (sooner found double) kept)
     (λ s c. elim c [ inl a ↦ elim a [ inl p ↦ inl p | inr x ↦ inr (inl x) ] | inr y ↦ inr (inr y) ])
     (λ s c. elim c [ inl p ↦ inl (inl p) | inr q ↦ elim q [ inl x ↦ inl (inr x) | inr y ↦ inr y ] ])
     (Decides-sooner (λ s. P s ⊎ (double ≡ Some s)) (sooner found double) kept (Decides-sooner P found double h))
-judge-decides texts P found (to_label loops label) h = Decides-sooner P found (refused_if (not (has_label loops label.text.0)) N5 label.at) h
-judge-decides texts P found (to_innermost [] at) h = Decides-sooner P found (refused_if true N5 at) h
-judge-decides texts P found (to_innermost (loop ∷ loops) at) h =
-    Decides-map P (λ s. P s ⊎ ⊥) found (λ s p. inl p) (λ s c. elim c [ inl p ↦ p | inr q ↦ absurd q ]) h
+judge-decides texts P found (to_label loops label) h = Decides-sooner P found (unknown_label loops label) h
+judge-decides texts P found (to_innermost loops at) h = Decides-sooner P found (outside_loops loops at) h
 
 jumped-fold : (texts : List (List ℕ)) (found : Option Refusal) (js : List Jump) → fold (jump_judged texts) found js ≡ jumped texts found js
 jumped-fold texts found [] = refl
@@ -62,7 +59,7 @@ broken-breaks d (to_label loops label) s at e =
 broken-breaks d (to_innermost [] at) s stands e =
     let c = refused-cause true N5 at s e in
     let F : Refusal → Type 0 = λ r. LabelBreaks d r in subst F (sym c.1) (rules.outside_loops at stands)
-broken-breaks d (to_innermost (loop ∷ loops) at) s stands e = absurd e
+broken-breaks d (to_innermost (loop ∷ loops) at) s stands e = absurd (cc e)
 
 breaks-broken : (d : Declared) (s : Refusal) → LabelBreaks d s → (j : Jump) × (Jumps d j × Broken d.texts j s)
 breaks-broken d _ (rules.label_twice loops label at t) = (labelled loops label, (at, inl (ap (λ b. refused_if b N2 label.at) t)))

@@ -15,7 +15,7 @@ use Rattle.wf_names_rules.specs.NameRules.{twice, names_owned}
 use Rattle.wf_names_rules.specs.Found.{Finds, RepeatsName}
 use Rattle.wf_names_decls.specs.declared.gathering.Owned.{Owned}
 use Rattle.wf_names_decls.specs.Gathering.{owned}
-use Rattle.wf_names_decls.specs.DeclarationPass.{pair_of, owned_doubles}
+use Rattle.wf_names_decls.specs.DeclarationPass.{pair_of, declared_twice_in_struct}
 use Rattle.wf_names_decls.proofs.PassLaws.{refused-cause}
 
 -- Pairs in a list.
@@ -94,7 +94,7 @@ record Two (ms : List Owned) (j : ℕ) (b : Owned) : Type 0 where
   same : a.name.text.0 ≡ b.name.text.0
 
 seen-found : (seen : List Pair) (ms : List Owned) (j : ℕ) (b : Owned) → slice_get ms j ≡ Some b → has seen (pair_of b) ≡ true
-    → slice_get (owned_doubles seen ms) j ≡ Some (Some (twice b.name))
+    → slice_get (declared_twice_in_struct seen ms) j ≡ Some (Some (twice b.name))
 unfolding has
 seen-found seen [] j b e h = absurd (cc e)
 seen-found seen (m ∷ ms) zero b e h =
@@ -104,7 +104,7 @@ seen-found seen (m ∷ ms) zero b e h =
 seen-found seen (m ∷ ms) (suc j) b e h = seen-found (insert_key same_pair seen (pair_of m)) ms j b e (insert-keeps seen (pair_of m) (pair_of b) h)
 
 two-found : (seen : List Pair) (ms : List Owned) (i j : ℕ) (a b : Owned) → i < j → slice_get ms i ≡ Some a → slice_get ms j ≡ Some b
-    → pair_of a ≡ pair_of b → slice_get (owned_doubles seen ms) j ≡ Some (Some (twice b.name))
+    → pair_of a ≡ pair_of b → slice_get (declared_twice_in_struct seen ms) j ≡ Some (Some (twice b.name))
 two-found seen [] i j a b l e f t = absurd (cc e)
 two-found seen (m ∷ ms) i zero a b l e f t = absurd (omega (arith, l))
 two-found seen (m ∷ ms) zero (suc j) a b l e f t =
@@ -123,7 +123,7 @@ record Cause (seen : List Pair) (ms : List Owned) (j : ℕ) (s : Refusal) : Type
 inner : (x y : Option Refusal) → Some x ≡ Some y → x ≡ y
 inner x y e = cc e
 
-double-cause : (seen : List Pair) (ms : List Owned) (j : ℕ) (s : Refusal) → slice_get (owned_doubles seen ms) j ≡ Some (Some s) → Cause seen ms j s
+double-cause : (seen : List Pair) (ms : List Owned) (j : ℕ) (s : Refusal) → slice_get (declared_twice_in_struct seen ms) j ≡ Some (Some s) → Cause seen ms j s
 unfolding has
 double-cause seen [] j s e = absurd (cc e)
 double-cause seen (m ∷ ms) zero s e =
@@ -282,7 +282,7 @@ pub record RepeatsOwned (ms : List Method) (s : Refusal) : Type 0 where
   pub owner : ℕ
   pub repeats : RepeatsName (names_owned owner ms) s
 
-pub owned-sound : (ms : List Method) (s : Refusal) → Finds (owned_doubles [] (map owned ms)) s → RepeatsOwned ms s
+pub owned-sound : (ms : List Method) (s : Refusal) → Finds (declared_twice_in_struct [] (map owned ms)) s → RepeatsOwned ms s
 unfolding has
 owned-sound ms s f =
     let r = double-cause [] (map owned ms) f.0 s f.1 in
@@ -306,7 +306,7 @@ owned-sound ms s f =
           }
     ]
 
-pub owned-complete : (ms : List Method) (s : Refusal) → RepeatsOwned ms s → Finds (owned_doubles [] (map owned ms)) s
+pub owned-complete : (ms : List Method) (s : Refusal) → RepeatsOwned ms s → Finds (declared_twice_in_struct [] (map owned ms)) s
 owned-complete ms s h =
     let o = h.owner in
     let P : List Name → Type 0 = λ names. RepeatsName names s in

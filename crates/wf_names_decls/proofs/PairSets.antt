@@ -11,7 +11,7 @@ use Rattle.wf_names_rules.specs.Pairs.{Pair, same_pair, pair_cmp}
 use Rattle.wf_names_rules.proofs.PairLemmas.{pair_ties, alike}
 use Rattle.wf_names_rules.proofs.WalkLemmas.{drop-one}
 use Rattle.wf_names_decls.specs.declared.gathering.Owned.{Owned}
-use Rattle.wf_names_decls.specs.DeclarationPass.{pair_of, owned_doubles}
+use Rattle.wf_names_decls.specs.DeclarationPass.{pair_of, declared_twice_in_struct}
 use Rattle.wf_names_decls.proofs.OwnedLaws.{pair-self, pair-keeps, pair-has, pair-only}
 
 -- A set that has the pairs of a list has those of the list with one more after it is put.
@@ -44,11 +44,11 @@ set-more old new ps key has put p = put p ∙ ap (λ b. cond b true (old p)) (pa
 pub pass-step : (old new : Pair → Bool) (found next item : Option Refusal) (ps : List Pair) (ms : List Owned) (i : ℕ) (d : Owned) (fresh : Bool) (r : Option Refusal) → i < length ms
     → ((p : Pair) → old p ≡ list_any (same_pair p) ps) → ((p : Pair) → new p ≡ cond (is_eq (pair_cmp (pair_of (slice_index_or ms i d)) p)) true (old p))
     → fresh ≡ not (old (pair_of (slice_index_or ms i d))) → ((seen : Bool) → fresh ≡ not seen → item ≡ refused_if seen N2 (slice_index_or ms i d).name.at) → next ≡ sooner found item
-    → soonest found (owned_doubles ps (drop i ms)) ≡ r
-    → (qs : List Pair) × ((p : Pair) → new p ≡ list_any (same_pair p) qs) × (soonest next (owned_doubles qs (drop (i + 1) ms)) ≡ r)
+    → soonest found (declared_twice_in_struct ps (drop i ms)) ≡ r
+    → (qs : List Pair) × ((p : Pair) → new p ≡ list_any (same_pair p) qs) × (soonest next (declared_twice_in_struct qs (drop (i + 1) ms)) ≡ r)
 pass-step old new found next item ps ms i d fresh r h has put added judged joined all =
     let m = slice_index_or ms i d in
     let key : Pair = pair_of m in
-    let rest = owned_doubles (insert_key same_pair ps key) (drop (i + 1) ms) in
+    let rest = declared_twice_in_struct (insert_key same_pair ps key) (drop (i + 1) ms) in
     let is : item ≡ refused_if (list_any (same_pair key) ps) N2 m.name.at = judged (list_any (same_pair key) ps) (added ∙ ap not (has key)) in
-    (insert_key same_pair ps key, set-more old new ps key has put, ap (λ o. soonest o rest) (joined ∙ ap (sooner found) is) ∙ sym (ap (λ xs. soonest found (owned_doubles ps xs)) (drop-one ms i d h)) ∙ all)
+    (insert_key same_pair ps key, set-more old new ps key has put, ap (λ o. soonest o rest) (joined ∙ ap (sooner found) is) ∙ sym (ap (λ xs. soonest found (declared_twice_in_struct ps xs)) (drop-one ms i d h)) ∙ all)

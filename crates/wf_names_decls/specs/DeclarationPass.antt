@@ -13,23 +13,31 @@ use Rattle.wf_names_rules.specs.Pairs.{Pair, same_pair}
 use Rattle.wf_names_decls.specs.declared.gathering.Owned.{Owned}
 use Rattle.wf_names_decls.specs.Gathering.{constant_names, struct_names, owned_methods, owned_names}
 
+-- Names that an earlier one of the list has too.
+abbrev pub declared_twice : List Name → List (Option Refusal)
+declared_twice names = doubles_of [] names
+
 -- Of a list of names those that are declared twice, and the reserved ones.
 abbrev pub names_judged : (texts : List (List ℕ)) → Option Refusal → List Name → Option Refusal
-names_judged texts found names = soonest (soonest found (doubles_of [] names)) (reserved_of texts names)
+names_judged texts found names = soonest (soonest found (declared_twice names)) (reserved_of texts names)
 
 -- Methods of a struct that are declared twice; `seen` are those before it, by their struct's name and their own, each
 -- once.
 abbrev pub pair_of : Owned → Pair
 pair_of m = (m.owner.text.0, m.name.text.0)
 
-abbrev pub owned_doubles : (seen : List Pair) → List Owned → List (Option Refusal)
-owned_doubles seen [] = []
-owned_doubles seen (m ∷ ms) = refused_if (list_any (same_pair (pair_of m)) seen) N2 m.name.at ∷ owned_doubles (insert_key same_pair seen (pair_of m)) ms
+abbrev pub declared_twice_in_struct : (seen : List Pair) → List Owned → List (Option Refusal)
+declared_twice_in_struct seen [] = []
+declared_twice_in_struct seen (m ∷ ms) = refused_if (list_any (same_pair (pair_of m)) seen) N2 m.name.at ∷ declared_twice_in_struct (insert_key same_pair seen (pair_of m)) ms
+
+-- The method after the 1,024 that a package may have.
+abbrev pub too_many_methods : List Name → Option Refusal
+too_many_methods methods = beyond L6 1024 methods
 
 abbrev pub methods_judged : (texts : List (List ℕ)) → Option Refusal → List Owned → Option Refusal
 methods_judged texts found ms =
-    sooner (soonest (soonest (soonest found (owned_doubles [] ms)) (reserved_of texts (owned_names ms))) (initializes_of texts (owned_names ms)))
-    (beyond L6 1024 (owned_names ms))
+    sooner (soonest (soonest (soonest found (declared_twice_in_struct [] ms)) (reserved_of texts (owned_names ms))) (initializes_of texts (owned_names ms)))
+    (too_many_methods (owned_names ms))
 
 -- The name of the list that has this text first.
 abbrev pub first_spelt : List Name → ℕ → Option Name
@@ -37,19 +45,27 @@ first_spelt [] text = None
 first_spelt (name ∷ names) text = if is_spelt text name then Some name else first_spelt names text
 
 -- Locals that a constant has the name of; `constant` gives the constant.
-abbrev pub hidden_item : Option Name → Name → Option Refusal
-hidden_item None local = None
-hidden_item (Some constant) local = Some (later_of local constant)
+abbrev pub local_and_constant : Option Name → Name → Option Refusal
+local_and_constant None local = None
+local_and_constant (Some constant) local = Some (later_of local constant)
 
-abbrev pub hidden_of : (constant : ℕ → Option Name) → List Name → List (Option Refusal)
-hidden_of constant [] = []
-hidden_of constant (local ∷ locals) = hidden_item (constant local.text.0) local ∷ hidden_of constant locals
+abbrev pub locals_and_constants : (constant : ℕ → Option Name) → List Name → List (Option Refusal)
+locals_and_constants constant [] = []
+locals_and_constants constant (local ∷ locals) = local_and_constant (constant local.text.0) local ∷ locals_and_constants constant locals
 
+-- The argument after the 64 that a method may have, and the local after the 256.
+abbrev pub too_many_args : List Name → Option Refusal
+too_many_args args = beyond L7 64 args
+
+abbrev pub too_many_locals : List Name → Option Refusal
+too_many_locals locals = beyond L7 256 locals
+
+-- What the arguments of a method break, and its locals.
 abbrev pub args_judged : (texts : List (List ℕ)) → Option Refusal → List Name → Option Refusal
-args_judged texts found args = sooner (names_judged texts found args) (beyond L7 64 args)
+args_judged texts found args = sooner (names_judged texts found args) (too_many_args args)
 
 abbrev pub locals_judged : (constant : ℕ → Option Name) → (texts : List (List ℕ)) → Option Refusal → List Name → Option Refusal
-locals_judged constant texts found locals = sooner (soonest (names_judged texts found locals) (hidden_of constant locals)) (beyond L7 256 locals)
+locals_judged constant texts found locals = sooner (soonest (names_judged texts found locals) (locals_and_constants constant locals)) (too_many_locals locals)
 
 abbrev pub struct_judged : (texts : List (List ℕ)) → Option Refusal → Structure → Option Refusal
 struct_judged texts found s = names_judged texts found (variable_names s.fields)
@@ -59,7 +75,7 @@ method_judged constant texts found m = locals_judged constant texts (args_judged
 
 -- The first refusal of what was found before and the names of the package: statuses, constants, structs and methods.
 abbrev pub statuses_found : Declared → Option Refusal → Option Refusal
-statuses_found d found = soonest found (doubles_of [] d.statuses)
+statuses_found d found = soonest found (declared_twice d.statuses)
 
 abbrev pub constants_found : Declared → Option Refusal → Option Refusal
 constants_found d found = names_judged d.texts found (constant_names d)

@@ -16,6 +16,9 @@ constant_names d = map (λ c. c.name) d.constants
 abbrev pub struct_names : Declared → List Name
 struct_names d = map (λ s. s.name) d.structs
 
+abbrev pub method_names : Declared → List Name
+method_names d = map (λ m. m.name) d.methods
+
 -- A method by its name and its struct's.
 abbrev pub owned : Method → Owned
 owned m = record { owner = m.owner; name = m.name }

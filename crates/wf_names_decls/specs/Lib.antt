@@ -1,3 +1,4 @@
+pub mod ConstantNames
 pub mod DeclarationPass
-pub mod FirstSpelt
 pub mod Gathering
+pub mod NameLists

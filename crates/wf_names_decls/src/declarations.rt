@@ -1,23 +1,23 @@
 // What the declarations of a package break by their names and their number.
 
-ghost use Rattle.std.specs.Prelude.{◌≡◌, ℕ, [], ◌∷◌, fold, length, nat_eq, IfOk, OnOk};
-ghost use Rattle.indexmap.specs.IndexMap.{get};
+ghost use Rattle.std.specs.Prelude.{◌≡◌, [], ◌∷◌, fold, length, OnOk};
 ghost use Rattle.wf_ast.specs.ParsedTrees.{expr_trees, stmt_trees, decl_trees, decl_made, block_at};
 ghost use Rattle.wf_ast.specs.ParsedParts.{BlockBelow, DeclParts};
 ghost use Rattle.wf_names_rules.specs.Declarations.{declared, structs_of, methods_of, locals_of};
 ghost use Rattle.wf_names_rules.specs.NameRules.{variable_names};
-ghost use Rattle.wf_names_decls.specs.Gathering.{constant_names as constants_in, field_names as names_of_fields};
-ghost use Rattle.wf_names_decls.specs.DeclarationPass.{first_spelt, statuses_found, constants_found, structs_found, methods_found, names_judged, args_judged, locals_judged, struct_judged, method_judged, names_found, fields_found, variables_found, declarations_found};
+ghost use Rattle.wf_names_decls.specs.Gathering.{constant_names, struct_names, method_names, field_names as names_of_fields};
+ghost use Rattle.wf_names_decls.specs.NameLists.{AreNameLists};
+ghost use Rattle.wf_names_decls.specs.ConstantNames.{constant_by, AreConstantPlaces};
+ghost use Rattle.wf_names_decls.specs.DeclarationPass.{statuses_found, constants_found, structs_found, methods_found, names_judged, args_judged, locals_judged, struct_judged, method_judged, names_found, fields_found, variables_found, declarations_found};
 
-use crate::gathering::{
-    constant_names, field_names, local_names, owned_methods, status_names, struct_names,
+use crate::gathering::{NameLists, field_names, local_names, owned_methods, status_names};
+use crate::judging::{
+    Constants, declared_twice, judge_args, judge_locals, judge_methods, judge_names,
 };
-use crate::judging::{by_text, judge_args, judge_locals, judge_methods, judge_names};
-use indexmap::IndexMap;
 use std::alloc::Global;
 use wf_ast::PackageNodes;
 use wf_ast::parsed::{Block, Decl, Field, Name};
-use wf_names_rules::lists::doubles;
+use wf_names_rules::tables::Variables;
 use wf_text::faults::NoMemory;
 use wf_text::found::Found;
 
@@ -25,42 +25,60 @@ fn judge_statuses(alloc: Global, found: &mut Found, parsed: &PackageNodes) -> Re
     ensures { OnOk result (found.new ≡ statuses_found (declared parsed.now.texts (decl_trees parsed.now.exprs parsed.now.stmts parsed.now.decls)) found.old) }
 {
     let names = status_names(alloc, parsed)?;
-    doubles(alloc, found, names.as_slice())
+    declared_twice(alloc, found, names.as_slice())
 }
 
-fn judge_constants(alloc: Global, found: &mut Found, parsed: &PackageNodes) -> Result<(), NoMemory>
+fn judge_constants(
+    alloc: Global,
+    found: &mut Found,
+    parsed: &PackageNodes,
+    names: &[Name],
+) -> Result<(), NoMemory>
+    requires { names.now ≡ constant_names (declared parsed.now.texts (decl_trees parsed.now.exprs parsed.now.stmts parsed.now.decls)) }
     ensures { OnOk result (found.new ≡ constants_found (declared parsed.now.texts (decl_trees parsed.now.exprs parsed.now.stmts parsed.now.decls)) found.old) }
 {
-    let names = constant_names(alloc, parsed)?;
-    judge_names(alloc, found, parsed, names.as_slice())
+    judge_names(alloc, found, parsed, names)
 }
 
-fn judge_structs(alloc: Global, found: &mut Found, parsed: &PackageNodes) -> Result<(), NoMemory>
+fn judge_structs(
+    alloc: Global,
+    found: &mut Found,
+    parsed: &PackageNodes,
+    names: &[Name],
+) -> Result<(), NoMemory>
+    requires { names.now ≡ struct_names (declared parsed.now.texts (decl_trees parsed.now.exprs parsed.now.stmts parsed.now.decls)) }
     ensures { OnOk result (found.new ≡ structs_found (declared parsed.now.texts (decl_trees parsed.now.exprs parsed.now.stmts parsed.now.decls)) found.old) }
 {
-    let names = struct_names(alloc, parsed)?;
-    judge_names(alloc, found, parsed, names.as_slice())
+    judge_names(alloc, found, parsed, names)
 }
 
 fn judge_all_methods(
     alloc: Global,
     found: &mut Found,
     parsed: &PackageNodes,
+    names: &[Name],
 ) -> Result<(), NoMemory>
+    requires { names.now ≡ method_names (declared parsed.now.texts (decl_trees parsed.now.exprs parsed.now.stmts parsed.now.decls)) }
     ensures { OnOk result (found.new ≡ methods_found (declared parsed.now.texts (decl_trees parsed.now.exprs parsed.now.stmts parsed.now.decls)) found.old) }
 {
     let methods = owned_methods(alloc, parsed)?;
-    judge_methods(alloc, found, parsed, methods.as_slice())
+    judge_methods(alloc, found, parsed, methods.as_slice(), names)
 }
 
 // The names of statuses, constants, structs and methods.
-fn judge_package(alloc: Global, found: &mut Found, parsed: &PackageNodes) -> Result<(), NoMemory>
+fn judge_package(
+    alloc: Global,
+    found: &mut Found,
+    parsed: &PackageNodes,
+    names: &NameLists,
+) -> Result<(), NoMemory>
+    requires { AreNameLists (declared parsed.now.texts (decl_trees parsed.now.exprs parsed.now.stmts parsed.now.decls)) names.now }
     ensures { OnOk result (found.new ≡ names_found (declared parsed.now.texts (decl_trees parsed.now.exprs parsed.now.stmts parsed.now.decls)) found.old) }
 {
     judge_statuses(alloc, found, parsed)?;
-    judge_constants(alloc, found, parsed)?;
-    judge_structs(alloc, found, parsed)?;
-    judge_all_methods(alloc, found, parsed)
+    judge_constants(alloc, found, parsed, names.constants.as_slice())?;
+    judge_structs(alloc, found, parsed, names.structs.as_slice())?;
+    judge_all_methods(alloc, found, parsed, names.methods.as_slice())
 }
 
 fn judge_fields(
@@ -117,11 +135,11 @@ fn judge_body(
     alloc: Global,
     found: &mut Found,
     parsed: &PackageNodes,
-    constants: &IndexMap<u32, Name>,
+    constants: &Constants<'_>,
     body: &Block,
 ) -> Result<(), NoMemory>
     requires { BlockBelow (length parsed.now.stmts) body.now }
-    ensures { OnOk result (found.new ≡ locals_judged (get nat_eq constants.now) parsed.now.texts found.old (variable_names (locals_of (block_at (stmt_trees parsed.now.exprs parsed.now.stmts) body.now)))) }
+    ensures { OnOk result (found.new ≡ locals_judged (constant_by constants.now.names.now constants.now.places.now) parsed.now.texts found.old (variable_names (locals_of (block_at (stmt_trees parsed.now.exprs parsed.now.stmts) body.now)))) }
 {
     let names = local_names(alloc, parsed, body)?;
     judge_locals(alloc, found, parsed, constants, names.as_slice())
@@ -131,12 +149,12 @@ fn judge_variables(
     alloc: Global,
     found: &mut Found,
     parsed: &PackageNodes,
-    constants: &IndexMap<u32, Name>,
+    constants: &Constants<'_>,
     args: &[Field],
     body: &Block,
 ) -> Result<(), NoMemory>
     requires { BlockBelow (length parsed.now.stmts) body.now }
-    ensures { OnOk result (found.new ≡ locals_judged (get nat_eq constants.now) parsed.now.texts (args_judged parsed.now.texts found.old (names_of_fields args.now)) (variable_names (locals_of (block_at (stmt_trees parsed.now.exprs parsed.now.stmts) body.now)))) }
+    ensures { OnOk result (found.new ≡ locals_judged (constant_by constants.now.names.now constants.now.places.now) parsed.now.texts (args_judged parsed.now.texts found.old (names_of_fields args.now)) (variable_names (locals_of (block_at (stmt_trees parsed.now.exprs parsed.now.stmts) body.now)))) }
 {
     judge_arg_list(alloc, found, parsed, args)?;
     judge_body(alloc, found, parsed, constants, body)
@@ -147,11 +165,11 @@ fn judge_method(
     alloc: Global,
     found: &mut Found,
     parsed: &PackageNodes,
-    constants: &IndexMap<u32, Name>,
+    constants: &Constants<'_>,
     decl: &Decl,
 ) -> Result<(), NoMemory>
     requires { DeclParts (length parsed.now.exprs) (length parsed.now.stmts) decl.now }
-    ensures { (public : _) (at : _) → OnOk result (found.new ≡ fold (method_judged (get nat_eq constants.now) parsed.now.texts) found.old (methods_of (decl_made (expr_trees parsed.now.exprs) (stmt_trees parsed.now.exprs parsed.now.stmts) public decl.now at ∷ []))) }
+    ensures { (public : _) (at : _) → OnOk result (found.new ≡ fold (method_judged (constant_by constants.now.names.now constants.now.places.now) parsed.now.texts) found.old (methods_of (decl_made (expr_trees parsed.now.exprs) (stmt_trees parsed.now.exprs parsed.now.stmts) public decl.now at ∷ []))) }
 {
     match decl {
         Decl::Method { args, body, .. } => {
@@ -167,9 +185,9 @@ fn judge_all_variables(
     alloc: Global,
     found: &mut Found,
     parsed: &PackageNodes,
-    constants: &IndexMap<u32, Name>,
+    constants: &Constants<'_>,
 ) -> Result<(), NoMemory>
-    ensures { OnOk result (found.new ≡ fold (method_judged (get nat_eq constants.now) parsed.now.texts) found.old (methods_of (decl_trees parsed.now.exprs parsed.now.stmts parsed.now.decls))) }
+    ensures { OnOk result (found.new ≡ fold (method_judged (constant_by constants.now.names.now constants.now.places.now) parsed.now.texts) found.old (methods_of (decl_trees parsed.now.exprs parsed.now.stmts parsed.now.decls))) }
 {
     for number in 0..parsed.decls().len() {
         judge_method(alloc, found, parsed, constants, &parsed.decl(number).decl)?;
@@ -177,31 +195,38 @@ fn judge_all_variables(
     Ok(())
 }
 
-fn constants_by_text(alloc: Global, parsed: &PackageNodes) -> Result<IndexMap<u32, Name>, NoMemory>
-    ensures { IfOk result (λ table. (text : ℕ) → get nat_eq table text ≡ first_spelt (constants_in (declared parsed.now.texts (decl_trees parsed.now.exprs parsed.now.stmts parsed.now.decls))) text) }
-{
-    let names = constant_names(alloc, parsed)?;
-    by_text(alloc, names.as_slice())
-}
-
 fn judge_methods_within(
     alloc: Global,
     found: &mut Found,
     parsed: &PackageNodes,
+    constants: &Constants<'_>,
 ) -> Result<(), NoMemory>
+    requires names { constants.now.names.now ≡ constant_names (declared parsed.now.texts (decl_trees parsed.now.exprs parsed.now.stmts parsed.now.decls)) }
+    requires places { AreConstantPlaces (declared parsed.now.texts (decl_trees parsed.now.exprs parsed.now.stmts parsed.now.decls)) constants.now.places.now }
     ensures { OnOk result (found.new ≡ variables_found (declared parsed.now.texts (decl_trees parsed.now.exprs parsed.now.stmts parsed.now.decls)) found.old) }
 {
-    let constants = constants_by_text(alloc, parsed)?;
-    judge_all_variables(alloc, found, parsed, &constants)
+    judge_all_variables(alloc, found, parsed, constants)
 }
 
 /// What the declarations of a package break joins what was found before: a name that is declared twice, a local of the name
-/// of a constant, a reserved name, and more methods than 1,024, or locals than 256 or arguments than 64 of a method. `Err`
-/// only where memory was refused.
-pub fn declarations(alloc: Global, found: &mut Found, parsed: &PackageNodes) -> Result<(), NoMemory>
+/// of a constant, a reserved name, and more methods than 1,024, or locals than 256 or arguments than 64 of a method.
+/// `names` are those of the package, and `constants` the table of its constants. `Err` only where memory was refused.
+pub fn declarations(
+    alloc: Global,
+    found: &mut Found,
+    parsed: &PackageNodes,
+    names: &NameLists,
+    constants: &Variables,
+) -> Result<(), NoMemory>
+    requires names { AreNameLists (declared parsed.now.texts (decl_trees parsed.now.exprs parsed.now.stmts parsed.now.decls)) names.now }
+    requires constants { AreConstantPlaces (declared parsed.now.texts (decl_trees parsed.now.exprs parsed.now.stmts parsed.now.decls)) constants.now }
     ensures { OnOk result (found.new ≡ declarations_found (declared parsed.now.texts (decl_trees parsed.now.exprs parsed.now.stmts parsed.now.decls)) found.old) }
 {
-    judge_package(alloc, found, parsed)?;
+    let constants = Constants {
+        names: names.constants.as_slice(),
+        places: constants,
+    };
+    judge_package(alloc, found, parsed, names)?;
     judge_all_fields(alloc, found, parsed)?;
-    judge_methods_within(alloc, found, parsed)
+    judge_methods_within(alloc, found, parsed, &constants)
 }

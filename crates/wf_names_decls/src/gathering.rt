@@ -5,12 +5,44 @@ ghost use Rattle.wf_ast.specs.ParsedTrees.{decl_trees, decl_made, stmt_made, stm
 ghost use Rattle.wf_ast.specs.ParsedParts.{BlockBelow};
 ghost use Rattle.wf_names_rules.specs.Declarations.{declared, statuses_of, constants_of, structs_of, methods_of, local_of, locals_of};
 ghost use Rattle.wf_names_rules.specs.NameRules.{variable_names};
-ghost use Rattle.wf_names_decls.specs.Gathering.{listed, constant_names as constants_in, struct_names as structs_in, owned as owned_as, owned_methods as methods_in, owned_names as names_of_owned, field_names as fields_in};
+ghost use Rattle.wf_names_decls.specs.Gathering.{listed, constant_names as constants_in, struct_names as structs_in, method_names as names_of_methods, owned as owned_as, owned_methods as methods_in, field_names as fields_in};
+ghost use Rattle.wf_names_decls.specs.NameLists.{AreNameLists};
 
 use std::alloc::Global;
 use wf_ast::PackageNodes;
 use wf_ast::parsed::{Block, Decl, Field, Name, Stmt};
 use wf_text::faults::NoMemory;
+
+/// The names of the constants, the structs and the methods that a package declares, each list in order.
+pub struct NameLists {
+    pub constants: Vec<Name>,
+    pub structs: Vec<Name>,
+    pub methods: Vec<Name>,
+}
+
+impl Drop for NameLists {
+    fn drop(self) {
+        let NameLists {
+            constants: _,
+            structs: _,
+            methods: _,
+        } = self;
+    }
+}
+
+impl NameLists {
+    /// Those of the structs, and those of the methods.
+    pub fn into_structs_and_methods(self) -> (Vec<Name>, Vec<Name>)
+        ensures { result ≡ (self.structs, self.methods) }
+    {
+        let NameLists {
+            constants: _,
+            structs,
+            methods,
+        } = self;
+        (structs, methods)
+    }
+}
 
 /// A method by its name and that of the struct that it is declared for.
 #[derive(Clone, Copy, PartialEq, Eq)]
@@ -49,6 +81,17 @@ fn struct_name(decl: &Decl) -> Option<Name>
         Decl::Status(_) => None,
         Decl::Const { .. } => None,
         Decl::Method { .. } => None,
+    }
+}
+
+fn method_name(decl: &Decl) -> Option<Name>
+    ensures { (es : _) (ts : _) (public : _) (at : _) → map (λ m. m.name) (methods_of (decl_made es ts public decl.now at ∷ [])) ≡ listed result }
+{
+    match decl {
+        Decl::Method { name, .. } => Some(*name),
+        Decl::Status(_) => None,
+        Decl::Const { .. } => None,
+        Decl::Struct { .. } => None,
     }
 }
 
@@ -120,8 +163,8 @@ pub(crate) fn status_names(alloc: Global, parsed: &PackageNodes) -> Result<Vec<N
     Ok(names)
 }
 
-/// The names of the constants, in order.
-pub(crate) fn constant_names(alloc: Global, parsed: &PackageNodes) -> Result<Vec<Name>, NoMemory>
+// The names of the constants, in order.
+fn constant_names(alloc: Global, parsed: &PackageNodes) -> Result<Vec<Name>, NoMemory>
     ensures { IfOk result (λ names. names.items ≡ constants_in (declared parsed.now.texts (decl_trees parsed.now.exprs parsed.now.stmts parsed.now.decls))) }
 {
     let mut names = Vec::new(alloc);
@@ -131,8 +174,8 @@ pub(crate) fn constant_names(alloc: Global, parsed: &PackageNodes) -> Result<Vec
     Ok(names)
 }
 
-/// The names of the structs, in order.
-pub(crate) fn struct_names(alloc: Global, parsed: &PackageNodes) -> Result<Vec<Name>, NoMemory>
+// The names of the structs, in order.
+fn struct_names(alloc: Global, parsed: &PackageNodes) -> Result<Vec<Name>, NoMemory>
     ensures { IfOk result (λ names. names.items ≡ structs_in (declared parsed.now.texts (decl_trees parsed.now.exprs parsed.now.stmts parsed.now.decls))) }
 {
     let mut names = Vec::new(alloc);
@@ -140,6 +183,31 @@ pub(crate) fn struct_names(alloc: Global, parsed: &PackageNodes) -> Result<Vec<N
         push_name(&mut names, struct_name(&parsed.decl(number).decl))?;
     }
     Ok(names)
+}
+
+// The names of the methods, in order.
+fn method_names(alloc: Global, parsed: &PackageNodes) -> Result<Vec<Name>, NoMemory>
+    ensures { IfOk result (λ names. names.items ≡ names_of_methods (declared parsed.now.texts (decl_trees parsed.now.exprs parsed.now.stmts parsed.now.decls))) }
+{
+    let mut names = Vec::new(alloc);
+    for number in 0..parsed.decls().len() {
+        push_name(&mut names, method_name(&parsed.decl(number).decl))?;
+    }
+    Ok(names)
+}
+
+/// The names of the constants, the structs and the methods. `Err` where memory was refused.
+pub fn name_lists(alloc: Global, parsed: &PackageNodes) -> Result<NameLists, NoMemory>
+    ensures { IfOk result (AreNameLists (declared parsed.now.texts (decl_trees parsed.now.exprs parsed.now.stmts parsed.now.decls))) }
+{
+    let constants = constant_names(alloc, parsed)?;
+    let structs = struct_names(alloc, parsed)?;
+    let methods = method_names(alloc, parsed)?;
+    Ok(NameLists {
+        constants,
+        structs,
+        methods,
+    })
 }
 
 /// The methods by their names and those of their structs, in order.
@@ -151,17 +219,6 @@ pub(crate) fn owned_methods(alloc: Global, parsed: &PackageNodes) -> Result<Vec<
         push_owned(&mut methods, owned_method(&parsed.decl(number).decl))?;
     }
     Ok(methods)
-}
-
-/// The names of methods alone.
-pub(crate) fn owned_names(alloc: Global, methods: &[Owned]) -> Result<Vec<Name>, NoMemory>
-    ensures { IfOk result (λ names. names.items ≡ names_of_owned methods.now) }
-{
-    let mut names = Vec::new(alloc);
-    for method in methods {
-        names.push(method.name)?;
-    }
-    Ok(names)
 }
 
 /// The names of fields or arguments, in order.

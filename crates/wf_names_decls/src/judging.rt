@@ -1,24 +1,34 @@
 // What lists of declared names break.
 
-ghost use Rattle.std.specs.Prelude.{◌≡◌, ℕ, Option, not, [], nat_eq, IfOk, OnOk};
-ghost use Rattle.indexmap.specs.IndexMap.{get};
-ghost use Rattle.wf_ast.specs.declared.parsed.Name.{Name};
+ghost use Rattle.std.specs.Prelude.{◌≡◌, [], OnOk};
 ghost use Rattle.wf_text.specs.Precedence.{soonest};
 ghost use Rattle.wf_names_rules.specs.NameRules.{later_of as later_named};
-ghost use Rattle.wf_names_rules.specs.Passes.{refused_if as refuses_if};
-ghost use Rattle.wf_names_decls.specs.DeclarationPass.{names_judged, owned_doubles as doubles_of_owned, methods_judged, first_spelt, hidden_item, hidden_of, args_judged, locals_judged};
+ghost use Rattle.wf_names_decls.specs.DeclarationPass.{names_judged, declared_twice as are_declared_twice, declared_twice_in_struct as are_twice_in_struct, too_many_methods as methods_too_many, methods_judged, local_and_constant as is_local_and_constant, locals_and_constants as are_locals_and_constants, too_many_args as args_too_many, args_judged, too_many_locals as locals_too_many, locals_judged};
+ghost use Rattle.wf_names_decls.specs.Gathering.{owned_names};
+ghost use Rattle.wf_names_decls.specs.ConstantNames.{constant_by};
 
-use crate::gathering::{Owned, owned_names};
-use indexmap::IndexMap;
+use crate::gathering::Owned;
 use std::alloc::Global;
 use std::collections::BTreeSet;
-use wf_ast::PackageNodes;
 use wf_ast::parsed::Name;
-use wf_names_rules::lists::{beyond, doubles, initializes, reserved};
+use wf_ast::{PackageNodes, TextId};
+use wf_names_rules::lists::{beyond, doubles, initializes, reserved, twice};
+use wf_names_rules::tables::Variables;
 use wf_text::faults::NoMemory;
 use wf_text::found::Found;
 use wf_text::precedence::is_before;
 use wf_text::rules::{Refusal, Rule};
+
+/// Names that an earlier one of the list has too.
+pub(crate) fn declared_twice(
+    alloc: Global,
+    found: &mut Found,
+    names: &[Name],
+) -> Result<(), NoMemory>
+    ensures { OnOk result (found.new ≡ soonest found.old (are_declared_twice names.now)) }
+{
+    doubles(alloc, found, names)
+}
 
 /// Of a list of names those that are declared twice, and the reserved ones.
 pub(crate) fn judge_names(
@@ -29,65 +39,67 @@ pub(crate) fn judge_names(
 ) -> Result<(), NoMemory>
     ensures { OnOk result (found.new ≡ names_judged parsed.now.texts found.old names.now) }
 {
-    doubles(alloc, found, names)?;
+    declared_twice(alloc, found, names)?;
     reserved(found, parsed, names);
     Ok(())
 }
 
-fn double_method(fresh: bool, name: Name) -> Option<Refusal>
-    ensures { (seen : _) → fresh ≡ not seen → result ≡ refuses_if seen Rule.N2 name.at }
-{
-    if fresh {
-        None
-    } else {
-        Some(Refusal {
-            rule: Rule::N2,
-            at: name.at,
-        })
-    }
-}
-
-// Pairs are looked up in an ordered set, so that a look-up takes few comparisons whatever the names are.
-fn owned_doubles(alloc: Global, found: &mut Found, methods: &[Owned]) -> Result<(), NoMemory>
-    ensures { OnOk result (found.new ≡ soonest found.old (doubles_of_owned [] methods.now)) }
+// Methods that an earlier one of their struct has the name of. Pairs are looked up in an ordered set, so that a look-up
+// takes few comparisons whatever the names are.
+fn declared_twice_in_struct(
+    alloc: Global,
+    found: &mut Found,
+    methods: &[Owned],
+) -> Result<(), NoMemory>
+    ensures { OnOk result (found.new ≡ soonest found.old (are_twice_in_struct [] methods.now)) }
 {
     let mut seen: BTreeSet<(u32, u32)> = BTreeSet::new(alloc);
     for method in methods {
         let fresh = seen.insert((method.owner.text.0, method.name.text.0))?;
-        found.refuse(double_method(fresh, method.name));
+        found.refuse(twice(fresh, method.name));
     }
     Ok(())
 }
 
-/// The methods of a package: those of a struct that are declared twice, reserved names, `initialize`, and the one
-/// after the 1,024 that a package may have.
+// The method after the 1,024 that a package may have.
+fn too_many_methods(names: &[Name]) -> Option<Refusal>
+    ensures { result ≡ methods_too_many names.now }
+{
+    beyond(names, Rule::L6, 1024)
+}
+
+/// The methods of a package, and their names alone: those of a struct that are declared twice, reserved names,
+/// `initialize`, and the one after the 1,024 that a package may have.
 pub(crate) fn judge_methods(
     alloc: Global,
     found: &mut Found,
     parsed: &PackageNodes,
     methods: &[Owned],
+    names: &[Name],
 ) -> Result<(), NoMemory>
+    requires { names.now ≡ owned_names methods.now }
     ensures { OnOk result (found.new ≡ methods_judged parsed.now.texts found.old methods.now) }
 {
-    owned_doubles(alloc, found, methods)?;
-    let names = owned_names(alloc, methods)?;
-    reserved(found, parsed, names.as_slice());
-    initializes(found, parsed, names.as_slice());
-    found.refuse(beyond(names.as_slice(), Rule::L6, 1024));
+    declared_twice_in_struct(alloc, found, methods)?;
+    reserved(found, parsed, names);
+    initializes(found, parsed, names);
+    found.refuse(too_many_methods(names));
     Ok(())
 }
 
-/// Each name by its text; of names that are spelt alike the first.
-pub(crate) fn by_text(alloc: Global, names: &[Name]) -> Result<IndexMap<u32, Name>, NoMemory>
-    ensures { IfOk result (λ table. (text : ℕ) → get nat_eq table text ≡ first_spelt names.now text) }
+/// The constants of a package: their names, in order, and their places by their texts.
+#[derive(Clone, Copy)]
+pub(crate) struct Constants<'a> {
+    pub names: &'a [Name],
+    pub places: &'a Variables,
+}
+
+// The name of the constant of this text; of constants with one name the first.
+fn constant(constants: &Constants<'_>, text: TextId) -> Option<Name>
+    ensures { result ≡ constant_by constants.now.names.now constants.now.places.now text.0 }
 {
-    let mut table = IndexMap::new(alloc);
-    for name in names {
-        if !table.contains_key(&name.text.0) {
-            table.insert(name.text.0, *name)?;
-        }
-    }
-    Ok(table)
+    let entry = constants.places.entries.get(&text.0)?;
+    constants.names.get(entry.place as usize).copied()
 }
 
 // Of two names that mean different things and are spelt alike the one after the other.
@@ -109,21 +121,27 @@ fn later_of(first: Name, second: Name) -> Refusal
     }
 }
 
-fn hidden_local(constants: &IndexMap<u32, Name>, local: Name) -> Option<Refusal>
-    ensures { result ≡ hidden_item (get nat_eq constants.now local.text.0) local }
+// A local of the name of a constant, at the later of the two.
+fn local_and_constant(constants: &Constants<'_>, local: Name) -> Option<Refusal>
+    ensures { result ≡ is_local_and_constant (constant_by constants.now.names.now constants.now.places.now local.text.0) local }
 {
-    match constants.get(&local.text.0) {
-        Some(constant) => Some(later_of(local, *constant)),
-        None => None,
+    let constant = constant(constants, local.text)?;
+    Some(later_of(local, constant))
+}
+
+fn locals_and_constants(found: &mut Found, constants: &Constants<'_>, locals: &[Name])
+    ensures { found.new ≡ soonest found.old (are_locals_and_constants (constant_by constants.now.names.now constants.now.places.now) locals.now) }
+{
+    for local in locals {
+        found.refuse(local_and_constant(constants, *local));
     }
 }
 
-fn hidden_locals(found: &mut Found, constants: &IndexMap<u32, Name>, locals: &[Name])
-    ensures { found.new ≡ soonest found.old (hidden_of (get nat_eq constants.now) locals.now) }
+// The argument after the 64 that a method may have.
+fn too_many_args(args: &[Name]) -> Option<Refusal>
+    ensures { result ≡ args_too_many args.now }
 {
-    for local in locals {
-        found.refuse(hidden_local(constants, *local));
-    }
+    beyond(args, Rule::L7, 64)
 }
 
 /// The arguments of a method: declared twice, reserved, and the one after the 64 that a method may have.
@@ -136,8 +154,15 @@ pub(crate) fn judge_args(
     ensures { OnOk result (found.new ≡ args_judged parsed.now.texts found.old args.now) }
 {
     judge_names(alloc, found, parsed, args)?;
-    found.refuse(beyond(args, Rule::L7, 64));
+    found.refuse(too_many_args(args));
     Ok(())
+}
+
+// The local after the 256 that a method may have.
+fn too_many_locals(locals: &[Name]) -> Option<Refusal>
+    ensures { result ≡ locals_too_many locals.now }
+{
+    beyond(locals, Rule::L7, 256)
 }
 
 /// The locals of a method: declared twice, reserved, named as a constant, and the one after the 256 that a method
@@ -146,13 +171,13 @@ pub(crate) fn judge_locals(
     alloc: Global,
     found: &mut Found,
     parsed: &PackageNodes,
-    constants: &IndexMap<u32, Name>,
+    constants: &Constants<'_>,
     locals: &[Name],
 ) -> Result<(), NoMemory>
-    ensures { OnOk result (found.new ≡ locals_judged (get nat_eq constants.now) parsed.now.texts found.old locals.now) }
+    ensures { OnOk result (found.new ≡ locals_judged (constant_by constants.now.names.now constants.now.places.now) parsed.now.texts found.old locals.now) }
 {
     judge_names(alloc, found, parsed, locals)?;
-    hidden_locals(found, constants, locals);
-    found.refuse(beyond(locals, Rule::L7, 256));
+    locals_and_constants(found, constants, locals);
+    found.refuse(too_many_locals(locals));
     Ok(())
 }

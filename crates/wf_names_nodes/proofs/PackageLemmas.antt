@@ -104,12 +104,15 @@ pub record ConstsAdded (d : Declared) (began now : NamedPackageTree) (rest : Lis
 
 consts_passed : (d : Declared) (began now next : NamedPackageTree) (xs ys : List Constant) (old new : ScopeTables) → ConstsAdded d began now (xs ++ ys) old
     → ((known : List Variable) → TellsScope d (constant_scope known) old → next ≡ with_consts now (resolved_consts d known xs))
-    → ((known : List Variable) → TellsScope d (constant_scope known) old → TellsScope d (constant_scope (known ++ map as_variable xs)) new) → ConstsAdded d began next ys new
+    → ((d : Declared) (known left : List Variable) → (known ++ map as_variable xs) ++ left ≡ map as_variable d.constants → TellsScope d (constant_scope known) old → TellsScope d (constant_scope (known ++ map as_variable xs)) new)
+    → ConstsAdded d began next ys new
 consts_passed d began now next xs ys old new a step tells =
-    let known = a.known ++ map as_variable xs in record {
+    let known = a.known ++ map as_variable xs in
+    let split : known ++ map as_variable ys ≡ map as_variable d.constants =
+    append_assoc a.known (map as_variable xs) (map as_variable ys) ∙ ap (λ r. a.known ++ r) (sym (map-append as_variable xs ys)) ∙ a.split in record {
       known = known;
-      tells = tells a.known a.tells;
-      split = append_assoc a.known (map as_variable xs) (map as_variable ys) ∙ ap (λ r. a.known ++ r) (sym (map-append as_variable xs ys)) ∙ a.split;
+      tells = tells d a.known (map as_variable ys) split a.tells;
+      split = split;
       same = ap (λ t. with_consts t (resolved_consts d known ys)) (step a.known a.tells) ∙ consts_behind now (resolved_consts d a.known xs) (resolved_consts d known ys)
           ∙ ap (λ cs. with_consts now cs) (sym (consts_append d a.known xs ys)) ∙ a.same;
     }
@@ -132,7 +135,8 @@ module _ (es : List ExprTree) (ts : List StmtTree) (decls : List DeclNode) (i : 
 
   pub const_next : (d : Declared) (began now next : NamedPackageTree) (old new : ScopeTables) → ConstsAdded d began now (constants_of (decls_made es ts (drop i decls))) old
       → ((known : List Variable) → TellsScope d (constant_scope known) old → next ≡ with_consts now (resolved_consts d known (constants_of (made ∷ []))))
-      → ((known : List Variable) → TellsScope d (constant_scope known) old → TellsScope d (constant_scope (known ++ map as_variable (constants_of (made ∷ [])))) new) → ConstsAdded d began next (constants_of rest) new
+      → ((d : Declared) (known left : List Variable) → (known ++ map as_variable (constants_of (made ∷ []))) ++ left ≡ map as_variable d.constants → TellsScope d (constant_scope known) old
+      → TellsScope d (constant_scope (known ++ map as_variable (constants_of (made ∷ [])))) new) → ConstsAdded d began next (constants_of rest) new
   const_next d began now next old new a step tells =
       let P : List Constant → Type 0 = λ cs. ConstsAdded d began now cs old in
       consts_passed d began now next (constants_of (made ∷ [])) (constants_of rest) old new (subst P (ap constants_of from_here ∙ constants_append (made ∷ []) rest) a) step tells
@@ -181,8 +185,8 @@ unfolding named_package
 package_new p name e = ap named_package e
 
 -- After a declaration that declares no constant.
-pub no_const_known : (d : Declared) (s : ScopeTables) (known : List Variable) → TellsScope d (constant_scope known) s → TellsScope d (constant_scope (known ++ [])) s
-no_const_known d s known h =
+pub no_const_known : (s : ScopeTables) (d : Declared) (known left : List Variable) → (known ++ []) ++ left ≡ map as_variable d.constants → TellsScope d (constant_scope known) s → TellsScope d (constant_scope (known ++ [])) s
+no_const_known s d known left split h =
     let P : List Variable → Type 0 = λ vs. TellsScope d (constant_scope vs) s in
     subst P (sym (append-nil known)) h
 

@@ -9,6 +9,7 @@ use Rattle.wf_names_rules.specs.Meanings.{fields_known, known_at, callee_on}
 use Rattle.wf_names_rules.specs.Tables.{known_by}
 use Rattle.wf_names_scopes.specs.Agreeing.{TellsPackage, TellsScope}
 use Rattle.wf_names_scopes.proofs.AgreeLemmas.{agree_by, agree_same}
+use Rattle.wf_names_scopes.proofs.ConstantLemmas.{constant-place}
 use Rattle.wf_names_scopes.proofs.MethodLemmas.{local-places, arg-places}
 use Rattle.wf_names_resolve.specs.Standing.{field_numbered, standing_by, standing_at}
 
@@ -31,7 +32,7 @@ standing_same d scope t s p q = λ i. record {
   status = λ text. (p.statuses.numbers text ∙ numbers_later (is_spelt text) 10 0 d.statuses) i;
   structure = λ text. p.structs.numbers text i;
   local = λ text. local-places d scope t p.variables s.method q.inside text i;
-  constant = λ text. q.constants.places text i;
+  constant = λ text. constant-place d scope.constants s.constants _ text q.constants (p.constants.places text) (p.constants.sorts text) i;
   field = λ text. (ap (λ this. field_numbered t this text) q.this ∙ field scope.this text) i;
   arg = λ text. arg-places d scope t p.variables s.method q.inside text i;
   callee = λ on text. ap (λ k. callee_on k on text) known i;

@@ -5,7 +5,7 @@ ghost use Rattle.std.specs.Prelude.{◌≡◌, ◌<◌, ◌++◌, [], ◌∷◌,
 ghost use Rattle.wf_ast.specs.ParsedTrees.{expr_trees, stmt_trees, decl_trees, expr_at, type_at, fields_at, decl_made};
 ghost use Rattle.wf_ast.specs.ParsedParts.{TypeBelow, FieldsBelow, ResultBelow, BlockBelow, DeclParts};
 ghost use Rattle.wf_named.specs.NamedParts.{named_package};
-ghost use Rattle.wf_names_rules.specs.Declarations.{Variable, variables, as_variable, constants_of, methods_of};
+ghost use Rattle.wf_names_rules.specs.Declarations.{Declared, Variable, variables, as_variable, constants_of, methods_of};
 ghost use Rattle.wf_names_rules.specs.Uses.{constant_scope};
 ghost use Rattle.wf_names_scopes.specs.Agreeing.{package_of, TellsPackage, TellsScope, TellsConstants};
 ghost use Rattle.wf_names_scopes.specs.Growing.{AreNext};
@@ -20,7 +20,7 @@ use wf_ast::parsed::{Decl, DeclNode};
 use wf_named::NamedNodes;
 use wf_names_rules::here::Here;
 use wf_names_rules::tables::{Scope, Tables};
-use wf_names_scopes::scopes::{add_constant, enter_method, enter_struct, outside};
+use wf_names_scopes::scopes::{enter_method, enter_struct, outside, pass_constant};
 use wf_text::faults::NoMemory;
 
 // A constant, which is known after its declaration.
@@ -37,8 +37,8 @@ fn next_const(
     requires tables { TellsPackage (package_of parsed.now) tables.now }
     ensures added { OnOk result ((known : List Variable) → TellsScope (package_of parsed.now) (constant_scope known) scope.old
         → named_package nodes.new ≡ with_consts (named_package nodes.old) (resolved_consts (package_of parsed.now) known (record { name = constant.entry.name; of = type_at (expr_trees parsed.now.exprs) constant.entry.of.now; value = expr_at (expr_trees parsed.now.exprs) constant.entry.value } ∷ []))) }
-    ensures known { OnOk result ((known : List Variable) → TellsScope (package_of parsed.now) (constant_scope known) scope.old
-        → TellsScope (package_of parsed.now) (constant_scope (known ++ record { name = constant.entry.name; of = type_at (expr_trees parsed.now.exprs) constant.entry.of.now } ∷ [])) scope.new) }
+    ensures known { OnOk result ((d : Declared) (known left : List Variable) → (known ++ record { name = constant.entry.name; of = type_at (expr_trees parsed.now.exprs) constant.entry.of.now } ∷ []) ++ left ≡ map as_variable d.constants
+        → TellsScope d (constant_scope known) scope.old → TellsScope d (constant_scope (known ++ record { name = constant.entry.name; of = type_at (expr_trees parsed.now.exprs) constant.entry.of.now } ∷ [])) scope.new) }
 {
     let here = Here {
         parsed,
@@ -46,7 +46,7 @@ fn next_const(
         scope,
     };
     put_const(alloc, nodes, &here, constant)?;
-    add_constant(scope, parsed, constant.name, constant.of)
+    pass_constant(scope)
 }
 
 // A declaration, which may be of a constant.
@@ -62,8 +62,8 @@ fn const_decl(
     requires tables { TellsPackage (package_of parsed.now) tables.now }
     ensures added { OnOk result ((known : List Variable) → TellsScope (package_of parsed.now) (constant_scope known) scope.old
         → named_package nodes.new ≡ with_consts (named_package nodes.old) (resolved_consts (package_of parsed.now) known (constants_of (decl_made (expr_trees parsed.now.exprs) (stmt_trees parsed.now.exprs parsed.now.stmts) node.now.public node.now.decl node.now.at ∷ [])))) }
-    ensures known { OnOk result ((known : List Variable) → TellsScope (package_of parsed.now) (constant_scope known) scope.old
-        → TellsScope (package_of parsed.now) (constant_scope (known ++ map as_variable (constants_of (decl_made (expr_trees parsed.now.exprs) (stmt_trees parsed.now.exprs parsed.now.stmts) node.now.public node.now.decl node.now.at ∷ [])))) scope.new) }
+    ensures known { OnOk result ((d : Declared) (known left : List Variable) → (known ++ map as_variable (constants_of (decl_made (expr_trees parsed.now.exprs) (stmt_trees parsed.now.exprs parsed.now.stmts) node.now.public node.now.decl node.now.at ∷ []))) ++ left ≡ map as_variable d.constants
+        → TellsScope d (constant_scope known) scope.old → TellsScope d (constant_scope (known ++ map as_variable (constants_of (decl_made (expr_trees parsed.now.exprs) (stmt_trees parsed.now.exprs parsed.now.stmts) node.now.public node.now.decl node.now.at ∷ [])))) scope.new) }
 {
     match &node.decl {
         Decl::Const { name, of, value } => {
@@ -234,7 +234,7 @@ fn all_decls(
     requires none { length nodes.old.methods ≡ 0 }
     ensures { OnOk result (named_package nodes.new ≡ with_others (package_of parsed.now) (with_consts (named_package nodes.old) (resolved_consts (package_of parsed.now) [] (package_of parsed.now).constants)) (decl_trees parsed.now.exprs parsed.now.stmts parsed.now.decls)) }
 {
-    let mut scope = outside(alloc);
+    let mut scope = outside();
     all_consts(alloc, nodes, parsed, tables, &mut scope)?;
     all_others(alloc, nodes, parsed, tables, &mut scope)
 }

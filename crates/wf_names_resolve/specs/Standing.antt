@@ -8,7 +8,7 @@ use Rattle.wf_names_rules.specs.declared.tables.Scope.{Scope as ScopeTables}
 use Rattle.wf_names_rules.specs.Declarations.{Declared, text_of, status_named, struct_named, place_in}
 use Rattle.wf_names_rules.specs.Uses.{Scope}
 use Rattle.wf_names_rules.specs.Meanings.{fields_known, known_at, callee_on}
-use Rattle.wf_names_rules.specs.Tables.{pair_place, known_by, args_at, number_at, place_at, local_place_at, arg_place_at}
+use Rattle.wf_names_rules.specs.Tables.{pair_place, known_by, args_at, number_at, constant_place_at, local_place_at, arg_place_at}
 
 -- What is looked up at a place; names and quoted texts stand by the numbers of their texts.
 pub record Standing : Type 0 where
@@ -53,7 +53,7 @@ standing_by texts t s = record {
   status = number_at t.statuses;
   structure = number_at t.structs;
   local = local_place_at t s.method;
-  constant = place_at s.constants;
+  constant = constant_place_at t s.constants;
   field = field_numbered t s.this;
   arg = arg_place_at t s.method;
   callee = callee_on (known_by texts t s);

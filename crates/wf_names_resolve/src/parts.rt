@@ -3,7 +3,7 @@
 ghost use Rattle.std.specs.Prelude.{◌≡◌, bytes_eq, drop, IfOk};
 ghost use Rattle.std.specs.List.{position_from};
 ghost use Rattle.wf_names_rules.specs.Meanings.{base_status_texts, callee_on as callee_of_name};
-ghost use Rattle.wf_names_rules.specs.Tables.{pair_place, known_by, number_at, place_at, entry_place as place_of_entry, local_place_at, arg_place_at};
+ghost use Rattle.wf_names_rules.specs.Tables.{pair_place, known_by, number_at, constant_place_at, entry_place as place_of_entry, local_place_at, arg_place_at};
 ghost use Rattle.wf_names_rules.specs.Declarations.{bytes_of};
 ghost use Rattle.wf_names_resolve.specs.Prefixes.{resolved_core};
 ghost use Rattle.wf_names_resolve.specs.Standing.{standing_by, field_numbered};
@@ -18,7 +18,7 @@ use wf_base::base_methods::BaseSig;
 use wf_named::{BaseType, NamedCallee, NamedCore, NamedPath, Variable};
 use wf_names_rules::callees::Callee;
 use wf_names_rules::here::Here;
-use wf_names_rules::tables::{Entry, Scope, Tables, arg, callee_on, local, text_bytes};
+use wf_names_rules::tables::{Entry, Scope, Tables, arg, callee_on, constant, local, text_bytes};
 use wf_names_rules::types::width_named;
 use wf_text::faults::NoMemory;
 
@@ -81,42 +81,36 @@ pub(crate) fn base_status(text: &[u8]) -> StatusId
 fn field_of(tables: &Tables, owner: u32, text: TextId) -> Option<u32>
     ensures { result ≡ pair_place tables.now.fields (owner, text.0) }
 {
-    match tables.fields.get(&(owner, text.0)) {
-        Some(entry) => Some(entry.place),
-        None => None,
-    }
+    let entry = tables.fields.get(&(owner, text.0))?;
+    Some(entry.place)
 }
 
 fn field(tables: &Tables, scope: &Scope, text: TextId) -> Option<u32>
     ensures { result ≡ field_numbered tables.now scope.now.this text.0 }
 {
-    match scope.this {
-        Some(owner) => field_of(tables, owner, text),
-        None => None,
-    }
+    let owner = scope.this?;
+    field_of(tables, owner, text)
 }
 
 fn entry_place(entry: Option<Entry>) -> Option<u32>
     ensures { result ≡ place_of_entry entry }
 {
-    match entry {
-        Some(entry) => Some(entry.place),
-        None => None,
-    }
+    let entry = entry?;
+    Some(entry.place)
 }
 
-fn constant_place(scope: &Scope, text: TextId) -> Option<u32>
-    ensures { result ≡ place_at scope.now.constants text.0 }
+fn constant_place(tables: &Tables, scope: &Scope, text: TextId) -> Option<u32>
+    ensures { result ≡ constant_place_at tables.now scope.now.constants text.0 }
 {
-    entry_place(scope.constants.entries.get(&text.0).copied())
+    entry_place(constant(tables, scope, text))
 }
 
 fn bare(tables: &Tables, scope: &Scope, text: TextId) -> Variable
-    ensures { result ≡ bare_variable (local_place_at tables.now scope.now.method text.0) (place_at scope.now.constants text.0) }
+    ensures { result ≡ bare_variable (local_place_at tables.now scope.now.method text.0) (constant_place_at tables.now scope.now.constants text.0) }
 {
     match entry_place(local(tables, scope, text)) {
         Some(n) => Variable::Local(LocalId(n)),
-        None => Variable::Const(ConstId(number_or(constant_place(scope, text)))),
+        None => Variable::Const(ConstId(number_or(constant_place(tables, scope, text)))),
     }
 }
 

@@ -9,7 +9,7 @@ use Rattle.wf_ast.specs.declared.numbers.TextId.{TextId}
 use Rattle.wf_ast.specs.declared.parsed.Name.{Name}
 use Rattle.graphs.specs.Graphs.{holds, AreCycles}
 use Rattle.wf_names_rules.specs.Reserved.{is_reserved, is_initialize}
-use Rattle.wf_names_rules.specs.Passes.{refused_if, doubles_of, bytes_at, reserved_item, reserved_of, initialize_item, initializes_of, is_flagged, flagged_from}
+use Rattle.wf_names_rules.specs.Passes.{refused_if, doubles_of, bytes_at, reserved_name, reserved_of, initialize, initializes_of, is_flagged, flagged_from}
 use Rattle.wf_names_rules.specs.NameRules.{twice}
 use Rattle.wf_names_rules.specs.Found.{Finds, RepeatsName, ReservesName, InitializesName, IsOnCycle}
 use Rattle.wf_names_rules.proofs.InsertLemmas.{insert-keeps, insert-has, insert-only}
@@ -106,24 +106,24 @@ mapped_at f (m ∷ ms) (suc i) n e = mapped_at f ms i n e
 pub reserved-sound : (texts : List (List ℕ)) (names : List Name) (s : Refusal) → Finds (reserved_of texts names) s → ReservesName texts names s
 unfolding refusal
 reserved-sound texts names s f =
-    let r = mapped_cause (reserved_item texts) names f.0 (Some s) f.1 in
+    let r = mapped_cause (reserved_name texts) names f.0 (Some s) f.1 in
     let c = refused-cause (is_reserved (bytes_at texts r.0)) N3 r.0.at s r.1.1 in
     record { place = f.0; name = r.0; is = r.1.0; reserved = c.0; refused = c.1 }
 
 pub reserved-complete : (texts : List (List ℕ)) (names : List Name) (s : Refusal) → ReservesName texts names s → Finds (reserved_of texts names) s
 reserved-complete texts names s r =
-    (r.place, mapped_at (reserved_item texts) names r.place r.name r.is ∙ ap (λ t. Some (refused_if t N3 r.name.at)) r.reserved ∙ ap (λ x. Some (Some x)) (sym r.refused))
+    (r.place, mapped_at (reserved_name texts) names r.place r.name r.is ∙ ap (λ t. Some (refused_if t N3 r.name.at)) r.reserved ∙ ap (λ x. Some (Some x)) (sym r.refused))
 
 pub initializes-sound : (texts : List (List ℕ)) (names : List Name) (s : Refusal) → Finds (initializes_of texts names) s → InitializesName texts names s
 unfolding refusal
 initializes-sound texts names s f =
-    let r = mapped_cause (initialize_item texts) names f.0 (Some s) f.1 in
+    let r = mapped_cause (initialize texts) names f.0 (Some s) f.1 in
     let c = refused-cause (is_initialize (bytes_at texts r.0)) N3 r.0.at s r.1.1 in
     record { place = f.0; name = r.0; is = r.1.0; initialize = c.0; refused = c.1 }
 
 pub initializes-complete : (texts : List (List ℕ)) (names : List Name) (s : Refusal) → InitializesName texts names s → Finds (initializes_of texts names) s
 initializes-complete texts names s r =
-    (r.place, mapped_at (initialize_item texts) names r.place r.name r.is ∙ ap (λ t. Some (refused_if t N3 r.name.at)) r.initialize ∙ ap (λ x. Some (Some x)) (sym r.refused))
+    (r.place, mapped_at (initialize texts) names r.place r.name r.is ∙ ap (λ t. Some (refused_if t N3 r.name.at)) r.initialize ∙ ap (λ x. Some (Some x)) (sym r.refused))
 
 -- Numbers that are flagged.
 flagged_cause : (rule : Rule) (a : ℕ) (flags : List Bool) (names : List Name) (i : ℕ) (s : Refusal) → slice_get (flagged_from rule a flags names) i ≡ Some (Some s)

@@ -17,7 +17,7 @@ use Rattle.wf_names_rules.specs.declared.seen.Seen.{Seen}
 use Rattle.wf_names_rules.specs.Uses.{Use, method, uses_of, given_uses, link_uses, receiver_uses, type_uses}
 use Rattle.wf_names_rules.specs.NodeUses.{prefix_uses}
 use Rattle.wf_names_rules.specs.Meanings.{Known, GivenValue, given_values, has_meaning, is_known, callee_of, call_args, parameters_of}
-use Rattle.wf_names_rules.specs.Judged.{judged, walked, walked_one, call_finished, args_judged_if, callee_refusal}
+use Rattle.wf_names_rules.specs.Judged.{judged, walked, walked_one, call_finished, given_judged_if, callee_refusal}
 
 pub drop-one : {X : Type 0} (xs : List X) (i : ℕ) (d : X) → i < length xs → drop i xs ≡ slice_index_or xs i d ∷ drop (i + 1) xs
 drop-one xs i d h = rw (add-one, drop-cons xs i d) refl
@@ -77,7 +77,7 @@ call_walked k seen on fresh given all r rec name mark gs e1 e2 e3 e4 e5 =
     let found : given.found ≡ (walked k on (given_uses gs)).found =
     ap (λ (s : Seen). s.found) e3 ∙ walked-found k fresh on (given_uses gs) (ap (λ (s : Seen). s.found) e2) in
     let is = is_known (callee_of k c) in
-    let judge : Bool → Option Refusal → Option Refusal = λ b f. args_judged_if (is && b) k (sooner f (callee_refusal (callee_of k c) name)) (parameters_of k.args (callee_of k c)) name (call_args c) in
+    let judge : Bool → Option Refusal → Option Refusal = λ b f. given_judged_if (is && b) k (sooner f (callee_refusal (callee_of k c) name)) (parameters_of k.args (callee_of k c)) name (call_args c) in
     let first : r.found ≡ (walked_one k (walked k on (given_uses gs)) (method c)).found =
     ap (λ (s : Seen). s.found) e5 ∙ ap (λ (s : Seen). s.found) e4 ∙ ap (λ b. judge b given.found) known ∙ ap (judge (list_all (has_meaning k) (given_uses gs))) found in
     let second : r.known ≡ (walked_one k (walked k on (given_uses gs)) (method c)).known =

@@ -9,7 +9,7 @@ use Rattle.wf_ast.specs.declared.parsed.Name.{Name}
 use Rattle.wf_ast.specs.ParsedTree as tree
 use Rattle.wf_ast.specs.ParsedTree.{StmtTree, BlockTree, ArmTrees}
 use Rattle.wf_names_rules.specs.Declarations.{Declared, Method, is_spelt}
-use Rattle.wf_names_rules.specs.Passes.{refused_if, reserved_item}
+use Rattle.wf_names_rules.specs.Passes.{refused_if, reserved_name}
 
 -- A loop that has a label, or a `break` or `continue`; `loops` are the loops that it stands in, the outermost first,
 -- each with its label if it has one.
@@ -51,12 +51,28 @@ is_labelled text (Some label) = is_spelt text label
 abbrev pub has_label : List (Option Name) → ℕ → Bool
 has_label loops text = list_any (is_labelled text) loops
 
--- The first refusal of what was found before and what a labelled loop or a jump breaks; `texts` are those of the package.
+-- A label of a loop that stands in a loop of the same label.
+abbrev pub label_twice : List (Option Name) → Name → Option Refusal
+label_twice loops label = refused_if (has_label loops label.text.0) N2 label.at
+
+-- A label of a loop that is reserved; `texts` are those of the package.
+abbrev pub reserved_label : (texts : List (List ℕ)) → Name → Option Refusal
+reserved_label texts label = reserved_name texts label
+
+-- A jump to a label that no loop round it has.
+abbrev pub unknown_label : List (Option Name) → Name → Option Refusal
+unknown_label loops label = refused_if (not (has_label loops label.text.0)) N5 label.at
+
+-- A jump without a label outside every loop.
+abbrev pub outside_loops : List (Option Name) → Place → Option Refusal
+outside_loops [] at = Some (record { rule = N5; at = at })
+outside_loops (loop ∷ loops) at = None
+
+-- The first refusal of what was found before and what a labelled loop or a jump breaks.
 abbrev pub jump_judged : (texts : List (List ℕ)) → Option Refusal → Jump → Option Refusal
-jump_judged texts found (labelled loops label) = sooner (sooner found (refused_if (has_label loops label.text.0) N2 label.at)) (reserved_item texts label)
-jump_judged texts found (to_label loops label) = sooner found (refused_if (not (has_label loops label.text.0)) N5 label.at)
-jump_judged texts found (to_innermost [] at) = sooner found (Some (record { rule = N5; at = at }))
-jump_judged texts found (to_innermost (loop ∷ loops) at) = found
+jump_judged texts found (labelled loops label) = sooner (sooner found (label_twice loops label)) (reserved_label texts label)
+jump_judged texts found (to_label loops label) = sooner found (unknown_label loops label)
+jump_judged texts found (to_innermost loops at) = sooner found (outside_loops loops at)
 
 abbrev pub jumped : (texts : List (List ℕ)) → Option Refusal → List Jump → Option Refusal
 jumped texts found [] = found

@@ -1,15 +1,13 @@
 -- What the uses of names stand for, by what is known at their place.
-use Rattle.std.specs.Prelude.{◌+◌, ℕ, Bool, true, false, not, ◌&&◌, if◌then◌else◌, List, [], ◌∷◌, map, Option, Some, None, slice_get, is_some, nat_eq, codes, option_map}
+use Rattle.std.specs.Prelude.{ℕ, Bool, true, false, not, ◌&&◌, if◌then◌else◌, List, [], ◌∷◌, map, Option, Some, None, slice_get, is_some, nat_eq, codes, option_map}
 use Rattle.std.specs.List.{list_any, list_all}
 use Rattle.std.specs.Str.{bytes_eq}
 use Rattle.indexmap.specs.IndexSet.{insert_all}
 use Rattle.wf_base.specs.declared.widths.Width.{Width}
 use Rattle.wf_base.specs.declared.widths.Width.TheVariants as widths
-use Rattle.wf_base.specs.declared.base_methods.Kind.{Kind}
 use Rattle.wf_base.specs.declared.base_methods.Kind.TheVariants as kinds
 use Rattle.wf_base.specs.declared.base_methods.BaseSig.{BaseSig}
 use Rattle.wf_base.specs.BaseTable as table
-use Rattle.wf_ast.specs.declared.numbers.TextId.{TextId}
 use Rattle.wf_ast.specs.declared.parsed.Name.{Name}
 use Rattle.wf_ast.specs.declared.parsed.Path.{Path}
 use Rattle.wf_ast.specs.declared.parsed.Root.{Root}
@@ -22,7 +20,7 @@ use Rattle.wf_names_rules.specs.declared.callees.Callee.{Callee}
 use Rattle.wf_names_rules.specs.declared.callees.Callee.TheVariants as callees
 use Rattle.wf_names_rules.specs.declared.sorts.Sort.{Sort}
 use Rattle.wf_names_rules.specs.declared.sorts.Sort.TheVariants as sorts
-use Rattle.wf_names_rules.specs.Declarations.{Variable, Constant, Structure, Method, Declared, is_spelt, text_of, status_named, struct_named, method_named, variable_named, fields_of}
+use Rattle.wf_names_rules.specs.Declarations.{Variable, Method, Declared, is_spelt, text_of, status_named, struct_named, method_named, variable_named, fields_of}
 use Rattle.wf_names_rules.specs.Uses.{Use, own_status, base_status, variable, structure, method, Scope, given_uses}
 
 -- The statuses of the language, as they are written after `base.`.

@@ -25,18 +25,18 @@ abbrev pub bytes_at : List (List ℕ) → Name → List ℕ
 bytes_at texts name = bytes_in (slice_get texts name.text.0)
 
 -- Names that are reserved.
-abbrev pub reserved_item : List (List ℕ) → Name → Option Refusal
-reserved_item texts name = refused_if (is_reserved (bytes_at texts name)) N3 name.at
+abbrev pub reserved_name : List (List ℕ) → Name → Option Refusal
+reserved_name texts name = refused_if (is_reserved (bytes_at texts name)) N3 name.at
 
 abbrev pub reserved_of : List (List ℕ) → List Name → List (Option Refusal)
-reserved_of texts names = map (reserved_item texts) names
+reserved_of texts names = map (reserved_name texts) names
 
 -- Methods of the name `initialize`.
-abbrev pub initialize_item : List (List ℕ) → Name → Option Refusal
-initialize_item texts name = refused_if (is_initialize (bytes_at texts name)) N3 name.at
+abbrev pub initialize : List (List ℕ) → Name → Option Refusal
+initialize texts name = refused_if (is_initialize (bytes_at texts name)) N3 name.at
 
 abbrev pub initializes_of : List (List ℕ) → List Name → List (Option Refusal)
-initializes_of texts names = map (initialize_item texts) names
+initializes_of texts names = map (initialize texts) names
 
 -- Names of numbers that are flagged, as those of a graph that have a way back; each breaks the rule.
 abbrev pub is_flagged : Option Bool → Bool

@@ -1,5 +1,5 @@
 -- What tables know.
-use Rattle.std.specs.Prelude.{ℕ, Bool, false, List, [], Option, Some, None, is_some, slice_get, nat_eq, option_map}
+use Rattle.std.specs.Prelude.{ℕ, Bool, false, cond, List, [], Option, Some, None, is_some, slice_get, nat_eq, nat_lt, option_map}
 use Rattle.std.specs.BTreeMap.{BTreeMap}
 use Rattle.indexmap.specs.IndexMap.{IndexMap, get}
 use Rattle.indexmap.specs.IndexSet.{IndexSet, contains}
@@ -41,22 +41,33 @@ sort_at variables = sort_by nat_eq variables.entries
 abbrev pub place_at : Variables → ℕ → Option ℕ
 place_at variables = place_by nat_eq variables.entries
 
--- The local of a method that has this name, and its argument; outside methods there are none.
+-- The variables of a method; outside methods there are none.
+abbrev pub variables_at : Tables → (method : Option ℕ) → Option MethodVariables
+variables_at t None = None
+variables_at t (Some m) = slice_get t.variables.items m
+
+-- The local that has this name, and the argument.
 abbrev pub local_in : Option MethodVariables → ℕ → Option Entry
 local_in None text = None
 local_in (Some known) text = get nat_eq known.locals.entries text
 
 abbrev pub local_at : Tables → (method : Option ℕ) → ℕ → Option Entry
-local_at t None text = None
-local_at t (Some m) text = local_in (slice_get t.variables.items m) text
+local_at t method text = local_in (variables_at t method) text
 
 abbrev pub arg_in : Option MethodVariables → ℕ → Option Entry
 arg_in None text = None
 arg_in (Some known) text = get nat_eq known.args.entries text
 
 abbrev pub arg_at : Tables → (method : Option ℕ) → ℕ → Option Entry
-arg_at t None text = None
-arg_at t (Some m) text = arg_in (slice_get t.variables.items m) text
+arg_at t method text = arg_in (variables_at t method) text
+
+-- The constant that has this name, where it is one of the first `known`.
+abbrev pub constant_in : (known : ℕ) → Option Entry → Option Entry
+constant_in known None = None
+constant_in known (Some entry) = cond (nat_lt entry.place known) (Some entry) None
+
+abbrev pub constant_at : Tables → (known : ℕ) → ℕ → Option Entry
+constant_at t known text = constant_in known (get nat_eq t.constants.entries text)
 
 -- What may be called on them, and their places.
 abbrev pub entry_sort : Option Entry → Option Sort
@@ -71,11 +82,17 @@ local_sort_at t method text = entry_sort (local_at t method text)
 abbrev pub arg_sort_at : Tables → (method : Option ℕ) → ℕ → Option Sort
 arg_sort_at t method text = entry_sort (arg_at t method text)
 
+abbrev pub constant_sort_at : Tables → (known : ℕ) → ℕ → Option Sort
+constant_sort_at t known text = entry_sort (constant_at t known text)
+
 abbrev pub local_place_at : Tables → (method : Option ℕ) → ℕ → Option ℕ
 local_place_at t method text = entry_place (local_at t method text)
 
 abbrev pub arg_place_at : Tables → (method : Option ℕ) → ℕ → Option ℕ
 arg_place_at t method text = entry_place (arg_at t method text)
+
+abbrev pub constant_place_at : Tables → (known : ℕ) → ℕ → Option ℕ
+constant_place_at t known text = entry_place (constant_at t known text)
 
 abbrev pub flag_in : Option Bool → Bool
 flag_in None = false
@@ -105,7 +122,7 @@ known_by texts t s = record {
   is_status = has_number t.statuses;
   is_struct = has_number t.structs;
   local = local_sort_at t s.method;
-  constant = sort_at s.constants;
+  constant = constant_sort_at t s.constants;
   field = field_at t s.this;
   arg = arg_sort_at t s.method;
   own_method = own_method_at t s.this;

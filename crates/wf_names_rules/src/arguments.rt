@@ -11,7 +11,7 @@ ghost use Rattle.wf_names_rules.specs.Declarations.{bytes_in, bytes_of};
 ghost use Rattle.wf_names_rules.specs.Tables.{args_at, arg_sort_at};
 ghost use Rattle.wf_names_rules.specs.Here.{known_here};
 ghost use Rattle.wf_names_rules.specs.Meanings.{given_values, of_base, parameters_of, is_parameter as has_parameter, lacks_one as lacks, is_io as reads_or_writes};
-ghost use Rattle.wf_names_rules.specs.Judged.{arg_path, arg_path_at, passed_item, passed_seen, passed_of, unknown_item, unknown_of, args_judged};
+ghost use Rattle.wf_names_rules.specs.Judged.{arg_path, arg_path_at, given_twice as are_given_twice, passed_twice_by_value as is_passed_twice, passed_seen, passed_twice as are_passed_twice, unknown_argument as is_unknown_argument, unknown_arguments as are_unknown_arguments, missing_argument as lacks_argument, given_judged};
 
 use crate::callees::Callee;
 use crate::here::Here;
@@ -35,6 +35,13 @@ fn given_names(alloc: Global, args: &[Given]) -> Result<Vec<Name>, NoMemory>
         names.push(given.name)?;
     }
     Ok(names)
+}
+
+// Arguments that are given twice.
+fn given_twice(alloc: Global, found: &mut Found, names: &[Name]) -> Result<(), NoMemory>
+    ensures { OnOk result (found.new ≡ soonest found.old (are_given_twice names.now)) }
+{
+    doubles(alloc, found, names)
 }
 
 fn is_io(sort: Option<Sort>) -> bool
@@ -75,13 +82,13 @@ fn as_arg(path: Path) -> Option<Path>
 }
 
 // One value after those that passed the arguments in `seen`, which its own joins.
-fn passed_again(
+fn passed_twice_by_value(
     tables: &Tables,
     scope: &Scope,
     seen: &mut IndexSet<u32>,
     path: Option<Path>,
 ) -> Result<Option<Refusal>, NoMemory>
-    ensures item { IfOk result (λ now. now ≡ passed_item (arg_sort_at tables.now scope.now.method) seen.old.keys path) }
+    ensures item { IfOk result (λ now. now ≡ is_passed_twice (arg_sort_at tables.now scope.now.method) seen.old.keys path) }
     ensures seen { OnOk result (seen.new.keys ≡ passed_seen seen.old.keys path) }
 {
     match path {
@@ -97,6 +104,7 @@ fn passed_again(
     }
 }
 
+// Readers and writers that are passed twice.
 fn passed_twice(
     alloc: Global,
     found: &mut Found,
@@ -106,11 +114,11 @@ fn passed_twice(
     args: &[Given],
 ) -> Result<(), NoMemory>
     requires { GivenBelow (length parsed.now.exprs) args.now }
-    ensures { OnOk result (found.new ≡ soonest found.old (passed_of (arg_sort_at tables.now scope.now.method) [] (given_values (given_at (expr_trees parsed.now.exprs) args.now)))) }
+    ensures { OnOk result (found.new ≡ soonest found.old (are_passed_twice (arg_sort_at tables.now scope.now.method) [] (given_values (given_at (expr_trees parsed.now.exprs) args.now)))) }
 {
     let mut seen = IndexSet::new(alloc);
     for given in args {
-        let now = passed_again(tables, scope, &mut seen, passed(parsed, given.value))?;
+        let now = passed_twice_by_value(tables, scope, &mut seen, passed(parsed, given.value))?;
         found.refuse(now);
     }
     Ok(())
@@ -185,13 +193,14 @@ fn is_parameter(parsed: &PackageNodes, tables: &Tables, callee: Callee, text: Te
     }
 }
 
-fn unknown_arg(
+// An argument that the method doesn't have.
+fn unknown_argument(
     parsed: &PackageNodes,
     tables: &Tables,
     callee: Callee,
     name: Name,
 ) -> Option<Refusal>
-    ensures { result ≡ unknown_item (bytes_of parsed.now.texts) (parameters_of (args_at tables.now) callee) name }
+    ensures { result ≡ is_unknown_argument (bytes_of parsed.now.texts) (parameters_of (args_at tables.now) callee) name }
 {
     refused_if(
         !is_parameter(parsed, tables, callee, name.text),
@@ -200,17 +209,17 @@ fn unknown_arg(
     )
 }
 
-fn unknown_args(
+fn unknown_arguments(
     found: &mut Found,
     parsed: &PackageNodes,
     tables: &Tables,
     callee: Callee,
     names: &[Name],
 )
-    ensures { found.new ≡ soonest found.old (unknown_of (bytes_of parsed.now.texts) (parameters_of (args_at tables.now) callee) names.now) }
+    ensures { found.new ≡ soonest found.old (are_unknown_arguments (bytes_of parsed.now.texts) (parameters_of (args_at tables.now) callee) names.now) }
 {
     for name in names {
-        found.refuse(unknown_arg(parsed, tables, callee, *name));
+        found.refuse(unknown_argument(parsed, tables, callee, *name));
     }
 }
 
@@ -273,8 +282,22 @@ fn lacks_one(
     }
 }
 
+// That an argument of the method isn't given, at the method's name.
+fn missing_argument(
+    alloc: Global,
+    here: &Here<'_>,
+    callee: Callee,
+    method: Name,
+    names: &[Name],
+) -> Result<Option<Refusal>, NoMemory>
+    ensures { IfOk result (λ refusal. refusal ≡ lacks_argument (bytes_of here.now.parsed.now.texts) (parameters_of (args_at here.now.tables.now) callee) method names.now) }
+{
+    let lacking = lacks_one(alloc, here.parsed, here.tables, callee, names)?;
+    Ok(refused_if(lacking, Rule::N7, method.at))
+}
+
 /// What the arguments of a call break joins what was found before.
-pub(crate) fn arguments(
+pub(crate) fn judge_given(
     alloc: Global,
     found: &mut Found,
     here: &Here<'_>,
@@ -283,13 +306,13 @@ pub(crate) fn arguments(
     args: &[Given],
 ) -> Result<(), NoMemory>
     requires { GivenBelow (length here.now.parsed.now.exprs) args.now }
-    ensures { OnOk result (found.new ≡ args_judged (known_here here.now) found.old (parameters_of (args_at here.now.tables.now) callee) name (map (λ g. g.name) args.now) (given_values (given_at (expr_trees here.now.parsed.now.exprs) args.now))) }
+    ensures { OnOk result (found.new ≡ given_judged (known_here here.now) found.old (parameters_of (args_at here.now.tables.now) callee) name (map (λ g. g.name) args.now) (given_values (given_at (expr_trees here.now.parsed.now.exprs) args.now))) }
 {
     let names = given_names(alloc, args)?;
-    doubles(alloc, found, names.as_slice())?;
+    given_twice(alloc, found, names.as_slice())?;
     passed_twice(alloc, found, here.parsed, here.tables, here.scope, args)?;
-    unknown_args(found, here.parsed, here.tables, callee, names.as_slice());
-    let lacking = lacks_one(alloc, here.parsed, here.tables, callee, names.as_slice())?;
-    found.refuse(refused_if(lacking, Rule::N7, name.at));
+    unknown_arguments(found, here.parsed, here.tables, callee, names.as_slice());
+    let missing = missing_argument(alloc, here, callee, name, names.as_slice())?;
+    found.refuse(missing);
     Ok(())
 }

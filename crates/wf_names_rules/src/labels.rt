@@ -2,7 +2,7 @@
 // round them is.
 
 ghost use Rattle.std.specs.Prelude.{◌≡◌, ◌++◌, ◌∷◌, [], OnOk};
-ghost use Rattle.wf_names_rules.specs.Jumps.{labelled, to_innermost, label_jumps, jump as jump_of, is_labelled as labels_it, has_label as among_labels, jump_judged, jumped};
+ghost use Rattle.wf_names_rules.specs.Jumps.{labelled, label_jumps, jump as jump_of, is_labelled as labels_it, has_label as among_labels, label_twice as is_label_twice, reserved_label as reserves_label, unknown_label as is_unknown_label, outside_loops as is_outside_loops, jump_judged, jumped};
 
 use crate::lists::{refused_if, reserved_name};
 use crate::seen::Gathered;
@@ -29,12 +29,25 @@ fn has_label(loops: &[Option<Name>], text: TextId) -> bool
     loops.iter().any(|label| is_labelled(text, *label))
 }
 
+// A label of a loop that stands in a loop of the same label.
+fn label_twice(loops: &[Option<Name>], label: Name) -> Option<Refusal>
+    ensures { result ≡ is_label_twice loops.now label }
+{
+    refused_if(has_label(loops, label.text), Rule::N2, label.at)
+}
+
+// A label of a loop that is reserved.
+fn reserved_label(parsed: &PackageNodes, label: Name) -> Option<Refusal>
+    ensures { result ≡ reserves_label parsed.now.texts label }
+{
+    reserved_name(parsed, label)
+}
+
 fn judge_label(found: &mut Found, parsed: &PackageNodes, loops: &[Option<Name>], label: Name)
     ensures { found.new ≡ jump_judged parsed.now.texts found.old (labelled loops.now label) }
 {
-    let twice = has_label(loops, label.text);
-    found.refuse(refused_if(twice, Rule::N2, label.at));
-    found.refuse(reserved_name(parsed, label));
+    found.refuse(label_twice(loops, label));
+    found.refuse(reserved_label(parsed, label));
 }
 
 fn judge_loop(found: &mut Found, parsed: &PackageNodes, loops: &[Option<Name>], label: Option<Name>)
@@ -46,12 +59,20 @@ fn judge_loop(found: &mut Found, parsed: &PackageNodes, loops: &[Option<Name>], 
     }
 }
 
-fn judge_unlabelled(found: &mut Found, parsed: &PackageNodes, loops: &[Option<Name>], at: Place)
-    ensures { found.new ≡ jump_judged parsed.now.texts found.old (to_innermost loops.now at) }
+// A jump to a label that no loop round it has.
+fn unknown_label(loops: &[Option<Name>], label: Name) -> Option<Refusal>
+    ensures { result ≡ is_unknown_label loops.now label }
+{
+    refused_if(!has_label(loops, label.text), Rule::N5, label.at)
+}
+
+// A jump without a label outside every loop.
+fn outside_loops(loops: &[Option<Name>], at: Place) -> Option<Refusal>
+    ensures { result ≡ is_outside_loops loops.now at }
 {
     match loops.first() {
-        Some(_) => {}
-        None => found.refuse(Some(Refusal { rule: Rule::N5, at })),
+        Some(_) => None,
+        None => Some(Refusal { rule: Rule::N5, at }),
     }
 }
 
@@ -65,11 +86,8 @@ fn judge_jump(
     ensures { found.new ≡ jump_judged parsed.now.texts found.old (jump_of loops.now label at) }
 {
     match label {
-        Some(label) => {
-            let unknown = !has_label(loops, label.text);
-            found.refuse(refused_if(unknown, Rule::N5, label.at));
-        }
-        None => judge_unlabelled(found, parsed, loops, at),
+        Some(label) => found.refuse(unknown_label(loops, label)),
+        None => found.refuse(outside_loops(loops, at)),
     }
 }
 

@@ -2,7 +2,7 @@
 
 ghost use Rattle.std.specs.Prelude.{◌≡◌, ◌<◌, not, [], slice_get, OnOk};
 ghost use Rattle.wf_text.specs.Precedence.{soonest};
-ghost use Rattle.wf_names_rules.specs.Passes.{refused_if as refuses_if, doubles_of, reserved_item, reserved_of, initialize_item, initializes_of, is_flagged as flags_at, flagged_from, beyond as beyond_of};
+ghost use Rattle.wf_names_rules.specs.Passes.{refused_if as refuses_if, doubles_of, reserved_name as reserves_name, reserved_of, initialize as is_refused_initialize, initializes_of, is_flagged as flags_at, flagged_from, beyond as beyond_of};
 
 use crate::reserved::{is_initialize, is_reserved};
 use crate::tables::text_bytes;
@@ -26,7 +26,8 @@ pub fn refused_if(broken: bool, rule: Rule, at: Place) -> Option<Refusal>
     }
 }
 
-fn double_name(fresh: bool, name: Name) -> Option<Refusal>
+/// That a name is there twice, where it isn't fresh among those before it.
+pub fn twice(fresh: bool, name: Name) -> Option<Refusal>
     ensures { (seen : _) → fresh ≡ not seen → result ≡ refuses_if seen Rule.N2 name.at }
 {
     if fresh {
@@ -46,14 +47,14 @@ pub fn doubles(alloc: Global, found: &mut Found, names: &[Name]) -> Result<(), N
     let mut seen = IndexSet::new(alloc);
     for name in names {
         let fresh = seen.insert(name.text.0)?;
-        found.refuse(double_name(fresh, *name));
+        found.refuse(twice(fresh, *name));
     }
     Ok(())
 }
 
 /// A name that nothing may be declared under.
 pub fn reserved_name(parsed: &PackageNodes, name: Name) -> Option<Refusal>
-    ensures { result ≡ reserved_item parsed.now.texts name }
+    ensures { result ≡ reserves_name parsed.now.texts name }
 {
     refused_if(
         is_reserved(text_bytes(parsed, name.text)),
@@ -71,8 +72,9 @@ pub fn reserved(found: &mut Found, parsed: &PackageNodes, names: &[Name])
     }
 }
 
-fn initialize_name(parsed: &PackageNodes, name: Name) -> Option<Refusal>
-    ensures { result ≡ initialize_item parsed.now.texts name }
+// A method of the name `initialize`.
+fn initialize(parsed: &PackageNodes, name: Name) -> Option<Refusal>
+    ensures { result ≡ is_refused_initialize parsed.now.texts name }
 {
     refused_if(
         is_initialize(text_bytes(parsed, name.text)),
@@ -86,7 +88,7 @@ pub fn initializes(found: &mut Found, parsed: &PackageNodes, names: &[Name])
     ensures { found.new ≡ soonest found.old (initializes_of parsed.now.texts names.now) }
 {
     for name in names {
-        found.refuse(initialize_name(parsed, *name));
+        found.refuse(initialize(parsed, *name));
     }
 }
 
@@ -114,8 +116,6 @@ pub fn flagged(found: &mut Found, rule: Rule, flags: &[bool], names: &[Name])
 pub fn beyond(names: &[Name], rule: Rule, limit: usize) -> Option<Refusal>
     ensures { result ≡ beyond_of rule limit names.now }
 {
-    match names.get(limit) {
-        Some(name) => Some(Refusal { rule, at: name.at }),
-        None => None,
-    }
+    let name = names.get(limit)?;
+    Some(Refusal { rule, at: name.at })
 }

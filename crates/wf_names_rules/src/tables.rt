@@ -1,11 +1,12 @@
 // What is known of a package and at a place in it, in tables: each name is looked up once.
 
-ghost use Rattle.std.specs.Prelude.{◌≡◌, slice_get, nat_eq};
+ghost use Rattle.std.specs.Prelude.{◌≡◌, slice_get, nat_eq, option_map};
+ghost use Rattle.indexmap.specs.IndexMap.{get};
 ghost use Rattle.indexmap.specs.IndexSet.{contains};
 ghost use Rattle.wf_base.specs.BaseTable.{method_named};
 ghost use Rattle.wf_names_rules.specs.Declarations.{bytes_in};
 ghost use Rattle.wf_names_rules.specs.Meanings.{or_sort, path_sort as sort_of_path, this_callee as callee_here, struct_callee as callee_in_struct, found_base, part_callee as callee_in_part, sorted_callee as callee_by_sort, callee_on as callee_of_name};
-ghost use Rattle.wf_names_rules.specs.Tables.{known_by, public_at, pair_sort, entry_sort as sort_of_entry, sort_at, local_in as local_known, local_at, local_sort_at, arg_in as arg_known, arg_at, arg_sort_at, field_at, own_method_at};
+ghost use Rattle.wf_names_rules.specs.Tables.{known_by, public_at, pair_sort, entry_sort as sort_of_entry, variables_at, local_at, local_sort_at, constant_sort_at, arg_at, arg_sort_at, field_at, own_method_at, constant_in as constant_known, constant_at};
 
 use crate::callees::Callee;
 use crate::sorts::Sort;
@@ -71,6 +72,8 @@ pub struct Tables {
     pub statuses: Numbers,
     /// The structs, from 0.
     pub structs: Numbers,
+    /// The constants.
+    pub constants: Variables,
     /// A field, by its struct's name and its own; ordered, so that a look-up takes few comparisons whatever the names are.
     pub fields: BTreeMap<(u32, u32), Entry>,
     /// The number of a method, by its struct's name and its own.
@@ -89,6 +92,7 @@ impl Drop for Tables {
         let Tables {
             statuses: _,
             structs: _,
+            constants: _,
             fields: _,
             methods: _,
             method_names: _,
@@ -99,22 +103,13 @@ impl Drop for Tables {
     }
 }
 
-/// What is known at a place besides: constants, the struct of `this` by its name, and the method, by its number, whose
-/// arguments and locals are known. Outside methods there are none.
+/// What is known at a place besides: how many constants, from the first, the struct of `this` by its name, and the method,
+/// by its number, whose arguments and locals are known. Outside methods there are none.
+#[derive(Clone, Copy)]
 pub struct Scope {
-    pub constants: Variables,
+    pub constants: u32,
     pub this: Option<u32>,
     pub method: Option<usize>,
-}
-
-impl Drop for Scope {
-    fn drop(self) {
-        let Scope {
-            constants: _,
-            this: _,
-            method: _,
-        } = self;
-    }
 }
 
 /// The bytes of a text, none where the package doesn't have it.
@@ -140,76 +135,71 @@ fn is_public(tables: &Tables, m: usize) -> bool
 fn field_of(tables: &Tables, owner: u32, text: TextId) -> Option<Sort>
     ensures { result ≡ pair_sort tables.now.fields (owner, text.0) }
 {
-    match tables.fields.get(&(owner, text.0)) {
-        Some(entry) => Some(entry.sort),
-        None => None,
-    }
+    let entry = tables.fields.get(&(owner, text.0))?;
+    Some(entry.sort)
 }
 
 fn field(tables: &Tables, scope: &Scope, text: TextId) -> Option<Sort>
     ensures { result ≡ field_at tables.now scope.now.this text.0 }
 {
-    match scope.this {
-        Some(owner) => field_of(tables, owner, text),
-        None => None,
+    let owner = scope.this?;
+    field_of(tables, owner, text)
+}
+
+// The variable of this name.
+fn variable(variables: &Variables, text: TextId) -> Option<Entry>
+    ensures { result ≡ get nat_eq variables.now.entries text.0 }
+{
+    variables.entries.get(&text.0).copied()
+}
+
+fn constant_in(entry: Option<Entry>, known: u32) -> Option<Entry>
+    ensures { result ≡ constant_known known entry }
+{
+    let entry = entry?;
+    if entry.place < known {
+        Some(entry)
+    } else {
+        None
     }
 }
 
-// What may be called on the variable of this name.
-fn variable(variables: &Variables, text: TextId) -> Option<Sort>
-    ensures { result ≡ sort_at variables.now text.0 }
+/// The constant of this name, where it is known.
+pub fn constant(tables: &Tables, scope: &Scope, text: TextId) -> Option<Entry>
+    ensures { result ≡ constant_at tables.now scope.now.constants text.0 }
 {
-    match variables.entries.get(&text.0) {
-        Some(entry) => Some(entry.sort),
-        None => None,
-    }
+    constant_in(variable(&tables.constants, text), scope.constants)
 }
 
-fn local_in(tables: &Tables, m: usize, text: TextId) -> Option<Entry>
-    ensures { result ≡ local_known (slice_get tables.now.variables.items m) text.0 }
+// The arguments and the locals that are known.
+fn method_variables<'a>(tables: &'a Tables, scope: &Scope) -> Option<&'a MethodVariables>
+    ensures { option_map (λ known. known.now) result ≡ variables_at tables.now scope.now.method }
 {
-    match tables.variables.get(m) {
-        Some(known) => known.locals.entries.get(&text.0).copied(),
-        None => None,
-    }
+    let m = scope.method?;
+    tables.variables.get(m)
 }
 
 /// The local of this name.
 pub fn local(tables: &Tables, scope: &Scope, text: TextId) -> Option<Entry>
     ensures { result ≡ local_at tables.now scope.now.method text.0 }
 {
-    match scope.method {
-        Some(m) => local_in(tables, m, text),
-        None => None,
-    }
-}
-
-fn arg_in(tables: &Tables, m: usize, text: TextId) -> Option<Entry>
-    ensures { result ≡ arg_known (slice_get tables.now.variables.items m) text.0 }
-{
-    match tables.variables.get(m) {
-        Some(known) => known.args.entries.get(&text.0).copied(),
-        None => None,
-    }
+    let known = method_variables(tables, scope)?;
+    variable(&known.locals, text)
 }
 
 /// The argument of this name.
 pub fn arg(tables: &Tables, scope: &Scope, text: TextId) -> Option<Entry>
     ensures { result ≡ arg_at tables.now scope.now.method text.0 }
 {
-    match scope.method {
-        Some(m) => arg_in(tables, m, text),
-        None => None,
-    }
+    let known = method_variables(tables, scope)?;
+    variable(&known.args, text)
 }
 
 fn entry_sort(entry: Option<Entry>) -> Option<Sort>
     ensures { result ≡ sort_of_entry entry }
 {
-    match entry {
-        Some(entry) => Some(entry.sort),
-        None => None,
-    }
+    let entry = entry?;
+    Some(entry.sort)
 }
 
 /// What may be called on the argument of this name.
@@ -220,11 +210,11 @@ pub(crate) fn arg_sort(tables: &Tables, scope: &Scope, text: TextId) -> Option<S
 }
 
 fn bare(tables: &Tables, scope: &Scope, text: TextId) -> Option<Sort>
-    ensures { result ≡ or_sort (local_sort_at tables.now scope.now.method text.0) (sort_at scope.now.constants text.0) }
+    ensures { result ≡ or_sort (local_sort_at tables.now scope.now.method text.0) (constant_sort_at tables.now scope.now.constants text.0) }
 {
     match entry_sort(local(tables, scope, text)) {
         Some(sort) => Some(sort),
-        None => variable(&scope.constants, text),
+        None => entry_sort(constant(tables, scope, text)),
     }
 }
 
@@ -247,10 +237,8 @@ pub(crate) fn path_sort(
 fn own_method(tables: &Tables, scope: &Scope, text: TextId) -> Option<usize>
     ensures { result ≡ own_method_at tables.now scope.now.this text.0 }
 {
-    match scope.this {
-        Some(owner) => tables.methods.get(&(owner, text.0)).copied(),
-        None => None,
-    }
+    let owner = scope.this?;
+    tables.methods.get(&(owner, text.0)).copied()
 }
 
 fn this_callee(tables: &Tables, scope: &Scope, text: TextId) -> Callee

@@ -1,18 +1,19 @@
 // The walk over expressions, types and calls: what their uses of names break, and the row of the methods that they call.
 
-ghost use Rattle.std.specs.Prelude.{◌≡◌, ◌<◌, ◌++◌, ◌&&◌, true, length, bytes_eq, OnOk};
+ghost use Rattle.std.specs.Prelude.{◌≡◌, ◌<◌, ◌++◌, ◌&&◌, not, true, length, bytes_eq, OnOk};
 ghost use Rattle.std.specs.List.{list_any, flat_map, AllByRecursion};
 ghost use Rattle.wf_ast.specs.ParsedTrees.{expr_trees, expr_at, part_at, links_at, given_at, call_at, type_at, core_at, bounds_at};
 ghost use Rattle.wf_ast.specs.ParsedParts.{GivenBelow, LinksBelow, IsBelow, TypeBelow, BoundsBelow, PrefixBelow};
+ghost use Rattle.wf_names_rules.specs.Passes.{refused_if as refuses_if};
 ghost use Rattle.wf_names_rules.specs.Uses.{own_status, base_status, variable, structure, receiver_uses, uses_of, part_uses, link_uses, given_uses, call_uses, type_uses, bounds_uses};
 ghost use Rattle.wf_names_rules.specs.NodeUses.{prefix_uses};
 ghost use Rattle.wf_names_rules.specs.Tables.{known_by, args_at};
 ghost use Rattle.wf_names_rules.specs.Here.{known_here};
 ghost use Rattle.wf_names_rules.specs.Meanings.{given_values, parameters_of, callee_of, is_base_status as is_of_language, is_known as knows};
-ghost use Rattle.wf_names_rules.specs.Judged.{callee_refusal as refuses_callee, used_so, walked, walked_one, args_judged_if, call_finished};
+ghost use Rattle.wf_names_rules.specs.Judged.{unknown_status as is_unknown_status, unknown_base_status as is_unknown_base_status, unknown_variable as is_unknown_variable, unknown_struct as is_unknown_struct, unknown_method as is_unknown_method, foreign_method as is_foreign_method, private_method as is_private_method, callee_refusal as refuses_callee, used_so, walked, walked_one, given_judged_if, call_finished};
 ghost use Rattle.wf_names_rules.specs.Called.{with_callee, with_calls};
 
-use crate::arguments::arguments;
+use crate::arguments::judge_given;
 use crate::callees::{Callee, add_callee};
 use crate::here::Here;
 use crate::lists::refused_if;
@@ -24,7 +25,6 @@ use wf_ast::parsed::{
     Bounds, Call, Core, Expr, Given, Link, Name, Path, Prefix, Receiver, TypeExpr,
 };
 use wf_ast::{ExprId, PackageNodes};
-use wf_text::Place;
 use wf_text::faults::NoMemory;
 use wf_text::found::Found;
 use wf_text::rules::{Refusal, Rule};
@@ -54,50 +54,82 @@ pub(crate) fn is_base_status(text: &[u8]) -> bool
     is_among(&BASE_STATUSES, text)
 }
 
-// A use that has a meaning or not, by N1 at its place.
-fn used(seen: &mut Seen, has_meaning: bool, at: Place)
-    ensures { seen.new ≡ used_so seen.old has_meaning at }
+// A use, with its refusal where it has no meaning.
+fn used(seen: &mut Seen, unknown: Option<Refusal>)
+    ensures { (has_meaning : _) (at : _) → unknown ≡ refuses_if (not has_meaning) Rule.N1 at → seen.new ≡ used_so seen.old has_meaning at }
 {
-    seen.found.refuse(refused_if(!has_meaning, Rule::N1, at));
-    seen.known = seen.known && has_meaning;
+    seen.found.refuse(unknown);
+    seen.known = seen.known && unknown.is_none();
+}
+
+// A status that the package doesn't have.
+fn unknown_status(tables: &Tables, text: Name) -> Option<Refusal>
+    ensures { (texts : _) (scope : _) → result ≡ is_unknown_status (known_by texts tables.now scope) text }
+{
+    refused_if(
+        !tables.statuses.numbers.contains_key(&text.text.0),
+        Rule::N1,
+        text.at,
+    )
 }
 
 fn walk_own_status(seen: &mut Seen, tables: &Tables, text: Name)
     ensures { (texts : _) (scope : _) → seen.new ≡ walked_one (known_by texts tables.now scope) seen.old (own_status text) }
 {
-    used(
-        seen,
-        tables.statuses.numbers.contains_key(&text.text.0),
+    used(seen, unknown_status(tables, text));
+}
+
+// A status that the language doesn't have.
+fn unknown_base_status(parsed: &PackageNodes, text: Name) -> Option<Refusal>
+    ensures { (tables : _) (scope : _) → result ≡ is_unknown_base_status (known_by parsed.now.texts tables scope) text }
+{
+    refused_if(
+        !is_base_status(text_bytes(parsed, text.text)),
+        Rule::N1,
         text.at,
-    );
+    )
 }
 
 fn walk_base_status(seen: &mut Seen, parsed: &PackageNodes, text: Name)
     ensures { (tables : _) (scope : _) → seen.new ≡ walked_one (known_by parsed.now.texts tables scope) seen.old (base_status text) }
 {
-    used(seen, is_base_status(text_bytes(parsed, text.text)), text.at);
+    used(seen, unknown_base_status(parsed, text));
+}
+
+// A local or constant, a field or an argument that isn't known here.
+fn unknown_variable(here: &Here<'_>, path: Path) -> Option<Refusal>
+    ensures { result ≡ is_unknown_variable (known_here here.now) path }
+{
+    refused_if(
+        path_sort(here.parsed, here.tables, here.scope, path).is_none(),
+        Rule::N1,
+        path.name.at,
+    )
 }
 
 /// A use of a path.
 pub(crate) fn walk_path(seen: &mut Seen, here: &Here<'_>, path: Path)
     ensures { seen.new ≡ walked_one (known_here here.now) seen.old (variable path) }
 {
-    used(
-        seen,
-        path_sort(here.parsed, here.tables, here.scope, path).is_some(),
-        path.name.at,
-    );
+    used(seen, unknown_variable(here, path));
+}
+
+// A struct that the package doesn't have.
+fn unknown_struct(tables: &Tables, name: Name) -> Option<Refusal>
+    ensures { (texts : _) (scope : _) → result ≡ is_unknown_struct (known_by texts tables.now scope) name }
+{
+    refused_if(
+        !tables.structs.numbers.contains_key(&name.text.0),
+        Rule::N1,
+        name.at,
+    )
 }
 
 /// A use of a struct's name.
 pub fn walk_struct(seen: &mut Seen, tables: &Tables, name: Name)
     ensures { (texts : _) (scope : _) → seen.new ≡ walked_one (known_by texts tables.now scope) seen.old (structure name) }
 {
-    used(
-        seen,
-        tables.structs.numbers.contains_key(&name.text.0),
-        name.at,
-    );
+    used(seen, unknown_struct(tables, name));
 }
 
 fn walk_receiver(seen: &mut Seen, here: &Here<'_>, on: Receiver)
@@ -109,22 +141,43 @@ fn walk_receiver(seen: &mut Seen, here: &Here<'_>, on: Receiver)
     }
 }
 
+// A method that what it is called on doesn't have.
+fn unknown_method(name: Name) -> Refusal
+    ensures { result ≡ is_unknown_method name }
+{
+    Refusal {
+        rule: Rule::N1,
+        at: name.at,
+    }
+}
+
+// A method of another struct called on `this`.
+fn foreign_method(name: Name) -> Refusal
+    ensures { result ≡ is_foreign_method name }
+{
+    Refusal {
+        rule: Rule::N8,
+        at: name.at,
+    }
+}
+
+// A private method called through a field.
+fn private_method(name: Name) -> Refusal
+    ensures { result ≡ is_private_method name }
+{
+    Refusal {
+        rule: Rule::N8,
+        at: name.at,
+    }
+}
+
 fn callee_refusal(callee: Callee, name: Name) -> Option<Refusal>
     ensures { result ≡ refuses_callee callee name }
 {
     match callee {
-        Callee::Missing => Some(Refusal {
-            rule: Rule::N1,
-            at: name.at,
-        }),
-        Callee::Foreign => Some(Refusal {
-            rule: Rule::N8,
-            at: name.at,
-        }),
-        Callee::Hidden(_) => Some(Refusal {
-            rule: Rule::N8,
-            at: name.at,
-        }),
+        Callee::Missing => Some(unknown_method(name)),
+        Callee::Foreign => Some(foreign_method(name)),
+        Callee::Hidden(_) => Some(private_method(name)),
         Callee::Own(_) => None,
         Callee::Base(_) => None,
         Callee::Baseless => None,
@@ -151,7 +204,7 @@ fn both(a: bool, b: bool) -> bool
 }
 
 // What the arguments of a call break, where it has a meaning.
-fn arguments_if(
+fn judge_given_if(
     alloc: Global,
     known: bool,
     found: &mut Found,
@@ -160,10 +213,10 @@ fn arguments_if(
     call: &Call,
 ) -> Result<(), NoMemory>
     requires { GivenBelow (length here.now.parsed.now.exprs) call.now.args }
-    ensures { OnOk result (found.new ≡ args_judged_if known (known_here here.now) found.old (parameters_of (args_at here.now.tables.now) callee) call.now.method (given_values (given_at (expr_trees here.now.parsed.now.exprs) call.now.args))) }
+    ensures { OnOk result (found.new ≡ given_judged_if known (known_here here.now) found.old (parameters_of (args_at here.now.tables.now) callee) call.now.method (given_values (given_at (expr_trees here.now.parsed.now.exprs) call.now.args))) }
 {
     if known {
-        arguments(
+        judge_given(
             alloc,
             found,
             here,
@@ -199,7 +252,7 @@ fn finish_call(
     add_callee(row, callee)?;
     seen.found.refuse(callee_refusal(callee, call.method));
     seen.known = both(is_known(callee), seen.known);
-    arguments_if(alloc, seen.known, &mut seen.found, here, callee, call)
+    judge_given_if(alloc, seen.known, &mut seen.found, here, callee, call)
 }
 
 /// A walk past an expression. The methods that it calls join the row at its end, by their numbers, in order and each as

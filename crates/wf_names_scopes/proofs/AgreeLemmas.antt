@@ -1,6 +1,7 @@
 -- Knowledges that agree are the same.
-use Rattle.std.proofs.Common.{◌≡◌, ℕ, zero, suc, List, [], ◌∷◌, map, slice_get, Bool, Option, None, Some, is_some, refl, sym, ap, ◌∙◌}
+use Rattle.std.proofs.Common.{◌≡◌, ℕ, zero, suc, List, [], ◌∷◌, map, slice_get, Bool, Option, None, Some, is_some, nat_eq, refl, sym, ap, ◌∙◌}
 use Rattle.std.specs.List.{position_from}
+use Rattle.indexmap.specs.IndexMap.{get}
 use Rattle.indexmap.specs.IndexSet.{IndexSet}
 use Rattle.wf_names_rules.specs.declared.tables.Tables.{Tables}
 use Rattle.wf_names_rules.specs.declared.tables.Scope.{Scope as ScopeTables}
@@ -9,6 +10,7 @@ use Rattle.wf_names_rules.specs.Uses.{Scope}
 use Rattle.wf_names_rules.specs.Meanings.{Known, known_at, sort_in, fields_known, method_known, public_in, args_in}
 use Rattle.wf_names_rules.specs.Tables.{known_by, number_at, field_at, own_method_at, flag_in, names_in}
 use Rattle.wf_names_scopes.specs.Agreeing.{Agree, TellsPackage, TellsScope}
+use Rattle.wf_names_scopes.proofs.ConstantLemmas.{constant-sort}
 use Rattle.wf_names_scopes.proofs.FirstLemmas.{position_any}
 use Rattle.wf_names_scopes.proofs.MethodLemmas.{local-sorts, arg-sorts}
 
@@ -43,7 +45,7 @@ agree_by d scope t s p q = record {
   is_status = λ text. numbered (is_spelt text) 10 d.statuses (number_at t.statuses text) (p.statuses.numbers text);
   is_struct = λ text. ap is_some (p.structs.numbers text);
   local = local-sorts d scope t p.variables s.method q.inside;
-  constant = q.constants.sorts;
+  constant = λ text. constant-sort d scope.constants s.constants (get nat_eq t.constants.entries text) text q.constants (p.constants.places text) (p.constants.sorts text);
   field = λ text. ap (λ this. field_at t this text) q.this ∙ field scope.this text;
   arg = arg-sorts d scope t p.variables s.method q.inside;
   own_method = λ text. ap (λ this. own_method_at t this text) q.this ∙ own scope.this text;

@@ -1,5 +1,6 @@
 pub mod AgreeLemmas
 pub mod CallRowLemmas
+pub mod ConstantLemmas
 pub mod FirstLemmas
 pub mod MethodLemmas
 pub mod NextLemmas

@@ -17,13 +17,14 @@ use Rattle.wf_ast.proofs.TreeLemmas.{slice_get-seam}
 use Rattle.wf_names_rules.specs.declared.tables.Numbers.{Numbers}
 use Rattle.wf_names_rules.specs.declared.tables.Tables.{Tables}
 use Rattle.wf_names_rules.specs.declared.tables.MethodVariables.{MethodVariables}
-use Rattle.wf_names_rules.specs.Declarations.{Variable, Constant, Structure, Method, Declared, declared, variables, statuses_of, constants_of, structs_of, methods_of, is_spelt, struct_named, method_named, structure_in, fields_in, fields_of, locals_of}
+use Rattle.wf_names_rules.specs.declared.tables.Variables.{Variables}
+use Rattle.wf_names_rules.specs.Declarations.{Variable, Constant, Structure, Method, Declared, declared, variables, as_variable, statuses_of, constants_of, structs_of, methods_of, is_spelt, struct_named, method_named, structure_in, fields_in, fields_of, locals_of}
 use Rattle.wf_names_rules.specs.Meanings.{args_in}
 use Rattle.wf_names_rules.specs.Pairs.{Pair, same_pair}
 use Rattle.wf_names_rules.specs.Tables.{has_number}
 use Rattle.graphs.proofs.NumberLemmas.{same_number}
-use Rattle.wf_names_scopes.specs.Agreeing.{TellsNumbers, TellsPackage, TellsMethod, TellMethods, package_of}
-use Rattle.wf_names_scopes.specs.Growing.{with_first, with_fields, with_status, with_struct, with_method}
+use Rattle.wf_names_scopes.specs.Agreeing.{TellsNumbers, TellsVariables, TellsPackage, TellsMethod, TellMethods, package_of}
+use Rattle.wf_names_scopes.specs.Growing.{with_first, with_fields, with_status, with_constant, with_struct, with_method}
 use Rattle.wf_names_scopes.proofs.FirstLemmas.{or_none, position_pushed, position_any, find_any, find_pushed, any_pushed, map_pushed, map_length}
 use Rattle.wf_names_scopes.proofs.MethodLemmas.{tell-more}
 
@@ -139,15 +140,11 @@ module _ (texts : List (List ℕ)) (ds : List DeclTree) where
       let x = tree.method public owner name mark args result body at in
       same_declared (statuses_append ds (x ∷ []) ∙ append-nil (statuses_of ds)) (constants_append ds (x ∷ []) ∙ append-nil (constants_of ds)) (structs_append ds (x ∷ []) ∙ append-nil (structs_of ds)) (methods_append ds (x ∷ []))
 
-  -- A constant is in none of the package's tables.
-  pub constant_tells : (t : Tables) (public : Bool) (name : Name) (of : TypeTree) (value : ExprTree) (at : Place) → TellsPackage (declared texts ds) t
-      → TellsPackage (declared texts (ds ++ tree.constant public name of value at ∷ [])) t
-  constant_tells t public name of value at p =
+  pub constant_declared : (public : Bool) (name : Name) (of : TypeTree) (value : ExprTree) (at : Place)
+      → declared texts (ds ++ tree.constant public name of value at ∷ []) ≡ with_constant (declared texts ds) (record { name = name; of = of; value = value })
+  constant_declared public name of value at =
       let x = tree.constant public name of value at in
-      let e : declared texts (ds ++ x ∷ []) ≡ with_these (statuses_of ds) (constants_of ds ++ record { name = name; of = of; value = value } ∷ []) (structs_of ds) (methods_of ds) =
-      same_declared (statuses_append ds (x ∷ []) ∙ append-nil (statuses_of ds)) (constants_append ds (x ∷ [])) (structs_append ds (x ∷ []) ∙ append-nil (structs_of ds)) (methods_append ds (x ∷ []) ∙ append-nil (methods_of ds)) in
-      let P : Declared → Type 0 = λ d. TellsPackage d t in
-      subst P (sym e) (record { statuses = p.statuses; structs = p.structs; fields = p.fields; places = p.places; methods = p.methods; method_names = p.method_names; publics = p.publics; args = p.args; variables = p.variables })
+      same_declared (statuses_append ds (x ∷ []) ∙ append-nil (statuses_of ds)) (constants_append ds (x ∷ [])) (structs_append ds (x ∷ []) ∙ append-nil (structs_of ds)) (methods_append ds (x ∷ []) ∙ append-nil (methods_of ds))
 
 -- An answer that says more.
 pub on_ok : {X P Q : Type 0} (r : Result X NoMemory) → (P → Q) → OnOk r P → OnOk r Q
@@ -162,12 +159,33 @@ pub all_ok : {P Q R S : Type 0} (r : Result (Unit {0}) NoMemory) → (P → Q �
 all_ok (Ok u) f h k l = f h k l
 all_ok (Err e) f h k l = h
 
--- A status, a struct and a method after those that the tables tell.
+-- A status, a constant, a struct and a method after those that the tables tell.
 pub status_more : (texts : List (List ℕ)) (t u : Tables) (public : Bool) (name : Name) (at : Place) → ((d : Declared) → TellsPackage d t → TellsPackage (with_status d name) u)
     → (ds : List DeclTree) → TellsPackage (declared texts ds) t → TellsPackage (declared texts (ds ++ tree.status public name at ∷ [])) u
 status_more texts t u public name at step ds p =
     let P : Declared → Type 0 = λ d. TellsPackage d u in
     subst P (sym (status_declared texts ds public name at)) (step (declared texts ds) p)
+
+pub constant_more : (texts : List (List ℕ)) (t u : Tables) (public : Bool) (name : Name) (of : TypeTree) (value : ExprTree) (at : Place)
+    → ((d : Declared) (c : Constant) → d.texts ≡ texts → c.name ≡ name → c.of ≡ of → TellsPackage d t → TellsPackage (with_constant d c) u)
+    → (ds : List DeclTree) → TellsPackage (declared texts ds) t → TellsPackage (declared texts (ds ++ tree.constant public name of value at ∷ [])) u
+constant_more texts t u public name of value at step ds p =
+    let P : Declared → Type 0 = λ d. TellsPackage d u in
+    let c : Constant = record { name = name; of = of; value = value } in
+    subst P (sym (constant_declared texts ds public name of value at)) (step (declared texts ds) c refl refl refl p)
+
+-- The table of constants after one more.
+pub constants_added : (d : Declared) (c : Constant) (texts : List (List ℕ)) (name : Name) (of : TypeTree) (old new : Variables) → d.texts ≡ texts → c.name ≡ name → c.of ≡ of
+    → ((front : List Variable) → TellsVariables texts front old → TellsVariables texts (front ++ record { name = name; of = of } ∷ []) new)
+    → TellsVariables d.texts (map as_variable d.constants) old → TellsVariables d.texts (map as_variable (d.constants ++ c ∷ [])) new
+constants_added d c texts name of old new same named typed step tells =
+    let there : List (List ℕ) → Type 0 = λ ts. TellsVariables ts (map as_variable d.constants) old in
+    let made : Name → TypeTree → List Variable = λ n o. map as_variable d.constants ++ record { name = n; of = o } ∷ [] in
+    let front = map as_variable d.constants in
+    let all : made name of ≡ map as_variable (d.constants ++ c ∷ []) = (λ i. made (sym named i) (sym typed i)) ∙ sym (map_pushed as_variable d.constants c) in
+    let P : List (List ℕ) → Type 0 = λ ts. TellsVariables ts (made name of) new in
+    let Q : List Variable → Type 0 = λ vs. TellsVariables d.texts vs new in
+    subst Q all (subst P (sym same) (step front (subst there same tells)))
 
 pub struct_more : (texts : List (List ℕ)) (t u : Tables) (public : Bool) (name : Name) (mark : WrittenMark) (fields : FieldTrees) (at : Place)
     → ((d : Declared) → d.texts ≡ texts → TellsPackage d t → TellsPackage (with_struct d (record { name = name; fields = variables fields })) u)

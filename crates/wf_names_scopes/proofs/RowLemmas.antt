@@ -1,5 +1,5 @@
 -- The rows of the methods, by the types of their arguments and declaration by declaration.
-use Rattle.std.proofs.Common.{◌≡◌, ℕ, ◌+◌, ◌<◌, ◌≤◌, List, [], ◌∷◌, ◌++◌, length, drop, slice_get, slice_index_or, Some, refl, sym, ap, ◌∙◌, subst}
+use Rattle.std.proofs.Common.{◌≡◌, ℕ, ◌+◌, ◌<◌, List, [], ◌∷◌, ◌++◌, length, drop, slice_get, slice_index_or, Some, refl, sym, ap, ◌∙◌, subst}
 use Rattle.wf_ast.specs.declared.parsed.DeclNode.{DeclNode}
 use Rattle.wf_ast.specs.declared.parsed.Field.{Field}
 use Rattle.wf_ast.specs.ParsedParts.{Parsed}
@@ -16,10 +16,10 @@ use Rattle.wf_names_rules.proofs.WalkLemmas.{drop-one}
 use Rattle.wf_names_scopes.specs.Agreeing.{package_of, TellsPackage, TellsScope}
 use Rattle.wf_names_scopes.proofs.AgreeLemmas.{agree_by, agree_same}
 use Rattle.wf_names_scopes.proofs.PackageLemmas.{trees_made, methods_append}
-use Rattle.wf_names_scopes.proofs.UseLemmas.{drop_at, past_end}
+use Rattle.wf_names_scopes.proofs.UseLemmas.{drop_at}
 use Rattle.wf_names_rules.specs.Called.{with_calls}
-use Rattle.wf_names_scopes.specs.CallRows.{called_in, AreRows, AreRowsInFront}
-use Rattle.wf_names_scopes.proofs.CallRowLemmas.{row-is, front-none, front-more, front-all}
+use Rattle.wf_names_scopes.specs.CallRows.{called_in, AreRowsInFront}
+use Rattle.wf_names_scopes.proofs.CallRowLemmas.{row-is, front-none, front-more}
 
 -- Arguments one by one.
 pub field-called : (k : Known) (row next : List ℕ) (es : List ExprTree) (fields : List Field) (i : ℕ) (x : Field) → x ≡ slice_index_or fields i x → i < length fields
@@ -44,7 +44,7 @@ method-added d m old new row made pushed left h =
     let Q : List ℕ → Type 0 = λ r. AreRowsInFront d (old ++ r ∷ []) left in
     subst P (sym pushed) (subst Q (sym made) (front-more d old m (called_in (known_at d (method_scope d m)) (method_uses m)) left h (row-is d m (known_at d (method_scope d m)) (λ c. refl))))
 
--- Where the loop over the declarations begins, goes on and ends.
+-- Where the loop over the declarations begins and goes on.
 pub rows-begun : (p : Parsed) (rows : List (List ℕ)) → rows ≡ []
     → AreRowsInFront (package_of p) rows (methods_of (decls_made (expr_trees p.exprs) (stmt_trees p.exprs p.stmts) p.decls))
 rows-begun p rows e =
@@ -61,9 +61,3 @@ rows-next d es ts decls i n at old new step h =
     let split : methods_of (decls_made es ts (drop i decls)) ≡ methods_of (made ∷ []) ++ methods_of rest = ap (λ ns. methods_of (decls_made es ts ns)) (drop_at decls i n at) ∙ methods_append (made ∷ []) rest in
     let P : List Method → Type 0 = λ ms. AreRowsInFront d old ms in
     step (methods_of rest) (subst P split h)
-
-pub rows-done : (d : Declared) (es : List ExprTree) (ts : List StmtTree) (decls : List DeclNode) (i : ℕ) (rows : List (List ℕ)) → length decls ≤ i
-    → AreRowsInFront d rows (methods_of (decls_made es ts (drop i decls))) → AreRows d rows (length d.methods)
-rows-done d es ts decls i rows h a =
-    let P : List DeclNode → Type 0 = λ ns. AreRowsInFront d rows (methods_of (decls_made es ts ns)) in
-    front-all d rows (subst P (past_end decls i h) a)

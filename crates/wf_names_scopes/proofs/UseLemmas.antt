@@ -18,7 +18,7 @@ use Rattle.wf_names_rules.specs.Tables.{known_by}
 use Rattle.wf_names_rules.specs.Jumps.{method_labels, labels_found}
 use Rattle.wf_names_rules.specs.Judged.{judged, walked, walked_one}
 use Rattle.wf_names_rules.proofs.WalkLemmas.{walked-append, drop-one}
-use Rattle.wf_names_scopes.specs.Agreeing.{TellsPackage, TellsVariables, TellsScope, TellsConstants, package_of}
+use Rattle.wf_names_scopes.specs.Agreeing.{AreFirstConstants, TellsPackage, TellsScope, TellsConstants, package_of}
 use Rattle.wf_names_scopes.specs.Growing.{AreConstantsPassed}
 use Rattle.wf_names_scopes.specs.UsesFound.{sites_judged, uses_found}
 use Rattle.wf_names_scopes.proofs.AgreeLemmas.{agree_by, agree_same}
@@ -83,12 +83,15 @@ map_append f (x ∷ xs) ys = ap (λ r. f x ∷ r) (map_append f xs ys)
 
 constants_passed : (d : Declared) (began found all : Option Refusal) (xs ys : List Constant) (old new : ScopeTables) → AreConstantsPassed d began found (xs ++ ys) old
     → ((known : List Variable) → TellsScope d (constant_scope known) old → all ≡ sites_judged d found (constant_sites known xs))
-    → ((known : List Variable) → TellsScope d (constant_scope known) old → TellsScope d (constant_scope (known ++ map as_variable xs)) new) → AreConstantsPassed d began all ys new
+    → ((d : Declared) (known left : List Variable) → (known ++ map as_variable xs) ++ left ≡ map as_variable d.constants → TellsScope d (constant_scope known) old → TellsScope d (constant_scope (known ++ map as_variable xs)) new)
+    → AreConstantsPassed d began all ys new
 constants_passed d began found all xs ys old new a step tells =
-    let known = a.known ++ map as_variable xs in record {
+    let known = a.known ++ map as_variable xs in
+    let split : known ++ map as_variable ys ≡ map as_variable d.constants =
+    append_assoc a.known (map as_variable xs) (map as_variable ys) ∙ ap (λ r. a.known ++ r) (sym (map_append as_variable xs ys)) ∙ a.split in record {
       known = known;
-      tells = tells a.known a.tells;
-      split = append_assoc a.known (map as_variable xs) (map as_variable ys) ∙ ap (λ r. a.known ++ r) (sym (map_append as_variable xs ys)) ∙ a.split;
+      tells = tells d a.known (map as_variable ys) split a.tells;
+      split = split;
       same = ap (λ f. sites_judged d f (constant_sites known ys)) (step a.known a.tells) ∙ sym (sites_judged-append d found (constant_sites a.known xs) (constant_sites known ys))
           ∙ ap (λ s. sites_judged d found s) (sym (constant_sites-append a.known xs ys)) ∙ a.same;
     }
@@ -106,7 +109,8 @@ module _ (es : List ExprTree) (ts : List StmtTree) (decls : List DeclNode) (i : 
 
   pub constants_next : (d : Declared) (began found all : Option Refusal) (old new : ScopeTables) → AreConstantsPassed d began found (constants_of (decls_made es ts (drop i decls))) old
       → ((known : List Variable) → TellsScope d (constant_scope known) old → all ≡ sites_judged d found (constant_sites known (constants_of (made ∷ []))))
-      → ((known : List Variable) → TellsScope d (constant_scope known) old → TellsScope d (constant_scope (known ++ map as_variable (constants_of (made ∷ [])))) new)
+      → ((d : Declared) (known left : List Variable) → (known ++ map as_variable (constants_of (made ∷ []))) ++ left ≡ map as_variable d.constants → TellsScope d (constant_scope known) old
+      → TellsScope d (constant_scope (known ++ map as_variable (constants_of (made ∷ [])))) new)
       → AreConstantsPassed d began all (constants_of rest) new
   constants_next d began found all old new a step tells =
       let P : List Constant → Type 0 = λ cs. AreConstantsPassed d began found cs old in
@@ -155,7 +159,7 @@ pub constants_done : (d : Declared) (began found : Option Refusal) (es : List Ex
 constants_done d began found es ts decls i t h a =
     let P : List DeclNode → Type 0 = λ ns. AreConstantsPassed d began found (constants_of (decls_made es ts ns)) t in
     let b = subst P (past_end decls i h) a in
-    let Q : List Variable → Type 0 = λ vs. TellsVariables d.texts vs t.constants in
+    let Q : List Variable → Type 0 = λ vs. AreFirstConstants d vs t.constants in
     (b.same, subst Q (sym (append-nil b.known) ∙ b.split) b.tells.constants)
 
 pub structs_begun : (p : Parsed) (found : Option Refusal)
@@ -185,8 +189,8 @@ pub constant_alone : (d : Declared) (found all : Option Refusal) (known : List V
     → all ≡ sites_judged d found (sites_in (constant_scope known) (type_uses c.of ++ uses_of c.value)) → all ≡ sites_judged d found (constant_sites known (c ∷ []))
 constant_alone d found all known c e = e ∙ ap (λ s. sites_judged d found s) (sym (append-nil (sites_in (constant_scope known) (type_uses c.of ++ uses_of c.value))))
 
-pub no_constant : (d : Declared) (known : List Variable) (t : ScopeTables) → TellsScope d (constant_scope known) t → TellsScope d (constant_scope (known ++ [])) t
-no_constant d known t h =
+pub no_constant : (t : ScopeTables) (d : Declared) (known left : List Variable) → (known ++ []) ++ left ≡ map as_variable d.constants → TellsScope d (constant_scope known) t → TellsScope d (constant_scope (known ++ [])) t
+no_constant t d known left split h =
     let P : List Variable → Type 0 = λ vs. TellsScope d (constant_scope vs) t in
     subst P (sym (append-nil known)) h
 

@@ -1,5 +1,5 @@
 -- What it is that tables tell what the declarations of a package mean.
-use Rattle.std.specs.Prelude.{◌≡◌, ◌+◌, ℕ, ⊤, List, [], ◌∷◌, Option, Some, None, length, map, slice_get, nat_eq, option_map}
+use Rattle.std.specs.Prelude.{◌≡◌, ◌+◌, ◌++◌, ℕ, ⊤, List, [], ◌∷◌, Option, Some, None, length, map, slice_get, nat_eq, option_map}
 use Rattle.std.specs.List.{list_any, position_from}
 use Rattle.indexmap.specs.IndexSet.{contains}
 use Rattle.wf_names_rules.specs.declared.sorts.Sort.{Sort}
@@ -63,11 +63,12 @@ TellMethods texts (m ∷ ms) (t ∷ ts) = TellsMethod texts m t × TellMethods t
 TellMethods texts _ _ = ⊥
 
 -- The tables of a package tell what its declarations mean, and by which number each name stands: a status by its place
--- after the ten of the language, a struct by its place among the structs, a field by its place in its struct. Of two
--- declarations with one name the first is meant.
+-- after the ten of the language, a struct by its place among the structs, a constant by its place among the constants, a
+-- field by its place in its struct. Of two declarations with one name the first is meant.
 pub record TellsPackage (d : Declared) (t : Tables) : Type 0 where
   pub statuses : TellsNumbers 10 (λ name. name) d.statuses t.statuses
   pub structs : TellsNumbers 0 (λ s. s.name) d.structs t.structs
+  pub constants : TellsVariables d.texts (map as_variable d.constants) t.constants
   pub fields : (owner text : ℕ) → pair_sort t.fields (owner, text) ≡ sort_in d (fields_of d owner) text
   pub places : (owner text : ℕ) → pair_place t.fields (owner, text) ≡ place_in (fields_of d owner) text
   pub methods : (owner text : ℕ) → pair_at t.methods (owner, text) ≡ method_named d owner text
@@ -88,12 +89,18 @@ abbrev pub IsInside : Declared → Scope → (method : Option ℕ) → Type 0
 IsInside d scope None = (scope.args ≡ []) × (scope.locals ≡ [])
 IsInside d scope (Some m) = IsInMethod d scope m
 
+-- The first `count` constants of the package are these.
+pub record AreFirstConstants (d : Declared) (known : List Variable) (count : ℕ) : Type 0 where
+  pub left : List Variable
+  pub split : known ++ left ≡ map as_variable d.constants
+  pub count_is : count ≡ length known
+
 -- The tables of a scope tell what is known there besides.
 pub record TellsScope (d : Declared) (scope : Scope) (t : ScopeTables) : Type 0 where
-  pub constants : TellsVariables d.texts scope.constants t.constants
+  pub constants : AreFirstConstants d scope.constants t.constants
   pub this : t.this ≡ scope.this
   pub inside : IsInside d scope t.method
 
--- The table of constants tells all of the package.
+-- All constants of the package are known.
 abbrev pub TellsConstants : Declared → ScopeTables → Type 0
-TellsConstants d t = TellsVariables d.texts (map as_variable d.constants) t.constants
+TellsConstants d t = AreFirstConstants d (map as_variable d.constants) t.constants

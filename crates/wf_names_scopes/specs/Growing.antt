@@ -44,6 +44,9 @@ AreNext d n ms = (left : List Method) × AreLeft d n (ms ++ left)
 abbrev pub with_status : Declared → Name → Declared
 with_status d name = record { texts = d.texts; statuses = d.statuses ++ name ∷ []; constants = d.constants; structs = d.structs; methods = d.methods }
 
+abbrev pub with_constant : Declared → Constant → Declared
+with_constant d c = record { texts = d.texts; statuses = d.statuses; constants = d.constants ++ c ∷ []; structs = d.structs; methods = d.methods }
+
 abbrev pub with_struct : Declared → Structure → Declared
 with_struct d s = record { texts = d.texts; statuses = d.statuses; constants = d.constants; structs = d.structs ++ s ∷ []; methods = d.methods }
 

@@ -1,42 +1,35 @@
-// The tables of a scope. One is kept for a whole package: from a declaration to the next only `this` and the method are
-// replaced, and the constants grow as they are declared.
+// What is known at a place besides the tables of the package. From a declaration to the next only `this` and the method are
+// replaced; each constant is known after its declaration.
 
-ghost use Rattle.std.specs.Prelude.{◌≡◌, ◌++◌, [], ◌∷◌, List, Some, slice_get, OnOk};
-ghost use Rattle.wf_ast.specs.ParsedTrees.{expr_trees, type_at};
-ghost use Rattle.wf_names_rules.specs.Declarations.{Declared, Method, Variable};
+ghost use Rattle.std.specs.Prelude.{◌≡◌, ◌++◌, [], ◌∷◌, List, Some, map, slice_get, OnOk};
+ghost use Rattle.wf_names_rules.specs.Declarations.{Declared, Method, Variable, as_variable};
 ghost use Rattle.wf_names_rules.specs.Uses.{constant_scope};
-ghost use Rattle.wf_names_scopes.specs.Agreeing.{TellsScope, TellsConstants, package_of};
+ghost use Rattle.wf_names_scopes.specs.Agreeing.{TellsScope, TellsConstants};
 ghost use Rattle.wf_names_scopes.specs.Growing.{scope_in};
 
-use crate::variables::{add_variable, no_variables};
-use std::alloc::Global;
-use wf_ast::PackageNodes;
-use wf_ast::parsed::{Name, TypeExpr};
+use crate::numbers::next_number;
+use wf_ast::parsed::Name;
 use wf_names_rules::tables::Scope;
 use wf_text::faults::NoMemory;
 
 /// Where no constant is declared yet.
-pub fn outside(alloc: Global) -> Scope
+pub fn outside() -> Scope
     ensures { (d : Declared) → TellsScope d (constant_scope []) result }
 {
     Scope {
-        constants: no_variables(alloc),
+        constants: 0,
         this: None,
         method: None,
     }
 }
 
-/// Adds the constant after those that are known.
-pub fn add_constant(
-    scope: &mut Scope,
-    parsed: &PackageNodes,
-    name: Name,
-    of: &TypeExpr,
-) -> Result<(), NoMemory>
-    ensures { OnOk result ((known : List Variable) → TellsScope (package_of parsed.now) (constant_scope known) scope.old
-        → TellsScope (package_of parsed.now) (constant_scope (known ++ record { name = name; of = type_at (expr_trees parsed.now.exprs) of.now } ∷ [])) scope.new) }
+/// Past the declaration of the next constant of the package: it is known after those that are. `Err` where no number is left.
+pub fn pass_constant(scope: &mut Scope) -> Result<(), NoMemory>
+    ensures { OnOk result ((d : Declared) (known left : List Variable) (v : Variable) → (known ++ v ∷ []) ++ left ≡ map as_variable d.constants
+        → TellsScope d (constant_scope known) scope.old → TellsScope d (constant_scope (known ++ v ∷ [])) scope.new) }
 {
-    add_variable(&mut scope.constants, parsed, name, of)
+    scope.constants = next_number(scope.constants)?;
+    Ok(())
 }
 
 /// On to a struct of this name.

@@ -5,20 +5,20 @@ ghost use Rattle.std.specs.Prelude.{◌≡◌, ◌++◌, ◌||◌, [], ◌∷◌
 ghost use Rattle.indexmap.specs.IndexSet.{contains, insert_all};
 ghost use Rattle.wf_ast.specs.declared.parsed.Name.{Name};
 ghost use Rattle.wf_ast.specs.ParsedTree.{ExprTree, DeclTree};
-ghost use Rattle.wf_ast.specs.ParsedTrees.{expr_trees, stmt_trees, fields_at, block_at, decl_made};
+ghost use Rattle.wf_ast.specs.ParsedTrees.{expr_trees, stmt_trees, type_at, fields_at, block_at, decl_made};
 ghost use Rattle.wf_ast.specs.ParsedParts.{BlockBelow, DeclParts};
-ghost use Rattle.wf_names_rules.specs.Declarations.{Declared, Structure, Method, declared, variables, locals_of};
+ghost use Rattle.wf_names_rules.specs.Declarations.{Declared, Constant, Structure, Method, declared, variables, locals_of};
 ghost use Rattle.wf_names_rules.specs.Meanings.{args_in};
 ghost use Rattle.wf_names_rules.specs.Tables.{pair_sort, pair_place};
 ghost use Rattle.wf_names_scopes.specs.Agreeing.{TellsNumbers, TellsPackage, TellsMethod, package_of, sort_among};
-ghost use Rattle.wf_names_scopes.specs.Growing.{with_fields, place_from, with_status, with_struct, with_method};
+ghost use Rattle.wf_names_scopes.specs.Growing.{with_fields, place_from, with_status, with_constant, with_struct, with_method};
 
 use crate::numbers::{add_field, add_number, next_number, put_pair};
-use crate::variables::method_variables;
+use crate::variables::{add_variable, method_variables, no_variables};
 use indexmap::{IndexMap, IndexSet};
 use std::alloc::Global;
 use std::collections::BTreeMap;
-use wf_ast::parsed::{Block, Decl, DeclNode, Field, Name};
+use wf_ast::parsed::{Block, Decl, DeclNode, Field, Name, TypeExpr};
 use wf_ast::{PackageNodes, TextId};
 use wf_names_rules::tables::{Entry, MethodVariables, Numbers, Tables};
 use wf_names_rules::types::sort;
@@ -45,6 +45,7 @@ fn empty(alloc: Global) -> Tables
     Tables {
         statuses: no_names(alloc, BASE_STATUSES),
         structs: no_names(alloc, 0),
+        constants: no_variables(alloc),
         fields: BTreeMap::new(alloc),
         methods: BTreeMap::new(alloc),
         method_names: IndexSet::new(alloc),
@@ -102,6 +103,18 @@ fn add_status(tables: &mut Tables, name: Name) -> Result<(), NoMemory>
 {
     add_number(&mut tables.statuses, name.text)?;
     Ok(())
+}
+
+fn add_constant(
+    tables: &mut Tables,
+    parsed: &PackageNodes,
+    name: Name,
+    of: &TypeExpr,
+) -> Result<(), NoMemory>
+    ensures { OnOk result ((d : Declared) (c : Constant) → d.texts ≡ parsed.now.texts → c.name ≡ name → c.of ≡ type_at (expr_trees parsed.now.exprs) of.now
+        → TellsPackage d tables.old → TellsPackage (with_constant d c) tables.new) }
+{
+    add_variable(&mut tables.constants, parsed, name, of)
 }
 
 fn add_struct(
@@ -180,7 +193,7 @@ fn add_decl(
 {
     match &node.decl {
         Decl::Status(name) => add_status(tables, *name),
-        Decl::Const { .. } => Ok(()),
+        Decl::Const { name, of, .. } => add_constant(tables, parsed, *name, of),
         Decl::Struct { name, fields, .. } => add_struct(tables, parsed, *name, fields.as_slice()),
         Decl::Method {
             of,

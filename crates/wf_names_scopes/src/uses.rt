@@ -7,7 +7,7 @@ ghost use Rattle.wf_ast.specs.ParsedTrees.{expr_trees, stmt_trees, expr_at, type
 ghost use Rattle.wf_ast.specs.ParsedParts.{TypeBelow, FieldsBelow, ResultBelow, BlockBelow, DeclParts};
 ghost use Rattle.wf_names_rules.specs.Called.{with_calls};
 ghost use Rattle.wf_names_rules.specs.Jumps.{block_jumps, jumped, method_labels, labels_found};
-ghost use Rattle.wf_names_rules.specs.Declarations.{Variable, Method, variables, locals_of, as_variable, constants_of, structs_of, methods_of};
+ghost use Rattle.wf_names_rules.specs.Declarations.{Declared, Variable, Method, variables, locals_of, as_variable, constants_of, structs_of, methods_of};
 ghost use Rattle.wf_names_rules.specs.Uses.{structure, uses_of, type_uses, result_uses, variable_uses, block_uses, sites_in, constant_scope, constant_sites, struct_sites, method_sites};
 ghost use Rattle.wf_names_rules.specs.Meanings.{known_at};
 ghost use Rattle.wf_names_scopes.specs.Agreeing.{package_of, TellsPackage, TellsScope, TellsConstants};
@@ -16,7 +16,7 @@ ghost use Rattle.wf_names_scopes.specs.Growing.{scope_in, AreNext};
 ghost use Rattle.wf_names_scopes.specs.UsesFound.{sites_judged, names_found};
 
 use crate::declared_uses::{WrittenMethod, walk_constant, walk_fields, walk_method};
-use crate::scopes::{add_constant, enter_method, enter_struct, outside};
+use crate::scopes::{enter_method, enter_struct, outside, pass_constant};
 use graphs::rows::Row;
 use std::alloc::Global;
 use wf_ast::parsed::{Decl, DeclNode, Field, Name, TypeExpr};
@@ -82,8 +82,8 @@ fn constant_next(
     requires tables { TellsPackage (package_of whole.now.parsed.now) whole.now.tables.now }
     ensures found { OnOk result ((known : List Variable) → TellsScope (package_of whole.now.parsed.now) (constant_scope known) scope.old
         → seen.new.found ≡ sites_judged (package_of whole.now.parsed.now) seen.old.found (sites_in (constant_scope known) (type_uses (type_at (expr_trees whole.now.parsed.now.exprs) constant.entry.of.now) ++ uses_of (expr_at (expr_trees whole.now.parsed.now.exprs) constant.entry.value)))) }
-    ensures constants { OnOk result ((known : List Variable) → TellsScope (package_of whole.now.parsed.now) (constant_scope known) scope.old
-        → TellsScope (package_of whole.now.parsed.now) (constant_scope (known ++ record { name = constant.entry.name; of = type_at (expr_trees whole.now.parsed.now.exprs) constant.entry.of.now } ∷ [])) scope.new) }
+    ensures constants { OnOk result ((d : Declared) (known left : List Variable) → (known ++ record { name = constant.entry.name; of = type_at (expr_trees whole.now.parsed.now.exprs) constant.entry.of.now } ∷ []) ++ left ≡ map as_variable d.constants
+        → TellsScope d (constant_scope known) scope.old → TellsScope d (constant_scope (known ++ record { name = constant.entry.name; of = type_at (expr_trees whole.now.parsed.now.exprs) constant.entry.of.now } ∷ [])) scope.new) }
 {
     let here = Here {
         parsed: whole.parsed,
@@ -91,8 +91,7 @@ fn constant_next(
         scope,
     };
     constant_uses(alloc, seen, &here, constant.of, constant.value)?;
-    add_constant(scope, whole.parsed, constant.name, constant.of)?;
-    Ok(())
+    pass_constant(scope)
 }
 
 fn constant_decl(
@@ -106,8 +105,8 @@ fn constant_decl(
     requires tables { TellsPackage (package_of whole.now.parsed.now) whole.now.tables.now }
     ensures found { OnOk result ((known : List Variable) → TellsScope (package_of whole.now.parsed.now) (constant_scope known) scope.old
         → seen.new.found ≡ sites_judged (package_of whole.now.parsed.now) seen.old.found (constant_sites known (constants_of (decl_made (expr_trees whole.now.parsed.now.exprs) (stmt_trees whole.now.parsed.now.exprs whole.now.parsed.now.stmts) node.now.public node.now.decl node.now.at ∷ [])))) }
-    ensures constants { OnOk result ((known : List Variable) → TellsScope (package_of whole.now.parsed.now) (constant_scope known) scope.old
-        → TellsScope (package_of whole.now.parsed.now) (constant_scope (known ++ map as_variable (constants_of (decl_made (expr_trees whole.now.parsed.now.exprs) (stmt_trees whole.now.parsed.now.exprs whole.now.parsed.now.stmts) node.now.public node.now.decl node.now.at ∷ [])))) scope.new) }
+    ensures constants { OnOk result ((d : Declared) (known left : List Variable) → (known ++ map as_variable (constants_of (decl_made (expr_trees whole.now.parsed.now.exprs) (stmt_trees whole.now.parsed.now.exprs whole.now.parsed.now.stmts) node.now.public node.now.decl node.now.at ∷ []))) ++ left ≡ map as_variable d.constants
+        → TellsScope d (constant_scope known) scope.old → TellsScope d (constant_scope (known ++ map as_variable (constants_of (decl_made (expr_trees whole.now.parsed.now.exprs) (stmt_trees whole.now.parsed.now.exprs whole.now.parsed.now.stmts) node.now.public node.now.decl node.now.at ∷ [])))) scope.new) }
 {
     match &node.decl {
         Decl::Const { name, of, value } => {
@@ -336,7 +335,7 @@ pub fn uses(
     ensures found { OnOk result (found.new ≡ names_found (package_of parsed.now) found.old) }
     ensures rows { IfOk result (λ rows. AreRows (package_of parsed.now) rows.items (length (package_of parsed.now).methods)) }
 {
-    let mut scope = outside(alloc);
+    let mut scope = outside();
     let mut seen = Seen {
         found: Found::nothing(),
         known: true,

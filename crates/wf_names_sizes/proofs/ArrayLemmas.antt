@@ -21,7 +21,7 @@ use Rattle.wf_names_rules.specs.Passes.{refused_if}
 use Rattle.wf_names_rules.proofs.ArgumentLemmas.{insert_all-holds}
 use Rattle.wf_names_sizes.specs.declared.numbers.Value.{Value}
 use Rattle.wf_names_sizes.specs.ValuesBy.{Knows, constant_by, value_by}
-use Rattle.wf_names_sizes.specs.LongArrays.{is_long_by, long_by, long_item}
+use Rattle.wf_names_sizes.specs.LongArrays.{is_long_by, too_long_array_by, too_long_array}
 use Rattle.wf_names_sizes.proofs.ValueLemmas.{constant_is, value_is, decl-there, decls-over}
 
 -- Lists of finds.
@@ -62,13 +62,13 @@ module _ (d : Declared) (locals : List Variable) (value : ExprTree → Option Si
   long_is (tree.status_type at bounds) = refl
   long_is (tree.struct_type name) = refl
 
-  longs_are : (vs : List Variable) → map (long_by value) vs ≡ map (long_item d locals) vs
+  longs_are : (vs : List Variable) → map (too_long_array_by value) vs ≡ map (too_long_array d locals) vs
   longs_are [] = refl
-  longs_are (v ∷ vs) = ap (λ b. refused_if b L7 v.name.at ∷ map (long_by value) vs) (long_is v.of) ∙ ap (λ rest. long_item d locals v ∷ rest) (longs_are vs)
+  longs_are (v ∷ vs) = ap (λ b. refused_if b L7 v.name.at ∷ map (too_long_array_by value) vs) (long_is v.of) ∙ ap (λ rest. too_long_array d locals v ∷ rest) (longs_are vs)
 
 pub longs_by : {S T : Type 0} (d : Declared) (locals : List Variable) (table : IndexMap ℕ (Option Value) S) (set : IndexSet ℕ T) → Knows table (known_constants d)
     → ((text : ℕ) → contains nat_eq set text ≡ hidden_by locals text) → (vs : List Variable)
-    → map (long_by (value_by (text_of d) (constant_by table set))) vs ≡ map (long_item d locals) vs
+    → map (too_long_array_by (value_by (text_of d) (constant_by table set))) vs ≡ map (too_long_array d locals) vs
 longs_by d locals table set k h vs =
     longs_are d locals (value_by (text_of d) (constant_by table set)) (value_is d (hidden_by locals) (known_constants d) (constant_by table set) (constant_is table set (known_constants d) (hidden_by locals) k h)) vs
 

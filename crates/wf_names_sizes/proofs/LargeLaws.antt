@@ -9,7 +9,7 @@ use Rattle.wf_names_rules.specs.Declarations.{Variable, Structure, Declared}
 use Rattle.wf_names_rules.specs.Passes.{refused_if}
 use Rattle.wf_names_rules.specs.Sizes.{Take, nothing}
 use Rattle.wf_names_rules.specs.NameRules.{IsStructure}
-use Rattle.wf_names_sizes.specs.StructSizes.{capped, part_of, row_of, added, part_bytes, sum_after, passes, large_of, struct_large, AreHolding, AreSizes, AreSettled, HasLargeField}
+use Rattle.wf_names_sizes.specs.StructSizes.{capped, part_of, row_of, added, part_bytes, sum_after, passes, too_large_struct, struct_large, AreHolding, AreSizes, AreSettled, HasLargeField}
 use Rattle.wf_names_sizes.proofs.LongLaws.{among-none, among-cases, refused-cause, flat-cause, among-flat}
 use Rattle.wf_names_sizes.proofs.TakeLemmas.{take-append, sum-takes, sum-taken}
 
@@ -25,29 +25,29 @@ seam [] y ys = refl
 seam (x ∷ xs) y ys = ap (λ zs. x ∷ zs) (seam xs y ys)
 
 module _ (d : Declared) (flags : List Bool) (sizes : List (Option ℕ)) (holding : AreHolding d flags) (sound : AreSizes d sizes) where
-  none-found : (vs : List Variable) (t : Refusal) → Among t (large_of d flags sizes None vs) → ⊥
+  none-found : (vs : List Variable) (t : Refusal) → Among t (too_large_struct d flags sizes None vs) → ⊥
   none-found [] t a = among-none t a
-  none-found (v ∷ vs) t a = elim (among-cases t None (large_of d flags sizes None vs) a) [
+  none-found (v ∷ vs) t a = elim (among-cases t None (too_large_struct d flags sizes None vs) a) [
     | inl e ↦ absurd (cc e)
     | inr b ↦ none-found vs t b
   ]
 
   -- The fields after some that take `n` bytes.
   large-cause : (s : Structure) → IsStructure d s → (front vs : List Variable) (n : ℕ) (t : Refusal) → s.fields ≡ front ++ vs → Take d front n
-      → Among t (large_of d flags sizes (Some (capped n)) vs) → HasLargeField d t
+      → Among t (too_large_struct d flags sizes (Some (capped n)) vs) → HasLargeField d t
   large-cause s is front [] n t e takes a = absurd (among-none t a)
   large-cause s is front (v ∷ vs) n t e takes a =
       by_sum (λ k. large-cause s is (front ++ v ∷ []) vs k t (e ∙ seam front v vs)) (added (Some (capped n)) (part_bytes flags sizes (part_of d v))) refl
     where
-      by_sum : ((k : ℕ) → Take d (front ++ v ∷ []) k → Among t (large_of d flags sizes (Some (capped k)) vs) → HasLargeField d t) → (sum : Option ℕ) → added (Some (capped n)) (part_bytes flags sizes (part_of d v)) ≡ sum → HasLargeField d t
+      by_sum : ((k : ℕ) → Take d (front ++ v ∷ []) k → Among t (too_large_struct d flags sizes (Some (capped k)) vs) → HasLargeField d t) → (sum : Option ℕ) → added (Some (capped n)) (part_bytes flags sizes (part_of d v)) ≡ sum → HasLargeField d t
       by_sum others None f =
-          let P : Option ℕ → Type 0 = λ sum. Among t (refused_if (passes (Some (capped n)) sum) L7 v.name.at ∷ large_of d flags sizes sum vs) in
-          absurd (elim (among-cases t None (large_of d flags sizes None vs) (subst P f a)) [ inl q ↦ absurd (cc q) | inr b ↦ none-found vs t b ])
+          let P : Option ℕ → Type 0 = λ sum. Among t (refused_if (passes (Some (capped n)) sum) L7 v.name.at ∷ too_large_struct d flags sizes sum vs) in
+          absurd (elim (among-cases t None (too_large_struct d flags sizes None vs) (subst P f a)) [ inl q ↦ absurd (cc q) | inr b ↦ none-found vs t b ])
       by_sum others (Some m) f =
-          let P : Option ℕ → Type 0 = λ sum. Among t (refused_if (passes (Some (capped n)) sum) L7 v.name.at ∷ large_of d flags sizes sum vs) in
+          let P : Option ℕ → Type 0 = λ sum. Among t (refused_if (passes (Some (capped n)) sum) L7 v.name.at ∷ too_large_struct d flags sizes sum vs) in
           let one = sum-taken d flags sizes holding sound (v ∷ []) n m f in
           let whole : Take d (front ++ v ∷ []) (n + one.0) = take-append d front (v ∷ []) n one.0 takes one.1.0 in
-          elim (among-cases t (refused_if (passes (Some (capped n)) (Some m)) L7 v.name.at) (large_of d flags sizes (Some m) vs) (subst P f a)) [
+          elim (among-cases t (refused_if (passes (Some (capped n)) (Some m)) L7 v.name.at) (too_large_struct d flags sizes (Some m) vs) (subst P f a)) [
             | inl q ↦ (
                 let cause = refused-cause (passes (Some (capped n)) (Some m)) v.name.at t q in
                 let limits = passes-cause (capped n) (Some m) cause.0 in
@@ -70,7 +70,7 @@ module _ (d : Declared) (flags : List Bool) (sizes : List (Option ℕ)) (holding
                 made
                 )
             | inr b ↦ (
-                let Q : ℕ → Type 0 = λ k. Among t (large_of d flags sizes (Some k) vs) in
+                let Q : ℕ → Type 0 = λ k. Among t (too_large_struct d flags sizes (Some k) vs) in
                 others (n + one.0) whole (subst Q one.1.1 b)
                 )
           ]
@@ -78,7 +78,7 @@ module _ (d : Declared) (flags : List Bool) (sizes : List (Option ℕ)) (holding
   -- The find at a field after some.
   among-large : (front : List Variable) (v : Variable) (back : List Variable) (sum : Option ℕ) (t : Refusal)
       → refused_if (passes (sum_after flags sizes sum (map (part_of d) front)) (sum_after flags sizes sum (map (part_of d) (front ++ v ∷ [])))) L7 v.name.at ≡ Some t
-      → Among t (large_of d flags sizes sum (front ++ v ∷ back))
+      → Among t (too_large_struct d flags sizes sum (front ++ v ∷ back))
   among-large [] v back sum t h = here _ _ h
   among-large (x ∷ xs) v back sum t h = there _ _ (among-large xs v back (added sum (part_bytes flags sizes (part_of d x))) t h)
 
@@ -98,5 +98,5 @@ module _ (d : Declared) (flags : List Bool) (sizes : List (Option ℕ)) (holding
       let find : test (sum_after flags sizes (Some 0) (map (part_of d) h.front)) (sum_after flags sizes (Some 0) (map (part_of d) (h.front ++ h.variable ∷ []))) ≡ Some t =
       ap (λ a. test a (sum_after flags sizes (Some 0) (map (part_of d) (h.front ++ h.variable ∷ [])))) front ∙ ap (test (Some (capped h.before))) whole
       ∙ ap (λ b. refused_if b L7 h.variable.name.at) passed ∙ ap (λ x. Some x) (sym h.refused) in
-      let F : List Variable → Type 0 = λ vs. Among t (large_of d flags sizes (Some 0) vs) in
+      let F : List Variable → Type 0 = λ vs. Among t (too_large_struct d flags sizes (Some 0) vs) in
       among-flat (struct_large d flags sizes) t d.structs h.is.0 h.structure h.is.1 (subst F (sym h.fields) (among-large h.front h.variable h.back (Some 0) t find))

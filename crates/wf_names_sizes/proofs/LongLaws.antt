@@ -10,8 +10,9 @@ use Rattle.wf_text.proofs.PrecedenceLaws.{Among, here, there, Decides-map, Decid
 use Rattle.wf_names_rules.specs.Declarations.{Variable, Declared}
 use Rattle.wf_names_rules.specs.Sizes.{is_too_long}
 use Rattle.wf_names_rules.specs.Passes.{refused_if}
-use Rattle.wf_names_rules.specs.NameRules.{IsSizedHere, field, arg, local, SizeBreaks, too_long_array}
-use Rattle.wf_names_sizes.specs.LongArrays.{long_item, struct_longs, method_longs, arrays_found, HasLongArray}
+use Rattle.wf_names_rules.specs.NameRules as rules
+use Rattle.wf_names_rules.specs.NameRules.{IsSizedHere, field, arg, local, SizeBreaks}
+use Rattle.wf_names_sizes.specs.LongArrays.{too_long_array, struct_longs, method_longs, arrays_found, HasLongArray}
 
 -- Where a refusal is among the finds of a list.
 pub among-none : (t : Refusal) → Among t [] → ⊥
@@ -79,7 +80,7 @@ refused-cause true at t e = (refl, (let same : record { rule = L7; at = at } ≡
 refused-cause false at t e = absurd (cc e)
 
 -- What is found breaks the rule.
-item-breaks : (d : Declared) (locals : List Variable) (v : Variable) (t : Refusal) → IsSizedHere d locals v → long_item d locals v ≡ Some t → HasLongArray d t
+item-breaks : (d : Declared) (locals : List Variable) (v : Variable) (t : Refusal) → IsSizedHere d locals v → too_long_array d locals v ≡ Some t → HasLongArray d t
 item-breaks d locals v t h e =
     let r = refused-cause (is_too_long d locals v.of) v.name.at t e in
     record { locals = locals; variable = v; here = h; long = r.0; refused = r.1 }
@@ -87,29 +88,29 @@ item-breaks d locals v t h e =
 pub struct-breaks : (d : Declared) (t : Refusal) → Among t (flat_map (struct_longs d) d.structs) → HasLongArray d t
 struct-breaks d t a =
     let s = flat-cause (struct_longs d) t d.structs a in
-    let v = map-cause (long_item d []) t s.1.0.fields s.1.1.1 in
+    let v = map-cause (too_long_array d []) t s.1.0.fields s.1.1.1 in
     item-breaks d [] v.1.0 t (field s.1.0 v.0 v.1.0 (s.0, s.1.1.0) v.1.1.0) v.1.1.1
 
 pub method-breaks : (d : Declared) (t : Refusal) → Among t (flat_map (method_longs d) d.methods) → HasLongArray d t
 method-breaks d t a =
     let m = flat-cause (method_longs d) t d.methods a in
-    elim (among-append t (map (long_item d m.1.0.locals) m.1.0.args) (map (long_item d m.1.0.locals) m.1.0.locals) m.1.1.1) [
-      | inl p ↦ let v = map-cause (long_item d m.1.0.locals) t m.1.0.args p in item-breaks d m.1.0.locals v.1.0 t (arg m.1.0 v.0 v.1.0 (m.0, m.1.1.0) v.1.1.0) v.1.1.1
-      | inr q ↦ let v = map-cause (long_item d m.1.0.locals) t m.1.0.locals q in item-breaks d m.1.0.locals v.1.0 t (local m.1.0 v.0 v.1.0 (m.0, m.1.1.0) v.1.1.0) v.1.1.1
+    elim (among-append t (map (too_long_array d m.1.0.locals) m.1.0.args) (map (too_long_array d m.1.0.locals) m.1.0.locals) m.1.1.1) [
+      | inl p ↦ let v = map-cause (too_long_array d m.1.0.locals) t m.1.0.args p in item-breaks d m.1.0.locals v.1.0 t (arg m.1.0 v.0 v.1.0 (m.0, m.1.1.0) v.1.1.0) v.1.1.1
+      | inr q ↦ let v = map-cause (too_long_array d m.1.0.locals) t m.1.0.locals q in item-breaks d m.1.0.locals v.1.0 t (local m.1.0 v.0 v.1.0 (m.0, m.1.1.0) v.1.1.0) v.1.1.1
     ]
 
 -- What breaks the rule is found.
-item-found : (d : Declared) (locals : List Variable) (v : Variable) → is_too_long d locals v.of ≡ true → long_item d locals v ≡ Some (record { rule = L7; at = v.name.at })
+item-found : (d : Declared) (locals : List Variable) (v : Variable) → is_too_long d locals v.of ≡ true → too_long_array d locals v ≡ Some (record { rule = L7; at = v.name.at })
 item-found d locals v h = ap (λ b. refused_if b L7 v.name.at) h
 
 here-found : (d : Declared) (locals : List Variable) (v : Variable) → IsSizedHere d locals v → is_too_long d locals v.of ≡ true
     → Among (record { rule = L7; at = v.name.at }) (flat_map (struct_longs d) d.structs) ⊎ Among (record { rule = L7; at = v.name.at }) (flat_map (method_longs d) d.methods)
 here-found d _ _ (field s i v is e) h =
-    inl (among-flat (struct_longs d) _ d.structs is.0 s is.1 (among-map (long_item d []) _ s.fields i v e (item-found d [] v h)))
+    inl (among-flat (struct_longs d) _ d.structs is.0 s is.1 (among-map (too_long_array d []) _ s.fields i v e (item-found d [] v h)))
 here-found d _ _ (arg m i v is e) h =
-    inr (among-flat (method_longs d) _ d.methods is.0 m is.1 (among-front _ (map (long_item d m.locals) m.args) (map (long_item d m.locals) m.locals) (among-map (long_item d m.locals) _ m.args i v e (item-found d m.locals v h))))
+    inr (among-flat (method_longs d) _ d.methods is.0 m is.1 (among-front _ (map (too_long_array d m.locals) m.args) (map (too_long_array d m.locals) m.locals) (among-map (too_long_array d m.locals) _ m.args i v e (item-found d m.locals v h))))
 here-found d _ _ (local m i v is e) h =
-    inr (among-flat (method_longs d) _ d.methods is.0 m is.1 (among-behind _ (map (long_item d m.locals) m.args) (map (long_item d m.locals) m.locals) (among-map (long_item d m.locals) _ m.locals i v e (item-found d m.locals v h))))
+    inr (among-flat (method_longs d) _ d.methods is.0 m is.1 (among-behind _ (map (too_long_array d m.locals) m.args) (map (too_long_array d m.locals) m.locals) (among-map (too_long_array d m.locals) _ m.locals i v e (item-found d m.locals v h))))
 
 pub found-break : (d : Declared) (t : Refusal) → HasLongArray d t → Among t (flat_map (struct_longs d) d.structs) ⊎ Among t (flat_map (method_longs d) d.methods)
 found-break d t h =
@@ -134,4 +135,4 @@ arrays-decide d =
 
 -- It breaks the table's rule.
 pub array-breaks : (d : Declared) (s : Refusal) → HasLongArray d s → SizeBreaks d s
-array-breaks d s h = let P : Refusal → Type 0 = SizeBreaks d in subst P (sym h.refused) (too_long_array h.locals h.variable h.here h.long)
+array-breaks d s h = let P : Refusal → Type 0 = SizeBreaks d in subst P (sym h.refused) (rules.too_long_array h.locals h.variable h.here h.long)

@@ -13,14 +13,14 @@ use Rattle.wf_names_rules.specs.Passes.{refused_if}
 use Rattle.wf_names_rules.specs.NameRules.{IsSizedHere}
 
 -- A variable whose type has an array that is too long; `locals` hide constants in it.
-abbrev pub long_item : Declared → (locals : List Variable) → Variable → Option Refusal
-long_item d locals v = refused_if (is_too_long d locals v.of) L7 v.name.at
+abbrev pub too_long_array : Declared → (locals : List Variable) → Variable → Option Refusal
+too_long_array d locals v = refused_if (is_too_long d locals v.of) L7 v.name.at
 
 abbrev pub struct_longs : Declared → Structure → List (Option Refusal)
-struct_longs d s = map (long_item d []) s.fields
+struct_longs d s = map (too_long_array d []) s.fields
 
 abbrev pub method_longs : Declared → Method → List (Option Refusal)
-method_longs d m = map (long_item d m.locals) m.args ++ map (long_item d m.locals) m.locals
+method_longs d m = map (too_long_array d m.locals) m.args ++ map (too_long_array d m.locals) m.locals
 
 -- Those of a package: fields, then arguments and locals.
 abbrev pub arrays_found : Declared → (found : Option Refusal) → Option Refusal
@@ -40,5 +40,5 @@ is_long_by value (tree.slice_of at element) = is_long_by value element
 is_long_by value (tree.array_of length at element) = nat_lt 65536 (number_or_zero (value length)) || is_long_by value element
 is_long_by value _ = false
 
-abbrev pub long_by : (value : ExprTree → Option Sized) → Variable → Option Refusal
-long_by value v = refused_if (is_long_by value v.of) L7 v.name.at
+abbrev pub too_long_array_by : (value : ExprTree → Option Sized) → Variable → Option Refusal
+too_long_array_by value v = refused_if (is_long_by value v.of) L7 v.name.at

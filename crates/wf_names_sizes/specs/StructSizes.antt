@@ -59,14 +59,14 @@ passes (Some a) None = false
 passes (Some a) (Some b) = not (nat_lt 1048576 a) && nat_lt 1048576 b
 
 -- The field of a list that passes the limit; `sum` is that of the fields before it.
-abbrev pub large_of : Declared → (flags : List Bool) → (sizes : List (Option ℕ)) → (sum : Option ℕ) → List Variable → List (Option Refusal)
-large_of d flags sizes sum [] = []
-large_of d flags sizes sum (v ∷ vs) =
+abbrev pub too_large_struct : Declared → (flags : List Bool) → (sizes : List (Option ℕ)) → (sum : Option ℕ) → List Variable → List (Option Refusal)
+too_large_struct d flags sizes sum [] = []
+too_large_struct d flags sizes sum (v ∷ vs) =
     refused_if (passes sum (added sum (part_bytes flags sizes (part_of d v)))) L7 v.name.at
-    ∷ large_of d flags sizes (added sum (part_bytes flags sizes (part_of d v))) vs
+    ∷ too_large_struct d flags sizes (added sum (part_bytes flags sizes (part_of d v))) vs
 
 abbrev pub struct_large : Declared → (flags : List Bool) → (sizes : List (Option ℕ)) → Structure → List (Option Refusal)
-struct_large d flags sizes s = large_of d flags sizes (Some 0) s.fields
+struct_large d flags sizes s = too_large_struct d flags sizes (Some 0) s.fields
 
 -- Flags of the structs: whether one holds itself.
 pub record AreHolding (d : Declared) (flags : List Bool) : Type 0 where

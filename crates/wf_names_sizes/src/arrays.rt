@@ -13,18 +13,18 @@ ghost use Rattle.wf_names_rules.specs.ConstantValues.{known_constants};
 ghost use Rattle.wf_names_rules.specs.Sizes.{number_or_zero};
 ghost use Rattle.wf_names_sizes.specs.Packages.{of_package};
 ghost use Rattle.wf_names_sizes.specs.ValuesBy.{Knows, constant_by, value_by};
-ghost use Rattle.wf_names_sizes.specs.LongArrays.{is_long_by, long_by, long_item, struct_longs, method_longs, arrays_found};
+ghost use Rattle.wf_names_sizes.specs.LongArrays.{is_long_by, too_long_array_by, too_long_array as is_too_long_array, struct_longs, method_longs, arrays_found};
 
 use crate::numbers::Value;
 use crate::values::value;
 use indexmap::{IndexMap, IndexSet};
 use std::alloc::Global;
-use wf_ast::parsed::{Block, Decl, Field, Prefix, Stmt, TypeExpr};
+use wf_ast::parsed::{Block, Decl, Field, Name, Prefix, Stmt, TypeExpr};
 use wf_ast::{ExprId, PackageNodes, StmtId};
 use wf_names_rules::lists::refused_if;
 use wf_text::faults::NoMemory;
 use wf_text::found::Found;
-use wf_text::rules::Rule;
+use wf_text::rules::{Refusal, Rule};
 
 // The longest array.
 const MOST_ELEMENTS: u64 = 65_536;
@@ -78,6 +78,24 @@ fn is_too_long(
     false
 }
 
+// A variable whose type has an array that is too long.
+fn too_long_array(
+    parsed: &PackageNodes,
+    constants: &IndexMap<u32, Option<Value>>,
+    hidden: &IndexSet<u32>,
+    name: Name,
+    of: &TypeExpr,
+) -> Option<Refusal>
+    requires { TypeBelow (length parsed.now.exprs) of.now }
+    ensures { result ≡ too_long_array_by (value_by (bytes_of parsed.now.texts) (constant_by constants.now hidden.now)) (record { name = name; of = type_at (expr_trees parsed.now.exprs) of.now }) }
+{
+    refused_if(
+        is_too_long(parsed, constants, hidden, of),
+        Rule::L7,
+        name.at,
+    )
+}
+
 // Fields or arguments with arrays that are too long.
 fn long_fields(
     found: &mut Found,
@@ -87,11 +105,10 @@ fn long_fields(
     fields: &[Field],
 )
     requires { FieldsBelow (length parsed.now.exprs) fields.now }
-    ensures { found.new ≡ soonest found.old (map (long_by (value_by (bytes_of parsed.now.texts) (constant_by constants.now hidden.now))) (variables (fields_at (expr_trees parsed.now.exprs) fields.now))) }
+    ensures { found.new ≡ soonest found.old (map (too_long_array_by (value_by (bytes_of parsed.now.texts) (constant_by constants.now hidden.now))) (variables (fields_at (expr_trees parsed.now.exprs) fields.now))) }
 {
     for field in fields {
-        let long = is_too_long(parsed, constants, hidden, &field.of);
-        found.refuse(refused_if(long, Rule::L7, field.name.at));
+        found.refuse(too_long_array(parsed, constants, hidden, field.name, &field.of));
     }
 }
 
@@ -104,13 +121,12 @@ fn long_local(
     s: StmtId,
 )
     requires { s.0 < length parsed.now.stmts }
-    ensures { found.new ≡ soonest found.old (map (long_by (value_by (bytes_of parsed.now.texts) (constant_by constants.now hidden.now))) (local_of (stmt_at (stmt_trees parsed.now.exprs parsed.now.stmts) s))) }
+    ensures { found.new ≡ soonest found.old (map (too_long_array_by (value_by (bytes_of parsed.now.texts) (constant_by constants.now hidden.now))) (local_of (stmt_at (stmt_trees parsed.now.exprs parsed.now.stmts) s))) }
 {
     let node = parsed.stmt(s);
     match &node.stmt {
         Stmt::Var { name, of } => {
-            let long = is_too_long(parsed, constants, hidden, of);
-            found.refuse(refused_if(long, Rule::L7, name.at));
+            found.refuse(too_long_array(parsed, constants, hidden, *name, of))
         }
         Stmt::Assign { .. } => {}
         Stmt::Keep { .. } => {}
@@ -134,7 +150,7 @@ fn long_locals(
     body: &Block,
 )
     requires { BlockBelow (length parsed.now.stmts) body.now }
-    ensures { found.new ≡ soonest found.old (map (long_by (value_by (bytes_of parsed.now.texts) (constant_by constants.now hidden.now))) (locals_of (block_at (stmt_trees parsed.now.exprs parsed.now.stmts) body.now))) }
+    ensures { found.new ≡ soonest found.old (map (too_long_array_by (value_by (bytes_of parsed.now.texts) (constant_by constants.now hidden.now))) (locals_of (block_at (stmt_trees parsed.now.exprs parsed.now.stmts) body.now))) }
 {
     for s in body.items.as_slice() {
         long_local(found, parsed, constants, hidden, *s);
@@ -233,7 +249,7 @@ fn long_variables(
     requires knows { Knows constants.now (known_constants (of_package parsed.now)) }
     requires args { FieldsBelow (length parsed.now.exprs) args.now }
     requires body { BlockBelow (length parsed.now.stmts) body.now }
-    ensures { OnOk result (found.new ≡ soonest found.old (map (long_item (of_package parsed.now) (locals_of (block_at (stmt_trees parsed.now.exprs parsed.now.stmts) body.now))) (variables (fields_at (expr_trees parsed.now.exprs) args.now)) ++ map (long_item (of_package parsed.now) (locals_of (block_at (stmt_trees parsed.now.exprs parsed.now.stmts) body.now))) (locals_of (block_at (stmt_trees parsed.now.exprs parsed.now.stmts) body.now)))) }
+    ensures { OnOk result (found.new ≡ soonest found.old (map (is_too_long_array (of_package parsed.now) (locals_of (block_at (stmt_trees parsed.now.exprs parsed.now.stmts) body.now))) (variables (fields_at (expr_trees parsed.now.exprs) args.now)) ++ map (is_too_long_array (of_package parsed.now) (locals_of (block_at (stmt_trees parsed.now.exprs parsed.now.stmts) body.now))) (locals_of (block_at (stmt_trees parsed.now.exprs parsed.now.stmts) body.now)))) }
 {
     let hidden = local_names(alloc, parsed, body)?;
     long_fields(found, parsed, constants, &hidden, args);

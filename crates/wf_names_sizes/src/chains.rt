@@ -21,14 +21,12 @@ pub(crate) fn started(first: Option<Value>) -> Option<Chain>
     ensures runs { Runs result (start_of (sized first)) }
     ensures stays { (op : _) → ChainStays op result }
 {
-    match first {
-        Some(a) => Some(Chain {
-            width: a.width,
-            largest: a.number,
-            number: Some(a.number),
-        }),
-        None => None,
-    }
+    let a = first?;
+    Some(Chain {
+        width: a.width,
+        largest: a.number,
+        number: Some(a.number),
+    })
 }
 
 fn is_shift(op: Op) -> bool
@@ -53,17 +51,13 @@ fn join(op: Op, chain: Chain, b: Value) -> Option<Chain>
     ensures runs { (r : Running) → IsRun chain r → Runs result (run_joined op r (record { bits = bits_in b.width; number = b.number }) (joined_bits r.bits (bits_in b.width))) }
     ensures stays { ChainStays op result }
 {
-    match joined(chain.width, b.width) {
-        Some(width) => match joined_number(op, width, chain.number, b.number) {
-            Some(number) => Some(Chain {
-                width,
-                largest: larger(chain.largest, b.number),
-                number,
-            }),
-            None => None,
-        },
-        None => None,
-    }
+    let width = joined(chain.width, b.width)?;
+    let number = joined_number(op, width, chain.number, b.number)?;
+    Some(Chain {
+        width,
+        largest: larger(chain.largest, b.number),
+        number,
+    })
 }
 
 fn shift(op: Op, chain: Chain, b: Value) -> Option<Chain>
@@ -71,14 +65,12 @@ fn shift(op: Op, chain: Chain, b: Value) -> Option<Chain>
     ensures runs { (r : Running) → IsRun chain r → Runs result (run_shifted op r (record { bits = bits_in b.width; number = b.number })) }
     ensures stays { ChainStays op result }
 {
-    match shifted_number(op, chain.width, chain.number, b.number) {
-        Some(number) => Some(Chain {
-            width: chain.width,
-            largest: chain.largest,
-            number,
-        }),
-        None => None,
-    }
+    let number = shifted_number(op, chain.width, chain.number, b.number)?;
+    Some(Chain {
+        width: chain.width,
+        largest: chain.largest,
+        number,
+    })
 }
 
 fn joined_or_shifted(op: Op, chain: Chain, b: Value) -> Option<Chain>
@@ -109,24 +101,18 @@ pub(crate) fn run(op: Op, so_far: Option<Chain>, operand: Option<Value>) -> Opti
 fn ended_at(width: Option<Width>, number: Option<u64>) -> Option<Value>
     ensures { (n : _) → number ≡ within n → sized result ≡ fits_in (bits_in width) n }
 {
-    match number {
-        Some(number) => fitted(width, number),
-        None => None,
-    }
+    let number = number?;
+    fitted(width, number)
 }
 
 /// The value of a whole chain.
 pub(crate) fn ended(chain: Option<Chain>) -> Option<Value>
     ensures { (r : Option Running) → Runs chain r → sized result ≡ end_of r }
 {
-    match chain {
-        Some(chain) => {
-            if (chain.largest as u128) < count(chain.width) {
-                ended_at(chain.width, chain.number)
-            } else {
-                None
-            }
-        }
-        None => None,
+    let chain = chain?;
+    if (chain.largest as u128) < count(chain.width) {
+        ended_at(chain.width, chain.number)
+    } else {
+        None
     }
 }

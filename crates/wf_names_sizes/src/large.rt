@@ -12,7 +12,7 @@ ghost use Rattle.wf_names_sizes.specs.Deciding.{DecidesBehind};
 ghost use Rattle.wf_names_sizes.specs.Orders.{IsHoldingOrder};
 ghost use Rattle.wf_names_sizes.specs.Packages.{of_package};
 ghost use Rattle.wf_names_sizes.specs.Settings.{TellsSetting};
-ghost use Rattle.wf_names_sizes.specs.StructSizes.{passes as passes_limit, large_of, struct_large, row_of, AreHolding, AreNumbers, AreSizes, AreSettled, HasLargeField};
+ghost use Rattle.wf_names_sizes.specs.StructSizes.{passes as passes_limit, too_large_struct as are_too_large, struct_large, row_of, AreHolding, AreNumbers, AreSizes, AreSettled, HasLargeField};
 
 use crate::arrays::long_by_constants;
 use crate::constants::constants;
@@ -44,7 +44,7 @@ fn passes(before: Option<u32>, since: Option<u32>) -> bool
 }
 
 // The field that passes the limit.
-fn large_field(
+fn too_large_struct(
     found: &mut Found,
     setting: &Setting<'_>,
     flags: &[bool],
@@ -53,7 +53,7 @@ fn large_field(
 )
     requires fields { FieldsBelow (length setting.now.parsed.now.exprs) fields.now }
     requires setting { TellsSetting setting.now }
-    ensures { found.new ≡ soonest found.old (large_of (of_package setting.now.parsed.now) flags.now sizes.now (Some 0) (variables (fields_at (expr_trees setting.now.parsed.now.exprs) fields.now))) }
+    ensures { found.new ≡ soonest found.old (are_too_large (of_package setting.now.parsed.now) flags.now sizes.now (Some 0) (variables (fields_at (expr_trees setting.now.parsed.now.exprs) fields.now))) }
 {
     let mut sum = Some(0);
     for field in fields {
@@ -79,7 +79,7 @@ fn large_in_struct(
     let node = setting.parsed.decl(number);
     match &node.decl {
         Decl::Struct { fields, .. } => {
-            large_field(found, setting, flags, sizes, fields.as_slice())
+            too_large_struct(found, setting, flags, sizes, fields.as_slice())
         }
         Decl::Status(_) => {}
         Decl::Const { .. } => {}

@@ -109,10 +109,8 @@ fn plain_bytes(setting: &Setting<'_>, of: &TypeExpr) -> u32
 fn number(structs: &Numbers, name: TextId) -> Option<usize>
     ensures { result ≡ number_at structs.now name.0 }
 {
-    match structs.numbers.get(&name.0) {
-        Some(number) => Some(*number as usize),
-        None => None,
-    }
+    let number = structs.numbers.get(&name.0)?;
+    Some(*number as usize)
 }
 
 // The struct that a field holds.

@@ -42,10 +42,8 @@ fn is_flagged(flags: &[bool], s: usize) -> bool
 fn size_at(sizes: &[Option<u32>], s: usize) -> Option<u32>
     ensures { result ≡ size_in (slice_get sizes.now s) }
 {
-    match sizes.get(s) {
-        Some(size) => *size,
-        None => None,
-    }
+    let size = sizes.get(s)?;
+    *size
 }
 
 fn struct_bytes(flag: bool, inner: Option<u32>) -> Option<u32>
@@ -54,10 +52,8 @@ fn struct_bytes(flag: bool, inner: Option<u32>) -> Option<u32>
     if flag {
         return Some(8);
     }
-    match inner {
-        Some(bytes) => Some(capped_sum(8, bytes)),
-        None => None,
-    }
+    let bytes = inner?;
+    Some(capped_sum(8, bytes))
 }
 
 /// The bytes of a field, where they are known.

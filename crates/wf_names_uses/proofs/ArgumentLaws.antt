@@ -11,7 +11,7 @@ use Rattle.wf_ast.specs.ParsedTree.{ExprTree}
 use Rattle.wf_names_rules.specs.declared.sorts.Sort.{Sort}
 use Rattle.graphs.specs.Graphs.{holds}
 use Rattle.wf_names_rules.specs.Meanings.{GivenValue, Parameters, is_parameter, is_io_arg, passed_at, passed_arg}
-use Rattle.wf_names_rules.specs.Judged.{arg_path_at, arg_path, passed_item, passed_seen, passed_of, unknown_item, unknown_of}
+use Rattle.wf_names_rules.specs.Judged.{arg_path_at, arg_path, passed_twice_by_value, passed_seen, passed_twice, unknown_argument, unknown_arguments}
 use Rattle.wf_names_rules.proofs.InsertLemmas.{insert-keeps, insert-has, insert-only}
 use Rattle.wf_names_uses.proofs.FoundLemmas.{Has, refused-cause, refused-so, not-cause, not-so, both, both-so}
 
@@ -84,18 +84,18 @@ only-seen seen (Some path) t h = elim (insert-only seen path.name.text.0 t h) [ 
 
 passed-again : (arg : ℕ → Option Sort) (seen : List ℕ) (values : List GivenValue) (j : ℕ) (later : GivenValue) (path : Path)
     → slice_get values j ≡ Some later → arg_path later.value ≡ Some path → is_io_arg arg path.name.text.0 ≡ true → holds seen path.name.text.0 ≡ true
-    → Has (record { rule = N2; at = path.at }) (passed_of arg seen values)
+    → Has (record { rule = N2; at = path.at }) (passed_twice arg seen values)
 passed-again arg seen [] j later path e is io h = absurd (cc e)
 passed-again arg seen (g ∷ gs) zero later path e is io h =
     let same : g ≡ later = cc e in
     let value : arg_path g.value ≡ Some path = ap (λ (x : GivenValue). arg_path x.value) same ∙ is in
-    inl (ap (passed_item arg seen) value ∙ refused-so (is_io_arg arg path.name.text.0 && holds seen path.name.text.0) N2 path.at (both-so (is_io_arg arg path.name.text.0) (holds seen path.name.text.0) io h))
+    inl (ap (passed_twice_by_value arg seen) value ∙ refused-so (is_io_arg arg path.name.text.0 && holds seen path.name.text.0) N2 path.at (both-so (is_io_arg arg path.name.text.0) (holds seen path.name.text.0) io h))
 passed-again arg seen (g ∷ gs) (suc j) later path e is io h =
     inr (passed-again arg (passed_seen seen (arg_path g.value)) gs j later path e is io (keeps-seen seen (arg_path g.value) path.name.text.0 h))
 
 pub passed-complete : (arg : ℕ → Option Sort) (seen : List ℕ) (values : List GivenValue) (i j : ℕ) (earlier later : GivenValue) (path : Path)
     → i < j → slice_get values i ≡ Some earlier → slice_get values j ≡ Some later → path.root ≡ roots.Args → later.value ≡ tree.path path
-    → passed_arg earlier.value ≡ Some path.name.text.0 → is_io_arg arg path.name.text.0 ≡ true → Has (record { rule = N2; at = path.at }) (passed_of arg seen values)
+    → passed_arg earlier.value ≡ Some path.name.text.0 → is_io_arg arg path.name.text.0 ≡ true → Has (record { rule = N2; at = path.at }) (passed_twice arg seen values)
 passed-complete arg seen [] i j earlier later path below e f root is same io = absurd (cc e)
 passed-complete arg seen (g ∷ gs) i zero earlier later path below e f root is same io = absurd (omega (arith, below))
 passed-complete arg seen (g ∷ gs) zero (suc j) earlier later path below e f root is same io =
@@ -124,11 +124,11 @@ pub record PassedCause (arg : ℕ → Option Sort) (seen : List ℕ) (values : L
   pub refused : s ≡ record { rule = N2; at = path.at }
   pub before : (holds seen path.name.text.0 ≡ true) ⊎ Earlier values j path.name.text.0
 
-pub passed-sound : (arg : ℕ → Option Sort) (seen : List ℕ) (values : List GivenValue) (s : Refusal) → Has s (passed_of arg seen values) → PassedCause arg seen values s
+pub passed-sound : (arg : ℕ → Option Sort) (seen : List ℕ) (values : List GivenValue) (s : Refusal) → Has s (passed_twice arg seen values) → PassedCause arg seen values s
 passed-sound arg seen [] s h = absurd h
 passed-sound arg seen (g ∷ gs) s (inl e) = by_item (arg_path g.value) refl e
   where
-    by_item : (o : Option Path) → arg_path g.value ≡ o → passed_item arg seen o ≡ Some s → PassedCause arg seen (g ∷ gs) s
+    by_item : (o : Option Path) → arg_path g.value ≡ o → passed_twice_by_value arg seen o ≡ Some s → PassedCause arg seen (g ∷ gs) s
     by_item None is k = absurd (cc k)
     by_item (Some path) is k =
         let r = refused-cause (is_io_arg arg path.name.text.0 && holds seen path.name.text.0) N2 path.at s k in
@@ -151,11 +151,11 @@ abbrev pub named : List GivenValue → List Name
 named values = map (λ (g : GivenValue). g.name) values
 
 pub unknown-complete : (bytes : ℕ → List ℕ) (parameters : Parameters) (values : List GivenValue) (i : ℕ) (given : GivenValue)
-    → slice_get values i ≡ Some given → is_parameter bytes parameters given.name.text.0 ≡ false → Has (record { rule = N6; at = given.name.at }) (unknown_of bytes parameters (named values))
+    → slice_get values i ≡ Some given → is_parameter bytes parameters given.name.text.0 ≡ false → Has (record { rule = N6; at = given.name.at }) (unknown_arguments bytes parameters (named values))
 unknown-complete bytes parameters [] i given e h = absurd (cc e)
 unknown-complete bytes parameters (g ∷ gs) zero given e h =
     let same : g ≡ given = cc e in
-    inl (ap (λ (x : GivenValue). unknown_item bytes parameters x.name) same ∙ refused-so (not (is_parameter bytes parameters given.name.text.0)) N6 given.name.at (not-so (is_parameter bytes parameters given.name.text.0) h))
+    inl (ap (λ (x : GivenValue). unknown_argument bytes parameters x.name) same ∙ refused-so (not (is_parameter bytes parameters given.name.text.0)) N6 given.name.at (not-so (is_parameter bytes parameters given.name.text.0) h))
 unknown-complete bytes parameters (g ∷ gs) (suc i) given e h = inr (unknown-complete bytes parameters gs i given e h)
 
 pub record UnknownCause (bytes : ℕ → List ℕ) (parameters : Parameters) (values : List GivenValue) (s : Refusal) : Type 0 where
@@ -166,7 +166,7 @@ pub record UnknownCause (bytes : ℕ → List ℕ) (parameters : Parameters) (va
   pub refused : s ≡ record { rule = N6; at = given.name.at }
 
 pub unknown-sound : (bytes : ℕ → List ℕ) (parameters : Parameters) (values : List GivenValue) (s : Refusal)
-    → Has s (unknown_of bytes parameters (named values)) → UnknownCause bytes parameters values s
+    → Has s (unknown_arguments bytes parameters (named values)) → UnknownCause bytes parameters values s
 unknown-sound bytes parameters [] s h = absurd h
 unknown-sound bytes parameters (g ∷ gs) s (inl e) =
     let r = refused-cause (not (is_parameter bytes parameters g.name.text.0)) N6 g.name.at s e in

@@ -12,9 +12,9 @@ use Rattle.wf_names_rules.specs.declared.callees.Callee.TheVariants as callees
 use Rattle.wf_names_rules.specs.Declarations.{Declared, text_of, status_named, struct_named}
 use Rattle.wf_names_rules.specs.Uses as uses
 use Rattle.wf_names_rules.specs.Uses.{Use, Scope, Site, sites}
-use Rattle.wf_names_rules.specs.Meanings.{Known, GivenValue, Parameters, is_base_status, known_at, path_sort, call_name, call_args, callee_of, has_meaning, call_has_meaning, parameters_of, lacks_one}
-use Rattle.wf_names_rules.specs.Passes.{refused_if, doubles_of}
-use Rattle.wf_names_rules.specs.Judged.{callee_refusal, passed_of, unknown_of, args_judged, args_judged_if, call_judged, judged}
+use Rattle.wf_names_rules.specs.Meanings.{Known, GivenValue, Parameters, is_base_status, known_at, path_sort, call_name, call_args, callee_of, call_has_meaning, parameters_of, lacks_one}
+use Rattle.wf_names_rules.specs.Judged as judging
+use Rattle.wf_names_rules.specs.Judged.{callee_refusal, unknown_status, unknown_base_status, unknown_variable, unknown_struct, given_judged, given_judged_if, call_judged, judged}
 use Rattle.wf_names_rules.specs.NameRules as rules
 use Rattle.wf_names_rules.specs.NameRules.{UseBreaks, IsUsed, IsPassedTwice, given_names, given_texts, unknown, twice}
 use Rattle.wf_names_rules.proofs.ListLaws.{doubles-sound, doubles-complete}
@@ -22,16 +22,12 @@ use Rattle.wf_names_scopes.specs.UsesFound.{sites_judged, uses_found}
 use Rattle.wf_names_uses.proofs.FoundLemmas.{Has, has-item, item-has, Decides-all, refused-cause, refused-so, not-cause, not-so, none-cause, none-so}
 use Rattle.wf_names_uses.proofs.ArgumentLaws.{named, passed-sound, passed-complete, unknown-sound, unknown-complete, texts-same}
 
--- That an argument of the method isn't given.
-abbrev missing_of : Known → Parameters → Name → List GivenValue → Option Refusal
-missing_of k parameters name values = refused_if (lacks_one k.bytes parameters (map (λ n. n.text.0) (named values))) N7 name.at
-
 -- What the arguments of a call break.
 pub data ArgsBreak (k : Known) (parameters : Parameters) (name : Name) (values : List GivenValue) (s : Refusal) : Type 0 where
-  given_twice : Has s (doubles_of [] (named values)) → ArgsBreak k parameters name values s
-  passed_twice : Has s (passed_of k.arg [] values) → ArgsBreak k parameters name values s
-  unknown_argument : Has s (unknown_of k.bytes parameters (named values)) → ArgsBreak k parameters name values s
-  missing_argument : missing_of k parameters name values ≡ Some s → ArgsBreak k parameters name values s
+  given_twice : Has s (judging.given_twice (named values)) → ArgsBreak k parameters name values s
+  passed_twice : Has s (judging.passed_twice k.arg [] values) → ArgsBreak k parameters name values s
+  unknown_argument : Has s (judging.unknown_arguments k.bytes parameters (named values)) → ArgsBreak k parameters name values s
+  missing_argument : judging.missing_argument k.bytes parameters name (named values) ≡ Some s → ArgsBreak k parameters name values s
 
 -- What a call breaks: by its method, and by its arguments where everything in it has a meaning.
 pub data CallBreaks (k : Known) (c : CallTree) (s : Refusal) : Type 0 where
@@ -40,31 +36,31 @@ pub data CallBreaks (k : Known) (c : CallTree) (s : Refusal) : Type 0 where
 
 -- What one use breaks by what is known at its place.
 abbrev pub UseBreaksHere : Known → Use → Refusal → Type 0
-UseBreaksHere k (uses.own_status text) s = refused_if (not (has_meaning k (uses.own_status text))) N1 text.at ≡ Some s
-UseBreaksHere k (uses.base_status text) s = refused_if (not (has_meaning k (uses.base_status text))) N1 text.at ≡ Some s
-UseBreaksHere k (uses.variable path) s = refused_if (not (has_meaning k (uses.variable path))) N1 path.name.at ≡ Some s
-UseBreaksHere k (uses.structure name) s = refused_if (not (has_meaning k (uses.structure name))) N1 name.at ≡ Some s
+UseBreaksHere k (uses.own_status text) s = unknown_status k text ≡ Some s
+UseBreaksHere k (uses.base_status text) s = unknown_base_status k text ≡ Some s
+UseBreaksHere k (uses.variable path) s = unknown_variable k path ≡ Some s
+UseBreaksHere k (uses.structure name) s = unknown_struct k name ≡ Some s
 UseBreaksHere k (uses.method c) s = CallBreaks k c s
 
 -- What is found of the arguments, pass by pass, after what was known.
 abbrev ArgsFound : (Refusal → Type 0) → Known → Parameters → Name → List GivenValue → Refusal → Type 0
 ArgsFound P k parameters name values s =
-    (((P s ⊎ Has s (doubles_of [] (named values))) ⊎ Has s (passed_of k.arg [] values)) ⊎ Has s (unknown_of k.bytes parameters (named values))) ⊎ (missing_of k parameters name values ≡ Some s)
+    (((P s ⊎ Has s (judging.given_twice (named values))) ⊎ Has s (judging.passed_twice k.arg [] values)) ⊎ Has s (judging.unknown_arguments k.bytes parameters (named values))) ⊎ (judging.missing_argument k.bytes parameters name (named values) ≡ Some s)
 
 args-decide : (P : Refusal → Type 0) (k : Known) (found : Option Refusal) (parameters : Parameters) (name : Name) (values : List GivenValue) → Decides P found
-    → Decides (λ s. P s ⊎ ArgsBreak k parameters name values s) (args_judged k found parameters name (named values) values)
+    → Decides (λ s. P s ⊎ ArgsBreak k parameters name values s) (given_judged k found parameters name (named values) values)
 args-decide P k found parameters name values h =
-    let doubles = doubles_of [] (named values) in
-    let passed = passed_of k.arg [] values in
-    let unknowns = unknown_of k.bytes parameters (named values) in
+    let doubles = judging.given_twice (named values) in
+    let passed = judging.passed_twice k.arg [] values in
+    let unknowns = judging.unknown_arguments k.bytes parameters (named values) in
     let Q : Refusal → Type 0 = λ s. P s ⊎ Has s doubles in
     let R : Refusal → Type 0 = λ s. Q s ⊎ Has s passed in
     let T : Refusal → Type 0 = λ s. R s ⊎ Has s unknowns in
     let a = Decides-all P found doubles h in
     let b = Decides-all Q (soonest found doubles) passed a in
     let c = Decides-all R (soonest (soonest found doubles) passed) unknowns b in
-    Decides-map (ArgsFound P k parameters name values) (λ s. P s ⊎ ArgsBreak k parameters name values s) (args_judged k found parameters name (named values) values) to from
-    (Decides-sooner T (soonest (soonest (soonest found doubles) passed) unknowns) (missing_of k parameters name values) c)
+    Decides-map (ArgsFound P k parameters name values) (λ s. P s ⊎ ArgsBreak k parameters name values s) (given_judged k found parameters name (named values) values) to from
+    (Decides-sooner T (soonest (soonest (soonest found doubles) passed) unknowns) (judging.missing_argument k.bytes parameters name (named values)) c)
   where
     to : (s : Refusal) → ArgsFound P k parameters name values s → P s ⊎ ArgsBreak k parameters name values s
     to s (inl (inl (inl (inl p)))) = inl p
@@ -81,9 +77,9 @@ args-decide P k found parameters name values h =
     from s (inr (missing_argument q)) = inr q
 
 args-decide-if : (P : Refusal → Type 0) (t : Bool) (k : Known) (found : Option Refusal) (parameters : Parameters) (name : Name) (values : List GivenValue) → Decides P found
-    → Decides (λ s. P s ⊎ ((t ≡ true) × ArgsBreak k parameters name values s)) (args_judged_if t k found parameters name values)
+    → Decides (λ s. P s ⊎ ((t ≡ true) × ArgsBreak k parameters name values s)) (given_judged_if t k found parameters name values)
 args-decide-if P true k found parameters name values h =
-    Decides-map (λ s. P s ⊎ ArgsBreak k parameters name values s) (λ s. P s ⊎ ((true ≡ true) × ArgsBreak k parameters name values s)) (args_judged k found parameters name (named values) values)
+    Decides-map (λ s. P s ⊎ ArgsBreak k parameters name values s) (λ s. P s ⊎ ((true ≡ true) × ArgsBreak k parameters name values s)) (given_judged k found parameters name (named values) values)
     (λ s c. elim c [ inl p ↦ inl p | inr q ↦ inr (refl, q) ]) (λ s c. elim c [ inl p ↦ inl p | inr q ↦ inr q.1 ]) (args-decide P k found parameters name values h)
 args-decide-if P false k found parameters name values h =
     Decides-map P (λ s. P s ⊎ ((false ≡ true) × ArgsBreak k parameters name values s)) found (λ s p. inl p) (λ s c. elim c [ inl p ↦ p | inr q ↦ absurd (cc q.0) ]) h
@@ -110,10 +106,10 @@ call-decides P k found c h =
     from s (inr (by_args m q)) = inr (m, q)
 
 pub judged-decides : (P : Refusal → Type 0) (k : Known) (found : Option Refusal) (usage : Use) → Decides P found → Decides (λ s. P s ⊎ UseBreaksHere k usage s) (judged k found usage)
-judged-decides P k found (uses.own_status text) h = Decides-sooner P found (refused_if (not (has_meaning k (uses.own_status text))) N1 text.at) h
-judged-decides P k found (uses.base_status text) h = Decides-sooner P found (refused_if (not (has_meaning k (uses.base_status text))) N1 text.at) h
-judged-decides P k found (uses.variable path) h = Decides-sooner P found (refused_if (not (has_meaning k (uses.variable path))) N1 path.name.at) h
-judged-decides P k found (uses.structure name) h = Decides-sooner P found (refused_if (not (has_meaning k (uses.structure name))) N1 name.at) h
+judged-decides P k found (uses.own_status text) h = Decides-sooner P found (unknown_status k text) h
+judged-decides P k found (uses.base_status text) h = Decides-sooner P found (unknown_base_status k text) h
+judged-decides P k found (uses.variable path) h = Decides-sooner P found (unknown_variable k path) h
+judged-decides P k found (uses.structure name) h = Decides-sooner P found (unknown_struct k name) h
 judged-decides P k found (uses.method c) h = call-decides P k found c h
 
 -- What the places of a list break.
@@ -155,7 +151,7 @@ callee-breaks d scope c s used (callees.Own m) is e = absurd (cc e)
 callee-breaks d scope c s used (callees.Base sig) is e = absurd (cc e)
 
 passed-breaks : (d : Declared) (scope : Scope) (c : CallTree) (s : Refusal) → IsUsed d scope (uses.method c) → call_has_meaning (known_at d scope) c ≡ true
-    → Has s (passed_of (known_at d scope).arg [] (call_args c)) → UseBreaks d s
+    → Has s (judging.passed_twice (known_at d scope).arg [] (call_args c)) → UseBreaks d s
 passed-breaks d scope c s used m h =
     let r = passed-sound (known_at d scope).arg [] (call_args c) s h in
     elim r.before [
@@ -180,7 +176,7 @@ passed-breaks d scope c s used m h =
 args-break : (d : Declared) (scope : Scope) (c : CallTree) (s : Refusal) → IsUsed d scope (uses.method c) → call_has_meaning (known_at d scope) c ≡ true
     → ArgsBreak (known_at d scope) (parameters_of (known_at d scope).args (callee_of (known_at d scope) c)) (call_name c) (call_args c) s → UseBreaks d s
 args-break d scope c s used m (given_twice h) =
-    let r = doubles-sound (given_names c) s (item-has s (doubles_of [] (given_names c)) h) in
+    let r = doubles-sound (given_names c) s (item-has s (judging.given_twice (given_names c)) h) in
     subst (UseBreaks d) (sym r.1.1) (rules.given_twice scope c r.0 used m r.1.0)
 args-break d scope c s used m (passed_twice h) = passed-breaks d scope c s used m h
 args-break d scope c s used m (unknown_argument h) =
@@ -224,10 +220,10 @@ every-row-is-found d _ (rules.unknown_method scope c used is) =
     found-there d scope (uses.method c) (unknown (call_name c)) used (by_callee (ap (λ callee. callee_refusal callee (call_name c)) is))
 every-row-is-found d _ (rules.given_twice scope c later used m repeated) =
     let s = twice later in
-    found-there d scope (uses.method c) s used (by_args m (given_twice (has-item s (doubles_of [] (given_names c)) (doubles-complete (given_names c) s (later, (repeated, refl))))))
+    found-there d scope (uses.method c) s used (by_args m (given_twice (has-item s (judging.given_twice (given_names c)) (doubles-complete (given_names c) s (later, (repeated, refl))))))
 every-row-is-found d _ (rules.passed_twice scope c at used m p) =
     let found = passed-complete (known_at d scope).arg [] (call_args c) p.first p.second p.earlier p.later p.path p.order p.at_first p.at_second p.is_arg p.passed p.same p.io in
-    let F : Place → Type 0 = λ x. Has (record { rule = N2; at = x }) (passed_of (known_at d scope).arg [] (call_args c)) in
+    let F : Place → Type 0 = λ x. Has (record { rule = N2; at = x }) (judging.passed_twice (known_at d scope).arg [] (call_args c)) in
     found-there d scope (uses.method c) (record { rule = N2; at = at }) used (by_args m (passed_twice (subst F (sym p.here) found)))
 every-row-is-found d _ (rules.unknown_argument scope c i given used m is none) =
     found-there d scope (uses.method c) (record { rule = N6; at = given.name.at }) used

@@ -4,5 +4,8 @@ use Rattle.wf_names_scopes.specs.UsesFound.{names_found}
 use Rattle.wf_names_scopes.proofs.PackageLemmas.{on_ok}
 use Rattle.wf_names.proofs.findings.named.Goals as goal
 
+pub declarations-requires-clause-constants : goal.declarations-requires-clause-constants
+declarations-requires-clause-constants c = c.requires.tables.constants.places
+
 pub returns-clause-found : goal.returns-clause-found
 returns-clause-found c = on_ok c.uses.result (λ last. last ∙ ap (names_found (package_of c.args.parsed.now)) c.in_ok-declarations.ensures) c.uses.ensures.found

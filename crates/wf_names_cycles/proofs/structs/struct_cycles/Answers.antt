@@ -4,9 +4,9 @@ use Rattle.wf_ast.specs.ParsedTrees.{decls_made}
 use Rattle.wf_names_rules.specs.Declarations.{structs_of}
 use Rattle.wf_names_rules.specs.Tables.{number_at}
 use Rattle.wf_names_scopes.specs.Agreeing.{package_of}
-use Rattle.wf_names_cycles.specs.Held.{names_of, held_rows}
+use Rattle.wf_names_cycles.specs.Held.{held_rows}
 use Rattle.wf_names_cycles.specs.StructRows.{AreStructRows}
-use Rattle.wf_names_cycles.proofs.HeldLemmas.{rows-made, names-made, structs-long}
+use Rattle.wf_names_cycles.proofs.HeldLemmas.{rows-made, structs-long}
 use Rattle.wf_names_cycles.proofs.structs.struct_cycles.Goals as goal
 
 pub find_cycles-requires-clause-few : goal.find_cycles-requires-clause-few
@@ -14,7 +14,7 @@ find_cycles-requires-clause-few c =
     let f = number_at c.args.structs.now in
     let rows = c.in_ok-rows.rows.items in
     let p = c.args.parsed.now in
-    let listed : (es : List ExprTree) (ts : List StmtTree) → rows ≡ held_rows f (structs_of (decls_made es ts p.decls)) = rw c.decls-2.ensures at c.in_ok-rows.ensures in
+    let listed : (es : List ExprTree) (ts : List StmtTree) → rows ≡ held_rows f (structs_of (decls_made es ts p.decls)) = rw c.decls.ensures at c.in_ok-rows.ensures in
     let made : AreStructRows (package_of p) rows = rows-made p.texts p.exprs p.stmts p.decls f rows c.requires.numbers.numbers listed c.requires.few in
     rw c.as_slice.ensures.value made.few
 
@@ -23,26 +23,24 @@ find_cycles-requires-clause-within c =
     let f = number_at c.args.structs.now in
     let rows = c.in_ok-rows.rows.items in
     let p = c.args.parsed.now in
-    let listed : (es : List ExprTree) (ts : List StmtTree) → rows ≡ held_rows f (structs_of (decls_made es ts p.decls)) = rw c.decls-2.ensures at c.in_ok-rows.ensures in
+    let listed : (es : List ExprTree) (ts : List StmtTree) → rows ≡ held_rows f (structs_of (decls_made es ts p.decls)) = rw c.decls.ensures at c.in_ok-rows.ensures in
     let made : AreStructRows (package_of p) rows = rows-made p.texts p.exprs p.stmts p.decls f rows c.requires.numbers.numbers listed c.requires.few in
     rw c.as_slice.ensures.value made.within
 
 pub returns : goal.returns
 returns c =
-    let names = c.in_ok-names.names.items in
+    let names = c.args.names.items in
     let f = number_at c.args.structs.now in
     let rows = c.in_ok-rows.rows.items in
     let p = c.args.parsed.now in
-    let listed : (es : List ExprTree) (ts : List StmtTree) → rows ≡ held_rows f (structs_of (decls_made es ts p.decls)) = rw c.decls-2.ensures at c.in_ok-rows.ensures in
+    let listed : (es : List ExprTree) (ts : List StmtTree) → rows ≡ held_rows f (structs_of (decls_made es ts p.decls)) = rw c.decls.ensures at c.in_ok-rows.ensures in
     let made : AreStructRows (package_of p) rows = rows-made p.texts p.exprs p.stmts p.decls f rows c.requires.numbers.numbers listed c.requires.few in
-    let named : (es : List ExprTree) (ts : List StmtTree) → names ≡ names_of (structs_of (decls_made es ts p.decls)) = rw c.decls.ensures at c.in_ok-names.ensures in
-    let declared_names = names-made p.texts p.exprs p.stmts p.decls names named in
     record {
       rows = rows;
       made = made;
-      names = declared_names;
+      names = c.requires.names;
       cycles = record {
-        long = structs-long (package_of p) names rows declared_names made;
+        long = structs-long (package_of p) names rows c.requires.names made;
         flags = rw c.as_slice.ensures.value at c.in_ok-cycles.ensures.flags;
         order = rw c.as_slice.ensures.value at c.in_ok-cycles.ensures.order;
       };

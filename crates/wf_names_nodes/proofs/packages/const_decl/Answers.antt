@@ -1,5 +1,4 @@
 use Rattle.wf_named.specs.NamedParts.{named_package}
-use Rattle.wf_names_scopes.specs.Agreeing.{package_of}
 use Rattle.wf_names_nodes.proofs.PackageLemmas.{no_consts, no_const_known}
 use Rattle.wf_names_nodes.proofs.packages.const_decl.Goals as goal
 
@@ -13,16 +12,16 @@ pub returns-in-Status-clause-added : goal.returns-in-Status-clause-added
 returns-in-Status-clause-added c = rw c.in-Status.is (λ known h. no_consts (named_package c.args.nodes.now))
 
 pub returns-in-Status-clause-known : goal.returns-in-Status-clause-known
-returns-in-Status-clause-known c = rw c.in-Status.is (no_const_known (package_of c.args.parsed.now) c.args.scope.now)
+returns-in-Status-clause-known c = rw c.in-Status.is (no_const_known c.args.scope.now)
 
 pub returns-in-Struct-clause-added : goal.returns-in-Struct-clause-added
 returns-in-Struct-clause-added c = rw c.in-Struct.is (λ known h. no_consts (named_package c.args.nodes.now))
 
 pub returns-in-Struct-clause-known : goal.returns-in-Struct-clause-known
-returns-in-Struct-clause-known c = rw c.in-Struct.is (no_const_known (package_of c.args.parsed.now) c.args.scope.now)
+returns-in-Struct-clause-known c = rw c.in-Struct.is (no_const_known c.args.scope.now)
 
 pub returns-in-Method-clause-added : goal.returns-in-Method-clause-added
 returns-in-Method-clause-added c = rw c.in-Method.is (λ known h. no_consts (named_package c.args.nodes.now))
 
 pub returns-in-Method-clause-known : goal.returns-in-Method-clause-known
-returns-in-Method-clause-known c = rw c.in-Method.is (no_const_known (package_of c.args.parsed.now) c.args.scope.now)
+returns-in-Method-clause-known c = rw c.in-Method.is (no_const_known c.args.scope.now)

@@ -1,5 +1,5 @@
 use Rattle.wf_ast.specs.ParsedTrees.{expr_trees, stmt_trees, expr_at, type_at, fields_at, result_at, block_at}
-use Rattle.wf_names_scopes.proofs.PackageLemmas.{status_more, struct_more, method_more, constant_tells, on_ok}
+use Rattle.wf_names_scopes.proofs.PackageLemmas.{status_more, struct_more, method_more, constant_more, on_ok}
 use Rattle.wf_names_scopes.proofs.tables.add_decl.Goals as goal
 
 pub returns-in-Status : goal.returns-in-Status
@@ -11,7 +11,8 @@ pub returns-in-Const : goal.returns-in-Const
 returns-in-Const c =
     let es = expr_trees c.args.parsed.now.exprs in
     rw c.in-Const.is
-    (λ ds p. constant_tells c.args.parsed.now.texts ds c.args.tables.now c.args.node.now.public c.in-Const.name (type_at es c.in-Const.of) (expr_at es c.in-Const.value) c.args.node.now.at p)
+    (on_ok c.add_constant.result
+    (constant_more c.args.parsed.now.texts c.args.tables.now c.add_constant.new.tables c.args.node.now.public c.in-Const.name (type_at es c.in-Const.of) (expr_at es c.in-Const.value) c.args.node.now.at) c.add_constant.ensures)
 
 pub returns-in-Struct : goal.returns-in-Struct
 returns-in-Struct c =

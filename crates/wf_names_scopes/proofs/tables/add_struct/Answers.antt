@@ -20,6 +20,7 @@ returns-then-branch c =
     both_ok c.add_fields.result (λ sorts places d e p. record {
       statuses = p.statuses;
       structs = number_added 0 (λ (s : Structure). s.name) d.structs s known c.add_number.new.names c.in_ok-add_number.ensures.next c.in_ok-add_number.ensures.numbers p.structs;
+      constants = p.constants;
       fields = fields_new d s known p.structs (sort_among d.texts) (λ text. refl) (pair_sort old) p.fields fresh (pair_sort new) (subst P (sym e) sorts);
       places = fields_new d s known p.structs place_in (λ text. refl) (pair_place old) p.places fresh (pair_place new) (places es);
       methods = p.methods;
@@ -38,6 +39,7 @@ returns-else-branch c =
     λ d e p. record {
       statuses = p.statuses;
       structs = number_added 0 (λ (s : Structure). s.name) d.structs s known c.add_number.new.names c.in_ok-add_number.ensures.next c.in_ok-add_number.ensures.numbers p.structs;
+      constants = p.constants;
       fields = fields_kept d s known p.structs (sort_among d.texts) (λ text. refl) (pair_sort old) p.fields there;
       places = fields_kept d s known p.structs place_in (λ text. refl) (pair_place old) p.places there;
       methods = p.methods;

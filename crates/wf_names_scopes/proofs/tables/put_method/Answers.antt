@@ -10,6 +10,7 @@ returns c =
     on_ok c.put_pair.result (λ put d m public owner name names told p. record {
       statuses = p.statuses;
       structs = p.structs;
+      constants = p.constants;
       fields = p.fields;
       places = p.places;
       methods = number_added d m heading.owner heading.name c.len-m.result (pair_at c.args.tables.now.methods) (pair_at c.put_pair.new.table) owner name

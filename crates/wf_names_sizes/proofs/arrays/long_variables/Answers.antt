@@ -3,7 +3,7 @@ use Rattle.wf_text.specs.Precedence.{soonest}
 use Rattle.wf_ast.specs.ParsedTrees.{expr_trees, stmt_trees, fields_at, block_at}
 use Rattle.wf_names_rules.specs.Declarations.{variables, locals_of}
 use Rattle.wf_names_sizes.specs.Packages.{of_package}
-use Rattle.wf_names_sizes.specs.LongArrays.{long_item}
+use Rattle.wf_names_sizes.specs.LongArrays.{too_long_array}
 use Rattle.wf_names_sizes.proofs.ArrayLemmas.{soonest-append, longs_by, locals_hide}
 use Rattle.wf_names_sizes.proofs.arrays.long_variables.Goals as goal
 
@@ -15,5 +15,5 @@ returns c =
     let hides = locals_hide c.in_ok-hidden.hidden locals c.in_ok-hidden.ensures in
     let longs = longs_by d locals c.args.constants.now c.in_ok-hidden.hidden c.requires.knows hides in
     c.long_locals.ensures ∙ ap (soonest c.long_fields.new.found) (longs locals)
-    ∙ ap (λ x. soonest x (map (long_item d locals) locals)) (c.long_fields.ensures ∙ ap (soonest c.args.found.now) (longs args))
-    ∙ sym (soonest-append c.args.found.now (map (long_item d locals) args) (map (long_item d locals) locals))
+    ∙ ap (λ x. soonest x (map (too_long_array d locals) locals)) (c.long_fields.ensures ∙ ap (soonest c.args.found.now) (longs args))
+    ∙ sym (soonest-append c.args.found.now (map (too_long_array d locals) args) (map (too_long_array d locals) locals))

@@ -3,10 +3,10 @@ use Rattle.std.specs.List.{list_any}
 use Rattle.std.specs.BTreeSet.{contains}
 use Rattle.wf_text.specs.Precedence.{soonest}
 use Rattle.wf_names_rules.specs.Pairs.{Pair, same_pair, pair_cmp}
-use Rattle.wf_names_decls.specs.DeclarationPass.{owned_doubles}
-use Rattle.wf_names_decls.proofs.judging.owned_doubles.Given as goal
+use Rattle.wf_names_decls.specs.DeclarationPass.{declared_twice_in_struct}
+use Rattle.wf_names_decls.proofs.judging.declared_twice_in_struct.Given as goal
 
 abbrev pub invariant-loop-method : goal.invariant-loop-method
 invariant-loop-method l =
     (ps : List Pair) × ((p : Pair) → contains pair_cmp l.seen p ≡ list_any (same_pair p) ps)
-    × (soonest l.found (owned_doubles ps (drop l.method-index l.methods)) ≡ soonest l.fn.found (owned_doubles [] l.methods))
+    × (soonest l.found (declared_twice_in_struct ps (drop l.method-index l.methods)) ≡ soonest l.fn.found (declared_twice_in_struct [] l.methods))
