@@ -1,6 +1,6 @@
 // What the public functions of a package ask of the items of a text. Each name is looked up once.
 
-ghost use Rattle.std.specs.Prelude.{◌≡◌, ◌<◌, ◌++◌, ℕ, List, map, length, option_copied, slice_get, Some, codes, IfOk, OnOk};
+ghost use Rattle.std.specs.Prelude.{◌≡◌, ◌<◌, ℕ, List, map, length, slice_get, Some, IfOk, OnOk};
 ghost use Rattle.c_meaning.specs.CRun.{struct_name};
 ghost use Rattle.c_text.specs.CNodes.{unit_tree};
 ghost use Rattle.c_form_exprs.specs.Tables.{named};
@@ -8,6 +8,7 @@ ghost use Rattle.c_form.specs.Items.{item_at};
 ghost use Rattle.c_form.specs.Demands.{ask_function as asked_function, ask_struct as asked_struct, ask_functions, ask_all, ask_structs, none_asked};
 ghost use Rattle.c_form.specs.Signatures.{signature_of, method_by};
 
+use crate::names::{function_name, type_name};
 use crate::signatures::{Asked, has_signature, is_struct};
 use c_form_exprs::NameTable;
 use c_text::Unit;
@@ -164,33 +165,4 @@ impl<'n, 'u> Demands<'n, 'u> {
     {
         self.complete
     }
-}
-
-fn append(text: &mut Vec<u8>, more: &[u8]) -> Result<(), NoMemory>
-    ensures { OnOk result (text.new.items ≡ text.old.items ++ more.now) }
-{
-    text.extend_from_slice(more)?;
-    Ok(())
-}
-
-/// The name of a struct's type.
-fn type_name(alloc: Global, of_package: &[u8], name: &[u8]) -> Result<Vec<u8>, NoMemory>
-    ensures { IfOk result (λ it. it.items ≡ codes "wuffs_" ++ (of_package.now ++ (codes "__" ++ name.now))) }
-{
-    let mut text = Vec::new(alloc);
-    append(&mut text, b"wuffs_")?;
-    append(&mut text, of_package)?;
-    append(&mut text, b"__")?;
-    append(&mut text, name)?;
-    Ok(text)
-}
-
-/// The name of a function of a struct with this type.
-fn function_name(alloc: Global, of: &[u8], name: &[u8]) -> Result<Vec<u8>, NoMemory>
-    ensures { IfOk result (λ it. it.items ≡ of.now ++ (codes "__" ++ name.now)) }
-{
-    let mut text = Vec::from_slice(alloc, of)?;
-    append(&mut text, b"__")?;
-    append(&mut text, name)?;
-    Ok(text)
 }

@@ -6,9 +6,11 @@ mod demands;
 pub mod faults;
 pub mod forming;
 mod items;
+pub mod names;
 mod signatures;
 pub mod units;
 
 pub use faults::LoadFault;
 pub use forming::formed;
+pub use names::{function_name, type_name};
 pub use units::Formed;

@@ -89,7 +89,7 @@ pub(crate) fn outcome_of(alloc: Global, bytes: &[u8]) -> Answer {
     let Ok(unit) = read(alloc, bytes) else {
         return Answer::NotRead;
     };
-    match formed(alloc, unit, &surface) {
+    match formed(alloc, &unit, &surface) {
         Ok(_) => Answer::Formed,
         Err(LoadFault::NoSuchForm { item }) => Answer::Item(item),
         Err(LoadFault::Memory) => Answer::NoMemory,

@@ -126,7 +126,7 @@ module _ (k : Known) (what : HostCall) (turns : ℕ) (c : Called) (calls : Calls
     where
       by : (reply : Reply) → Replies (given k.surface (λ (x : Memory × Host). x) (c_call (loaded_of k) m what host turns)) reply after → DoneFits k.surface calls.means.method.answers reply
       by (Done outcome) h =
-          call_fits (unit_tree k.formed) (loaded_of k) known.form refl known.ok m calls.means.structure what.method calls.means.of calls.means.method c.kind what host turns c.receiver outcome after calls.means.numbered calls.means.its_method own_kind
+          call_fits (unit_tree k.unit) (loaded_of k) known.form refl known.ok m calls.means.structure what.method calls.means.of calls.means.method c.kind what host turns c.receiver outcome after calls.means.numbered calls.means.its_method own_kind
           (sym (ap (given k.surface (λ (x : Memory × Host). x)) (comes_to_call m host turns)) ∙ h)
       by Turns h = tt
       by Undefined h = tt
@@ -172,7 +172,7 @@ module _ (k : Known) (receiver : ℕ) (function : Option ℕ) (inited : IsInited
       by (Some own) e = let a = number_below (loaded_of k).program.functions (initialize_name k.surface inited.of) own (sym e) in omega (arith, a, known.functions)
 
 pub init_is_fit : (k : Known) → IsKnown k → (m : Memory) (s : PublicStruct) (v : Value) (n : ℕ) (reply : Reply) (after : Memory) → Replies (given k.surface (λ (x : Memory). x) (init_of (loaded_of k) m s v n)) reply after → DoneFits k.surface status reply
-init_is_fit k known m s v n (Done outcome) after h = init_fits (unit_tree k.formed) (loaded_of k) known.form refl known.ok m s n v outcome after h
+init_is_fit k known m s v n (Done outcome) after h = init_fits (unit_tree k.unit) (loaded_of k) known.form refl known.ok m s n v outcome after h
 init_is_fit k known m s v n Turns after h = tt
 init_is_fit k known m s v n Undefined after h = tt
 

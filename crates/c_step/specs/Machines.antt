@@ -8,7 +8,7 @@ use Rattle.wf_bufs.specs.SurfaceViews.{receiver_of}
 use Rattle.c_text.specs.CNodes.{Nodes, unit_tree}
 use Rattle.c_meaning.specs.CMemory.{Memory}
 use Rattle.c_meaning.specs.CCall.{Program, program_of}
-use Rattle.c_meaning.specs.CRun.{Loaded, loaded, struct_of, c_call, most_args, initialize_name}
+use Rattle.c_meaning.specs.CRun.{Loaded, loaded, made, struct_of, c_call, most_args, initialize_name}
 use Rattle.c_meaning.specs.UnitForm.{HasUnitForm}
 use Rattle.c_step_exprs.specs.Resolving.{function_number}
 use Rattle.c_step_run.specs.declared.store.Store.{Store}
@@ -20,21 +20,36 @@ use Rattle.c_step_engine.specs.Statuses.{AreStatuses}
 use Rattle.c_step_calls.specs.declared.calling.Called.{Called}
 use Rattle.c_step_calls.specs.declared.room.Room.{Room}
 use Rattle.c_step_calls.specs.Resting.{IsResting}
+use Rattle.c_mem.specs.MemoryViews.{memory}
 use Rattle.c_step.specs.declared.known.Known.{Known}
+use Rattle.c_step.specs.declared.loading.LoadedText.{LoadedText}
 use Rattle.c_step_tables.specs.declared.tables.MethodEntry.{MethodEntry}
 use Rattle.c_step_tables.specs.Tables.{IsMethod, AreStructs}
 
 -- The text with its package's surface and the receivers.
 abbrev pub loaded_of : Known → Loaded
-loaded_of k = loaded (program_of (unit_tree k.formed)) k.surface (map receiver_of k.receivers.items)
+loaded_of k = loaded (program_of (unit_tree k.unit)) k.surface (map receiver_of k.receivers.items)
 
 -- The greatest number of parameters and locals along a chain of calls that begins at an external function of a program.
 abbrev pub program_cells : Program → ℕ
 program_cells p = frame_cells (code_of p p.functions) p.functions
 
+-- What a text comes to for a package's surface and receivers: the tables, and the code at rest with the objects that stand at
+-- first in its memory.
+pub record IsLoaded (nodes : Nodes) (surface : Surface) (receivers : List Receiver) (it : LoadedText) : Type 0 where
+  pub structs : AreStructs (program_of (unit_tree nodes)) surface surface.structs it.tables.structs.items
+  pub statuses : AreStatuses (program_of (unit_tree nodes)) surface it.tables.statuses.items
+  pub objects : memory it.started.store.mem ≡ (made (program_of (unit_tree nodes)) surface receivers).memory
+  pub pointers : it.started.pointers.items ≡ (made (program_of (unit_tree nodes)) surface receivers).pointers
+  pub coded : AreCoded it.started.code it.started.store.frames.items it.started.store.args.items (program_of (unit_tree nodes)) (program_of (unit_tree nodes)).functions
+  pub rests : IsResting it.started.code it.started.room it.started.store
+  pub most : it.started.room.most ≡ most_args surface.structs
+  pub functions : length it.started.code.functions ≡ length (program_of (unit_tree nodes)).functions
+  pub cells : it.cells ≡ program_cells (program_of (unit_tree nodes))
+
 -- The tables are those of the text, which has the unit form for the package. The first status is ok.
 pub record IsKnown (k : Known) : Type 0 where
-  pub form : HasUnitForm k.surface (unit_tree k.formed)
+  pub form : HasUnitForm k.surface (unit_tree k.unit)
   pub ok : slice_get k.surface.statuses 0 ≡ Some []
   pub declared : AreDeclared k.surface (map receiver_of k.receivers.items)
   pub pointers : k.pointers.items ≡ (loaded_of k).pointers

@@ -15,18 +15,18 @@ ghost use Rattle.c_step_engine.specs.Engines.{given, OnDone};
 ghost use Rattle.c_step_calls.specs.Resting.{RestsAgain};
 ghost use Rattle.c_step.specs.Machines.{loaded_of, IsKnown, IsReady, HasEntry, IsCallee, IsInited};
 
-use c_form::Formed;
 use c_meaning::values::Value;
 use c_step_calls::{Called, Room, call_on_host, init_receiver};
 use c_step_run::{Code, Store};
 use c_step_tables::{MethodEntry, StructEntry, struct_entry};
+use c_text::Unit;
 use wf_bufs::{Bufs, Call, PublicSurface, ReceiverDecl, Reply};
 use wf_text::StatusId;
 
 /// A text, its package's public surface and the receivers, with tables of these.
 pub(crate) struct Known {
     /// The text.
-    pub(crate) formed: Formed,
+    pub(crate) unit: Unit,
     /// The package's public surface.
     pub(crate) surface: PublicSurface,
     /// The receivers.
@@ -46,7 +46,7 @@ pub(crate) struct Known {
 impl Drop for Known {
     fn drop(self) {
         let Known {
-            formed: _,
+            unit: _,
             surface: _,
             receivers: _,
             pointers: _,
@@ -65,10 +65,8 @@ impl Known {
         requires exists { what.now.receiver < length self.now.receivers.items }
         ensures { HasEntry self.now (call_of what.now) result }
     {
-        match struct_entry(&self.structs, self.receiver(what.receiver).of) {
-            Some(it) => it.method(what.method),
-            None => None,
-        }
+        let it = struct_entry(&self.structs, self.receiver(what.receiver).of)?;
+        it.method(what.method)
     }
 
     /// The function that a call means; none where the text hasn't it.
@@ -77,18 +75,14 @@ impl Known {
         requires exists { what.now.receiver < length self.now.receivers.items }
         ensures { IsCallee self.now (call_of what.now) turns result }
     {
-        match self.entry(what) {
-            Some(entry) => match entry.function {
-                Some(own) => Some(Called {
-                    own,
-                    kind: entry.kind,
-                    receiver: self.pointer(what.receiver),
-                    turns,
-                }),
-                None => None,
-            },
-            None => None,
-        }
+        let entry = self.entry(what)?;
+        let own = entry.function?;
+        Some(Called {
+            own,
+            kind: entry.kind,
+            receiver: self.pointer(what.receiver),
+            turns,
+        })
     }
 
     /// A receiver as it was declared.
@@ -122,10 +116,8 @@ impl Known {
         requires exists { receiver < length self.now.receivers.items }
         ensures { IsInited self.now receiver result }
     {
-        match struct_entry(&self.structs, self.receiver(receiver).of) {
-            Some(it) => it.initialize,
-            None => None,
-        }
+        let it = struct_entry(&self.structs, self.receiver(receiver).of)?;
+        it.initialize
     }
 
     /// Makes a receiver ready, within so many turns.

@@ -12,21 +12,19 @@ ghost use Rattle.c_meaning.specs.CCall.{program_of};
 ghost use Rattle.c_meaning.specs.UnitForm.{HasUnitForm};
 ghost use Rattle.c_form.specs.Formed.{Refuses};
 ghost use Rattle.c_step_engine.specs.Engines.{first_state};
-ghost use Rattle.c_step.specs.Machines.{state_of, program_cells};
+ghost use Rattle.c_step.specs.Machines.{IsLoaded, state_of, program_cells};
 
 use crate::known::Known;
-use crate::loading::{Tables, copied, surface_for};
-use c_form::{Formed, LoadFault, formed};
+use crate::loading::{LoadedText, Tables, copied, load_text, surface_for};
+use c_form::LoadFault;
 use c_step_calls::Room;
-use c_step_cells::frame_cells;
-use c_step_objects::{Started, start};
+use c_step_objects::Started;
 use c_step_run::Store;
 use c_text::Unit;
 use std::alloc::Global;
 use std::marker::Model;
 use wf_ast::Typed;
 use wf_bufs::{Bufs, Call, Engine, PublicSurface, ReceiverDecl, Reply};
-use wf_text::NoMemory;
 
 /// Executes a text of C that has the unit form for a package. It takes no memory while it runs.
 #[derive(Drop)]
@@ -45,7 +43,7 @@ impl Model for Machine {
 
     ghost Value = { MachineView };
 
-    ghost view = { λ it. record { nodes = it.known.formed; surface = it.known.surface; receivers = map receiver_of it.known.receivers.items; memory = memory it.store.mem; stopped = it.stopped } };
+    ghost view = { λ it. record { nodes = it.known.unit; surface = it.known.surface; receivers = map receiver_of it.known.receivers.items; memory = memory it.store.mem; stopped = it.stopped } };
 
     ghost invariant = { λ it. IsKnown it.known × ReadyUnless it.stopped it.known it.room it.store };
 }
@@ -69,47 +67,50 @@ impl Machine {
     {
         let surface = surface_for(alloc, t)?;
         let receivers = copied(alloc, receivers)?;
-        let formed = formed(alloc, u, &surface)?;
-        let it = Machine::begin(alloc, formed, surface, receivers)?;
-        Ok(it)
+        let text = load_text(alloc, &u, &surface, receivers.as_slice())?;
+        Ok(Machine::begin(u, surface, receivers, text))
     }
 
     /// The machine of a text that has the unit form for the package with this surface, before anything has run.
     fn begin(
-        alloc: Global,
-        formed: Formed,
+        unit: Unit,
         surface: PublicSurface,
         receivers: Vec<ReceiverDecl>,
-    ) -> Result<Machine, NoMemory>
-        requires form { HasUnitForm surface (unit_tree formed) }
+        text: LoadedText,
+    ) -> Machine
+        requires form { HasUnitForm surface (unit_tree unit) }
         requires ok { slice_get surface.statuses 0 ≡ Some [] }
         requires declared { AreDeclared surface (map receiver_of receivers.items) }
-        ensures { IfOk result (λ it. state_of it ≡ first_state (unit_tree formed) surface (map receiver_of receivers.items)) }
+        requires loaded { IsLoaded unit surface (map receiver_of receivers.items) text }
+        ensures { state_of result ≡ first_state (unit_tree unit) surface (map receiver_of receivers.items) }
     {
-        let tables = Tables::of(alloc, &formed, &surface)?;
-        let started = start(alloc, &formed, &surface, receivers.as_slice())?;
-        let cells = frame_cells(alloc, &formed, &started.code)?;
+        let LoadedText {
+            tables,
+            started,
+            cells,
+        } = text;
+        let Tables { structs, statuses } = tables;
         let Started {
             code,
             pointers,
             room,
             store,
         } = started;
-        Ok(Machine {
+        Machine {
             known: Known {
-                formed,
+                unit,
                 surface,
                 receivers,
                 pointers,
-                structs: tables.structs,
-                statuses: tables.statuses,
+                structs,
+                statuses,
                 code,
                 cells,
             },
             room,
             store,
             stopped: false,
-        })
+        }
     }
 
     /// The greatest number of parameters and locals together along a chain of calls that begins at an external function of the

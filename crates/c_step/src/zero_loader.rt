@@ -34,7 +34,7 @@ impl Loader for ZeroLoader {
     ) -> Result<ZeroEngine, LoadFault> {
         let surface = surface_for(alloc, t)?;
         let receivers = copied(alloc, receivers)?;
-        formed(alloc, u, &surface)?;
+        formed(alloc, &u, &surface)?;
         Ok(ZeroEngine::new(surface, receivers))
     }
 }

@@ -91,7 +91,7 @@ impl Chains {
 
 /// The greatest number of parameters and locals along a chain of calls that begins at an external function of a unit, by the
 /// unit's code. `NoMemory` where memory was refused, or where a chain of calls has more than 4,096 functions.
-pub fn frame_cells(alloc: Global, formed: &Formed, code: &Code) -> Result<u64, NoMemory>
+pub fn frame_cells(alloc: Global, formed: &Formed<'_>, code: &Code) -> Result<u64, NoMemory>
     ensures cells { IfOk result (λ n. n ≡ frame_cells_of code.now (program_of (unit_tree formed.now)).functions) }
     ensures shallow { OnOk result (AreShallow code.now) }
 {

@@ -2,7 +2,6 @@
 //! functions, and the statuses of the text's strings. Each name and each string is looked up once.
 #![tactic(auto)]
 
-mod names;
 mod statuses;
 mod structs;
 

@@ -97,7 +97,7 @@ fn statuses_by(
 /// was refused, or the package has more statuses than there are numbers for.
 pub fn text_statuses(
     alloc: Global,
-    formed: &Formed,
+    formed: &Formed<'_>,
     surface: &PublicSurface,
 ) -> Result<Vec<Option<StatusId>>, NoMemory>
     ensures { IfOk result (λ it. AreStatuses (program_of (unit_tree formed.now)) surface.now it.items) }

@@ -9,9 +9,8 @@ ghost use Rattle.c_step_exprs.specs.Resolving.{function_number};
 ghost use Rattle.c_step_load_exprs.specs.Knowing.{AreAlike};
 ghost use Rattle.c_step_tables.specs.Tables.{IsMethod, AreMethods, IsStruct, AreStructs};
 
-use crate::names::{function_name, type_name};
-use c_form::Formed;
-use c_step_load::names_are_alike;
+use c_form::{function_name, type_name};
+use c_step_load::{Numbered, names_are_alike};
 use c_step_load_exprs::Numbers;
 use c_step_tables::{MethodEntry, StructEntry};
 use std::alloc::Global;
@@ -109,12 +108,11 @@ fn all_entries(
 /// `NoMemory` where memory was refused.
 pub fn struct_entries(
     alloc: Global,
-    formed: &Formed,
+    numbered: &Numbered<'_>,
     surface: &PublicSurface,
 ) -> Result<Vec<StructEntry>, NoMemory>
-    ensures { IfOk result (λ es. AreStructs (program_of (unit_tree formed.now)) surface.now surface.now.structs es.items) }
+    ensures { IfOk result (λ es. AreStructs (program_of (unit_tree numbered.now)) surface.now surface.now.structs es.items) }
 {
-    names_are_alike(formed);
-    let numbers = Numbers::new(alloc, formed.unit())?;
-    all_entries(alloc, &numbers, surface)
+    names_are_alike(numbered.formed());
+    all_entries(alloc, numbered.numbers(), surface)
 }

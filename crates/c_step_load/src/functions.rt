@@ -124,18 +124,14 @@ pub(crate) fn inline(unit: &Unit, parts: Parts<'_>, value: Span) -> Option<Inlin
     requires { parts.body.0 < length unit.now.stmts }
     ensures { result ≡ inline_by value (returned (code_of unit.now parts.entry.body.0)) (option_map (type_in unit.now.names) parts.entry.result_type) }
 {
-    match parts.result_type {
-        Some(ty) => {
-            if is_value(unit, parts.body) {
-                Some(Inline {
-                    value,
-                    ty: cell_type(ty),
-                })
-            } else {
-                None
-            }
-        }
-        None => None,
+    let ty = parts.result_type?;
+    if is_value(unit, parts.body) {
+        Some(Inline {
+            value,
+            ty: cell_type(ty),
+        })
+    } else {
+        None
     }
 }
 

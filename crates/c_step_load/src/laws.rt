@@ -11,7 +11,7 @@ use c_form::Formed;
 
 /// In a unit that has the unit form a name is found from the last item on as from the first one on, and no function has
 /// another one's name.
-pub fn names_are_alike(formed: &Formed)
+pub fn names_are_alike(formed: &Formed<'_>)
     ensures alike { AreAlike (unit_tree formed.now) }
     ensures apart { AreApart (program_of (unit_tree formed.now)).functions }
 {

@@ -8,7 +8,9 @@ mod functions;
 mod initials;
 pub mod laws;
 mod loading;
+pub mod numbered;
 pub mod programs;
 
 pub use laws::names_are_alike;
+pub use numbered::Numbered;
 pub use programs::{Program, load};

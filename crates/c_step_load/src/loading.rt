@@ -13,13 +13,13 @@ ghost use Rattle.c_step_text.specs.Flat.{flat_text};
 ghost use Rattle.c_step_load_stmts.specs.Bodies.{nodes_of, scope_of as names_scope, Fits, Tells};
 ghost use Rattle.c_step_run.specs.Coding.{CodeView, is_static, inline_length as inline_length_of};
 ghost use Rattle.c_step_program.specs.Programs.{initial_exprs, initials_of, with_function, no_code, code_of};
-ghost use Rattle.c_step_load.specs.Loading.{IsFormed, nodes_in, program_in, own_names, IsKnown, IsFunction, names_by, with_body, inline_by, IsBuilt, code_before};
+ghost use Rattle.c_step_load.specs.Loading.{nodes_in, program_in, own_names, IsKnown, IsFunction, names_by, with_body, inline_by, IsBuilt, code_before};
 
 use crate::functions::{Known, inline, inline_length, scope_of, takes_turn};
 use crate::initials::put_initials;
-use c_form_exprs::Front;
+use crate::numbered::Numbered;
 use c_form_stmts::Parts;
-use c_step_load_exprs::{Names, Numbers};
+use c_step_load_exprs::Names;
 use c_step_load_stmts::{Body, Spot, Work, label_numbers, put};
 use c_step_places::{Weighed, number, weigh_all};
 use c_step_run::{Code, Func, Initial};
@@ -267,30 +267,16 @@ fn load_items(known: &Known<'_, '_>) -> Result<Code, NoMemory>
     Ok(build.code())
 }
 
-/// What all items of a unit declare.
-fn declare_all<'u>(alloc: Global, unit: &'u Unit) -> Result<Front<'u>, NoMemory>
-    ensures { IfOk result (λ front. front ≡ record { nodes = unit.now; count = length unit.now.items }) }
-{
-    let mut front = Front::new(alloc, unit);
-    let mut i = 0;
-    while i < unit.items() {
-        front.declare()?;
-        i += 1;
-    }
-    Ok(front)
-}
-
 /// The code of the functions of a unit that has the unit form.
-pub(crate) fn load_code(alloc: Global, unit: &Unit) -> Result<Code, NoMemory>
-    requires { IsFormed unit.now }
-    ensures { IfOk result (λ code. code ≡ code_of (program_of (unit_tree unit.now)) (program_of (unit_tree unit.now)).functions) }
+pub(crate) fn load_code(alloc: Global, numbered: &Numbered<'_>) -> Result<Code, NoMemory>
+    ensures { IfOk result (λ code. code ≡ code_of (program_of (unit_tree numbered.now)) (program_of (unit_tree numbered.now)).functions) }
 {
+    numbered.formed().is_formed();
+    let unit = numbered.unit();
     let weights = weigh_all(alloc, unit)?;
-    let front = declare_all(alloc, unit)?;
-    let numbers = Numbers::new(alloc, unit)?;
     let known = Known {
-        front: &front,
-        numbers: &numbers,
+        front: numbered.front(),
+        numbers: numbered.numbers(),
         weighed: Weighed {
             unit,
             weights: weights.as_slice(),

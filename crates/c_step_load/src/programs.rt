@@ -10,7 +10,7 @@ ghost use Rattle.c_step_load.specs.Programs.{IsAtRest};
 use crate::frames::load_frames;
 use crate::functions::inline_length;
 use crate::loading::load_code;
-use c_form::Formed;
+use crate::numbered::Numbered;
 use c_step_frames::Frame;
 use c_step_places::number;
 use c_step_run::Code;
@@ -43,19 +43,19 @@ fn values(code: &Code) -> Result<usize, NoMemory>
 }
 
 /// The program that a unit of the unit form is. `NoMemory` where memory was refused.
-pub fn load(alloc: Global, formed: &Formed) -> Result<Program, NoMemory>
-    ensures code { IfOk result (λ it. it.code ≡ code_of (program_of (unit_tree formed.now)) (program_of (unit_tree formed.now)).functions) }
-    ensures frames { IfOk result (λ it. it.frames.items ≡ frames_of (program_of (unit_tree formed.now)).functions) }
-    ensures args { IfOk result (λ it. it.args.items ≡ all_args (program_of (unit_tree formed.now)).functions) }
-    ensures coded { IfOk result (λ it. AreCoded it.code it.frames.items it.args.items (program_of (unit_tree formed.now)) (program_of (unit_tree formed.now)).functions) }
+pub fn load(alloc: Global, numbered: &Numbered<'_>) -> Result<Program, NoMemory>
+    ensures code { IfOk result (λ it. it.code ≡ code_of (program_of (unit_tree numbered.now)) (program_of (unit_tree numbered.now)).functions) }
+    ensures frames { IfOk result (λ it. it.frames.items ≡ frames_of (program_of (unit_tree numbered.now)).functions) }
+    ensures args { IfOk result (λ it. it.args.items ≡ all_args (program_of (unit_tree numbered.now)).functions) }
+    ensures coded { IfOk result (λ it. AreCoded it.code it.frames.items it.args.items (program_of (unit_tree numbered.now)) (program_of (unit_tree numbered.now)).functions) }
     ensures rests { IfOk result (λ it. IsAtRest it.code it.frames.items it.args.items it.values) }
-    ensures size { IfOk result (λ it. length it.code.functions ≡ length (program_of (unit_tree formed.now)).functions) }
+    ensures size { IfOk result (λ it. length it.code.functions ≡ length (program_of (unit_tree numbered.now)).functions) }
 {
-    formed.is_formed();
-    let unit = formed.unit();
+    numbered.formed().is_formed();
+    let unit = numbered.unit();
     let frames = load_frames(alloc, unit, true)?;
     let args = load_frames(alloc, unit, false)?;
-    let code = load_code(alloc, unit)?;
+    let code = load_code(alloc, numbered)?;
     let values = values(&code)?;
     Ok(Program {
         code,

@@ -13,10 +13,9 @@ ghost use Rattle.c_step_calls.specs.Resting.{IsResting, AreSpare};
 
 use crate::receivers::{Objects, objects_of};
 use crate::rooms::{most_args, room, stack, stand};
-use c_form::Formed;
 use c_meaning::values::Value;
 use c_step_calls::Room;
-use c_step_load::{Program, load};
+use c_step_load::{Numbered, Program, load};
 use c_step_run::{Code, Store};
 use std::alloc::Global;
 use wf_bufs::{PublicSurface, ReceiverDecl};
@@ -80,24 +79,24 @@ fn resting(
 /// host's calls need beside it. `NoMemory` where memory was refused.
 pub fn start(
     alloc: Global,
-    formed: &Formed,
+    numbered: &Numbered<'_>,
     surface: &PublicSurface,
     receivers: &[ReceiverDecl],
 ) -> Result<Started, NoMemory>
-    ensures memory { IfOk result (λ it. memory it.store.mem ≡ (made (program_of (unit_tree formed.now)) surface.now (map receiver_of receivers.now)).memory) }
-    ensures pointers { IfOk result (λ it. it.pointers.items ≡ (made (program_of (unit_tree formed.now)) surface.now (map receiver_of receivers.now)).pointers) }
-    ensures code { IfOk result (λ it. it.code ≡ code_of (program_of (unit_tree formed.now)) (program_of (unit_tree formed.now)).functions) }
-    ensures coded { IfOk result (λ it. AreCoded it.code it.store.frames.items it.store.args.items (program_of (unit_tree formed.now)) (program_of (unit_tree formed.now)).functions) }
+    ensures memory { IfOk result (λ it. memory it.store.mem ≡ (made (program_of (unit_tree numbered.now)) surface.now (map receiver_of receivers.now)).memory) }
+    ensures pointers { IfOk result (λ it. it.pointers.items ≡ (made (program_of (unit_tree numbered.now)) surface.now (map receiver_of receivers.now)).pointers) }
+    ensures code { IfOk result (λ it. it.code ≡ code_of (program_of (unit_tree numbered.now)) (program_of (unit_tree numbered.now)).functions) }
+    ensures coded { IfOk result (λ it. AreCoded it.code it.store.frames.items it.store.args.items (program_of (unit_tree numbered.now)) (program_of (unit_tree numbered.now)).functions) }
     ensures rests { IfOk result (λ it. IsResting it.code it.room it.store) }
     ensures most { IfOk result (λ it. it.room.most ≡ most_args surface.now.structs) }
-    ensures functions { IfOk result (λ it. length it.code.functions ≡ length (program_of (unit_tree formed.now)).functions) }
+    ensures functions { IfOk result (λ it. length it.code.functions ≡ length (program_of (unit_tree numbered.now)).functions) }
 {
-    let objects = objects_of(alloc, formed.unit(), surface, receivers)?;
+    let objects = objects_of(alloc, numbered.unit(), surface, receivers)?;
     let room = room(
         alloc,
         objects.all.len(),
         most_args(surface.structs.as_slice()),
     )?;
-    let program = load(alloc, formed)?;
+    let program = load(alloc, numbered)?;
     resting(alloc, program, objects, room)
 }

@@ -1,6 +1,6 @@
 // The structs of a package in a text.
 
-ghost use Rattle.std.specs.Prelude.{◌≡◌, ◌++◌, ℕ, nat_eq, if◌then◌else◌, Some, codes, IfOk, OnOk};
+ghost use Rattle.std.specs.Prelude.{◌≡◌, ℕ, nat_eq, if◌then◌else◌, Some, IfOk, OnOk};
 ghost use Rattle.indexmap.specs.IndexMap.{get};
 ghost use Rattle.c_text.specs.CNodes.{unit_tree};
 ghost use Rattle.c_meaning.specs.CCall.{program_of};
@@ -9,6 +9,7 @@ ghost use Rattle.c_step_objects.specs.Types.{type_name as name_of_type, numbered
 
 use crate::names::StructNumbers;
 use crate::shapes::{Shape, Shapes, shapes_of};
+use c_form::type_name;
 use c_text::Unit;
 use indexmap::IndexMap;
 use std::alloc::Global;
@@ -30,17 +31,6 @@ impl Drop for Types {
             numbers: _,
         } = self;
     }
-}
-
-/// The name of a struct's type.
-fn type_name(alloc: Global, of_package: &[u8], name: &[u8]) -> Result<Vec<u8>, NoMemory>
-    ensures { IfOk result (λ it. it.items ≡ name_of_type of_package.now name.now) }
-{
-    let mut text = Vec::from_slice(alloc, b"wuffs_")?;
-    text.extend_from_slice(of_package)?;
-    text.extend_from_slice(b"__")?;
-    text.extend_from_slice(name)?;
-    Ok(text)
 }
 
 /// Gives a public struct, by its number, the number of its type, whatever one of this number had.

@@ -1,7 +1,7 @@
 use Rattle.std.proofs.Common.{◌≡◌, ◌≤◌, ◌-◌, take, drop, length}
 use Rattle.c_text.specs.CNodes.{unit_tree}
 use Rattle.c_meaning.specs.UnitForm.{break_from, first_break}
-use Rattle.c_form.proofs.forming.first_break.Given as goal
+use Rattle.c_form.proofs.forming.checked.Given as goal
 
 abbrev pub invariant-loop-i : goal.invariant-loop-i
 invariant-loop-i l = record {
