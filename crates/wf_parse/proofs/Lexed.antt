@@ -1,5 +1,6 @@
 -- What a loop over the tokens of a file keeps.
-use Rattle.std.proofs.Common.{◌≡◌, ℕ, Some, List, [], ◌∷◌, ◌++◌, length, sym, ◌∙◌, ap, subst, arith, suc, length-append}
+use Rattle.std.proofs.Common.{◌≡◌, ℕ, Some, None, List, [], ◌∷◌, ◌++◌, length, sym, ◌∙◌, ap, subst, arith, suc, length-append, append_assoc}
+use Rattle.std.proofs.lemmas.List.{append-nil}
 use Rattle.std.specs.List.{slice_get}
 use Rattle.std.proofs.lemmas.Option.{slice_get_within}
 use Rattle.wf_text.specs.declared.rules.Refusal.{Refusal}
@@ -13,16 +14,9 @@ use Rattle.wf_tokens.specs.Pieces.{IsText}
 use Rattle.wf_tokens.specs.Spelling.{State, Item, Reads, ReadsAll, IsStuck, IsOver, start}
 use Rattle.wf_tokens.proofs.ReadingOn.{reads_more, text_read}
 use Rattle.wf_parse.specs.Kinds.{KindIs, IsReadable}
-use Rattle.wf_parse.specs.Lexing.{TokenIs, TokensAre, IsWholeFile, IsFileUpTo}
+use Rattle.wf_parse.specs.Lexing.{TokenIs, TokensAre, IsWholeFile, IsFileUpTo, LexedSoFar, ReadsToken, ReadsRest}
 use Rattle.wf_parse.specs.Texts.{text_of, with_text, texts_behind}
 use Rattle.wf_parse.proofs.TextNumbers.{with_text-grows, texts_behind-more}
-
--- These tokens are read, and the lexer stands after them.
-pub record LexedSoFar (file : ℕ) (bytes : List ℕ) (lexer : State) (known texts : List (List ℕ)) (tokens : List Token) : Type 0 where
-  pub items : List Item
-  pub reads : ReadsAll (start file bytes) items lexer
-  pub texts_are : texts ≡ texts_behind known items
-  pub tokens_are : TokensAre texts items tokens
 
 -- A text keeps its number while texts are added.
 stays : (texts more : List (List ℕ)) (i : ℕ) (text : List ℕ) → slice_get texts i ≡ Some text → slice_get (texts ++ more) i ≡ Some text
@@ -72,6 +66,47 @@ lexed_whole file bytes last known texts tokens l over = record { items = l.items
 pub lexed_up_to : (file : ℕ) (bytes : List ℕ) (last : State) (known texts : List (List ℕ)) (tokens longer : List Token) (refusal : Refusal) → LexedSoFar file bytes last known texts tokens → IsStuck last refusal
     → longer ≡ tokens ++ record { kind = kinds.Bad; at = refusal.at } ∷ [] → IsFileUpTo file bytes known texts longer refusal
 lexed_up_to file bytes last known texts tokens longer refusal l stuck e = record { items = l.items; front = tokens; spelt = record { last = last; reads = l.reads; stuck = stuck }; texts_are = l.texts_are; tokens_are = l.tokens_are; whole = e }
+
+-- What is passed over, after whatever is read before it.
+pub record PassedSoFar (old now : State) (known texts : List (List ℕ)) : Type 0 where
+  pub tokens : List Token
+  pub on : (file : ℕ) (bytes : List ℕ) (first : List (List ℕ)) (front : List Token) → LexedSoFar file bytes old first known front → LexedSoFar file bytes now first texts (front ++ tokens)
+
+pub passed_start : (old : State) (known : List (List ℕ)) → PassedSoFar old old known known
+passed_start old known = record {
+  tokens = [];
+  on = λ file bytes first front l. let P : List Token → Type 0 = LexedSoFar file bytes old first known in subst P (sym (append-nil front)) l;
+}
+
+pub passed_more : (old now new : State) (known texts grown : List (List ℕ)) (t : Token) → PassedSoFar old now known texts → ReadsToken now texts t new grown → PassedSoFar old new known grown
+passed_more old now new known texts grown t p r = record {
+  tokens = p.tokens ++ t ∷ [];
+  on = λ file bytes first front l. lexed_more file bytes now new first texts grown (front ++ p.tokens) (front ++ (p.tokens ++ t ∷ [])) r.item t (p.on file bytes first front l) r.reads r.texts_are r.is (sym (append_assoc front p.tokens (t ∷ [])));
+}
+
+pub passed_over : (old now : State) (known texts after : List (List ℕ)) → PassedSoFar old now known texts → IsOver now × (after ≡ texts) → ReadsRest old known after
+passed_over old now known texts after p over =
+    let P : List (List ℕ) → Type 0 = ReadsRest old known in
+    let rest : ReadsRest old known texts = record {
+      tokens = p.tokens;
+      refused = None;
+      last = tt;
+      whole = λ file bytes first front l. lexed_whole file bytes now first texts (front ++ p.tokens) (p.on file bytes first front l) over.0;
+    } in
+    subst P (sym over.1) rest
+
+pub passed_stuck : (old now : State) (known texts after : List (List ℕ)) (refusal : Refusal) → PassedSoFar old now known texts → IsStuck now refusal × (after ≡ texts) → ReadsRest old known after
+passed_stuck old now known texts after refusal p stuck =
+    let bad : Token = record { kind = kinds.Bad; at = refusal.at } in
+    let long = length-append p.tokens (bad ∷ []) in
+    let P : List (List ℕ) → Type 0 = ReadsRest old known in
+    let rest : ReadsRest old known texts = record {
+      tokens = p.tokens ++ bad ∷ [];
+      refused = Some refusal;
+      last = omega (arith, long);
+      whole = λ file bytes first front l. lexed_up_to file bytes now first texts (front ++ p.tokens) (front ++ (p.tokens ++ bad ∷ [])) refusal (p.on file bytes first front l) stuck.0 (sym (append_assoc front p.tokens (bad ∷ [])));
+    } in
+    subst P (sym stuck.1) rest
 
 -- A text has its quotes.
 pub is_readable : (old : State) (item : Item) (new : State) → Reads old item new → IsReadable item

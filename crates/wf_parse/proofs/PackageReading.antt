@@ -26,53 +26,6 @@ use Rattle.wf_parse_nodes.specs.Makers.{KeepsTexts, IsSound, nodes}
 use Rattle.wf_parse_nodes.specs.Seen.{AreOf, IsOrdered}
 use Rattle.wf_parse.specs.Parsing.{RefusesFile, ReadsFiles, RefusesFiles, IsRefusedBy, AnswersParse, refusal_of}
 use Rattle.wf_parse.specs.Reading.{ReadsOne, AnswersBytes, read_file}
-use Rattle.wf_parse.proofs.Outcomes.{bad_never_built}
-use Rattle.wf_parse.proofs.ReadingVerdicts.{refused_is_wrong, built_is_accepted}
-
--- The tokens of a file that is built are all of its tokens.
-whole_built : (number most : ℕ) (bytes : List ℕ) (known texts : List (List ℕ)) (tokens : List Token) (bytes_refused : Option Refusal) (before : List DeclTree) (made : Made)
-    → AreTokensOf number bytes known texts tokens bytes_refused → read_file most tokens before ≡ Built made → IsWholeFile number bytes known texts tokens
-whole_built number most bytes known texts tokens None before made are built = are
-whole_built number most bytes known texts tokens (Some refusal) before made are built =
-    let bad : read_file most (are.front ++ record { kind = Rattle.wf_parse_grammar.specs.declared.tokens.Kind.TheVariants.Bad; at = refusal.at } ∷ []) before ≡ Built made = ap (λ ts. read_file most ts before) (sym are.whole) ∙ built in
-    absurd (bad_never_built most 0 are.front (Read File ∷ []) (record { vals = []; decls = before }) made refusal.at bad)
-
-same_decls : (p q : Parsed) (texts : List (List ℕ)) → q ≡ record p { texts = texts } → decls_of q ≡ decls_of p
-same_decls p q texts e = ap decls_of e
-
--- One file that is read. `p` is the package before it, `q` with its texts, and `r` with its nodes.
-pub read_one : (number most left : ℕ) (bytes : List ℕ) (p q r : Parsed) (tokens : List Token) (bytes_refused : Option Refusal) (made : Made)
-    → ChangesTexts p q → AreTokensOf number bytes p.texts q.texts tokens bytes_refused → read_file most tokens (decls_of q) ≡ Built made → made.decls ≡ decls_of r → KeepsTexts q r → left ≡ most - length tokens
-    → ReadsOne number most bytes p r left
-read_one number most left bytes p q r tokens bytes_refused made changes are built decls keeps count =
-    let same : decls_of q ≡ decls_of p = same_decls p q q.texts changes in
-    let whole : IsWholeFile number bytes p.texts q.texts tokens = whole_built number most bytes p.texts q.texts tokens bytes_refused (decls_of q) made are built in
-    let accepted = built_is_accepted most tokens (decls_of q) made built in
-    let P : List (List ℕ) → Type 0 = λ texts. IsWholeFile number bytes p.texts texts tokens in
-    record {
-      named = keeps.name ∙ ap (λ (x : Parsed). x.name) changes;
-      tokens = tokens;
-      trees = accepted.0;
-      read = record { tokens_are = subst P (sym keeps.texts) whole; accepted = accepted.1; few = accepted.3 };
-      decls_are = sym decls ∙ ap (λ (m : Made). m.decls) accepted.2 ∙ ap (λ ds. ds ++ accepted.0) same;
-      left_is = count;
-    }
-
--- One that is refused.
-pub refuse_one : (number most left : ℕ) (bytes : List ℕ) (p q : Parsed) (tokens : List Token) (bytes_refused : Option Refusal) (rule : Rule) (end : Place) (refusal : Refusal)
-    → AreTokensOf number bytes p.texts q.texts tokens bytes_refused → read_file most tokens (decls_of q) ≡ Refused rule left → end ≡ behind_bytes (first_place number) bytes → refusal ≡ refusal_of end tokens bytes_refused rule left
-    → RefusesFile number most p.texts bytes refusal
-refuse_one number most left bytes p q tokens bytes_refused rule end refusal are refused end_is is =
-    record {
-      texts = q.texts;
-      tokens = tokens;
-      bytes_refused = bytes_refused;
-      rule = rule;
-      left = left;
-      tokens_are = are;
-      wrong = refused_is_wrong most tokens (decls_of q) rule left refused;
-      is = is ∙ ap (λ at. refusal_of at tokens bytes_refused rule left) end_is;
-    }
 
 -- What is read and refused from here on is read and refused from the first file on.
 pub record Leads (number most : ℕ) (p : Parsed) (rest files : List (List ℕ)) : Type 0 where

@@ -15,7 +15,8 @@ use Rattle.wf_parse_grammar.specs.Values.{Made, perform}
 use Rattle.wf_parse.specs.declared.machine.Machine.{Machine}
 use Rattle.wf_parse.specs.declared.machine.StepFault.{StepFault}
 use Rattle.wf_parse.specs.declared.machine.StepFault.TheVariants.{Refused, Memory}
-use Rattle.wf_parse_nodes.specs.Makers.{made, nodes}
+use Rattle.wf_ast.specs.ParsedParts.{Parsed}
+use Rattle.wf_parse_nodes.specs.Makers.{made, nodes, KeepsTexts}
 
 -- Where the machine stands: the number of statements that the method in hand may still begin, what is wanted, and what
 -- is made.
@@ -63,6 +64,11 @@ AnswersBuild limited s t b old new (Ok true) = (left : ℕ) (next : ℕ → List
 AnswersBuild limited s t b old new (Ok false) = (b ≡ Pass) × (new ≡ record { room = old.room; wants = old.wants; made = skipped s old.made })
 AnswersBuild limited s t b old new (Err (Refused rule)) = (left : ℕ) (next : ℕ → List Want → Made → Ending) (passed : Ending) → after limited old.room b (Read s ∷ old.wants) old.wants old.made t.kind left next passed ≡ building.Refused rule left
 AnswersBuild limited s t b old new (Err Memory) = ⊤
+
+-- Name and texts stay where a token breaks a rule.
+abbrev pub KeepsAt : StepFault → (old new : Parsed) → Type 0
+KeepsAt (Refused rule) old new = KeepsTexts old new
+KeepsAt Memory old new = ⊤
 
 -- One token on the whole stack, for what comes after it.
 abbrev pub AnswersToken : (limited : Bool) → Token → (old new : State) → Result (Unit {0}) StepFault → Type 0

@@ -2,6 +2,8 @@
 use Rattle.std.specs.Prelude.{◌≡◌, ◌<◌, ◌-◌, ℕ, zero, suc, true, false, ⊤, Result, Ok, Err, List, [], ◌∷◌, ◌++◌, length}
 use Rattle.wf_text.specs.declared.faults.PhaseFault.{PhaseFault}
 use Rattle.wf_text.specs.declared.faults.PhaseFault.TheVariants as phase
+use Rattle.wf_text.specs.declared.place.Place.{Place}
+use Rattle.wf_text.specs.declared.rules.Rule.{Rule}
 use Rattle.wf_text.specs.declared.rules.Rule.TheVariants.{L3}
 use Rattle.wf_ast.specs.ParsedParts.{Parsed}
 use Rattle.wf_ast.specs.ParsedTree.{DeclTree}
@@ -12,8 +14,8 @@ use Rattle.wf_parse_grammar.specs.declared.symbols.Want.TheVariants.{Read}
 use Rattle.wf_parse_grammar.specs.declared.tokens.Token.{Token}
 use Rattle.wf_parse_grammar.specs.Building.{Ending, Built, Refused, step, ends}
 use Rattle.wf_parse_grammar.specs.Values.{Made}
-use Rattle.wf_parse.specs.declared.parsing.FileFault.{FileFault}
-use Rattle.wf_parse.specs.declared.parsing.FileFault.TheVariants as file
+use Rattle.wf_parse.specs.declared.machine.StepFault.{StepFault}
+use Rattle.wf_parse.specs.declared.machine.StepFault.TheVariants as machine
 use Rattle.wf_parse.specs.Machines.{State}
 use Rattle.wf_parse.specs.Parsing.{ReadsFile, RefusesFile}
 
@@ -28,17 +30,17 @@ reading (suc most) room (t ∷ ts) k made = step true room k made t (suc (length
 abbrev pub read_file : (most : ℕ) → List Token → List DeclTree → Ending
 read_file most tokens before = reading most 0 tokens (Read File ∷ []) (record { vals = []; decls = before })
 
--- What the machine answers to the tokens of a file, from this state on.
-abbrev pub AnswersFile : (most : ℕ) → List Token → (old new : State) → Result (Unit {0}) FileFault → Type 0
-AnswersFile most tokens old new (Ok _) = reading most old.room tokens old.wants old.made ≡ Built new.made
-AnswersFile most tokens old new (Err (file.Refused rule left)) = reading most old.room tokens old.wants old.made ≡ Refused rule left
-AnswersFile most tokens old new (Err file.Memory) = ⊤
+-- What the machine answers to one token where `most` may stand in the package, itself counted; whatever tokens follow.
+abbrev pub AnswersOne : (most : ℕ) → Token → (old new : State) → Result (Unit {0}) StepFault → Type 0
+AnswersOne most t old new (Ok _) = (0 < most) × ((ts : List Token) → reading most old.room (t ∷ ts) old.wants old.made ≡ reading (most - 1) new.room ts new.wants new.made)
+AnswersOne most t old new (Err (machine.Refused rule)) = (ts : List Token) → reading most old.room (t ∷ ts) old.wants old.made ≡ Refused rule (suc (length ts))
+AnswersOne most t old new (Err machine.Memory) = ⊤
 
--- What it answers to one token, where `left` counts the tokens up to the file's end, itself too.
-abbrev pub AnswersOne : (most left : ℕ) → Token → (old new : State) → Result (Unit {0}) FileFault → Type 0
-AnswersOne most left t old new (Ok _) = (0 < most) × ((ts : List Token) → reading most old.room (t ∷ ts) old.wants old.made ≡ reading (most - 1) new.room ts new.wants new.made)
-AnswersOne most left t old new (Err (file.Refused rule at)) = (at ≡ left) × ((ts : List Token) → left ≡ suc (length ts) → reading most old.room (t ∷ ts) old.wants old.made ≡ Refused rule left)
-AnswersOne most left t old new (Err file.Memory) = ⊤
+-- What it answers to the file's end, which is at this place.
+abbrev pub AnswersFileEnd : Place → (old new : State) → Result (Unit {0}) PhaseFault → Type 0
+AnswersFileEnd at old new (Ok _) = ends old.wants old.made ≡ Built new.made
+AnswersFileEnd at old new (Err (phase.Refused refusal)) = (rule : Rule) × (ends old.wants old.made ≡ Refused rule 0) × (refusal ≡ record { rule = rule; at = at })
+AnswersFileEnd at old new (Err phase.Memory) = ⊤
 
 -- One file more is read: the package after it has the file's texts and declarations after its own, and `left` tokens
 -- are left.

@@ -10,7 +10,7 @@ ghost use Rattle.wf_parse_grammar.specs.Building.{open_wants, build, skipped};
 ghost use Rattle.wf_parse_grammar.specs.Machine.{may_end};
 ghost use Rattle.wf_parse_grammar.specs.Values.{perform};
 ghost use Rattle.wf_parse_nodes.specs.Makers.{nodes, IsSound, KeepsTexts, made};
-ghost use Rattle.wf_parse.specs.Machines.{size, state_of, AnswersBuild, AnswersToken, AnswersEnd, Wanted, want_owes};
+ghost use Rattle.wf_parse.specs.Machines.{size, state_of, AnswersBuild, AnswersToken, AnswersEnd, KeepsAt, Wanted, want_owes};
 
 use stacks::Stack;
 use wf_parse_grammar::table::{build, may_end, opens, owes, skips};
@@ -131,6 +131,7 @@ impl Machine {
         ensures ok { IfOk result (λ taken. taken ≡ true) }
         ensures sound { OnOk result (IsSound self.new.maker) }
         ensures texts { OnOk result (KeepsTexts self.old.maker.package self.new.maker.package) }
+        ensures refused { IfErr result (λ stop. KeepsAt stop self.old.maker.package self.new.maker.package) }
         ensures size { OnOk result (size self.new ≤ size self.old + 32) }
     {
         if limited && opens(token.kind) && self.is_deep(symbol) {
@@ -147,13 +148,14 @@ impl Machine {
         token: Token,
         wants: &Wants,
     ) -> Result<bool, StepFault>
+        requires size { size self.old + 32 < 2 ^ 32 }
         requires sound { IsSound self.old.maker }
         requires few { length wants.now ≤ 12 }
-        requires size { size self.old + 32 < 2 ^ 32 }
         ensures answers { AnswersBuild limited symbol token (builds.Begin wants.now) (state_of self.old) (state_of self.new) result }
         ensures ok { IfOk result (λ taken. taken ≡ true) }
         ensures sound { OnOk result (IsSound self.new.maker) }
         ensures texts { OnOk result (KeepsTexts self.old.maker.package self.new.maker.package) }
+        ensures refused { IfErr result (λ stop. KeepsAt stop self.old.maker.package self.new.maker.package) }
         ensures size { OnOk result (size self.new ≤ size self.old + 32) }
     {
         if limited && self.room == 0 {
@@ -171,13 +173,14 @@ impl Machine {
         token: Token,
         wants: &Wants,
     ) -> Result<bool, StepFault>
-        requires sound { IsSound self.old.maker }
         requires few { length wants.now ≤ 12 }
+        requires sound { IsSound self.old.maker }
         requires size { size self.old + 32 < 2 ^ 32 }
         ensures answers { AnswersBuild limited symbol token (builds.Enter wants.now) (state_of self.old) (state_of self.new) result }
         ensures ok { IfOk result (λ taken. taken ≡ true) }
         ensures sound { OnOk result (IsSound self.new.maker) }
         ensures texts { OnOk result (KeepsTexts self.old.maker.package self.new.maker.package) }
+        ensures refused { IfErr result (λ stop. KeepsAt stop self.old.maker.package self.new.maker.package) }
         ensures size { OnOk result (size self.new ≤ size self.old + 32) }
     {
         if limited && self.is_deep(symbol) {
@@ -194,6 +197,7 @@ impl Machine {
         ensures answers { AnswersBuild limited symbol token builds.Pass (state_of self.old) (state_of self.new) result }
         ensures sound { OnOk result (IsSound self.new.maker) }
         ensures texts { OnOk result (KeepsTexts self.old.maker.package self.new.maker.package) }
+        ensures refused { IfErr result (λ stop. KeepsAt stop self.old.maker.package self.new.maker.package) }
         ensures passed { IfOk result (λ taken. taken ≡ false) }
         ensures same { self.new.wants ≡ self.old.wants }
         ensures grows { OnOk result (nodes self.new.maker ≤ nodes self.old.maker + 2) }
@@ -211,6 +215,7 @@ impl Machine {
         ensures answers { AnswersBuild limited symbol token (build symbol token.kind token.at) (state_of self.old) (state_of self.new) result }
         ensures sound { OnOk result (IsSound self.new.maker) }
         ensures texts { OnOk result (KeepsTexts self.old.maker.package self.new.maker.package) }
+        ensures refused { IfErr result (λ stop. KeepsAt stop self.old.maker.package self.new.maker.package) }
         ensures below { IfOk result (λ taken. taken ≡ false → self.new.wants ≡ self.old.wants) }
         ensures size { IfOk result (λ taken. size self.new ≤ size self.old + (if taken then 32 else 2)) }
     {
@@ -231,6 +236,7 @@ impl Machine {
         ensures answers { AnswersToken limited token (state_of self.old) (state_of self.new) result }
         ensures sound { OnOk result (IsSound self.new.maker) }
         ensures texts { OnOk result (KeepsTexts self.old.maker.package self.new.maker.package) }
+        ensures refused { IfErr result (λ stop. KeepsAt stop self.old.maker.package self.new.maker.package) }
         ensures size { OnOk result (size self.new ≤ size self.old + 32) }
     {
         while let Some(want) = self.wants.pop() {

@@ -73,44 +73,7 @@ pub(crate) fn kind_of(action: Action) -> ActionKind
         | Action::AssertStmt => ActionKind::Stmt,
         Action::StatusDecl | Action::ConstDecl | Action::StructDecl | Action::MethodDecl =>
             ActionKind::Decl,
-        // a value of nothing on the stack
-        Action::PushName(_)
-        | Action::PushPlace(_)
-        | Action::PushMark(_)
-        | Action::PushPublic(_)
-        | Action::PushSign { .. }
-        | Action::BarePath(_)
-        | Action::NoPart
-        | Action::StartGivens
-        | Action::StartType
-        | Action::NoBounds
-        | Action::StartItems
-        | Action::StartArms
-        | Action::NoElse
-        | Action::StartClauses
-        | Action::NoLabel
-        | Action::NoVia
-        | Action::StartFields => ActionKind::Value,
-        // a value of those on the stack
-        Action::ThisPath
-        | Action::ArgsPath
-        | Action::PathReceiver
-        | Action::StartChain { .. }
-        | Action::SomePart
-        | Action::FinishCall
-        | Action::StructType(_)
-        | Action::BaseCore(_)
-        | Action::StatusCore
-        | Action::SomeBounds
-        | Action::FinishType
-        | Action::CloseBlock(_)
-        | Action::PathTarget
-        | Action::ElementTarget
-        | Action::SomeElse
-        | Action::SomeLabel
-        | Action::SomeVia
-        | Action::NoResult
-        | Action::SomeResult => ActionKind::Value,
+        _ => ActionKind::Value,
     }
 }
 

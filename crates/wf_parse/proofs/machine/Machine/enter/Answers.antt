@@ -4,7 +4,7 @@ use Rattle.wf_parse_grammar.specs.declared.symbols.Want.TheVariants.{Read}
 use Rattle.wf_parse_grammar.specs.Building.{open_wants}
 use Rattle.wf_parse_nodes.specs.Makers.{made}
 use Rattle.wf_parse.specs.Machines.{state_of}
-use Rattle.wf_parse.proofs.Keeping.{taken_answers, enter_passes, neither_first, neither_second}
+use Rattle.wf_parse.proofs.Keeping.{memory_only, taken_answers, enter_passes, neither_first, neither_second}
 use Rattle.wf_parse.proofs.machine.Machine.enter.Goals as goal
 use Rattle.wf_parse.proofs.machine.Machine.enter.Goals.{else-limited-via-then-limited+else-is_deep, else-limited-via-else-limited}
 
@@ -17,3 +17,6 @@ returns-clause-answers c =
     taken_answers c.want.result c.args.limited c.args.symbol c.args.token (builds.Enter c.args.wants.now) c.args.wants.now (state_of c.args.self.now) (state_of c.want.new.self)
     (enter_passes c.args.limited c.args.symbol c.args.token.kind c.args.wants.now c.args.self.now.wants c.args.self.now.room c.want.new.self.room (made c.args.self.now.maker) within c.want.ensures.room)
     c.want.ensures.ok c.want.ensures.err c.want.ensures.wanted
+
+pub returns-clause-refused : goal.returns-clause-refused
+returns-clause-refused c = memory_only c.want.result c.args.self.now.maker.package c.want.new.self.maker.package c.want.ensures.err
