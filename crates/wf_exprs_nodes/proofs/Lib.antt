@@ -8,4 +8,5 @@ pub mod Numbered
 pub mod OperandLaws
 pub mod ReadLaws
 pub mod SliceLaws
+pub mod ValueLaws
 mod WalkLaws

@@ -14,7 +14,7 @@ use Rattle.c_text.specs.declared.ids.CExprId.{CExprId}
 use Rattle.c_text.specs.CNodes.{Nodes}
 use Rattle.c_text.specs.CTree.{ExprTree, cast, Operands, no_operand, operand}
 use Rattle.wf_exprs.specs.Names.{Names}
-use Rattle.wf_exprs.specs.Exprs.{Rated, rated, calculated, place_code, peeked, raised, lowered, lowered_expr, lowered_cond, lowered_status}
+use Rattle.wf_exprs.specs.Exprs.{Rated, rated, calculated, place_code, peeked, raised, given, lowered, lowered_expr, lowered_cond, lowered_status}
 use Rattle.wf_exprs.specs.Grown.{HasExpr}
 use Rattle.wf_exprs.specs.Making.{linked_by}
 use Rattle.wf_exprs.specs.Words.{num, two, uint_of}
@@ -73,12 +73,12 @@ widened bits e = if nat_eq bits 32 then cast (uint_of 32) e else e
 abbrev pub higher_bytes : Names → ℕ → Operands
 higher_bytes names a = operand (raised 32 2 (peeked names a 2)) (operand (raised 32 3 (peeked names a 3)) no_operand)
 
--- What an expression that is a single value is in C.
+-- What an expression that is a single value is in C where it is assigned, passed or returned.
 abbrev pub lowered_value : Names → ValueTree → ExprTree
-lowered_value names (numeric t) = lowered_expr names t
+lowered_value names (numeric t) = given names t
 lowered_value names (logical t) = lowered_cond names t
 lowered_value names (state t) = lowered_status names t
-lowered_value names t = lowered_expr names (num_in t)
+lowered_value names t = given names (num_in t)
 
 -- The method answers a truth value.
 abbrev pub gives_flag : Gives → Bool

@@ -33,13 +33,7 @@ use wf_lower_stmts::places::{end_of, is_io, place_in};
 use wf_text::NoMemory;
 
 /// A `size_t` that tells a place in a buffer.
-fn size_local(
-    b: &Body,
-    u: &mut Unit,
-    begin: &[u8],
-    end: &[u8],
-    initial: CExprId,
-) -> Result<CLocal, NoMemory>
+fn size_local(u: &mut Unit, begin: &[u8], end: &[u8], initial: CExprId) -> Result<CLocal, NoMemory>
     requires name { IsName (begin.now ++ end.now) }
     requires initial { initial.0 < length u.old.exprs }
     ensures grows { Grows u.old u.new }
@@ -72,7 +66,7 @@ fn place_local(b: &Body, u: &mut Unit, n: usize, ty: Ty) -> Result<CLocal, NoMem
 {
     let name = argument_name(b, n);
     let place = place_in(b.scope(), u, n as u32, ty)?;
-    size_local(b, u, b"p_", name, place)
+    size_local(u, b"p_", name, place)
 }
 
 /// The end of a reader or a writer.
@@ -83,7 +77,7 @@ fn end_local(b: &Body, u: &mut Unit, n: usize, ty: Ty) -> Result<CLocal, NoMemor
 {
     let name = argument_name(b, n);
     let end = end_of(b.scope(), u, n as u32, ty)?;
-    size_local(b, u, b"e_", name, end)
+    size_local(u, b"e_", name, end)
 }
 
 /// The place and the end of an argument that is a reader or a writer.
@@ -121,7 +115,6 @@ fn add_all_io(b: &Body, u: &mut Unit, locals: &mut CList<CLocal>) -> Result<(), 
 
 /// A local that is 0 at first, with a name that ends with the source's.
 fn add_zero(
-    b: &Body,
     u: &mut Unit,
     kind: CType,
     begin: &[u8],
@@ -139,7 +132,6 @@ fn add_zero(
 
 /// The pointer and the length of a local slice.
 fn add_slice(
-    b: &Body,
     u: &mut Unit,
     cells: CUint,
     name: &[u8],
@@ -149,27 +141,21 @@ fn add_slice(
     ensures grows { Grows u.old u.new }
     ensures made { OnOk result (AddsLocals u.old u.new locals.old locals.new (declared (uint_pointer cells) (codes "vp_" ++ name.now) (num 0) ∷ declared size (codes "vl_" ++ name.now) (num 0) ∷ [])) }
 {
-    add_zero(b, u, CType::UintPointer(cells), b"vp_", name, locals)?;
-    add_zero(b, u, CType::Size, b"vl_", name, locals)
+    add_zero(u, CType::UintPointer(cells), b"vp_", name, locals)?;
+    add_zero(u, CType::Size, b"vl_", name, locals)
 }
 
 /// The locals of one local of the source.
-fn add_typed(
-    b: &Body,
-    u: &mut Unit,
-    ty: Ty,
-    name: &[u8],
-    locals: &mut CList<CLocal>,
-) -> Result<(), NoMemory>
+fn add_typed(u: &mut Unit, ty: Ty, name: &[u8], locals: &mut CList<CLocal>) -> Result<(), NoMemory>
     requires { list_all is_word_byte name.now ≡ true }
     ensures grows { Grows u.old u.new }
     ensures made { OnOk result (AddsLocals u.old u.new locals.old locals.new (local_of (record { name = name.now; ty = ty }))) }
 {
     match ty {
-        Ty::Num { width, .. } => add_zero(b, u, CType::Uint(uint_of(width)), b"v_", name, locals),
-        Ty::Flag => add_zero(b, u, CType::Bool, b"v_", name, locals),
-        Ty::Status => add_zero(b, u, CType::Text, b"v_", name, locals),
-        Ty::Slice(width) => add_slice(b, u, uint_of(width), name, locals),
+        Ty::Num { width, .. } => add_zero(u, CType::Uint(uint_of(width)), b"v_", name, locals),
+        Ty::Flag => add_zero(u, CType::Bool, b"v_", name, locals),
+        Ty::Status => add_zero(u, CType::Text, b"v_", name, locals),
+        Ty::Slice(width) => add_slice(u, uint_of(width), name, locals),
         Ty::Reader => Ok(()),
         Ty::Writer => Ok(()),
         Ty::Array { .. } => Ok(()),
@@ -182,7 +168,7 @@ fn add_local(b: &Body, u: &mut Unit, x: Var, locals: &mut CList<CLocal>) -> Resu
     ensures grows { Grows u.old u.new }
     ensures made { OnOk result (AddsLocals u.old u.new locals.old locals.new (local_of (variable_of b.now.nodes x))) }
 {
-    add_typed(b, u, x.ty, b.typed().text(x.name), locals)
+    add_typed(u, x.ty, b.typed().text(x.name), locals)
 }
 
 fn add_all_locals(b: &Body, u: &mut Unit, locals: &mut CList<CLocal>) -> Result<(), NoMemory>

@@ -13,10 +13,10 @@ use Rattle.wf_ast.specs.declared.typed_code.Block as typed_code
 use Rattle.wf_ast.specs.declared.typed_nodes.TypedNodes.{TypedNodes}
 use Rattle.wf_ast.specs.declared.types.Ty.{Ty}
 use Rattle.wf_ast.specs.declared.types.Ty.TheVariants as types
-use Rattle.wf_ast.specs.TypedInvariant.{IsTyped, is_expr, is_io, is_list, is_logical, is_numeric, is_state, is_tree_of}
+use Rattle.wf_ast.specs.TypedInvariant.{IsTyped, is_expr, is_io, is_list, is_tree_of}
 use Rattle.wf_ast.specs.TypedPackage.{MethodTree, package_of, method_of}
 use Rattle.wf_ast.specs.TypedTree.{ValueTree, numeric, logical, state, elements, io, Called, Target}
-use Rattle.wf_ast.specs.TypedTrees.{num_in, cond_in, status_in, slice_in, io_in, tree_of, type_of_node}
+use Rattle.wf_ast.specs.TypedTrees.{slice_in, io_in, tree_of, type_of_node}
 use Rattle.wf_ast.specs.WellTyped.{number_of}
 use Rattle.wf_ast.proofs.Accessors.{tree_kind}
 use Rattle.wf_ast.proofs.Arena.{both_true}
@@ -30,12 +30,14 @@ use Rattle.c_text.specs.CGrammar.{is_lvalue}
 use Rattle.c_text.specs.CNodes.{Nodes, args_in, bytes_at, code_of, expr_of, value_in}
 use Rattle.c_text.specs.CTree.{ExprTree, Args, no_arg, expr_arg, sizeof_arg}
 use Rattle.c_text.specs.CTree as c
-use Rattle.wf_exprs.specs.Exprs.{given, io_code, lowered_cond, lowered_slice, lowered_status}
+use Rattle.wf_exprs.specs.Exprs.{io_code, lowered_slice}
 use Rattle.wf_exprs.specs.Grown.{Grows, HasCode, HasExpr, HasNamed}
 use Rattle.wf_exprs.specs.Names.{Names, body_name, entry_name}
 use Rattle.wf_exprs.specs.Words.{args}
 use Rattle.wf_exprs.proofs.Growing.{grows_on}
 use Rattle.wf_exprs.proofs.Prefixes.{list_all-at}
+use Rattle.wf_exprs_nodes.specs.Trees.{is_single, lowered_value}
+use Rattle.wf_exprs_nodes.proofs.ValueLaws.{kind, seen_type}
 use Rattle.wf_lower_stmts.specs.BodyNodes.{HasWords, body_name_of, entry_name_of, is_spelt_method}
 use Rattle.wf_lower_stmts.specs.Forms.{Form, get, got_local, put, status_local}
 use Rattle.wf_lower_stmts.specs.Statements.{answer_local, call_into, callee_name, hand_on, handed_call, is_passed, is_wanted, lower_call, put_result, value_codes, values_codes}
@@ -132,43 +134,12 @@ no_part nodes typed e h = by (type_of_node nodes e.0) (tree_of nodes e) (tree_ki
     by (types.Array width lo hi count) t k = refl
     by (types.Part s) t k = absurd (cc k)
 
--- The type of an expression, as it was asked for.
-pub seen_type : (t nodes : TypedNodes) (e : ℕ) (ty other : Ty) → t ≡ nodes → ty ≡ type_of_node t e → ty ≡ other → type_of_node nodes e ≡ other
-seen_type t nodes e ty other same asked is = ap (λ x. type_of_node x e) (sym same) ∙ sym asked ∙ is
-
 pub part_absurd : (t nodes : TypedNodes) (e : ExprId) (ty : Ty) (s : StructId) → t ≡ nodes → ty ≡ type_of_node t e.0 → ty ≡ types.Part s → IsTyped nodes → is_expr nodes e ≡ true → ⊥
 part_absurd t nodes e ty s same asked is typed there = let h = no_part nodes typed e there in let k = ap is_part (seen_type t nodes e.0 ty (types.Part s) same asked is) in cc (h, k)
 
 module _ (nodes : TypedNodes) (typed : IsTyped nodes) (e : ExprId) (there : is_expr nodes e ≡ true) where
-  kind : is_tree_of (type_of_node nodes e.0) (tree_of nodes e) ≡ true
-  kind = tree_kind nodes typed e (grind (arith, nat_tests, there))
-
-  pub number_is : is_numeric (type_of_node nodes e.0) ≡ true → tree_of nodes e ≡ numeric (num_in (tree_of nodes e))
-  number_is h = by (type_of_node nodes e.0) (tree_of nodes e) kind h
-    where
-      by : (ty : Ty) (t : ValueTree) → is_tree_of ty t ≡ true → is_numeric ty ≡ true → t ≡ numeric (num_in t)
-      by (types.Num width lo hi) (numeric t) h k = refl
-      by (types.Num width lo hi) t h k = absurd (cc h)
-      by ty t h k = absurd (cc k)
-
-  pub flag_is : is_logical (type_of_node nodes e.0) ≡ true → tree_of nodes e ≡ logical (cond_in (tree_of nodes e))
-  flag_is h = by (type_of_node nodes e.0) (tree_of nodes e) kind h
-    where
-      by : (ty : Ty) (t : ValueTree) → is_tree_of ty t ≡ true → is_logical ty ≡ true → t ≡ logical (cond_in t)
-      by types.Flag (logical t) h k = refl
-      by types.Flag t h k = absurd (cc h)
-      by ty t h k = absurd (cc k)
-
-  pub status_is : is_state (type_of_node nodes e.0) ≡ true → tree_of nodes e ≡ state (status_in (tree_of nodes e))
-  status_is h = by (type_of_node nodes e.0) (tree_of nodes e) kind h
-    where
-      by : (ty : Ty) (t : ValueTree) → is_tree_of ty t ≡ true → is_state ty ≡ true → t ≡ state (status_in t)
-      by types.Status (state t) h k = refl
-      by types.Status t h k = absurd (cc h)
-      by ty t h k = absurd (cc k)
-
   pub slice_is : is_list (type_of_node nodes e.0) ≡ true → tree_of nodes e ≡ elements (slice_in (tree_of nodes e))
-  slice_is h = by (type_of_node nodes e.0) (tree_of nodes e) kind h
+  slice_is h = by (type_of_node nodes e.0) (tree_of nodes e) (kind nodes typed e there) h
     where
       by : (ty : Ty) (t : ValueTree) → is_tree_of ty t ≡ true → is_list ty ≡ true → t ≡ elements (slice_in t)
       by (types.Slice width) (elements t) h k = refl
@@ -179,7 +150,7 @@ module _ (nodes : TypedNodes) (typed : IsTyped nodes) (e : ExprId) (there : is_e
 
   -- A reader or a writer, by what it is passed as.
   pub buffer_is : (names : Names) → is_io (type_of_node nodes e.0) ≡ true → io_code names (io_in (tree_of nodes e)) ∷ [] ≡ value_codes names (tree_of nodes e)
-  buffer_is names h = by (type_of_node nodes e.0) (tree_of nodes e) kind h
+  buffer_is names h = by (type_of_node nodes e.0) (tree_of nodes e) (kind nodes typed e there) h
     where
       by : (ty : Ty) (t : ValueTree) → is_tree_of ty t ≡ true → is_io ty ≡ true → io_code names (io_in t) ∷ [] ≡ value_codes names t
       by types.Reader (io at n) h k = refl
@@ -188,14 +159,18 @@ module _ (nodes : TypedNodes) (typed : IsTyped nodes) (e : ExprId) (there : is_e
       by types.Writer t h k = absurd (cc h)
       by ty t h k = absurd (cc k)
 
-  pub number_codes : (names : Names) → is_numeric (type_of_node nodes e.0) ≡ true → given names (num_in (tree_of nodes e)) ∷ [] ≡ value_codes names (tree_of nodes e)
-  number_codes names h = sym (ap (value_codes names) (number_is h))
-
-  pub flag_codes : (names : Names) → is_logical (type_of_node nodes e.0) ≡ true → lowered_cond names (cond_in (tree_of nodes e)) ∷ [] ≡ value_codes names (tree_of nodes e)
-  flag_codes names h = sym (ap (value_codes names) (flag_is h))
-
-  pub status_codes : (names : Names) → is_state (type_of_node nodes e.0) ≡ true → lowered_status names (status_in (tree_of nodes e)) ∷ [] ≡ value_codes names (tree_of nodes e)
-  status_codes names h = sym (ap (value_codes names) (status_is h))
+  -- A number, a truth value or a status, by what it is passed as.
+  pub single_codes : (names : Names) → is_single (type_of_node nodes e.0) ≡ true → lowered_value names (tree_of nodes e) ∷ [] ≡ value_codes names (tree_of nodes e)
+  single_codes names h = by (type_of_node nodes e.0) (tree_of nodes e) (kind nodes typed e there) h
+    where
+      by : (ty : Ty) (t : ValueTree) → is_tree_of ty t ≡ true → is_single ty ≡ true → lowered_value names t ∷ [] ≡ value_codes names t
+      by (types.Num width lo hi) (numeric t) h k = refl
+      by (types.Num width lo hi) t h k = absurd (cc h)
+      by types.Flag (logical t) h k = refl
+      by types.Flag t h k = absurd (cc h)
+      by types.Status (state t) h k = refl
+      by types.Status t h k = absurd (cc h)
+      by ty t h k = absurd (cc k)
 
   pub slice_codes : (names : Names) → is_list (type_of_node nodes e.0) ≡ true
       → (lowered_slice names (slice_in (tree_of nodes e))).pointer ∷ (lowered_slice names (slice_in (tree_of nodes e))).length.code ∷ [] ≡ value_codes names (tree_of nodes e)

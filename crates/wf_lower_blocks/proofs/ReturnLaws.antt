@@ -1,7 +1,6 @@
 -- What a return makes of a value of each kind.
-use Rattle.std.proofs.Common.{◌≡◌, ◌∙◌, ◌&&◌, ℕ, ◌<◌, true, false, List, [], length, Some, if◌then◌else◌, refl, sym, ap, subst, arith}
+use Rattle.std.proofs.Common.{◌≡◌, ◌∙◌, ◌&&◌, ℕ, ◌<◌, true, false, List, [], length, Some, if◌then◌else◌, refl, sym, ap, subst}
 use Rattle.std.specs.Prelude.{slice_get, unwrap_or}
-use Rattle.std.proofs.lemmas.Bool.Decides.{nat_tests}
 use Rattle.wf_text.specs.declared.place.Place.{Place}
 use Rattle.wf_text.specs.declared.categories.Category.{Category}
 use Rattle.wf_text.specs.declared.categories.Category.TheVariants.{Suspension}
@@ -13,18 +12,18 @@ use Rattle.wf_ast.specs.declared.types.Ty.TheVariants as types
 use Rattle.wf_ast.specs.TypedInvariant.{IsTyped, is_expr, is_logical, is_numeric, is_state, is_tree_of}
 use Rattle.wf_ast.specs.TypedPackage.{package_of}
 use Rattle.wf_ast.specs.TypedTree.{StatusTree, status, held, no_status, ValueTree, elements, io}
-use Rattle.wf_ast.specs.TypedTrees.{num_in, cond_in, status_in, tree_of, type_of_node}
+use Rattle.wf_ast.specs.TypedTrees.{status_in, tree_of, type_of_node}
 use Rattle.wf_ast.specs.Value.{same_category}
 use Rattle.wf_ast.specs.WellTyped.{is_coroutine}
 use Rattle.wf_ast.specs.NodeKinds.{node_status}
-use Rattle.wf_ast.proofs.Accessors.{tree_kind}
 use Rattle.wf_meaning.specs.Entry.{cannot_suspend, has_kind}
 use Rattle.c_text.specs.CTree.{Code, finish}
 use Rattle.c_text.specs.CTree as c
-use Rattle.wf_exprs.specs.Exprs.{begins_with, given, is_constant, lowered_cond, lowered_status, status_constant}
+use Rattle.wf_exprs.specs.Exprs.{begins_with, is_constant, lowered_status, status_constant}
 use Rattle.wf_lower_stmts.specs.Forms.{Form, give, status_local, when}
+use Rattle.wf_exprs_nodes.specs.Trees.{lowered_value}
 use Rattle.wf_lower_stmts.specs.Statements.{give_status, give_value, is_suspension}
-use Rattle.wf_lower_blocks.proofs.CallLaws.{number_is, flag_is, status_is}
+use Rattle.wf_exprs_nodes.proofs.ValueLaws.{kind, number_is, flag_is, status_is}
 
 -- The kind of a status is told by its text.
 pub suspension_is : (t nodes : TypedNodes) (n : ℕ) (text : List ℕ) (category : Category) → t ≡ nodes → slice_get t.statuses n ≡ Some text → category ≡ category_of text
@@ -59,11 +58,15 @@ pub unknown_seen : (t nodes : TypedNodes) (e : ExprId) → t ≡ nodes → is_co
 unknown_seen t nodes e same h = ap (λ x. is_constant (node_status x e)) (sym same) ∙ h
 
 module _ (nodes : TypedNodes) (typed : IsTyped nodes) (e : ExprId) (there : is_expr nodes e ≡ true) (f : Form) (rest : Code) where
-  pub number_given : is_numeric (type_of_node nodes e.0) ≡ true → give f (Some (given f.names (num_in (tree_of nodes e)))) rest ≡ give_value f (Some (tree_of nodes e)) rest
-  number_given h = sym (ap (λ v. give_value f (Some v) rest) (number_is nodes typed e there h))
+  -- A number or a truth value is returned as it is assigned.
+  same_single : (v : ValueTree) → tree_of nodes e ≡ v → give f (Some (lowered_value f.names v)) rest ≡ give_value f (Some v) rest → give f (Some (lowered_value f.names (tree_of nodes e))) rest ≡ give_value f (Some (tree_of nodes e)) rest
+  same_single v same h = let P : ValueTree → Type 0 = λ t. give f (Some (lowered_value f.names t)) rest ≡ give_value f (Some t) rest in subst P (sym same) h
 
-  pub flag_given : is_logical (type_of_node nodes e.0) ≡ true → give f (Some (lowered_cond f.names (cond_in (tree_of nodes e)))) rest ≡ give_value f (Some (tree_of nodes e)) rest
-  flag_given h = sym (ap (λ v. give_value f (Some v) rest) (flag_is nodes typed e there h))
+  pub number_given : is_numeric (type_of_node nodes e.0) ≡ true → give f (Some (lowered_value f.names (tree_of nodes e))) rest ≡ give_value f (Some (tree_of nodes e)) rest
+  number_given h = same_single _ (number_is nodes typed e there h) refl
+
+  pub flag_given : is_logical (type_of_node nodes e.0) ≡ true → give f (Some (lowered_value f.names (tree_of nodes e))) rest ≡ give_value f (Some (tree_of nodes e)) rest
+  flag_given h = same_single _ (flag_is nodes typed e there h) refl
 
   pub status_given : is_state (type_of_node nodes e.0) ≡ true → give_status f (status_in (tree_of nodes e)) rest ≡ give_value f (Some (tree_of nodes e)) rest
   status_given h = sym (ap (λ v. give_value f (Some v) rest) (status_is nodes typed e there h))
@@ -72,7 +75,7 @@ module _ (nodes : TypedNodes) (typed : IsTyped nodes) (e : ExprId) (there : is_e
   pub nothing_given : (ty : Ty) → ty ≡ type_of_node nodes e.0 → (is_numeric ty ≡ false) → (is_logical ty ≡ false) → (is_state ty ≡ false) → rest ≡ give_value f (Some (tree_of nodes e)) rest
   nothing_given ty same h k l =
       let P : Ty → Type 0 = λ x. is_tree_of x (tree_of nodes e) ≡ true in
-      by ty (tree_of nodes e) (subst P (sym same) (tree_kind nodes typed e (grind (arith, nat_tests, there)))) h k l
+      by ty (tree_of nodes e) (subst P (sym same) (kind nodes typed e there)) h k l
     where
       by : (ty : Ty) (t : ValueTree) → is_tree_of ty t ≡ true → is_numeric ty ≡ false → is_logical ty ≡ false → is_state ty ≡ false → rest ≡ give_value f (Some t) rest
       by (types.Num width lo hi) t j h k l = absurd (cc h)

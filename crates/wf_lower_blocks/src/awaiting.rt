@@ -54,6 +54,14 @@ pub(crate) struct Awaiting {
     pub call: Awaited,
 }
 
+/// A read that suspends where bytes lack.
+#[derive(Clone, Copy)]
+struct Reading {
+    target: Target,
+    a: u32,
+    form: ReadForm,
+}
+
 /// The place goes on by so many bytes.
 pub(crate) fn step_on(
     b: &Body,
@@ -425,38 +433,35 @@ fn read_number(
     b: &Body,
     u: &mut Unit,
     k: u32,
-    target: Target,
-    a: u32,
-    form: ReadForm,
+    it: Reading,
     rest: CStmtId,
 ) -> Result<CStmtId, NoMemory>
-    requires target { is_target b.now.nodes target ≡ true }
+    requires target { is_target b.now.nodes it.target ≡ true }
     requires rest { rest.0 < length u.old.stmts }
     ensures grows { Grows u.old u.new }
-    ensures made { IfOk result (λ code. HasCode u.new code.0 (take_bytes_code (form_in b.now).names a form (bytes_in (read_width form)) (read_all_code (form_in b.now) k (target_in b.now.nodes target) form (code_of u.old rest.0)))) }
+    ensures made { IfOk result (λ code. HasCode u.new code.0 (take_bytes_code (form_in b.now).names it.a it.form (bytes_in (read_width it.form)) (read_all_code (form_in b.now) k (target_in b.now.nodes it.target) it.form (code_of u.old rest.0)))) }
 {
-    let rest = read_all(b, u, k, target, form, rest)?;
-    take_bytes(b, u, a, form, rest)
+    let rest = read_all(b, u, k, it.target, it.form, rest)?;
+    take_bytes(b, u, it.a, it.form, rest)
 }
 
+/// A read goes on.
 fn awoken_read(
     b: &Body,
     u: &mut Unit,
     k: u32,
-    target: Target,
-    a: u32,
-    form: ReadForm,
+    it: Reading,
     rest: CStmtId,
 ) -> Result<CStmtId, NoMemory>
-    requires target { is_target b.now.nodes target ≡ true }
+    requires target { is_target b.now.nodes it.target ≡ true }
     requires rest { rest.0 < length u.old.stmts }
     ensures grows { Grows u.old u.new }
-    ensures made { IfOk result (λ code. HasCode u.new code.0 (awoken_code (form_in b.now) k (target_in b.now.nodes target) a (take_number form) (code_of u.old rest.0))) }
+    ensures made { IfOk result (λ code. HasCode u.new code.0 (awoken_code (form_in b.now) k (target_in b.now.nodes it.target) it.a (take_number it.form) (code_of u.old rest.0))) }
 {
-    if is_one_byte(form) {
-        read_byte(b, u, k, target, a, rest)
+    if is_one_byte(it.form) {
+        read_byte(b, u, k, it.target, it.a, rest)
     } else {
-        read_number(b, u, k, target, a, form, rest)
+        read_number(b, u, k, it, rest)
     }
 }
 
@@ -648,7 +653,14 @@ pub(crate) fn awoken_call(
     ensures made { IfOk result (λ code. HasCode u.new code.0 (awoken_code (form_in b.now) k (target_in b.now.nodes it.target) it.a (awaited_in b.now.nodes it.call) (code_of u.old rest.0))) }
 {
     match it.call {
-        Awaited::Read(form) => awoken_read(b, u, k, it.target, it.a, form, rest),
+        Awaited::Read(form) => {
+            let read = Reading {
+                target: it.target,
+                a: it.a,
+                form,
+            };
+            awoken_read(b, u, k, read, rest)
+        }
         Awaited::Skip(_) => skip_on(b, u, k, it.a, rest),
         Awaited::Write(byte) => write_on(b, u, k, it.a, byte, rest),
     }

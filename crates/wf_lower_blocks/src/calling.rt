@@ -5,17 +5,18 @@ ghost use Rattle.wf_ast.specs.declared.typed_nodes.TypedNodes.{TypedNodes};
 ghost use Rattle.wf_ast.specs.TypedInvariant.{is_expr, is_io};
 ghost use Rattle.wf_ast.specs.TypedTrees.{io_in, tree_of, type_of_node};
 ghost use Rattle.wf_ast.specs.WellTyped.{number_of};
-ghost use Rattle.wf_ast.specs.NodeKinds.{is_condition_at, is_number_at, is_slice_at, is_status_at, node_cond, node_number, node_slice, node_status};
+ghost use Rattle.wf_ast.specs.NodeKinds.{is_slice_at, node_slice};
 ghost use Rattle.c_text.specs.CFits.{HasTarget};
 ghost use Rattle.c_text.specs.CGrammar.{IsName, is_literal};
 ghost use Rattle.c_text.specs.declared.kinds.COp.TheVariants.{Eq};
 ghost use Rattle.c_text.specs.CNodes.{code_of, expr_of, value_in};
 ghost use Rattle.c_text.specs.CTree.{ExprTree, finish as finish_code};
 ghost use Rattle.c_text.specs.CTree as c;
-ghost use Rattle.wf_exprs.specs.Exprs.{given as given_code, io_code, lowered_cond, lowered_slice, lowered_status};
+ghost use Rattle.wf_exprs.specs.Exprs.{io_code, lowered_slice};
 ghost use Rattle.wf_exprs.specs.Grown.{Grows, HasCode, HasExpr, HasNamed};
 ghost use Rattle.wf_exprs.specs.Making.{HasPair};
 ghost use Rattle.wf_exprs.specs.Words.{num, two as two_codes};
+ghost use Rattle.wf_exprs_nodes.specs.Trees.{is_single, lowered_value};
 ghost use Rattle.wf_lower_stmts.specs.BodyNodes.{form_in, is_target, target_in};
 ghost use Rattle.wf_lower_stmts.specs.Forms.{give as give_code, status_local, suspend as suspend_code, when as when_code};
 ghost use Rattle.wf_lower_stmts.specs.Statements.{answer_local, call_into as call_into_code, callee_name as callee_name_of, hand_on as hand_on_code, handed_call as handed_code, is_wanted as is_wanted_target, lower_call as lower_call_code, put_result as put_result_code, receiver_code, value_codes, values_codes};
@@ -26,7 +27,7 @@ use wf_ast::{ExprId, FieldId, Method, Ty, io_arg};
 use wf_base::Mark;
 use wf_exprs::Pair;
 use wf_exprs::nodes::{address, element, number, two, variable};
-use wf_exprs_nodes::{condition, given, lower_slice, status};
+use wf_exprs_nodes::{lower_expr, lower_slice};
 use wf_lower_stmts::Body;
 use wf_lower_stmts::code::{call, finish, when};
 use wf_lower_stmts::keeping::{give_at_end, suspend};
@@ -134,31 +135,14 @@ fn callee_name(b: &Body, u: &mut Unit, called: Called) -> Result<CNameId, NoMemo
     }
 }
 
-/// A number as it is passed.
-fn number_value(b: &Body, u: &mut Unit, e: ExprId) -> Result<CExprId, NoMemory>
-    requires node { IsTrue (is_number_at b.now.nodes e) }
+/// A number, a truth value or a status as it is passed.
+fn single_value(b: &Body, u: &mut Unit, e: ExprId) -> Result<CExprId, NoMemory>
+    requires node { IsTrue (is_expr b.now.nodes e) }
+    requires single { IsTrue (is_single (type_of_node b.now.nodes e.0)) }
     ensures grows { Grows u.old u.new }
-    ensures made { IfOk result (λ it. HasExpr u.new it.0 (given_code (form_in b.now).names (node_number b.now.nodes e))) }
+    ensures made { IfOk result (λ it. HasExpr u.new it.0 (lowered_value (form_in b.now).names (tree_of b.now.nodes e))) }
 {
-    given(b.scope(), u, e)
-}
-
-/// A condition as it is passed.
-fn flag_value(b: &Body, u: &mut Unit, e: ExprId) -> Result<CExprId, NoMemory>
-    requires node { IsTrue (is_condition_at b.now.nodes e) }
-    ensures grows { Grows u.old u.new }
-    ensures made { IfOk result (λ it. HasExpr u.new it.0 (lowered_cond (form_in b.now).names (node_cond b.now.nodes e))) }
-{
-    condition(b.scope(), u, e)
-}
-
-/// A status as it is passed.
-fn status_value(b: &Body, u: &mut Unit, e: ExprId) -> Result<CExprId, NoMemory>
-    requires node { IsTrue (is_status_at b.now.nodes e) }
-    ensures grows { Grows u.old u.new }
-    ensures made { IfOk result (λ it. HasExpr u.new it.0 (lowered_status (form_in b.now).names (node_status b.now.nodes e))) }
-{
-    status(b.scope(), u, e)
+    lower_expr(b.scope(), u, e)
 }
 
 /// A reader or a writer as it is passed.
@@ -180,30 +164,13 @@ fn slice_value(b: &Body, u: &mut Unit, e: ExprId) -> Result<Pair, NoMemory>
     lower_slice(b.scope(), u, e)
 }
 
-fn pass_number(b: &Body, u: &mut Unit, e: ExprId, args: &mut CList<CArg>) -> Result<(), NoMemory>
-    requires node { IsTrue (is_number_at b.now.nodes e) }
+fn pass_single(b: &Body, u: &mut Unit, e: ExprId, args: &mut CList<CArg>) -> Result<(), NoMemory>
+    requires node { IsTrue (is_expr b.now.nodes e) }
+    requires single { IsTrue (is_single (type_of_node b.now.nodes e.0)) }
     ensures grows { Grows u.old u.new }
-    ensures pushed { OnOk result ((trees : List ExprTree) → HasGiven u.old args.old trees → HasGiven u.new args.new (trees ++ (given_code (form_in b.now).names (node_number b.now.nodes e) ∷ []))) }
+    ensures pushed { OnOk result ((trees : List ExprTree) → HasGiven u.old args.old trees → HasGiven u.new args.new (trees ++ (lowered_value (form_in b.now).names (tree_of b.now.nodes e) ∷ []))) }
 {
-    let value = number_value(b, u, e)?;
-    args.push(CArg::Expr(value))
-}
-
-fn pass_flag(b: &Body, u: &mut Unit, e: ExprId, args: &mut CList<CArg>) -> Result<(), NoMemory>
-    requires node { IsTrue (is_condition_at b.now.nodes e) }
-    ensures grows { Grows u.old u.new }
-    ensures pushed { OnOk result ((trees : List ExprTree) → HasGiven u.old args.old trees → HasGiven u.new args.new (trees ++ (lowered_cond (form_in b.now).names (node_cond b.now.nodes e) ∷ []))) }
-{
-    let value = flag_value(b, u, e)?;
-    args.push(CArg::Expr(value))
-}
-
-fn pass_status(b: &Body, u: &mut Unit, e: ExprId, args: &mut CList<CArg>) -> Result<(), NoMemory>
-    requires node { IsTrue (is_status_at b.now.nodes e) }
-    ensures grows { Grows u.old u.new }
-    ensures pushed { OnOk result ((trees : List ExprTree) → HasGiven u.old args.old trees → HasGiven u.new args.new (trees ++ (lowered_status (form_in b.now).names (node_status b.now.nodes e) ∷ []))) }
-{
-    let value = status_value(b, u, e)?;
+    let value = single_value(b, u, e)?;
     args.push(CArg::Expr(value))
 }
 
@@ -235,9 +202,9 @@ fn pass(b: &Body, u: &mut Unit, e: ExprId, args: &mut CList<CArg>) -> Result<(),
     ensures pushed { OnOk result ((trees : List ExprTree) → HasGiven u.old args.old trees → HasGiven u.new args.new (trees ++ value_codes (form_in b.now).names (tree_of b.now.nodes e))) }
 {
     match b.typed().type_of(e) {
-        Ty::Num { .. } => pass_number(b, u, e, args),
-        Ty::Flag => pass_flag(b, u, e, args),
-        Ty::Status => pass_status(b, u, e, args),
+        Ty::Num { .. } => pass_single(b, u, e, args),
+        Ty::Flag => pass_single(b, u, e, args),
+        Ty::Status => pass_single(b, u, e, args),
         Ty::Slice(_) => pass_slice(b, u, e, args),
         Ty::Array { .. } => pass_slice(b, u, e, args),
         Ty::Reader => pass_buffer(b, u, e, args),

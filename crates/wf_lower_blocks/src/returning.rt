@@ -3,14 +3,15 @@
 ghost use Rattle.std.specs.Prelude.{◌≡◌, ◌<◌, ◌&&◌, false, if◌then◌else◌, length, Some, option_map, IsTrue, IfOk, IfSome, IfNone};
 ghost use Rattle.wf_ast.specs.TypedInvariant.{is_expr, is_optional_expr};
 ghost use Rattle.wf_ast.specs.TypedTree.{status};
-ghost use Rattle.wf_ast.specs.TypedTrees.{place_of_node, tree_of};
+ghost use Rattle.wf_ast.specs.TypedTrees.{place_of_node, tree_of, type_of_node};
 ghost use Rattle.wf_ast.specs.WellTyped.{is_coroutine};
-ghost use Rattle.wf_ast.specs.NodeKinds.{is_condition_at, is_number_at, is_status_at, node_cond, node_number, node_status};
+ghost use Rattle.wf_ast.specs.NodeKinds.{is_status_at, node_status};
 ghost use Rattle.wf_meaning.specs.Entry.{cannot_suspend};
 ghost use Rattle.c_text.specs.CNodes.{code_of, expr_of};
 ghost use Rattle.c_text.specs.CTree.{finish as finish_code, assign as assign_code};
-ghost use Rattle.wf_exprs.specs.Exprs.{begins_with as begins_with_code, given as given_code, is_constant, lowered_cond, lowered_status, status_constant as constant_code};
+ghost use Rattle.wf_exprs.specs.Exprs.{begins_with as begins_with_code, is_constant, lowered_status, status_constant as constant_code};
 ghost use Rattle.wf_exprs.specs.Grown.{Grows, HasCode};
+ghost use Rattle.wf_exprs_nodes.specs.Trees.{is_single, lowered_value};
 ghost use Rattle.wf_lower_stmts.specs.BodyNodes.{form_in};
 ghost use Rattle.wf_lower_stmts.specs.Forms.{give as give_code, status_local, when as when_code};
 ghost use Rattle.wf_lower_stmts.specs.Statements.{give_status as give_status_code, give_value as give_value_code, is_suspension as is_suspension_of};
@@ -19,7 +20,7 @@ use c_text::{CExprId, CStmtId, Unit};
 use wf_ast::{Expr, ExprId, Ty, Typed};
 use wf_exprs::nodes::variable;
 use wf_exprs_nodes::statuses::{begins_with, status_constant};
-use wf_exprs_nodes::{condition, given, statuses};
+use wf_exprs_nodes::{lower_expr, statuses};
 use wf_lower_stmts::Body;
 use wf_lower_stmts::code::{assign, finish, when};
 use wf_lower_stmts::keeping::give;
@@ -53,7 +54,7 @@ fn is_suspension(b: &Body, n: StatusId) -> bool
 }
 
 /// `status = cannot_suspend;` at the end of a block.
-fn replaced(b: &Body, u: &mut Unit, status: CExprId) -> Result<CStmtId, NoMemory>
+fn replaced(u: &mut Unit, status: CExprId) -> Result<CStmtId, NoMemory>
     requires status { expr_of u.old status.0 ≡ status_local }
     requires there { status.0 < length u.old.exprs }
     ensures grows { Grows u.old u.new }
@@ -77,7 +78,7 @@ fn replace_suspension(
     ensures grows { Grows u.old u.new }
     ensures made { IfOk result (λ code. HasCode u.new code.0 (when_code (begins_with_code 36 status_local) (assign_code status_local (constant_code cannot_suspend) finish_code) (code_of u.old rest.0))) }
 {
-    let body = replaced(b, u, status)?;
+    let body = replaced(u, status)?;
     let test = begins_with(b.alloc(), u, b'$', status)?;
     when(u, test, body, rest)
 }
@@ -156,25 +157,15 @@ fn give_status(b: &Body, u: &mut Unit, e: ExprId, rest: CStmtId) -> Result<CStmt
     }
 }
 
-/// A number is returned.
-fn give_number(b: &Body, u: &mut Unit, e: ExprId, rest: CStmtId) -> Result<CStmtId, NoMemory>
-    requires node { IsTrue (is_number_at b.now.nodes e) }
+/// A number or a truth value is returned.
+fn give_single(b: &Body, u: &mut Unit, e: ExprId, rest: CStmtId) -> Result<CStmtId, NoMemory>
+    requires node { IsTrue (is_expr b.now.nodes e) }
+    requires single { IsTrue (is_single (type_of_node b.now.nodes e.0)) }
     requires rest { rest.0 < length u.old.stmts }
     ensures grows { Grows u.old u.new }
-    ensures made { IfOk result (λ code. HasCode u.new code.0 (give_code (form_in b.now) (Some (given_code (form_in b.now).names (node_number b.now.nodes e))) (code_of u.old rest.0))) }
+    ensures made { IfOk result (λ code. HasCode u.new code.0 (give_code (form_in b.now) (Some (lowered_value (form_in b.now).names (tree_of b.now.nodes e))) (code_of u.old rest.0))) }
 {
-    let value = given(b.scope(), u, e)?;
-    give(b, u, Some(value), rest)
-}
-
-/// A condition is returned.
-fn give_flag(b: &Body, u: &mut Unit, e: ExprId, rest: CStmtId) -> Result<CStmtId, NoMemory>
-    requires node { IsTrue (is_condition_at b.now.nodes e) }
-    requires rest { rest.0 < length u.old.stmts }
-    ensures grows { Grows u.old u.new }
-    ensures made { IfOk result (λ code. HasCode u.new code.0 (give_code (form_in b.now) (Some (lowered_cond (form_in b.now).names (node_cond b.now.nodes e))) (code_of u.old rest.0))) }
-{
-    let value = condition(b.scope(), u, e)?;
+    let value = lower_expr(b.scope(), u, e)?;
     give(b, u, Some(value), rest)
 }
 
@@ -197,8 +188,8 @@ fn give_some(b: &Body, u: &mut Unit, e: ExprId, rest: CStmtId) -> Result<CStmtId
     ensures made { IfOk result (λ code. HasCode u.new code.0 (give_value_code (form_in b.now) (Some (tree_of b.now.nodes e)) (code_of u.old rest.0))) }
 {
     match b.typed().type_of(e) {
-        Ty::Num { .. } => give_number(b, u, e, rest),
-        Ty::Flag => give_flag(b, u, e, rest),
+        Ty::Num { .. } => give_single(b, u, e, rest),
+        Ty::Flag => give_single(b, u, e, rest),
         Ty::Status => give_status(b, u, e, rest),
         Ty::Slice(_) => Ok(rest),
         Ty::Array { .. } => Ok(rest),

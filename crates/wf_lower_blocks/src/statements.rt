@@ -250,7 +250,7 @@ fn lower_yield(
 }
 
 /// `goto behind_N;`
-fn lower_break(b: &Body, u: &mut Unit, w: StmtId, rest: CStmtId) -> Result<CStmtId, NoMemory>
+fn lower_break(u: &mut Unit, w: StmtId, rest: CStmtId) -> Result<CStmtId, NoMemory>
     requires rest { rest.0 < length u.old.stmts }
     ensures grows { Grows u.old u.new }
     ensures made { IfOk result (λ code. HasCode u.new code.0 (c.jump (behind_name w.0) (code_of u.old rest.0))) }
@@ -260,7 +260,7 @@ fn lower_break(b: &Body, u: &mut Unit, w: StmtId, rest: CStmtId) -> Result<CStmt
 }
 
 /// `goto again_N;`
-fn lower_continue(b: &Body, u: &mut Unit, w: StmtId, rest: CStmtId) -> Result<CStmtId, NoMemory>
+fn lower_continue(u: &mut Unit, w: StmtId, rest: CStmtId) -> Result<CStmtId, NoMemory>
     requires rest { rest.0 < length u.old.stmts }
     ensures grows { Grows u.old u.new }
     ensures made { IfOk result (λ code. HasCode u.new code.0 (c.jump (again_name w.0) (code_of u.old rest.0))) }
@@ -296,8 +296,8 @@ pub(crate) fn lower_simple(
             let made = call_made(b, target_of(b, *target), *keep, *callee, args.as_slice());
             lower_call(b, u, s, made, rest)
         }
-        Stmt::Break(w) => lower_break(b, u, *w, rest),
-        Stmt::Continue(w) => lower_continue(b, u, *w, rest),
+        Stmt::Break(w) => lower_break(u, *w, rest),
+        Stmt::Continue(w) => lower_continue(u, *w, rest),
         Stmt::Return(value) => give_value(b, u, *value, rest),
         Stmt::Yield(status) => lower_yield(b, u, s, *status, rest),
         Stmt::Assert { .. } | Stmt::If { .. } | Stmt::While { .. } => Ok(rest),

@@ -4,7 +4,7 @@ ghost use Rattle.std.specs.Prelude.{◌≡◌, ◌<◌, true, length, IsTrue, If
 ghost use Rattle.wf_ast.specs.TypedInvariant.{is_expr, is_optional_expr};
 ghost use Rattle.wf_text.specs.declared.place.Place.{Place};
 ghost use Rattle.wf_ast.specs.declared.typed_nodes.TypedNodes.{TypedNodes};
-ghost use Rattle.wf_ast.specs.TypedTrees.{named, optional_target, target_of as target_tree, tree_of};
+ghost use Rattle.wf_ast.specs.TypedTrees.{named, optional_target, target_of as target_tree, tree_of, type_of_node};
 ghost use Rattle.wf_ast.specs.NodeKinds.{is_number_at, is_slice_at, node_number, node_slice};
 ghost use Rattle.c_text.specs.CNodes.{code_of, expr_of};
 ghost use Rattle.c_text.specs.CTree as c;
@@ -13,6 +13,7 @@ ghost use Rattle.wf_exprs.specs.Grown.{Grows, HasCode, HasExpr};
 ghost use Rattle.wf_exprs.specs.Making.{HasPairAt, pair_in};
 ghost use Rattle.wf_exprs.specs.Names.{local_length, local_pointer};
 ghost use Rattle.wf_exprs.specs.Scopes.{path_of};
+ghost use Rattle.wf_exprs_nodes.specs.Trees.{is_single, lowered_value};
 ghost use Rattle.wf_lower_stmts.specs.declared.targets.Target.TheVariants as targets;
 ghost use Rattle.wf_lower_stmts.specs.BodyNodes.{AreAlike, form_in, is_target, set_local, target_in};
 ghost use Rattle.wf_lower_stmts.specs.Forms.{size_local};
@@ -25,7 +26,7 @@ use c_text::{CExprId, CStmtId, Unit};
 use wf_ast::{Expr, ExprId, Ty};
 use wf_exprs::nodes::{element, variable};
 use wf_exprs::{Pair, Path};
-use wf_exprs_nodes::{condition, given, lower_slice, number, status};
+use wf_exprs_nodes::{lower_expr, lower_slice, number};
 use wf_text::NoMemory;
 
 /// What is written to.
@@ -254,6 +255,25 @@ fn set_slice(
     }
 }
 
+/// A number, a truth value or a status goes to a target.
+fn set_single(
+    b: &Body,
+    u: &mut Unit,
+    target: Target,
+    value: ExprId,
+    rest: CStmtId,
+) -> Result<CStmtId, NoMemory>
+    requires target { is_target b.now.nodes target ≡ true }
+    requires value { IsTrue (is_expr b.now.nodes value) }
+    requires single { IsTrue (is_single (type_of_node b.now.nodes value.0)) }
+    requires rest { rest.0 < length u.old.stmts }
+    ensures grows { Grows u.old u.new }
+    ensures made { IfOk result (λ it. HasCode u.new it.0 (put_into_code (form_in b.now).names (target_in b.now.nodes target) (lowered_value (form_in b.now).names (tree_of b.now.nodes value)) (code_of u.old rest.0))) }
+{
+    let single = lower_expr(b.scope(), u, value)?;
+    put_into(b, u, target, single, rest)
+}
+
 /// A value of any kind goes to a target.
 fn set_any(
     b: &Body,
@@ -269,18 +289,9 @@ fn set_any(
     ensures made { IfOk result (λ it. HasCode u.new it.0 (set_value_code (form_in b.now).names (target_in b.now.nodes target) (tree_of b.now.nodes value) (code_of u.old rest.0))) }
 {
     match type_at(b.typed(), value) {
-        Ty::Num { .. } => {
-            let given = given(b.scope(), u, value)?;
-            put_into(b, u, target, given, rest)
-        }
-        Ty::Flag => {
-            let given = condition(b.scope(), u, value)?;
-            put_into(b, u, target, given, rest)
-        }
-        Ty::Status => {
-            let given = status(b.scope(), u, value)?;
-            put_into(b, u, target, given, rest)
-        }
+        Ty::Num { .. } => set_single(b, u, target, value, rest),
+        Ty::Flag => set_single(b, u, target, value, rest),
+        Ty::Status => set_single(b, u, target, value, rest),
         Ty::Slice(_) => set_slice(b, u, target, value, rest),
         Ty::Array { .. } => set_slice(b, u, target, value, rest),
         Ty::Reader => Ok(rest),

@@ -1,23 +1,25 @@
 use Rattle.std.proofs.Common.{ap}
-use Rattle.wf_ast.specs.TypedInvariant.{is_io, is_list, is_logical, is_numeric, is_state}
+use Rattle.wf_ast.specs.TypedInvariant.{is_io, is_list}
+use Rattle.wf_exprs_nodes.specs.Trees.{is_single}
+use Rattle.wf_exprs_nodes.proofs.ValueLaws.{seen_type}
 use Rattle.wf_lower_stmts.specs.BodyNodes.{form_in}
-use Rattle.wf_lower_blocks.proofs.CallLaws.{buffer_is, flag_codes, number_codes, part_absurd, passes_as, seen_type, slice_codes, status_codes}
+use Rattle.wf_lower_blocks.proofs.CallLaws.{buffer_is, part_absurd, passes_as, single_codes, slice_codes}
 use Rattle.wf_lower_blocks.proofs.calling.pass.Goals as goal
 
 pub returns-in-Num-clause-pushed : goal.returns-in-Num-clause-pushed
 returns-in-Num-clause-pushed c =
-    let is = ap is_numeric (seen_type _ c.args.b.now.nodes c.args.e.0 _ _ c.typed.ensures.same c.type_of.ensures c.in-Num.is) in
-    passes_as _ _ _ _ _ _ c.pass_number.result (number_codes c.args.b.now.nodes c.typed.ensures.kept c.args.e c.requires.node (form_in c.args.b.now).names is) c.pass_number.ensures.pushed
+    let is = ap is_single (seen_type _ c.args.b.now.nodes c.args.e.0 _ _ c.typed.ensures.same c.type_of.ensures c.in-Num.is) in
+    passes_as _ _ _ _ _ _ c.pass_single.result (single_codes c.args.b.now.nodes c.typed.ensures.kept c.args.e c.requires.node (form_in c.args.b.now).names is) c.pass_single.ensures.pushed
 
 pub returns-in-Flag-clause-pushed : goal.returns-in-Flag-clause-pushed
 returns-in-Flag-clause-pushed c =
-    let is = ap is_logical (seen_type _ c.args.b.now.nodes c.args.e.0 _ _ c.typed.ensures.same c.type_of.ensures c.in-Flag.is) in
-    passes_as _ _ _ _ _ _ c.pass_flag.result (flag_codes c.args.b.now.nodes c.typed.ensures.kept c.args.e c.requires.node (form_in c.args.b.now).names is) c.pass_flag.ensures.pushed
+    let is = ap is_single (seen_type _ c.args.b.now.nodes c.args.e.0 _ _ c.typed.ensures.same c.type_of.ensures c.in-Flag.is) in
+    passes_as _ _ _ _ _ _ c.pass_single-in-Flag.result (single_codes c.args.b.now.nodes c.typed.ensures.kept c.args.e c.requires.node (form_in c.args.b.now).names is) c.pass_single-in-Flag.ensures.pushed
 
 pub returns-in-Status-clause-pushed : goal.returns-in-Status-clause-pushed
 returns-in-Status-clause-pushed c =
-    let is = ap is_state (seen_type _ c.args.b.now.nodes c.args.e.0 _ _ c.typed.ensures.same c.type_of.ensures c.in-Status.is) in
-    passes_as _ _ _ _ _ _ c.pass_status.result (status_codes c.args.b.now.nodes c.typed.ensures.kept c.args.e c.requires.node (form_in c.args.b.now).names is) c.pass_status.ensures.pushed
+    let is = ap is_single (seen_type _ c.args.b.now.nodes c.args.e.0 _ _ c.typed.ensures.same c.type_of.ensures c.in-Status.is) in
+    passes_as _ _ _ _ _ _ c.pass_single-in-Status.result (single_codes c.args.b.now.nodes c.typed.ensures.kept c.args.e c.requires.node (form_in c.args.b.now).names is) c.pass_single-in-Status.ensures.pushed
 
 pub returns-in-Slice-clause-pushed : goal.returns-in-Slice-clause-pushed
 returns-in-Slice-clause-pushed c =
