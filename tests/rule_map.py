@@ -5,9 +5,10 @@ The rules are the sections of docs/RULES.md. A rule's definitions are the rows o
 definitions in specs/ that name it, its functions those in src/ that answer it, its tests the examples of its section, the
 files of tests/ with a row that expects it, and the file of tests/second_opinion/ that refuses by it. A row of the rules of
 types or of names, what code is judged by and the function that decides it in src/ have one name, with the kind of part after
-it where each kind has its own. --check writes nothing and fails where the page isn't what would be written, a rule lacks one
-of these, a row of these two tables has no such function, or a function in wf_types_* or wf_names_* answers such a rule that
-has no row's name, nor that of a definition beside the table.
+it where each kind has its own; a record that is the judgement has its row's name as records are written. --check writes nothing
+and fails where the page isn't what would be written, a rule lacks one of these, a row of these two tables has no such judgement
+or no such function, or a function in wf_types_* or wf_names_* answers such a rule that has no row's name, nor that of a
+definition beside the table.
 """
 import pathlib
 import re
@@ -126,6 +127,21 @@ def rows_with_functions():
     return found
 
 
+def rows_without_judgements():
+    """The rows of the tables for which no definition beside the table has their name, each after its rule."""
+    found = []
+    for table, crates in NAMED_ROWS.items():
+        files = [file for file in sorted(TOP.glob(f"crates/{crates}*/specs/**/*.antt")) if file != TOP / table]
+        names = {definition.group(1) for file in files for line in file.read_text().splitlines()
+                 if not line.startswith((" ", "use ")) and (definition := DEFINED.match(line))}
+        for rule, row in rows_of(TOP / table):
+            as_record = "".join(word.capitalize() for word in row.split("_"))
+            kinds = re.compile(rf"{row}(_(in|of|by|with)_\w+)?|{as_record}")
+            if not any(kinds.fullmatch(name) for name in names):
+                found.append((rule, row))
+    return found
+
+
 def names_beside(table):
     """The definitions of a table's file that aren't rows."""
     return {definition.group(1) for line in (TOP / table).read_text().splitlines() if not line.startswith(" ") and (definition := DEFINED.match(line))}
@@ -215,6 +231,7 @@ def main():
             lacks.append("docs/RULE-MAP.md isn't what tests/rule_map.py writes")
     else:
         PAGE.write_text(text)
+    lacks += [f"{rule}'s row {row} has no judgement of its name" for rule, row in rows_without_judgements()]
     for line in lacks:
         print(line)
     print(f"rule_map: {len(rules)} passed, {len(lacks)} failed")
