@@ -113,10 +113,8 @@ impl<'u> Front<'u> {
     pub fn field(&self, of: &[u8], name: &[u8]) -> Option<CField>
         ensures { Finds (IsField self.now.nodes) result (option_and_then (λ it. field_named it.fields name.now) (struct_named (structs_of (front_items self.now)) of.now)) }
     {
-        match self.structs.get(of) {
-            Some(k) => self.fields[k].get(name),
-            None => None,
-        }
+        let k = self.structs.get(of)?;
+        self.fields[k].get(name)
     }
 
     /// Whether the name is that of a function.

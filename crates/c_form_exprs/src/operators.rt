@@ -93,10 +93,8 @@ impl<'k, 'u> Scope<'k, 'u> {
         ensures tells { option_map (value_in self.now.front.nodes.names) result ≡ test_type (common_of_two zero (value_in self.now.front.nodes.names a) (value_in self.now.front.nodes.names b)) }
         ensures has { IfSome result (HasValue self.now.front.nodes) }
     {
-        match self.one_type(zero, a, b) {
-            Some(_) => Some(ExprType::Numbers(CTy::Int)),
-            None => None,
-        }
+        self.one_type(zero, a, b)?;
+        Some(ExprType::Numbers(CTy::Int))
     }
 
     /// The type that an operator gives (6.5.5 to 6.5.14).

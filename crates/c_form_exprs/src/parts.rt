@@ -49,10 +49,7 @@ impl<'k, 'u> Scope<'k, 'u> {
         requires { IfSome held (HasHeld self.now.front.nodes) }
         ensures { TellsType self.now.front.nodes result (option_and_then held_type (option_map (held_in self.now.front.nodes.names) held)) }
     {
-        match held {
-            Some(found) => self.held_type(found),
-            None => None,
-        }
+        self.held_type(held?)
     }
 
     /// What `*of` stands for, by the type of `of` (6.5.3.2p4).
@@ -60,10 +57,7 @@ impl<'k, 'u> Scope<'k, 'u> {
         requires { IfSome of (HasValue self.now.front.nodes) }
         ensures { TellsHeld self.now.front.nodes result (pointed_held (option_map (value_in self.now.front.nodes.names) of)) }
     {
-        match of {
-            Some(pointer) => self.pointed_to(pointer),
-            None => None,
-        }
+        self.pointed_to(of?)
     }
 
     /// What `of[at]` stands for, by the types of both (6.5.2.1).
@@ -71,13 +65,8 @@ impl<'k, 'u> Scope<'k, 'u> {
         requires { IfSome of (HasValue self.now.front.nodes) }
         ensures { TellsHeld self.now.front.nodes result (element_held (option_map (value_in self.now.front.nodes.names) of) (option_map (value_in self.now.front.nodes.names) at)) }
     {
-        match at {
-            Some(index) => match self.as_number(index) {
-                Some(_) => self.pointed(of),
-                None => None,
-            },
-            None => None,
-        }
+        self.as_number(at?)?;
+        self.pointed(of)
     }
 
     /// The type of `a op b`, by the types of both.
@@ -86,13 +75,7 @@ impl<'k, 'u> Scope<'k, 'u> {
         requires second { IfSome b (HasValue self.now.front.nodes) }
         ensures { TellsType self.now.front.nodes result (joined op (option_map (value_in self.now.front.nodes.names) a) (option_map (value_in self.now.front.nodes.names) b)) }
     {
-        match a {
-            Some(left) => match b {
-                Some(right) => self.operated(op, left, right),
-                None => None,
-            },
-            None => None,
-        }
+        self.operated(op, a?, b?)
     }
 
     /// The type of `test ? met : unmet`, by the types of all three (6.5.15).
@@ -106,29 +89,15 @@ impl<'k, 'u> Scope<'k, 'u> {
         requires unmet { IfSome unmet (HasValue self.now.front.nodes) }
         ensures { TellsType self.now.front.nodes result (option_and_then (λ _. choice_type (option_map (value_in self.now.front.nodes.names) met) (option_map (value_in self.now.front.nodes.names) unmet)) (option_map (value_in self.now.front.nodes.names) test)) }
     {
-        match test {
-            Some(_) => match met {
-                Some(left) => match unmet {
-                    Some(right) => self.one_type(true, left, right),
-                    None => None,
-                },
-                None => None,
-            },
-            None => None,
-        }
+        test?;
+        self.one_type(true, met?, unmet?)
     }
 
     /// The type of `~` of a value.
     pub fn complement(&self, of: Option<ExprType>) -> Option<ExprType>
         ensures { TellsType self.now.front.nodes result (unary_type Complement (option_map (value_in self.now.front.nodes.names) of) None) }
     {
-        match of {
-            Some(ty) => match self.as_number(ty) {
-                Some(number) => Some(ExprType::Numbers(number)),
-                None => None,
-            },
-            None => None,
-        }
+        Some(ExprType::Numbers(self.as_number(of?)?))
     }
 
     /// The type of the value that a function returns.
@@ -136,9 +105,6 @@ impl<'k, 'u> Scope<'k, 'u> {
         requires { IfSome of (HasType self.now.front.nodes) }
         ensures { TellsType self.now.front.nodes result (option_map type_of_value (option_map (type_in self.now.front.nodes.names) of)) }
     {
-        match of {
-            Some(ty) => Some(self.value_type(ty)),
-            None => None,
-        }
+        Some(self.value_type(of?))
     }
 }

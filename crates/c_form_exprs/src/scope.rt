@@ -170,10 +170,10 @@ impl<'k, 'u> Scope<'k, 'u> {
     {
         match of {
             Some(ExprType::PointsTo(Target::Object(struct_name))) => {
-                match self.front.field(self.spelt(struct_name), self.spelt(field)) {
-                    Some(found) => Some(self.field_held(struct_name, found)),
-                    None => None,
-                }
+                let found = self
+                    .front
+                    .field(self.spelt(struct_name), self.spelt(field))?;
+                Some(self.field_held(struct_name, found))
             }
             Some(ExprType::PointsTo(Target::Cell(_))) => None,
             Some(ExprType::PointsTo(Target::Byte)) => None,

@@ -62,26 +62,19 @@ impl<'u, V: Copy + Drop> NameTable<'u, V> {
     pub fn get(&self, name: &[u8]) -> Option<V>
         ensures { result ≡ named self.now name.now }
     {
-        match self.place(name) {
-            Some(place) => Some(self.entries[place].1),
-            None => None,
-        }
+        let place = self.place(name)?;
+        Some(self.entries[place].1)
     }
 
     /// The place of the name among those of the table.
     pub fn place(&self, name: &[u8]) -> Option<usize>
         ensures { result ≡ position (λ entry. bytes_eq entry.0 name.now) self.now }
     {
-        let first = self.firsts.get(&digest(name)).copied();
-        match first {
-            Some(place) => {
-                if self.entries[place].0 == name {
-                    Some(place)
-                } else {
-                    self.others.get(name).copied()
-                }
-            }
-            None => None,
+        let place = *self.firsts.get(&digest(name))?;
+        if self.entries[place].0 == name {
+            Some(place)
+        } else {
+            self.others.get(name).copied()
         }
     }
 

@@ -48,10 +48,7 @@ fn value_expr(value: &Value) -> Option<CExprId>
 fn expr_at(values: &Stack<Value>, depth: usize) -> Option<CExprId>
     ensures { result ≡ expr_in (slice_get values.now depth) }
 {
-    match values.get(depth) {
-        Some(value) => value_expr(value),
-        None => None,
-    }
+    value_expr(values.get(depth)?)
 }
 
 /// Whether the value so far below the top is an expression that isn't a literal.

@@ -29,10 +29,7 @@ fn word_kind(text: &[u8]) -> Option<Kind>
     if !is_reserved(text) {
         return Some(Kind::Name);
     }
-    match word_of(text) {
-        Some(word) => Some(Kind::Keyword(word)),
-        None => None,
-    }
+    Some(Kind::Keyword(word_of(text)?))
 }
 
 /// What a run of letters, digits and `_` is.
@@ -40,10 +37,7 @@ fn run_kind(text: &[u8]) -> Option<Kind>
     ensures { token_in result text.now ≡ run_token text.now }
 {
     match text.first() {
-        Some(first) if is_digit(*first) => match literal_of(text) {
-            Some(number) => Some(Kind::Number(number)),
-            None => None,
-        },
+        Some(first) if is_digit(*first) => Some(Kind::Number(literal_of(text)?)),
         _ => word_kind(text),
     }
 }
@@ -55,10 +49,8 @@ fn run_piece(bytes: &[u8]) -> Option<Piece<'_>>
     ensures none { IfNone result (NoToken bytes.now) }
 {
     let (text, rest) = bytes.split_at(word_len(bytes));
-    match run_kind(text) {
-        Some(kind) => Some(Piece { kind, text, rest }),
-        None => None,
-    }
+    let kind = run_kind(text)?;
+    Some(Piece { kind, text, rest })
 }
 
 /// Whether two `?` stand side by side.
@@ -149,10 +141,7 @@ fn symbol_piece(bytes: &[u8]) -> Option<Piece<'_>>
 {
     let first = first_byte(bytes);
     let (_, others) = bytes.split_at(1);
-    match symbol_of(first, others) {
-        Some(symbol) => symbol_in_front(symbol, bytes),
-        None => None,
-    }
+    symbol_in_front(symbol_of(first, others)?, bytes)
 }
 
 /// The token before bytes that begin with no gap; none where no token of the subset stands there.

@@ -95,8 +95,5 @@ pub(crate) fn literal_of(text: &[u8]) -> Option<CNumber>
     if has_leading_zero(digits) {
         return None;
     }
-    match value_of(digits) {
-        Some(value) => literal_with(value, suffix),
-        None => None,
-    }
+    literal_with(value_of(digits)?, suffix)
 }

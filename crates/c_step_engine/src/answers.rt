@@ -23,10 +23,7 @@ fn status_of(q: Pointer, statuses: &[Option<StatusId>]) -> Option<StatusId>
     if q.index != 0 {
         return None;
     }
-    match statuses.get(q.object) {
-        Some(status) => *status,
-        None => None,
-    }
+    *statuses.get(q.object)?
 }
 
 /// Whether a number isn't 0.
@@ -42,10 +39,7 @@ fn status(v: Value, statuses: &[Option<StatusId>]) -> Option<Outcome>
 {
     match v {
         Value::NullPointer => Some(Outcome::Status(StatusId(0))),
-        Value::Address(q) => match status_of(q, statuses) {
-            Some(id) => Some(Outcome::Status(id)),
-            None => None,
-        },
+        Value::Address(q) => Some(Outcome::Status(status_of(q, statuses)?)),
         Value::Numeric(_) => None,
     }
 }
@@ -61,10 +55,7 @@ pub fn answer(
 {
     match kind {
         AnswerKind::Nothing => Some(Outcome::Nothing),
-        AnswerKind::Status => match value {
-            Some(v) => status(v, statuses),
-            None => None,
-        },
+        AnswerKind::Status => status(value?, statuses),
         AnswerKind::Number(_) => match value {
             Some(Value::Numeric(n)) => Some(Outcome::Num(n.bits)),
             Some(Value::Address(_)) | Some(Value::NullPointer) | None => None,

@@ -79,10 +79,8 @@ impl<'u> Numbers<'u> {
     pub fn field(&self, of: &[u8], name: &[u8]) -> Option<usize>
         ensures { result ≡ option_and_then (λ it. position (λ f. bytes_eq f.name name.now) it.fields) (struct_named (structs_of (unit_tree self.now)) of.now) }
     {
-        match self.structs.by_name.get(of) {
-            Some(k) => self.structs.fields[k].get(name),
-            None => None,
-        }
+        let k = self.structs.by_name.get(of)?;
+        self.structs.fields[k].get(name)
     }
 }
 

@@ -121,13 +121,7 @@ impl<'r, 'k, 'u> Names<'r, 'k, 'u> {
         requires unmet { IfSome unmet (HasValue self.now.scope.now.front.nodes) }
         ensures { TellsType self.now.scope.now.front.nodes result (choice_type (option_map (value_in self.now.scope.now.front.nodes.names) met) (option_map (value_in self.now.scope.now.front.nodes.names) unmet)) }
     {
-        match met {
-            Some(a) => match unmet {
-                Some(b) => self.scope.one_type(true, a, b),
-                None => None,
-            },
-            None => None,
-        }
+        self.scope.one_type(true, met?, unmet?)
     }
 
     /// The type of the pointer to what an lvalue stands for.
@@ -135,10 +129,7 @@ impl<'r, 'k, 'u> Names<'r, 'k, 'u> {
         requires { IfSome held (HasHeld self.now.scope.now.front.nodes) }
         ensures { TellsType self.now.scope.now.front.nodes result (option_and_then address_type (option_map (held_in self.now.scope.now.front.nodes.names) held)) }
     {
-        match held {
-            Some(it) => self.scope.address_of(it),
-            None => None,
-        }
+        self.scope.address_of(held?)
     }
 
     /// Whether a value of a type may be passed to a parameter.
@@ -171,15 +162,11 @@ impl<'r, 'k, 'u> Names<'r, 'k, 'u> {
         requires { IfSome function (λ head. IfSome head.result (HasType self.now.scope.now.front.nodes)) }
         ensures { (f : Option Function) (given : List (Option TypeOf)) → Finds (IsHead self.now.scope.now.front.nodes) function.entry f → IfSome function.entry (λ head. fits ≡ passable (map (param_tree self.now.scope.now.front.nodes.names) head.params.now) given) → TellsType self.now.scope.now.front.nodes result (called_type f given) }
     {
-        match function {
-            Some(head) => {
-                if head.in_expressions && fits {
-                    self.scope.result_type(head.result)
-                } else {
-                    None
-                }
-            }
-            None => None,
+        let head = function?;
+        if head.in_expressions && fits {
+            self.scope.result_type(head.result)
+        } else {
+            None
         }
     }
 }

@@ -46,10 +46,8 @@ impl<'r, 'k, 'u> Body<'r, 'k, 'u> {
         requires name { HasName (nodes_of self.now) name }
         ensures { result ≡ below self.now.number (function_number (scope_of self.now).functions (bytes_at (nodes_of self.now).names name.0)) }
     {
-        match self.names.function_number(name) {
-            Some(k) => { if k < self.number { Some(k) } else { None } }
-            None => None,
-        }
+        let k = self.names.function_number(name)?;
+        if k < self.number { Some(k) } else { None }
     }
 
     /// Puts down the expressions of a call; its instruction, where `next` follows it.

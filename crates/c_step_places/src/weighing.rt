@@ -24,10 +24,7 @@ pub struct Weighed<'u> {
 fn sum(a: usize, b: usize, c: usize) -> Option<usize>
     ensures { IfSome result (λ it. it ≡ a + b + c) }
 {
-    match a.checked_add(b) {
-        Some(two) => two.checked_add(c),
-        None => None,
-    }
+    a.checked_add(b)?.checked_add(c)
 }
 
 /// A number with others added; `NoMemory` where no list can be so long.
@@ -104,10 +101,7 @@ impl<'u> Weighed<'u> {
                 other,
                 rest,
                 ..
-            } => match sum(self.weight(*body), self.weight(*other), self.weight(*rest)) {
-                Some(parts) => parts.checked_add(2),
-                None => None,
-            },
+            } => sum(self.weight(*body), self.weight(*other), self.weight(*rest))?.checked_add(2),
             CStmt::While { body, rest, .. } => sum(self.weight(*body), self.weight(*rest), 2),
             CStmt::Switch { body, rest, .. } => sum(self.weight(*body), self.weight(*rest), 2),
             CStmt::Empty { rest } => self.weight(*rest).checked_add(1),

@@ -270,10 +270,7 @@ impl Code {
         ensures means { (p : Program) (callable : List Function) → length callable ≡ at.own → AreCoded self.now st.old.frames.items st.old.args.items p callable
             → IfSome target (λ span. result ≡ located (seen_in p callable at.frame (memory st.old.mem)) (code_in self.now.text span)) }
     {
-        match target {
-            Some(span) => self.place(span, at, st),
-            None => None,
-        }
+        self.place(target?, at, st)
     }
 
     /// The value of a call that has returned is assigned to its target, which is still the place that it was before.

@@ -56,10 +56,7 @@ fn items(asked: &[(Term, Cmp, Term)], b: Binding) -> Option<Premises>
 {
     let mut made = Premises::none();
     for c in asked {
-        match item(*c, b) {
-            None => return None,
-            Some(i) => made.push(i),
-        }
+        made.push(item(*c, b)?);
     }
     Some(made)
 }
@@ -69,13 +66,7 @@ fn item(c: (Term, Cmp, Term), b: Binding) -> Option<(Side, Cmp, Side)>
     ensures sides { (nodes : TypedNodes) → AreNumbers nodes b → IfSome result (λ i. is_item nodes i ≡ true) }
 {
     let (first, op, second) = c;
-    match side(first, b) {
-        None => None,
-        Some(left) => match side(second, b) {
-            None => None,
-            Some(right) => Some((left, op, right)),
-        },
-    }
+    Some((side(first, b)?, op, side(second, b)?))
 }
 
 fn side(term: Term, b: Binding) -> Option<Side>
@@ -83,17 +74,8 @@ fn side(term: Term, b: Binding) -> Option<Side>
     ensures fits { (nodes : TypedNodes) → AreNumbers nodes b → IfSome result (λ s. is_side nodes s ≡ true) }
 {
     match term {
-        Term::One(l) => match b.get(l) {
-            None => None,
-            Some(e) => Some(Side::Expr(e)),
-        },
-        Term::Sum(l, m) => match b.get(l) {
-            None => None,
-            Some(e) => match b.get(m) {
-                None => None,
-                Some(f) => Some(Side::Sum(e, f)),
-            },
-        },
+        Term::One(l) => Some(Side::Expr(b.get(l)?)),
+        Term::Sum(l, m) => Some(Side::Sum(b.get(l)?, b.get(m)?)),
         Term::Zero => Some(Side::Num(0)),
     }
 }

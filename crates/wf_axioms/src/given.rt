@@ -26,10 +26,7 @@ pub(crate) fn bind_given(
 {
     let mut bound = b;
     for item in given {
-        match bind_one(a, t, *item, bound) {
-            None => return None,
-            Some(next) => bound = next,
-        }
+        bound = bind_one(a, t, *item, bound)?;
     }
     Some(bound)
 }
@@ -40,10 +37,8 @@ fn bind_one(a: Axiom, t: &Typed, item: (TextId, ExprId), b: Binding) -> Option<B
     ensures trees { option_map (trees_in t.now) result ≡ with_one a (text_of t.now item.0, num_in (tree_of t.now item.1)) (trees_in t.now b) }
     ensures numbers { IfSome result (λ r. AreNumbers t.now r) }
 {
-    match letter_named(t.text(item.0)) {
-        None => None,
-        Some(l) => bind_free(a, t, l, item.1, b),
-    }
+    let l = letter_named(t.text(item.0))?;
+    bind_free(a, t, l, item.1, b)
 }
 
 // Binds a letter that has to be free in the axiom, and to stand for nothing yet.

@@ -22,10 +22,8 @@ pub(crate) fn match_goal(a: Axiom, t: &Typed, goal: ExprId) -> Option<Binding>
     ensures trees { option_map (trees_in t.now) result ≡ matched a (cond_in (tree_of t.now goal)) }
     ensures numbers { IfSome result (λ r. AreNumbers t.now r) }
 {
-    match comparison(t, goal) {
-        None => None,
-        Some((left, op, right)) => match_sides(a, t, left, op, right),
-    }
+    let (left, op, right) = comparison(t, goal)?;
+    match_sides(a, t, left, op, right)
 }
 
 fn match_sides(a: Axiom, t: &Typed, left: ExprId, op: Cmp, right: ExprId) -> Option<Binding>
@@ -38,10 +36,8 @@ fn match_sides(a: Axiom, t: &Typed, left: ExprId, op: Cmp, right: ExprId) -> Opt
     if !same_cmp(op, form) {
         return None;
     }
-    match bind_term(t, first, left, Binding::empty()) {
-        None => None,
-        Some(b) => bind_term(t, second, right, b),
-    }
+    let bound = bind_term(t, first, left, Binding::empty())?;
+    bind_term(t, second, right, bound)
 }
 
 fn same_cmp(op: Cmp, other: Cmp) -> bool
@@ -59,13 +55,10 @@ fn bind_term(t: &Typed, term: Term, e: ExprId, b: Binding) -> Option<Binding>
 {
     match term {
         Term::One(l) => bind(t, l, e, b),
-        Term::Sum(l, m) => match summands(t, e) {
-            None => None,
-            Some((x, y)) => match bind(t, l, x, b) {
-                None => None,
-                Some(c) => bind(t, m, y, c),
-            },
-        },
+        Term::Sum(l, m) => {
+            let (x, y) = summands(t, e)?;
+            bind(t, m, y, bind(t, l, x, b)?)
+        }
         Term::Zero => None,
     }
 }
@@ -145,16 +138,12 @@ fn compared(t: &Typed, e: ExprId, op: Op, parts: &[ExprId]) -> Option<(ExprId, C
     ensures trees { option_map (λ p. (num_in (tree_of t.now p.0), order_of p.1, num_in (tree_of t.now p.2))) result ≡ comparison_in (cond_in (tree_of t.now e)) }
     ensures numbers { IfSome result (λ p. IsTrue (is_number_at t.now p.0 && is_number_at t.now p.2)) }
 {
-    match cmp_of(op) {
-        None => None,
-        Some(cmp) => {
-            look_at(t, parts[0]);
-            if is_number(t, parts[0]) {
-                Some((parts[0], cmp, parts[1]))
-            } else {
-                None
-            }
-        }
+    let cmp = cmp_of(op)?;
+    look_at(t, parts[0]);
+    if is_number(t, parts[0]) {
+        Some((parts[0], cmp, parts[1]))
+    } else {
+        None
     }
 }
 

@@ -138,10 +138,7 @@ fn widened(n: Option<u64>) -> Option<u128>
     ensures value { result ≡ n }
     ensures small { IfSome result (λ m. m < 2 ^ 64) }
 {
-    match n {
-        Some(n) => Some(n as u128),
-        None => None,
-    }
+    Some(n? as u128)
 }
 
 fn sum_number(t: &Typed, a: ExprId, b: ExprId) -> Option<u128>

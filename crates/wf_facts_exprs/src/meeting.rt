@@ -112,10 +112,7 @@ fn number_at(t: &Typed, e: ExprId) -> Option<u128>
     ensures few { IfSome result (λ n. n < 2 ^ 66) }
 {
     let _expr = t.expr(e);
-    match t.constant(e) {
-        Some(n) => Some(n as u128),
-        None => None,
-    }
+    Some(t.constant(e)? as u128)
 }
 
 fn number_of_sum(t: &Typed, a: ExprId, b: ExprId) -> Option<u128>

@@ -38,10 +38,7 @@ pub(crate) fn ask(scene: &Scene, e: ExprId, on: ExprId, what: Asked) -> Option<u
 fn told_by(buf: Option<&Buf>, what: Asked) -> Option<u64>
     ensures { result ≡ option_and_then (told (question_of what)) (option_map (λ b. b.now) buf.entry) }
 {
-    match buf {
-        Some(buf) => told_of(buf, what),
-        None => None,
-    }
+    told_of(buf?, what)
 }
 
 fn told_of(buf: &Buf, what: Asked) -> Option<u64>

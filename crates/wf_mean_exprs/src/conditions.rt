@@ -84,10 +84,7 @@ fn negated(scene: &Scene, e: ExprId, of: ExprId) -> Option<bool>
 fn opposite(b: Option<bool>) -> Option<bool>
     ensures { result ≡ option_map not b }
 {
-    match b {
-        Some(b) => Some(!b),
-        None => None,
-    }
+    Some(!b?)
 }
 
 // A chain of conditions, or a comparison.
@@ -275,10 +272,7 @@ fn is_closed(scene: &Scene, e: ExprId, on: ExprId) -> Option<bool>
 fn closed_of(buf: Option<&Buf>) -> Option<bool>
     ensures { result ≡ option_map (λ b. b.closed) (option_map (λ b. b.now) buf.entry) }
 {
-    match buf {
-        Some(buf) => Some(buf.is_closed()),
-        None => None,
-    }
+    Some(buf?.is_closed())
 }
 
 fn is_of(scene: &Scene, e: ExprId, on: ExprId, category: Category) -> Option<bool>
@@ -286,10 +280,8 @@ fn is_of(scene: &Scene, e: ExprId, on: ExprId, category: Category) -> Option<boo
     requires on { IsTrue (is_status_at scene.now.package.now on) }
     ensures { result ≡ truth_of (seen_from scene.now) (node_cond scene.now.package.now e) }
 {
-    match status(scene, on) {
-        Some(s) => Some(same_kind(category, scene.category(s))),
-        None => None,
-    }
+    let s = status(scene, on)?;
+    Some(same_kind(category, scene.category(s)))
 }
 
 fn same_kind(a: Category, b: Category) -> bool

@@ -34,44 +34,29 @@ pub fn evaluate(scene: &Scene, e: ExprId) -> Option<Slot>
 fn number_slot(n: Option<u64>) -> Option<Slot>
     ensures { option_map slot_seen result ≡ option_map values.num n }
 {
-    match n {
-        Some(n) => Some(Slot::Num(n)),
-        None => None,
-    }
+    Some(Slot::Num(n?))
 }
 
 fn truth_slot(b: Option<bool>) -> Option<Slot>
     ensures { option_map slot_seen result ≡ option_map values.truth_value b }
 {
-    match b {
-        Some(b) => Some(Slot::Truth(b)),
-        None => None,
-    }
+    Some(Slot::Truth(b?))
 }
 
 fn status_slot(s: Option<u32>) -> Option<Slot>
     ensures { option_map slot_seen result ≡ option_map values.status_number s }
 {
-    match s {
-        Some(s) => Some(Slot::Status(s)),
-        None => None,
-    }
+    Some(Slot::Status(s?))
 }
 
 fn span_slot(span: Option<SliceSpan>) -> Option<Slot>
     ensures { option_map slot_seen result ≡ option_map values.span (option_map span_seen span) }
 {
-    match span {
-        Some(span) => Some(Slot::Elements(span)),
-        None => None,
-    }
+    Some(Slot::Elements(span?))
 }
 
 fn buffer_slot(k: Option<u16>) -> Option<Slot>
     ensures { option_map slot_seen result ≡ option_map values.buffer k }
 {
-    match k {
-        Some(k) => Some(Slot::Buffer(k)),
-        None => None,
-    }
+    Some(Slot::Buffer(k?))
 }

@@ -148,10 +148,7 @@ fn converted(scene: &Scene, e: ExprId, of: ExprId, to: Width) -> Option<u64>
 fn fit_in(width: Width, n: Option<u64>) -> Option<u64>
     ensures { result ≡ option_and_then (fitted (bits_of width)) n }
 {
-    match n {
-        Some(n) => fit(width, n as u128),
-        None => None,
-    }
+    fit(width, n? as u128)
 }
 
 // What a base method answers.
@@ -192,10 +189,8 @@ fn length_of_slice(scene: &Scene, e: ExprId, on: ExprId) -> Option<u64>
 fn counted(span: Option<SliceSpan>) -> Option<u64>
     ensures { result ≡ option_map (λ xs. xs.count) (option_map span_seen span) }
 {
-    match span {
-        Some(span) => Some(span.end.saturating_sub(span.from)),
-        None => None,
-    }
+    let span = span?;
+    Some(span.end.saturating_sub(span.from))
 }
 
 /// A slice; None where it is stuck.

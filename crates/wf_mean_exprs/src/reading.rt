@@ -29,20 +29,15 @@ pub struct Scene<'a> {
 pub(crate) fn slot_at(slots: &[Slot], n: u32) -> Option<Slot>
     ensures { result ≡ slice_get slots.now n }
 {
-    match slots.get(n as usize) {
-        Some(slot) => Some(*slot),
-        None => None,
-    }
+    slots.get(n as usize).copied()
 }
 
 /// What stands in a field of a struct state; an array stands there as all of its elements, and a struct state as nothing.
 pub(crate) fn field_slot(objects: &[ObjectState], object: u32, n: u32) -> Option<Slot>
     ensures { result ≡ slot_in_field object n (option_and_then (λ o. slice_get o.fields.items n) (slice_get objects.now object)) }
 {
-    match objects.get(object as usize) {
-        Some(state) => held_slot(state.fields.as_slice(), object, n),
-        None => None,
-    }
+    let state = objects.get(object as usize)?;
+    held_slot(state.fields.as_slice(), object, n)
 }
 
 fn held_slot(fields: &[FieldState], object: u32, n: u32) -> Option<Slot>
@@ -227,10 +222,8 @@ impl Scene<'_> {
     pub(crate) fn buffer(&self, x: ArgId) -> Option<&Buf>
         ensures { option_map (λ b. b.now) result ≡ io_buffer (seen_from self.now) x.0 }
     {
-        match buffer_in(slot_at(self.frame.args.as_slice(), x.0)) {
-            Some(k) => buffer_at(&self.host.bufs, k as usize),
-            None => None,
-        }
+        let k = buffer_in(slot_at(self.frame.args.as_slice(), x.0))?;
+        buffer_at(&self.host.bufs, k as usize)
     }
 
     /// An element of a slice; None where it has no such element.
@@ -289,19 +282,14 @@ fn host_cell(arrays: &ByteArrays, a: usize, k: u64) -> Option<u64>
 fn byte_at(bytes: &[u8], k: u64) -> Option<u64>
     ensures { result ≡ slice_get bytes.now k }
 {
-    match bytes.get(k as usize) {
-        Some(byte) => Some(*byte as u64),
-        None => None,
-    }
+    Some(*bytes.get(k as usize)? as u64)
 }
 
 fn field_cell(objects: &[ObjectState], object: u32, field: u32, k: u64) -> Option<u64>
     ensures { result ≡ slice_get (cells_in (option_and_then (λ o. slice_get o.fields.items field) (slice_get objects.now object))) k }
 {
-    match objects.get(object as usize) {
-        Some(state) => held_cell(state.fields.as_slice(), field, k),
-        None => None,
-    }
+    let state = objects.get(object as usize)?;
+    held_cell(state.fields.as_slice(), field, k)
 }
 
 fn held_cell(fields: &[FieldState], field: u32, k: u64) -> Option<u64>
@@ -316,8 +304,5 @@ fn held_cell(fields: &[FieldState], field: u32, k: u64) -> Option<u64>
 fn number_at(cells: &[u64], k: u64) -> Option<u64>
     ensures { result ≡ slice_get cells.now k }
 {
-    match cells.get(k as usize) {
-        Some(cell) => Some(*cell),
-        None => None,
-    }
+    cells.get(k as usize).copied()
 }

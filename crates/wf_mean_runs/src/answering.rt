@@ -108,10 +108,8 @@ pub(crate) fn receiver(stage: &Stage, callee: Callee) -> Option<u32>
 fn part_at(objects: &[ObjectState], object: u32, field: FieldId) -> Option<u32>
     ensures { result ≡ part_among objects.now object field.0 }
 {
-    match objects.get(object as usize) {
-        Some(state) => part_in(state.fields.as_slice(), field),
-        None => None,
-    }
+    let state = objects.get(object as usize)?;
+    part_in(state.fields.as_slice(), field)
 }
 
 fn part_in(fields: &[FieldState], field: FieldId) -> Option<u32>

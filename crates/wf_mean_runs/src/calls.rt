@@ -64,10 +64,7 @@ pub fn refuse(t: &Typed, m: MethodId, status: u32) -> Answer
 fn zero_of(gives: Option<Ty>, status: u32) -> Option<Slot>
     ensures { option_map slot_seen result ≡ zero_value status gives }
 {
-    match gives {
-        None => None,
-        Some(ty) => Some(zero_in(ty, status)),
-    }
+    Some(zero_in(gives?, status))
 }
 
 fn zero_in(ty: Ty, status: u32) -> Slot

@@ -89,15 +89,10 @@ fn take_kept(kept: &mut KeptBody, locals: &mut [Slot]) -> Option<(Place, Progres
     ensures lengths { length kept.new.locals.items ≡ length kept.old.locals.items }
     ensures count { length locals.new ≡ length locals.old }
 {
-    let point = kept.point;
+    let at = kept.point?;
     kept.point = None;
-    match point {
-        Some(at) => {
-            locals.copy_from_slice(kept.locals.as_slice());
-            Some((at, kept.done))
-        }
-        None => None,
-    }
+    locals.copy_from_slice(kept.locals.as_slice());
+    Some((at, kept.done))
 }
 
 /// The body on the stage begins: its locals are zero, false, ok and empty.

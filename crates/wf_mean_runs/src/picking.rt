@@ -18,13 +18,8 @@ pub(crate) fn pick(t: &Typed, stage: &Stage, s: StmtId, arms: &[Arm]) -> Option<
     ensures within { (i : ℕ) → result ≡ Some i → i ≤ length arms.now }
 {
     for i in 0..arms.len() {
-        match condition_on(t, stage, arms[i].cond) {
-            None => return None,
-            Some(holds) => {
-                if holds {
-                    return Some(i);
-                }
-            }
+        if condition_on(t, stage, arms[i].cond)? {
+            return Some(i);
         }
     }
     Some(arms.len())

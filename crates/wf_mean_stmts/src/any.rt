@@ -88,10 +88,8 @@ pub(crate) fn any_io(t: &Typed, e: ExprId) -> ArgId
 fn is_itself(scene: &Scene) -> Option<bool>
     ensures { result ≡ itself ((seen_from scene.now).number_at (local 0)) }
 {
-    match scene.local_number(LocalId(0)) {
-        Some(_) => Some(true),
-        None => None,
-    }
+    scene.local_number(LocalId(0))?;
+    Some(true)
 }
 
 // Kinds of types.

@@ -46,10 +46,8 @@ pub fn fill_args(
 fn fitting(ty: Ty, v: Option<Slot>) -> Option<Slot>
     ensures { option_map slot_seen result ≡ fitting_value ty (option_map slot_seen v) }
 {
-    match v {
-        Some(v) => { if fits_argument(ty, v) { Some(v) } else { None } }
-        None => None,
-    }
+    let v = v?;
+    if fits_argument(ty, v) { Some(v) } else { None }
 }
 
 /// Whether a value lies in the type of an argument.

@@ -121,15 +121,11 @@ pub(crate) fn find_io(t: &Typed, stage: &Stage, on: ExprId) -> Option<u16>
     requires on { IsTrue (is_expr t.now on) }
     ensures { FindsIo stage.now.host.bufs result (io_of (body_on t.now stage.now) (io_in (tree_of t.now on)) (vars_on t.now stage.now)) }
 {
-    match buffer_named(t, stage, on) {
-        Some(k) => {
-            if (k as usize) < stage.host.bufs.len() {
-                Some(k)
-            } else {
-                None
-            }
-        }
-        None => None,
+    let k = buffer_named(t, stage, on)?;
+    if (k as usize) < stage.host.bufs.len() {
+        Some(k)
+    } else {
+        None
     }
 }
 
@@ -175,10 +171,7 @@ fn count_or_kept(t: &Typed, stage: &Stage, count: ExprId, done: Progress) -> Opt
 fn below_32(n: Option<u64>) -> Option<u32>
     ensures { result ≡ option_and_then (below 32) n }
 {
-    match n {
-        Some(n) => u32::try_from(n).ok(),
-        None => None,
-    }
+    u32::try_from(n?).ok()
 }
 
 fn skip_from(stage: &mut Stage, k: u16, left: u32) -> Did
@@ -241,10 +234,7 @@ fn byte_or_kept(t: &Typed, stage: &Stage, byte: ExprId, done: Progress) -> Optio
 fn below_8(n: Option<u64>) -> Option<u8>
     ensures { result ≡ option_and_then (below 8) n }
 {
-    match n {
-        Some(n) => u8::try_from(n).ok(),
-        None => None,
-    }
+    u8::try_from(n?).ok()
 }
 
 fn write_to(stage: &mut Stage, k: u16, byte: u8) -> Did

@@ -79,13 +79,11 @@ fn number_method(
 fn too_many(points: &[FoundPoint]) -> Option<Refusal>
     ensures { result ≡ limit_of points.now }
 {
-    match points.get(MOST_POINTS) {
-        Some(point) => Some(Refusal {
-            rule: Rule::L9,
-            at: point.at,
-        }),
-        None => None,
-    }
+    let point = points.get(MOST_POINTS)?;
+    Some(Refusal {
+        rule: Rule::L9,
+        at: point.at,
+    })
 }
 
 // The locals that each method keeps.

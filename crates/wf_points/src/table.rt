@@ -28,10 +28,7 @@ impl Points {
     pub fn number_of(&self, s: StmtId) -> Option<u32>
         ensures { result ≡ number_at self.now.numbers s.0 }
     {
-        match self.numbers.get(s.0 as usize) {
-            Some(number) => *number,
-            None => None,
-        }
+        *self.numbers.get(s.0 as usize)?
     }
 
     /// The locals of a method that aren't slices, in order: those that it keeps at a suspension. It takes constant time.

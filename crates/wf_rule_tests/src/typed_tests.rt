@@ -236,10 +236,8 @@ fn are_same(typed: &Typed, a: (u32, u32), b: (u32, u32)) -> Option<bool> {
 }
 
 fn is_mentioned(typed: &Typed, at: (u32, u32), thing: Thing) -> Option<bool> {
-    match typed.expr_at(place(at.0, at.1)) {
-        Some(e) => Some(mentions(typed, e, thing)),
-        None => None,
-    }
+    let e = typed.expr_at(place(at.0, at.1))?;
+    Some(mentions(typed, e, thing))
 }
 
 fn all_are_told(typed: &Typed) -> bool {

@@ -117,20 +117,16 @@ fn to_run<'a>(name: &'a str, rest: &'a [String]) -> Option<Command<'a>>
     ensures command { option_map command_seen result ≡ to_run name.now (map (λ word. string_bytes word) rest.now) }
     ensures named { IfSome result (λ asked. (asked_package (command_seen asked)).package_name ≡ name.now) }
 {
-    match script_words(name, rest) {
-        Some((asked, script)) => Some(Command::Run(asked, script)),
-        None => None,
-    }
+    let (asked, script) = script_words(name, rest)?;
+    Some(Command::Run(asked, script))
 }
 
 fn to_mean<'a>(name: &'a str, rest: &'a [String]) -> Option<Command<'a>>
     ensures command { option_map command_seen result ≡ to_mean name.now (map (λ word. string_bytes word) rest.now) }
     ensures named { IfSome result (λ asked. (asked_package (command_seen asked)).package_name ≡ name.now) }
 {
-    match script_words(name, rest) {
-        Some((asked, script)) => Some(Command::Mean(asked, script)),
-        None => None,
-    }
+    let (asked, script) = script_words(name, rest)?;
+    Some(Command::Mean(asked, script))
 }
 
 fn to_exec<'a>(name: &'a str, rest: &'a [String]) -> Option<Command<'a>>

@@ -82,20 +82,14 @@ pub(crate) fn path_node(alloc: Global, around: &Around<'_>, path: NamedPath) -> 
 pub(crate) fn value_of(end: Option<Elaborated>) -> Option<Value>
     ensures { result ≡ value_in end }
 {
-    match end {
-        Some(e) => Some(e.value),
-        None => None,
-    }
+    Some(end?.value)
 }
 
 /// The number of the node of an end that may be absent.
 pub(crate) fn node_of(end: Option<Elaborated>) -> Option<ExprId>
     ensures { result ≡ node_in end }
 {
-    match end {
-        Some(e) => Some(e.node),
-        None => None,
-    }
+    Some(end?.node)
 }
 
 fn core_width(core: NamedCore) -> Option<Width>

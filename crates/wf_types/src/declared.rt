@@ -23,10 +23,7 @@ fn type_or_flag(ty: Option<Ty>) -> Ty
 fn result_type(gives: Option<Option<Ty>>) -> Option<Ty>
     ensures { result ≡ option_map or_flag gives }
 {
-    match gives {
-        Some(ty) => Some(type_or_flag(ty)),
-        None => None,
-    }
+    Some(type_or_flag(gives?))
 }
 
 fn variable(of: &NamedVar, ty: Option<Ty>) -> Var

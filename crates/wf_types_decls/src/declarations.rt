@@ -47,10 +47,7 @@ const BASE_STATUSES: [&str; 10] = [
 fn value_no_number(v: Value) -> Option<Place>
     ensures { result ≡ no_constant v }
 {
-    match v.of {
-        Some(m) => at_if(!is_constant(m), v.at),
-        None => None,
-    }
+    at_if(!is_constant(v.of?), v.at)
 }
 
 fn lies_outside(ty: Option<Ty>, n: Option<u64>) -> bool

@@ -40,28 +40,19 @@ use wf_types_rules::{Around, Meaning, Operand, Value};
 fn wrong_number(v: Value) -> Option<Place>
     ensures { result ≡ judgements.no_number v }
 {
-    match v.of {
-        Some(m) => at_if(!is_number(m), v.at),
-        None => None,
-    }
+    at_if(!is_number(v.of?), v.at)
 }
 
 fn wrong_operand_in_negation(v: Value) -> Option<Place>
     ensures { result ≡ judgements.no_flag v }
 {
-    match v.of {
-        Some(m) => at_if(!is_flag(m), v.at),
-        None => None,
-    }
+    at_if(!is_flag(v.of?), v.at)
 }
 
 fn wrong_operand_in_path(v: Value) -> Option<Place>
     ensures { result ≡ judgements.no_value v }
 {
-    match v.of {
-        Some(m) => at_if(!is_value(m), v.at),
-        None => None,
-    }
+    at_if(!is_value(v.of?), v.at)
 }
 
 /// A path: whether it may stand as a value.
@@ -92,15 +83,11 @@ pub fn base_value(around: &Around<'_>, path: NamedPath) -> Value
 fn wrong_operand_in_index(base: Value, index: Value) -> Option<Place>
     ensures { result ≡ judgements.no_index base index }
 {
-    match base.of {
-        Some(m) => {
-            if index.of.is_some() {
-                first_place(at_if(!element(m).is_some(), base.at), wrong_number(index))
-            } else {
-                None
-            }
-        }
-        None => None,
+    let m = base.of?;
+    if index.of.is_some() {
+        first_place(at_if(!element(m).is_some(), base.at), wrong_number(index))
+    } else {
+        None
     }
 }
 
@@ -123,10 +110,7 @@ pub fn judged_index(found: &mut Found, base: Value, index: Value) -> Option<Mean
 fn wrong_end(end: Option<Value>) -> Option<Place>
     ensures { result ≡ judgements.no_end end }
 {
-    match end {
-        Some(v) => wrong_number(v),
-        None => None,
-    }
+    wrong_number(end?)
 }
 
 fn is_known(end: Option<Value>) -> bool
@@ -156,18 +140,14 @@ fn both_known(from: Option<Value>, to: Option<Value>) -> bool
 fn wrong_operand_in_slice(base: Value, from: Option<Value>, to: Option<Value>) -> Option<Place>
     ensures { result ≡ judgements.no_slice base from to }
 {
-    match base.of {
-        Some(m) => {
-            if both_known(from, to) {
-                first_place(
-                    at_if(!slice(m).is_some(), base.at),
-                    first_place(wrong_end(from), wrong_end(to)),
-                )
-            } else {
-                None
-            }
-        }
-        None => None,
+    let m = base.of?;
+    if both_known(from, to) {
+        first_place(
+            at_if(!slice(m).is_some(), base.at),
+            first_place(wrong_end(from), wrong_end(to)),
+        )
+    } else {
+        None
     }
 }
 
@@ -326,10 +306,8 @@ fn call_inside(around: &Around<'_>, call: &NamedCall, inside: bool) -> Option<Pl
 fn wrong_mark(around: &Around<'_>, call: &NamedCall) -> Option<Place>
     ensures { (inside : _) (es : _) → result ≡ judgements.wrong_mark around.now (parts.calling inside (call_at es call.now)) }
 {
-    match declared_mark(around, call.callee) {
-        Some(mark) => at_if(!same_mark(call.mark, mark), call.at),
-        None => None,
-    }
+    let mark = declared_mark(around, call.callee)?;
+    at_if(!same_mark(call.mark, mark), call.at)
 }
 
 fn impure_call(around: &Around<'_>, call: &NamedCall) -> Option<Place>

@@ -29,10 +29,7 @@ use wf_types_rules::{Bound, Form, Role};
 fn slices_of(plain: Option<Width>) -> Option<Ty>
     ensures { result ≡ option_map types.Slice plain }
 {
-    match plain {
-        Some(width) => Some(Ty::Slice(width)),
-        None => None,
-    }
+    Some(Ty::Slice(plain?))
 }
 
 fn wrong_type_of_slice(element: WrittenType, at: Place) -> Option<Place>
@@ -58,10 +55,8 @@ pub(crate) fn written_slice(found: &mut Found, element: WrittenType, at: Place) 
 fn with_elements(whole: Form, element: Option<Form>) -> Option<Form>
     ensures { result ≡ judgements.with_elements whole element }
 {
-    match element {
-        Some(_) => Some(whole),
-        None => None,
-    }
+    element?;
+    Some(whole)
 }
 
 fn is_not_numeric(kind: Option<Form>) -> bool
@@ -97,10 +92,7 @@ fn no_elements(count: Bound) -> Option<Place>
 fn element_above_zero(element: WrittenType) -> Option<Place>
     ensures { result ≡ at_place_if (fails has_zero element.of) element.at }
 {
-    match element.of {
-        Some(ty) => at_if(!holds_zero(ty), element.at),
-        None => None,
-    }
+    at_if(!holds_zero(element.of?), element.at)
 }
 
 fn tell_array(found: &mut Found, count: Bound, element: WrittenType, at: Place)
@@ -369,10 +361,7 @@ fn misplaced_type(role: Role, of: WrittenType) -> Option<Place>
 fn begins_above_zero(role: Role, of: WrittenType) -> Option<Place>
     ensures { result ≡ at_place_if (fails (keeps_zero role) of.of) of.at }
 {
-    match of.of {
-        Some(ty) => at_if(!is_zero_kept(role, ty), of.at),
-        None => None,
-    }
+    at_if(!is_zero_kept(role, of.of?), of.at)
 }
 
 /// Tells what a type breaks at its place.

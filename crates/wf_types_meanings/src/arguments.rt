@@ -64,10 +64,8 @@ fn base_arg_at(sig: BaseSig, n: usize) -> Option<Ty>
     ensures { result ≡ option_map (λ a. base_type_wanted (row_of sig).on a.1) (slice_get (row_of sig).args n) }
 {
     if n < 2 {
-        match sig.arg(n as u32) {
-            Some((_, of)) => Some(base_arg(kind(sig), of)),
-            None => None,
-        }
+        let (_, of) = sig.arg(n as u32)?;
+        Some(base_arg(kind(sig), of))
     } else {
         None
     }
@@ -76,19 +74,13 @@ fn base_arg_at(sig: BaseSig, n: usize) -> Option<Ty>
 fn own_arg(m: &MethodType, n: usize) -> Option<Ty>
     ensures { result ≡ own_type_wanted n m.now }
 {
-    match m.args.as_slice().get(n) {
-        Some(ty) => *ty,
-        None => None,
-    }
+    *m.args.as_slice().get(n)?
 }
 
 fn own_arg_at(methods: &[MethodType], m: MethodId, n: usize) -> Option<Ty>
     ensures { result ≡ option_and_then (own_type_wanted n) (slice_get methods.now m.0) }
 {
-    match methods.get(m.0 as usize) {
-        Some(m) => own_arg(m, n),
-        None => None,
-    }
+    own_arg(methods.get(m.0 as usize)?, n)
 }
 
 /// The type of the argument with the number `n`, from 0, of what is called, where that is known.

@@ -49,19 +49,13 @@ fn result_of(m: &MethodType) -> Option<Option<Ty>>
 fn result_at(methods: &[MethodType], m: MethodId) -> Option<Option<Ty>>
     ensures { result ≡ option_and_then result_in (slice_get methods.now m.0) }
 {
-    match methods.get(m.0 as usize) {
-        Some(m) => result_of(m),
-        None => None,
-    }
+    result_of(methods.get(m.0 as usize)?)
 }
 
 fn mark_at(methods: &[MethodType], m: MethodId) -> Option<Mark>
     ensures { result ≡ option_map (λ m. m.mark) (slice_get methods.now m.0) }
 {
-    match methods.get(m.0 as usize) {
-        Some(m) => Some(m.mark),
-        None => None,
-    }
+    Some(methods.get(m.0 as usize)?.mark)
 }
 
 /// The mark that the method declares which is called.
@@ -119,10 +113,7 @@ pub fn gives_no_value(around: &Around<'_>, callee: NamedCallee) -> bool
 fn result_type(methods: &[MethodType], m: MethodId) -> Option<Ty>
     ensures { result ≡ there (option_and_then result_in (slice_get methods.now m.0)) }
 {
-    match result_at(methods, m) {
-        Some(ty) => ty,
-        None => None,
-    }
+    result_at(methods, m)?
 }
 
 /// The type of what a call gives as the right side of `=`.

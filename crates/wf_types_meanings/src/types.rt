@@ -182,10 +182,7 @@ pub(crate) fn if_allowed(role: Role, ty: Ty) -> Option<Ty>
 pub fn allowed(role: Role, ty: Option<Ty>) -> Option<Ty>
     ensures { result ≡ option_and_then (only_if_allowed role) ty }
 {
-    match ty {
-        Some(ty) => if_allowed(role, ty),
-        None => None,
-    }
+    if_allowed(role, ty?)
 }
 
 /// Whether a number lies in the type, where it is one of numbers.

@@ -18,30 +18,23 @@ use wf_types_rules::Meaning;
 pub fn as_value(of: Option<Meaning>) -> Option<Meaning>
     ensures { result ≡ option_and_then (only_where means_value) of }
 {
-    match of {
-        Some(m) => { if is_value(m) { Some(m) } else { None } }
-        None => None,
-    }
+    let m = of?;
+    if is_value(m) { Some(m) } else { None }
 }
 
 /// What is a bool.
 pub fn as_flag(of: Option<Meaning>) -> Option<Meaning>
     ensures { result ≡ option_and_then (only_where means_flag) of }
 {
-    match of {
-        Some(m) => { if is_flag(m) { Some(m) } else { None } }
-        None => None,
-    }
+    let m = of?;
+    if is_flag(m) { Some(m) } else { None }
 }
 
 /// The number of a constant expression that means something.
 pub fn number_in(of: Option<Meaning>) -> Option<u64>
     ensures { result ≡ option_and_then number_meant of }
 {
-    match of {
-        Some(m) => constant_number(m),
-        None => None,
-    }
+    constant_number(of?)
 }
 
 /// The elements of an array or of a slice.
@@ -76,29 +69,20 @@ pub fn slice_in(m: Meaning) -> Option<Ty>
 pub fn elements(of: Option<Meaning>) -> Option<Ty>
     ensures { result ≡ option_and_then element_in of }
 {
-    match of {
-        Some(m) => element_of(m),
-        None => None,
-    }
+    element_of(of?)
 }
 
 pub fn slices(of: Option<Meaning>) -> Option<Ty>
     ensures { result ≡ option_and_then sliced of }
 {
-    match of {
-        Some(m) => slice_in(m),
-        None => None,
-    }
+    slice_in(of?)
 }
 
 /// The type, where the number before it is one.
 pub fn if_number(of: Option<Meaning>, ty: Option<Ty>) -> Option<Ty>
     ensures { result ≡ only_for_number of ty }
 {
-    match of {
-        Some(m) => { if is_number(m) { ty } else { None } }
-        None => None,
-    }
+    if is_number(of?) { ty } else { None }
 }
 
 fn converted_to(width: Width, m: Meaning) -> Option<Meaning>
@@ -124,20 +108,14 @@ fn converted_to(width: Width, m: Meaning) -> Option<Meaning>
 pub(crate) fn converted(width: Option<Width>, m: Meaning) -> Option<Meaning>
     ensures { result ≡ converts width m }
 {
-    match width {
-        Some(width) => converted_to(width, m),
-        None => None,
-    }
+    converted_to(width?, m)
 }
 
 /// The same of what may mean nothing.
 pub fn conversion(width: Option<Width>, of: Option<Meaning>) -> Option<Meaning>
     ensures { result ≡ option_and_then (converts width) of }
 {
-    match of {
-        Some(m) => converted(width, m),
-        None => None,
-    }
+    converted(width, of?)
 }
 
 /// Whether a type takes a value: numbers of its width and constants without one, and else values of the very type.

@@ -11,41 +11,30 @@ use wf_types_rules::{Around, Constant, Meaning};
 fn constant_at(constants: &[Option<Constant>], c: ConstId) -> Option<Constant>
     ensures { result ≡ there (slice_get constants.now c.0) }
 {
-    match constants.get(c.0 as usize) {
-        Some(known) => *known,
-        None => None,
-    }
+    *constants.get(c.0 as usize)?
 }
 
 fn type_at(types: &[Option<Ty>], n: u32) -> Option<Ty>
     ensures { result ≡ there (slice_get types.now n) }
 {
-    match types.get(n as usize) {
-        Some(known) => *known,
-        None => None,
-    }
+    *types.get(n as usize)?
 }
 
 fn constant(of: Option<Constant>) -> Option<Meaning>
     ensures { result ≡ option_map as_constant of }
 {
-    match of {
-        Some(c) => Some(Meaning::Constant {
-            width: Some(c.width),
-            value: c.value,
-        }),
-        None => None,
-    }
+    let c = of?;
+    Some(Meaning::Constant {
+        width: Some(c.width),
+        value: c.value,
+    })
 }
 
 /// What has a type that may be absent.
 pub fn typed(of: Option<Ty>) -> Option<Meaning>
     ensures { result ≡ option_map meanings.Typed of }
 {
-    match of {
-        Some(ty) => Some(Meaning::Typed(ty)),
-        None => None,
-    }
+    Some(Meaning::Typed(of?))
 }
 
 /// What a variable is.

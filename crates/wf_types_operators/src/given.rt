@@ -17,10 +17,7 @@ use wf_types_rules::{Meaning, Operand};
 fn left_width(os: &[Operand]) -> Option<Width>
     ensures { result ≡ width_on_the_left os.now }
 {
-    match os.first() {
-        Some(o) => width_of(o.of),
-        None => None,
-    }
+    width_of(os.first()?.of)
 }
 
 // The width of the number that an arithmetic operator gives: that of its operands, and of a shift that of its left side.
@@ -59,20 +56,15 @@ fn width_given(op: Op, os: &[Operand]) -> Option<Width>
 fn constant_of(width: Option<Width>, number: Option<u64>) -> Option<Meaning>
     ensures { result ≡ constant_with width number }
 {
-    match number {
-        Some(value) => Some(Meaning::Constant { width, value }),
-        None => None,
-    }
+    let value = number?;
+    Some(Meaning::Constant { width, value })
 }
 
 // Any number of a width, where there is one.
 fn number_in(width: Option<Width>) -> Option<Meaning>
     ensures { result ≡ number_with width }
 {
-    match width {
-        Some(width) => Some(Meaning::Typed(all_of(width))),
-        None => None,
-    }
+    Some(Meaning::Typed(all_of(width?)))
 }
 
 // What an arithmetic operator gives: a constant where all operands are constant, else a number of the width.

@@ -76,15 +76,11 @@ fn not_shifted(os: &[Operand]) -> Option<Place>
 fn not_compared(os: &[Operand]) -> Option<Place>
     ensures { result ≡ first_uncompared os.now }
 {
-    match os.split_first() {
-        Some((first, others)) => {
-            if is_status(first.of) {
-                first_no_status(others)
-            } else {
-                not_of_one_width(os)
-            }
-        }
-        None => None,
+    let (first, others) = os.split_first()?;
+    if is_status(first.of) {
+        first_no_status(others)
+    } else {
+        not_of_one_width(os)
     }
 }
 

@@ -128,10 +128,8 @@ fn chain_value(op: Op, width: Option<Width>, os: &[Operand]) -> Option<u64>
     requires { joins (sort_of op) ≡ true }
     ensures { result ≡ value_by (sort_of op) (bits_in width) (numbers os.now) }
 {
-    match os.split_first() {
-        Some((first, others)) => fitted_if(width, joined(op, number(first.of), others)),
-        None => None,
-    }
+    let (first, others) = os.split_first()?;
+    fitted_if(width, joined(op, number(first.of), others))
 }
 
 // What an operator makes of two numbers of a width.

@@ -46,10 +46,7 @@ pub(crate) fn fitted(width: Option<Width>, n: u128) -> Option<u64>
 pub(crate) fn fitted_if(width: Option<Width>, n: Option<u64>) -> Option<u64>
     ensures { result ≡ option_and_then (fits_in (bits_in width)) n }
 {
-    match n {
-        Some(n) => fitted(width, n as u128),
-        None => None,
-    }
+    fitted(width, n? as u128)
 }
 
 /// The number that is left of one when its width is full.

@@ -42,10 +42,7 @@ pub(crate) struct RightSide {
 fn type_of(of: Option<Meaning>) -> Option<Ty>
     ensures { result ≡ option_and_then typed_so of }
 {
-    match of {
-        Some(m) => type_in(m),
-        None => None,
-    }
+    type_in(of?)
 }
 
 /// Whether a type doesn't take a value, where both are known.

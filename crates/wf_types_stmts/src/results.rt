@@ -32,19 +32,13 @@ use wf_types_rules::{Around, Meaning, Value};
 fn wrong_condition(v: Value) -> Option<Place>
     ensures { result ≡ no_flag v }
 {
-    match v.of {
-        Some(m) => at_if(!is_flag(m), v.at),
-        None => None,
-    }
+    at_if(!is_flag(v.of?), v.at)
 }
 
 fn wrong_letter(v: Value) -> Option<Place>
     ensures { result ≡ no_number v }
 {
-    match v.of {
-        Some(m) => at_if(!is_number(m), v.at),
-        None => None,
-    }
+    at_if(!is_number(v.of?), v.at)
 }
 
 /// Tells what a condition breaks.

@@ -1,8 +1,8 @@
 use Rattle.c_read_tokens.proofs.LexLaws.{run_stands, run_absent}
 use Rattle.c_read_tokens.proofs.lexing.run_piece.Goals as goal
 
-pub returns-in-Some-clause-some : goal.returns-in-Some-clause-some
-returns-in-Some-clause-some c = run_stands c.args.bytes.now _ _ c.word_len.result c.requires c.word_len.ensures.run c.word_len.ensures.whole c.split_at.ensures.front c.split_at.ensures.back c.run_kind.result c.in-Some.kind c.run_kind.ensures c.in-Some.is
+pub returns-clause-some : goal.returns-clause-some
+returns-clause-some c = run_stands c.args.bytes.now _ _ c.word_len.result c.requires c.word_len.ensures.run c.word_len.ensures.whole c.split_at.ensures.front c.split_at.ensures.back c.run_kind.result c.in_ok-kind.kind c.run_kind.ensures c.in_ok-kind.was
 
-pub returns-in-None-clause-none : goal.returns-in-None-clause-none
-returns-in-None-clause-none c = run_absent c.args.bytes.now _ _ c.word_len.result c.requires c.word_len.ensures.run c.word_len.ensures.whole c.split_at.ensures.front c.split_at.ensures.back c.run_kind.result c.run_kind.ensures c.in-None.is
+pub returns-in_err-kind-clause-none : goal.returns-in_err-kind-clause-none
+returns-in_err-kind-clause-none c = rw c.from_residual.ensures (run_absent c.args.bytes.now _ _ c.word_len.result c.requires c.word_len.ensures.run c.word_len.ensures.whole c.split_at.ensures.front c.split_at.ensures.back c.run_kind.result c.run_kind.ensures c.in_err-kind.was)

@@ -5,12 +5,12 @@ use Rattle.wf_types_operators.specs.Working.{numbers, value_by}
 use Rattle.wf_types_operators.proofs.WorkingLemmas.{chain_is}
 use Rattle.wf_types_operators.proofs.values.chain_value.Goals as goal
 
-pub returns-in-Some : goal.returns-in-Some
-returns-in-Some c =
+pub returns : goal.returns
+returns c =
     let sort = sort_of c.args.op in
-    let others = numbers c.in-Some.others.now in
+    let others = numbers c.in_ok-first.others.now in
     let worked = chain_is sort c.requires c.args.width c.number.result c.number.ensures.small others in
     let value = (rw c.joined.ensures at c.fitted_if.ensures) ∙ worked in
     rw
-    c.in-Some.ensures.cases.0
+    c.in_ok-first.ensures.cases.0
     (subst (λ (n : ℕ). c.fitted_if.result ≡ value_by sort (bits_in c.args.width) (n ∷ others)) c.number.ensures.number value)

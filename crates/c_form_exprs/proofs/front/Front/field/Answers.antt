@@ -7,18 +7,18 @@ use Rattle.c_form_exprs.proofs.front.Front.field.Goals as goal
 
 pub index-requires : goal.index-requires
 index-requires c =
-    let struct = struct_at c.self.inside.unit.now c.self.inside.count c.self.inside.structs c.self.inside.fields.items c.self.inside.texts c.self.inside.functions c.self.invariant c.args.of.now c.get.result (Some c.in-Some.k) c.get.ensures c.in-Some.is in
-    let within : c.in-Some.k < length c.self.inside.fields.items = index_within c.self.inside.unit.now c.self.inside.fields.items c.in-Some.k (struct_named (structs_of (take c.self.inside.count (unit_tree c.self.inside.unit.now))) c.args.of.now) struct in
+    let struct = struct_at c.self.inside.unit.now c.self.inside.count c.self.inside.structs c.self.inside.fields.items c.self.inside.texts c.self.inside.functions c.self.invariant c.args.of.now c.get.result (Some c.in_ok-k.k) c.get.ensures c.in_ok-k.was in
+    let within : c.in_ok-k.k < length c.self.inside.fields.items = index_within c.self.inside.unit.now c.self.inside.fields.items c.in_ok-k.k (struct_named (structs_of (take c.self.inside.count (unit_tree c.self.inside.unit.now))) c.args.of.now) struct in
     omega (arith, within, c.self.inside.fields.ok)
 
-pub returns-in-Some : goal.returns-in-Some
-returns-in-Some c =
-    let struct = struct_at c.self.inside.unit.now c.self.inside.count c.self.inside.structs c.self.inside.fields.items c.self.inside.texts c.self.inside.functions c.self.invariant c.args.of.now c.get.result (Some c.in-Some.k) c.get.ensures c.in-Some.is in
-    let within : c.in-Some.k < length c.self.inside.fields.items = index_within c.self.inside.unit.now c.self.inside.fields.items c.in-Some.k (struct_named (structs_of (take c.self.inside.count (unit_tree c.self.inside.unit.now))) c.args.of.now) struct in
-    let is = slice_get_read c.self.inside.fields.items _ c.in-Some.k c.index.result.now refl within c.index.ensures in
-    rw (← c.self.view_is, c.get-in-Some.ensures) (field_listed c.self.inside.unit.now c.self.inside.fields.items c.in-Some.k (struct_named (structs_of (take c.self.inside.count (unit_tree c.self.inside.unit.now))) c.args.of.now) c.index.result.now c.args.name.now struct is)
+pub returns : goal.returns
+returns c =
+    let struct = struct_at c.self.inside.unit.now c.self.inside.count c.self.inside.structs c.self.inside.fields.items c.self.inside.texts c.self.inside.functions c.self.invariant c.args.of.now c.get.result (Some c.in_ok-k.k) c.get.ensures c.in_ok-k.was in
+    let within : c.in_ok-k.k < length c.self.inside.fields.items = index_within c.self.inside.unit.now c.self.inside.fields.items c.in_ok-k.k (struct_named (structs_of (take c.self.inside.count (unit_tree c.self.inside.unit.now))) c.args.of.now) struct in
+    let is = slice_get_read c.self.inside.fields.items _ c.in_ok-k.k c.index.result.now refl within c.index.ensures in
+    rw (← c.self.view_is, c.get-2.ensures) (field_listed c.self.inside.unit.now c.self.inside.fields.items c.in_ok-k.k (struct_named (structs_of (take c.self.inside.count (unit_tree c.self.inside.unit.now))) c.args.of.now) c.index.result.now c.args.name.now struct is)
 
-pub returns-in-None : goal.returns-in-None
-returns-in-None c =
-    let struct = struct_at c.self.inside.unit.now c.self.inside.count c.self.inside.structs c.self.inside.fields.items c.self.inside.texts c.self.inside.functions c.self.invariant c.args.of.now c.get.result None c.get.ensures c.in-None.is in
-    rw (← c.self.view_is) (no_struct c.self.inside.unit.now c.self.inside.fields.items (struct_named (structs_of (take c.self.inside.count (unit_tree c.self.inside.unit.now))) c.args.of.now) c.args.name.now struct)
+pub returns-in_err-k : goal.returns-in_err-k
+returns-in_err-k c =
+    let struct = struct_at c.self.inside.unit.now c.self.inside.count c.self.inside.structs c.self.inside.fields.items c.self.inside.texts c.self.inside.functions c.self.invariant c.args.of.now c.get.result None c.get.ensures c.in_err-k.was in
+    rw (← c.self.view_is, c.from_residual.ensures) (no_struct c.self.inside.unit.now c.self.inside.fields.items (struct_named (structs_of (take c.self.inside.count (unit_tree c.self.inside.unit.now))) c.args.of.now) c.args.name.now struct)
