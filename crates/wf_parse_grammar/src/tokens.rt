@@ -32,46 +32,83 @@ pub enum Kind {
     OpenCurly,
     /// `}`
     CloseCurly,
+    /// `,`
     Comma,
+    /// `.`
     Dot,
+    /// `:`
     Colon,
+    /// `;`
     Semicolon,
+    /// `?`
     Question,
+    /// `!`
     Exclamation,
     /// `..`
     Dots,
     /// `..=`
     DotsEquals,
+    /// `args`
     Args,
+    /// `array`
     Array,
+    /// `as`
     As,
+    /// `assert`
     Assert,
+    /// `base`
     Base,
+    /// `break`
     Break,
+    /// `const`
     Const,
+    /// `continue`
     Continue,
+    /// `else`
     Else,
+    /// `endwhile`
     Endwhile,
+    /// `false`
     False,
+    /// `func`
     Func,
+    /// `if`
     If,
+    /// `inv`
     Inv,
+    /// `not`
     Not,
+    /// `nothing`
     Nothing,
+    /// `ok`
     Ok,
+    /// `post`
     Post,
+    /// `pre`
     Pre,
+    /// `pri`
     Pri,
+    /// `pub`
     Pub,
+    /// `return`
     Return,
+    /// `slice`
     Slice,
+    /// `status`
     Status,
+    /// `struct`
     Struct,
+    /// `this`
     This,
+    /// `true`
     True,
+    /// `var`
     Var,
+    /// `via`
     Via,
+    /// `while`
     While,
+    /// `yield`
     Yield,
     /// Bytes that are no token: nothing of the grammar begins with it or goes on with it.
     Bad,
