@@ -109,14 +109,14 @@ impl Field {
         ensures { result ≡ cell_in self.now index }
     {
         match &self.held {
-            Held::Cells(ty, cells) => match cells.get(index as usize).copied() {
-                Some(cell) => Some((*ty, cell)),
-                None => None,
-            },
-            Held::Bytes(them, set) => match them.get(index as usize).copied() {
-                Some(byte) => Some((CellType::U8, cell_with(*set, byte))),
-                None => None,
-            },
+            Held::Cells(ty, cells) => {
+                let cell = cells.get(index as usize).copied()?;
+                Some((*ty, cell))
+            }
+            Held::Bytes(them, set) => {
+                let byte = them.get(index as usize).copied()?;
+                Some((CellType::U8, cell_with(*set, byte)))
+            }
             Held::Part(_) => None,
         }
     }
