@@ -48,68 +48,68 @@ pub enum Kind {
     Dots,
     /// `..=`
     DotsEquals,
-    /// `args`
-    Args,
-    /// `array`
-    Array,
-    /// `as`
-    As,
-    /// `assert`
-    Assert,
-    /// `base`
-    Base,
-    /// `break`
-    Break,
-    /// `const`
-    Const,
-    /// `continue`
-    Continue,
-    /// `else`
-    Else,
-    /// `endwhile`
-    Endwhile,
-    /// `false`
-    False,
-    /// `func`
-    Func,
-    /// `if`
-    If,
-    /// `inv`
-    Inv,
-    /// `not`
-    Not,
-    /// `nothing`
-    Nothing,
-    /// `ok`
-    Ok,
-    /// `post`
-    Post,
-    /// `pre`
-    Pre,
-    /// `pri`
-    Pri,
     /// `pub`
     Pub,
-    /// `return`
-    Return,
-    /// `slice`
-    Slice,
+    /// `pri`
+    Pri,
+    /// `const`
+    Const,
     /// `status`
     Status,
     /// `struct`
     Struct,
-    /// `this`
-    This,
-    /// `true`
-    True,
-    /// `var`
-    Var,
+    /// `func`
+    Func,
+    /// `pre`
+    Pre,
+    /// `inv`
+    Inv,
+    /// `post`
+    Post,
+    /// `assert`
+    Assert,
     /// `via`
     Via,
+    /// `var`
+    Var,
+    /// `if`
+    If,
+    /// `else`
+    Else,
     /// `while`
     While,
+    /// `endwhile`
+    Endwhile,
+    /// `break`
+    Break,
+    /// `continue`
+    Continue,
+    /// `return`
+    Return,
     /// `yield`
     Yield,
+    /// `array`
+    Array,
+    /// `slice`
+    Slice,
+    /// `base`
+    Base,
+    /// `args`
+    Args,
+    /// `this`
+    This,
+    /// `as`
+    As,
+    /// `not`
+    Not,
+    /// `true`
+    True,
+    /// `false`
+    False,
+    /// `ok`
+    Ok,
+    /// `nothing`
+    Nothing,
     /// Bytes that are no token: nothing of the grammar begins with it or goes on with it.
     Bad,
 }
