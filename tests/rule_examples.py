@@ -1,9 +1,11 @@
 #!/usr/bin/env python3
-"""rule_examples.py PROGRAM: the examples of docs/RULES.md and docs/LANGUAGE.md that are whole files, through the built program.
+"""rule_examples.py PROGRAM: what the documents show, through the built program: the examples of docs/RULES.md and docs/LANGUAGE.md
+that are whole files, and what README.md and docs/LOWERING.md show of the package in examples/parser.wuffs.
 
 A block that begins with ```wuffs refused RULE LINE:COL has to be refused so; under a rule's heading it is refused by that rule.
 One that begins with ```wuffs passes has to be accepted. A line that begins with - [refused RULE LINE:COL](FILE) or - [passes](FILE)
-tells the same of a file.
+tells the same of a file. The package, the script and the report that README.md shows have to be those of examples/ and of the
+program. The C texts that it and LOWERING.md show have to be what `gen` writes, that of LOWERING.md whole after the io buffer's struct.
 """
 import pathlib
 import re
@@ -11,7 +13,9 @@ import subprocess
 import sys
 import tempfile
 
-DOCS = pathlib.Path(__file__).resolve().parent.parent / "docs"
+TOP = pathlib.Path(__file__).resolve().parent.parent
+DOCS = TOP / "docs"
+EXAMPLES = TOP / "examples"
 
 
 def examples(page):
@@ -53,6 +57,32 @@ def fault(section, words, got):
     return f"no such kind of example: {' '.join(words)}"
 
 
+def shown(page, first):
+    """The one block of the page that begins with these words."""
+    blocks = re.findall(r"^```\w*\n(.*?)^```$", page.read_text(), re.M | re.S)
+    found = [block for block in blocks if block.startswith(first)]
+    return found[0] if len(found) == 1 else f"no one block begins with {first}"
+
+
+def prints(program, *words):
+    return subprocess.run([program, *words], cwd=TOP, capture_output=True, text=True, timeout=60).stdout
+
+
+def drifts(program):
+    """What README.md and LOWERING.md show of the package in examples/parser.wuffs: each with whether it is so."""
+    readme, lowering = TOP / "README.md", DOCS / "LOWERING.md"
+    package, script = "examples/parser.wuffs", "examples/parser.script"
+    text = prints(program, "gen", "demo", package)
+    report = prints(program, "run", "demo", script, package)
+    yield "README.md: the package isn't that of examples/", shown(readme, "pub status") == (EXAMPLES / "parser.wuffs").read_text()
+    yield "README.md: the script isn't that of examples/", shown(readme, "new p parser") == (EXAMPLES / "parser.script").read_text()
+    yield "README.md: the report isn't what run prints", shown(readme, "new p\n") == report == (EXAMPLES / "parser.report").read_text()
+    yield "README.md: mean doesn't print the same report", prints(program, "mean", "demo", script, package) == report
+    yield "README.md: the C text isn't what gen writes", "\n" + shown(readme, "static const char* body_parser__parse(") in text
+    _, buffer, rest = text.partition("} wuffs_base__io_buffer;\n\n")
+    yield "LOWERING.md: the C text isn't what gen writes after the io buffer's struct", bool(buffer) and shown(lowering, "typedef struct {") == rest
+
+
 def main():
     if len(sys.argv) != 2:
         sys.exit(__doc__)
@@ -69,6 +99,12 @@ def main():
             else:
                 failed += 1
                 print(f"{page.name}:{line}: {wrong}")
+    for what, is_so in drifts(program):
+        if is_so:
+            passed += 1
+        else:
+            failed += 1
+            print(what)
     for rule in sorted(refused ^ passes):
         failed += 1
         print(f"{rule}: has no example that {'passes' if rule in refused else 'is refused'}")

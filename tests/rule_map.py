@@ -1,9 +1,10 @@
 #!/usr/bin/env python3
 """rule_map.py [--check]: writes docs/RULE-MAP.md, which tells for each rule of refusal where it stands.
 
-The rules are the sections of docs/RULES.md. A rule's definitions are the rows of tables, the constructors and the
-definitions in specs/ that name it, its functions those in src/ that answer it, its tests the examples of its section, the
-files of tests/ with a row that expects it, and the file of tests/second_opinion/ that refuses by it. A row of the rules of
+The rules are the sections of docs/RULES.md. The rules of types and of names have rows in two tables, and judgements with the
+names of the rows. A rule's other definitions are the constructors and the definitions in specs/ that name it, its functions
+those in src/ that answer it, its tests the examples of its section, the files of tests/ with a row that expects it, and the
+file of tests/second_opinion/ that refuses by it. A row of the rules of
 types or of names, what code is judged by and the function that decides it in src/ have one name, with the kind of part after
 it where each kind has its own; a record that is the judgement has its row's name as records are written. --check writes nothing
 and fails where the page isn't what would be written, a rule lacks one of these, a row of these two tables has no such judgement
@@ -18,17 +19,18 @@ TOP = pathlib.Path(__file__).resolve().parent.parent
 PAGE = TOP / "docs" / "RULE-MAP.md"
 HEAD = """# Where each rule stands
 
-Made by `tests/rule_map.py` from docs/RULES.md, the crates and tests/; `tests/rule_map.py --check` runs in `.ci/run`. The table
-that is the rule's definition comes first; what else names the rule in specs/ states what code finds of it. A row of the rules
-of types or of names, what code is judged by and the function that decides it have one name, with the kind of part after it
-where each kind has a function of its own; the judgements of types stand in wf_types_rules/specs/Judgements. Every rule has its
-printed name, and its rank among rules at one place, in wf_text (`specs/RuleNames`, `specs/Precedence`). Tests are the files of
-tests/ with a row that expects the rule, and the file of the second checker, tests/second_opinion/, that refuses by it. In the
-column of specs/ `wf_types_rules/Judgements: NAME` is NAME in `crates/wf_types_rules/specs/Judgements.antt`; in that of src/
-`wf_tool/taking: NAME` is NAME in `crates/wf_tool/src/taking.rt`.
+Made by `tests/rule_map.py` from docs/RULES.md, the crates and tests/; `tests/rule_map.py --check` runs in `.ci/run`. The rules of
+names and those of types and effects have a table each, in which a rule has one row or more. A row has a judgement, which tells where
+a part of a package breaks the rule so, and a function in src/ that judges by it; the three have one name, with the kind of part after
+it where each kind has its own, and a judgement that is a record has the name as records are written. The fourth column has the
+definitions in specs/ that name the rule besides: of the other rules, whose definition isn't a row, these are the definition, and
+what states of it what code finds. Every rule has its printed name, and its rank among rules at one place, in wf_text
+(`specs/RuleNames`, `specs/Precedence`). Tests are the files of tests/ with a row that expects the rule, and the file of the second
+checker, tests/second_opinion/, that refuses by it. In the columns of specs/ `wf_types_rules/Judgements: NAME` is NAME in
+`crates/wf_types_rules/specs/Judgements.antt`; in that of src/ `wf_tool/taking: NAME` is NAME in `crates/wf_tool/src/taking.rt`.
 
-| Rule | Definition (specs/) | Code (src/) | Tests |
-|---|---|---|---|
+| Rule | Row of the table (specs/) | Judgement (specs/) | Other definitions (specs/) | Code (src/) | Tests |
+|---|---|---|---|---|---|
 """
 # A name that a definition, a constructor or a function begins with.
 DEFINED = re.compile(r"^(?:unfoldable |abbrev )?(?:pub )?(?:record |data )?([A-Za-z_][\w-]*)(?: .*)?(?: :| =)")
@@ -127,19 +129,41 @@ def rows_with_functions():
     return found
 
 
-def rows_without_judgements():
-    """The rows of the tables for which no definition beside the table has their name, each after its rule."""
-    found = []
+def place_of(file):
+    """The crate and the name of a file."""
+    return (file.relative_to(TOP).parts[1], file.stem)
+
+
+def rows_with_judgements():
+    """For each rule of the tables: its rows' names, each with the table's place and the definitions beside the table that have it."""
+    found = {}
     for table, crates in NAMED_ROWS.items():
         files = [file for file in sorted(TOP.glob(f"crates/{crates}*/specs/**/*.antt")) if file != TOP / table]
-        names = {definition.group(1) for file in files for line in file.read_text().splitlines()
-                 if not line.startswith((" ", "use ")) and (definition := DEFINED.match(line))}
+        names = dict.fromkeys((place_of(file), definition.group(1)) for file in files for line in file.read_text().splitlines()
+                              if not line.startswith((" ", "use ")) and (definition := DEFINED.match(line)))
         for rule, row in rows_of(TOP / table):
             as_record = "".join(word.capitalize() for word in row.split("_"))
             kinds = re.compile(rf"{row}(_(in|of|by|with)_\w+)?|{as_record}")
-            if not any(kinds.fullmatch(name) for name in names):
-                found.append((rule, row))
+            judgements = [judgement for judgement in names if kinds.fullmatch(judgement[1])]
+            found.setdefault(rule, {})[row] = (place_of(TOP / table), judgements)
     return found
+
+
+def by_place(named):
+    """Names by the places that they stand at, each once."""
+    places = {}
+    for place, name in named:
+        names = places.setdefault(place, [])
+        if name not in names:
+            names.append(name)
+    return places
+
+
+def without(places, others):
+    """The names that don't stand among others, and in none of the tables."""
+    tables = {place_of(TOP / table) for table in NAMED_ROWS}
+    return {place: left for place, names in places.items() if place not in tables
+            and (left := [name for name in names if name not in others.get(place, [])])}
 
 
 def names_beside(table):
@@ -189,6 +213,19 @@ def without_a_row(rule, code, rows):
                 yield from (f"{name} of {crate}/{file}" for name in names if name not in named | beside)
 
 
+def drop_helpers(rule, code, rows):
+    """Drops the functions that answer a rule of the two tables by the name of a helper of the table's file, where rows have functions."""
+    named = {name for functions in rows.get(rule, {}).values() for _, name in functions}
+    if not named:
+        return
+    for table, crates in NAMED_ROWS.items():
+        helpers = names_beside(table) - named
+        for place in [place for place in code[rule] if place[0].startswith(crates)]:
+            code[rule][place] = [name for name in code[rule][place] if name not in helpers]
+            if not code[rule][place]:
+                del code[rule][place]
+
+
 def named_in_tests(rules):
     """For each rule: the files with a text that is an answer by it, and those of the second checker that refuse by it."""
     found = {rule: [] for rule in rules}
@@ -213,25 +250,31 @@ def main():
     if sys.argv[1:] not in ([], ["--check"]):
         sys.exit(__doc__)
     rules = sections((TOP / "docs" / "RULES.md").read_text())
-    table = rows_with_functions()
+    table, judged = rows_with_functions(), rows_with_judgements()
     specs, code, tests = named_in_specs(rules), named_in_code(rules, table), named_in_tests(rules)
     add_functions_of_rows(code, table)
     rows, lacks = [], []
     for rule, examples in rules.items():
         shown = ([f"{examples} examples"] if examples else []) + tests[rule]
-        rows.append(f"| [{rule}](RULES.md#{rule.lower()}) | {listed(specs[rule])} | {listed(code[rule])} | {', '.join(shown)} |\n")
+        lacks += [f"{rule} is answered by {function}, which has no row's name" for function in without_a_row(rule, code, table)]
+        drop_helpers(rule, code, table)
+        told = judged.get(rule, {})
+        row_names = by_place((place, row) for row, (place, _) in told.items())
+        judgements = by_place(judgement for _, found in told.values() for judgement in found)
+        cells = (listed(row_names), listed(judgements), listed(without(specs[rule], judgements)), listed(code[rule]), ", ".join(shown))
+        rows.append(f"| [{rule}](RULES.md#{rule.lower()}) |" + "".join(f" {cell} |" if cell else " |" for cell in cells) + "\n")
         lacks += [f"{rule}'s row {row} has no function of its name" for row, functions in table.get(rule, {}).items() if not functions]
         for what, there in (("definition", specs[rule]), ("code", code[rule]), ("test", shown)):
             if not there:
                 lacks.append(f"{rule} has no {what}")
-        lacks += [f"{rule} is answered by {function}, which has no row's name" for function in without_a_row(rule, code, table)]
     text = HEAD + "".join(rows)
     if sys.argv[1:] == ["--check"]:
         if not PAGE.exists() or PAGE.read_text() != text:
             lacks.append("docs/RULE-MAP.md isn't what tests/rule_map.py writes")
     else:
         PAGE.write_text(text)
-    lacks += [f"{rule}'s row {row} has no judgement of its name" for rule, row in rows_without_judgements()]
+    lacks += [f"{rule}'s row {row} has no judgement of its name" for rule, told in judged.items() for row, (_, found) in told.items()
+              if not found]
     for line in lacks:
         print(line)
     print(f"rule_map: {len(rules)} passed, {len(lacks)} failed")
