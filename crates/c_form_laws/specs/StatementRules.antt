@@ -112,7 +112,7 @@ pub record AreCases (all : List LineTree) : Type 0 where
   pub differ : (i j : ℕ) (n : CNumber) → IsCase all i n → IsCase all j n → i ≡ j
   pub default : (i j : ℕ) → IsDefault all i → IsDefault all j → i ≡ j
 
--- A `return` has an expression exactly where the function isn't `void` (6.8.6.4p1).
+-- After `return` stands an expression, but none in a `void` function (6.8.6.4p1).
 abbrev pub MayReturn : Scope → (value : Option ExprTree) → (result : Option TypeTree) → Type 0
 MayReturn scope None None = ⊤
 MayReturn scope (Some e) (Some t) = GoesTo scope t e

@@ -114,7 +114,7 @@ impl<'c, 'k, 'u> Frame<'c, 'k, 'u> {
         }
     }
 
-    /// Whether the function may have a `while`, or a `goto` to a label before it.
+    /// Whether a `while`, and a `goto` that goes back, may stand in the function.
     fn may_loop(&self) -> bool
         ensures { result ≡ may_loop_linkage self.now.linkage }
     {

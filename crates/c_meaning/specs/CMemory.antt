@@ -180,8 +180,8 @@ moved memory to from bytes target source =
 abbrev pub move_bytes : Memory → (to from : Pointer) → (bytes : ℕ) → Option Memory
 move_bytes memory to from bytes = option_and_then (λ target. option_and_then (λ source. moved memory to from bytes target source) (cells_at memory from.object from.field)) (cells_at memory to.object to.field)
 
--- `memset` of a whole object with 0 (7.21.6.1): numbers become zero, flags false and pointers null, in the object and in
--- every object inside it. The objects inside have greater numbers, so all are met in one pass.
+-- `memset` of a whole object with 0 (7.21.6.1): numbers become zero, flags false and pointers null, and so it is
+-- with every object inside. The objects inside have greater numbers, so all are met in one pass.
 abbrev pub zero_cell : CellType → Cell
 zero_cell pointer = null
 zero_cell type = num 0

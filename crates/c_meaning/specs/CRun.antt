@@ -226,8 +226,8 @@ abbrev pub args_left : Memory → (buffer object : ℕ) → List HostArg → Hos
 args_left memory buffer object [] host = Some host
 args_left memory buffer object (arg ∷ args) host = option_and_then (args_left memory (buffer + 1) (object + 1) args) (arg_left memory buffer object arg host)
 
--- What an action answers. A status is null for ok, or else the start of a string of the text with the text of a base
--- status or of a status of the package; every other pointer is undefined, and so is a value that wasn't returned.
+-- What an action answers. A status is null for ok, or else a pointer to the first byte of a string that says what one of
+-- the base statuses or the package's own says; every other pointer is undefined, and so is a value that wasn't returned.
 abbrev pub status_text : Program → Surface → Pointer → Option (List ℕ)
 status_text p surface q = if nat_eq q.field 0 && nat_eq q.index 0 then option_and_then (λ it. known it.bytes) (slice_get p.texts q.object) else None
   where

@@ -145,7 +145,7 @@ abbrev pub formed_jump : Checked → Place → Option Place → Bool
 formed_jump c from None = false
 formed_jump c from (Some target) = may_loop c.linkage || nat_lt (place_weight target) (place_weight from)
 
--- A `return` has an expression exactly where the function isn't `void` (6.8.6.4p1).
+-- After `return` stands an expression, but none in a `void` function (6.8.6.4p1).
 abbrev pub formed_return : Checked → Option ExprTree → Option TypeTree → Bool
 formed_return c None None = true
 formed_return c (Some e) (Some t) = may_assign (Some (one t)) (type_of c.scope e)

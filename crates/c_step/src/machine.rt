@@ -113,8 +113,8 @@ impl Machine {
         }
     }
 
-    /// The greatest number of parameters and locals together along a chain of calls that begins at an external function of the
-    /// text.
+    /// How many parameters and locals at most the functions of one chain of calls have together, of the chains that begin at
+    /// an external function of the text.
     pub(crate) fn frame_cells(&self) -> u64
         ensures { result ≡ program_cells (program_of (unit_tree self.now.nodes)) }
     {

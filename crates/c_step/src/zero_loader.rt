@@ -8,8 +8,8 @@ use std::alloc::Global;
 use wf_ast::Typed;
 use wf_bufs::{ReceiverDecl, ZeroEngine};
 
-/// Its engine answers ok to each init, and to each call ok, 0, false or nothing, as the method's answer has it; it leaves the
-/// buffers as they are. It isn't plain.
+/// Of its engine each init is ok, and each call has the least answer of the method's kind: ok, 0, false or nothing. No buffer
+/// is changed. It isn't plain.
 #[derive(Clone, Copy)]
 pub struct ZeroLoader;
 

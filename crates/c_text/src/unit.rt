@@ -21,7 +21,7 @@ use std::alloc::Global;
 use std::marker::Model;
 use wf_text::{NoMemory, add_last};
 
-/// A C text as a tree. Its items stand in the text in the order in which they were added.
+/// A C text as a tree. The text has its items as they came, one after the other.
 pub struct Unit {
     names: Interner,
     strings: Vec<CList<u8>>,

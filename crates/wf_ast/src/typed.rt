@@ -116,7 +116,7 @@ impl Typed {
         self.nodes.types.as_slice()[e.0 as usize]
     }
 
-    /// The number of a constant numeric expression, and None exactly for every other expression.
+    /// The number of an expression where it is numeric and constant, and None exactly where it isn't.
     pub fn constant(&self, e: ExprId) -> Option<u64>
         requires { e.0 < length self.now.exprs }
         ensures { result ≡ constant_of_node self.now e.0 }

@@ -61,6 +61,6 @@ ReadPointsHaveFiles =
     (name : List ℕ) (files : List (List ℕ)) (p : Parsed) → IsParsed name files p
     → (order : List ℕ) (r : Refusal) → BreaksPoints (resolved_package p.name p.texts (decls_of p) order) r → r.at.file < length files
 
--- Of the methods with too many points one decides, or no method has too many.
+-- Of the methods with too many points there is a first refusal, or no method has too many.
 abbrev pub PointsAreDecided : Type 0
 PointsAreDecided = (p : NamedPackageTree) → (found : Option Refusal) × Decides (BreaksPoints p) found

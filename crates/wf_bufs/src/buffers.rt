@@ -193,7 +193,7 @@ impl Buf {
         self.closed = true;
     }
 
-    /// Moves the unread bytes to the front, and leaves all other cells.
+    /// The bytes not read yet go to the front; every other cell stays as it is.
     pub fn compact(&mut self)
         ensures { self.new ≡ compact self.old }
     {

@@ -45,8 +45,8 @@ pub trait Engine {
         ensures receivers { receivers (state self.new) ≡ receivers (state self.old) }
         ensures kind { DoneFits (surface (state self.old)) status result };
 
-    /// One public call on the host's buffers and byte arrays, within `turns` turns. The outcome is of the kind
-    /// that the method answers. After Turns and Undefined the engine has stopped, and nothing is said of the
+    /// One public call on the host's buffers and byte arrays, within `turns` turns. An outcome is of the method's
+    /// kind of answer. After Turns and Undefined the engine has stopped, and nothing is said of the
     /// buffers.
     fn call(&mut self, what: &Call<'_>, bufs: &mut Bufs, turns: u64) -> Reply
         requires goes_on { stopped (state self.old) ≡ false }

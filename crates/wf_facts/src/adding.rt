@@ -29,8 +29,8 @@ impl Facts {
         stands_in(t, self.list.as_slice(), f)
     }
 
-    /// Adds a fact at the end, unless it stands already; of a fact made twice the first stays. `Full` comes exactly where
-    /// 512 others stand, and the list then stays as it was.
+    /// Adds a fact at the end, unless it stands already; of a fact made twice the first stays. `Full` exactly where 512
+    /// others are there; then nothing changes.
     pub fn push(&mut self, t: &Typed, f: Fact) -> Result<(), Full>
         requires fact { is_fact t.now f ≡ true }
         requires over { IsOver t.now self.old }

@@ -12,8 +12,8 @@ use wf_ast::{Thing, Typed};
 use wf_facts_exprs::Fact;
 use wf_text::NoMemory;
 
-/// At most 512 facts in order, and beside them, for each local and for `This`, `Args`, `Element` and `SliceLocals`, the
-/// set of those that mention it.
+/// At most 512 facts in order, and beside them sets: one for each local, and one each for `This`, `Args`, `Element` and
+/// `SliceLocals`, with the facts that mention it.
 #[derive(Drop)]
 pub struct Facts {
     pub(crate) list: Vec<Fact>,

@@ -23,7 +23,7 @@ pub(crate) fn demand(met: bool, rule: Rule, at: Place) -> Result<(), Refusal>
     }
 }
 
-/// What an operator asks of its right operand: a divisor isn't 0, and a shift is below the width.
+/// What an operator asks of its right operand: not 0 for a divisor, less than the width for a shift.
 pub(crate) fn operand_demand(op: Op, bits: u32, sign: Place, b: Range) -> Result<(), Refusal>
     ensures { result ≡ unless_refused (wanted_of_operand (arith_of op) bits sign b) tt }
 {

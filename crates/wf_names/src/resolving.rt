@@ -41,8 +41,8 @@ fn resolved(alloc: Global, parsed: &PackageNodes, found: Findings) -> Result<Nam
     Ok(Named::new(nodes))
 }
 
-/// Resolves the names of a package. `Refused` where it breaks rules of names, N1 to N8, L6 and L7: of all that it breaks
-/// by what has the least place, and of one place by the rule that is named first. `Memory` where memory was refused, or
+/// Resolves the names of a package. `Refused` where it breaks rules of names, N1 to N8, L6 and L7: by the
+/// first refusal of all that it breaks. `Memory` where memory was refused, or
 /// more is named than there are numbers for.
 pub fn resolve(alloc: Global, parsed: Package) -> Result<Named, PhaseFault>
     ensures refused { IfErr result (IsMisnamed parsed) }

@@ -196,7 +196,7 @@ pub data LabelBreaks (d : Declared) : Refusal → Type 0 where
 
 -- What the graphs of methods and of structs break.
 pub data CycleBreaks (d : Declared) : Refusal → Type 0 where
-  -- N4: a method that can reach itself by calls, at its name
+  -- N4: a method from which calls lead back to it, at its name
   recursion : (a : ℕ) (m : Method) → slice_get d.methods a ≡ Some m → Path (calls d) a a → CycleBreaks d (record { rule = N4; at = m.name.at })
   -- N4: a struct that holds itself through fields, at its name
   holds_itself : (a : ℕ) (s : Structure) → slice_get d.structs a ≡ Some s → Path (holds_struct d) a a → CycleBreaks d (record { rule = N4; at = s.name.at })

@@ -89,8 +89,8 @@ pub fn arguments_by_the_rules_of_names()
     ensures none_wanted { uses_found (doing (calls_on (arg "src" 5) "length" 14 tree.no_given)) None ≡ None }
 {}
 
-/// Where more than one rule is broken the least place decides, in whatever order the uses are looked through, and of one place
-/// the rule that is named first. A call whose method or an argument of which has no meaning breaks no rule of arguments.
+/// Where more than one rule is broken the first refusal is found, in whatever order the uses are looked through.
+/// A call whose method or an argument of which has no meaning breaks no rule of arguments.
 pub fn the_least_place_decides_among_uses()
     ensures two_names { uses_found (doing (set_v (sum (tree.path (bare "gone" 9)) (tree.path (bare "n" 16))))) None ≡ refused N1 (here 9) }
     ensures the_first_is_there { uses_found (doing (set_v (sum (tree.path (bare "v" 9)) (tree.path (bare "n" 16))))) None ≡ refused N1 (here 16) }

@@ -9,8 +9,8 @@ use crate::sinks::{Sink, SinkFault};
 use std::io;
 use std::io::Write;
 
-/// The standard output that a runtime reaches. Each write that fails, or that takes nothing of a piece that
-/// isn't empty, is a fault.
+/// The standard output that a runtime reaches. A write is a fault where it fails, and where it takes no
+/// byte though there is one.
 #[derive(Drop)]
 pub struct StdSink<'a, P> {
     output: &'a P,

@@ -129,8 +129,8 @@ fn read_nodes(alloc: Global, name: &str, files: &[Vec<u8>]) -> Result<PackageNod
     Ok(machine.maker.package)
 }
 
-/// Reads the files of the package with this name, in order. S1 to S6, L3, L4 and L5 where a file breaks them: the
-/// first token that does decides.
+/// Reads the files of the package with this name, in order. S1 to S6, L3, L4 and L5 where a file breaks them, at
+/// the first token that does.
 pub fn parse(alloc: Global, name: &str, files: &[Vec<u8>]) -> Result<Package, PhaseFault>
     requires count { length files.now ≤ 16 }
     requires bytes { sum_by (λ file. length file.items) files.now ≤ 1048576 }

@@ -105,7 +105,7 @@ value_of names reader word = io_value names word
 value_of names writer word = io_value names word
 value_of names (slice bits) word = if nat_eq bits 8 then bytes_value names word else Err X3
 
--- At one word an unknown name (X2) decides before an argument that is given twice (X3), and this before all else.
+-- At one word an unknown name (X2) comes before an argument that is given twice (X3), and this before all else.
 abbrev pub unless_given : Bool → Result Arg XRule → Result Arg XRule
 unless_given false value = value
 unless_given true (Err X2) = Err X2

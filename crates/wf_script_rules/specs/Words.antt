@@ -11,7 +11,7 @@ use Rattle.wf_script_rules.specs.declared.rules.Verb.{Verb}
 use Rattle.wf_script_rules.specs.declared.rules.Verb.TheVariants as verb
 use Rattle.wf_script_rules.specs.Text.{begins}
 
--- What follows a result: the first refusal decides.
+-- What follows a result; the first refusal stays.
 infixl 10 ◌>>=◌
 abbrev pub ◌>>=◌ : {E A B : Type 0} → Result A E → (A → Result B E) → Result B E
 Ok x >>= f = f x

@@ -1,5 +1,5 @@
-// The law of one step. Each function speaks of the rule of one statement, with any lists at the ends of the statement's
-// blocks, and of one step of a body that stands at it. It supposes that the rule refuses nothing at the statement, that all
+// The law of one step. Each function speaks of one statement's rule, whatever lists are known where the statement's blocks
+// end, and of one step of a body that stands at it. It supposes that the rule refuses nothing at the statement, that all
 // values lie in their types, that the facts before the statement are true (at a resumption those that are known after its
 // drops), and that the method that the statement calls runs well from where the body stands. Then the step isn't stuck, values
 // lie in their types again, and what the rule gives for the place that the step comes to is true.

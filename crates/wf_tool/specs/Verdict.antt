@@ -67,15 +67,15 @@ pub record IsMisread (files : List (List ℕ)) (refusal : Refusal) : Type 0 wher
   pub sized : too_large files ≡ None
   pub misread : IsRefusedBy files refusal
 
--- N1 to N8, L6 and L7: the files are read, and of all that they break of the rules of names this decides.
+-- N1 to N8, L6 and L7: the files are read, and this is the first refusal of all that they break of the rules of names.
 pub record IsMisnamed (name : List ℕ) (files : List (List ℕ)) (refusal : Refusal) : Type 0 where
   pub sized : too_large files ≡ None
   pub read : Parsed
   pub parsed : IsParsed name files read
   pub decides : IsFirst (BreaksNames read) refusal
 
--- T1 to T5 and E1 to E5: the files are read and keep the rules of names, and of all that they break of the rules of types
--- and effects this decides.
+-- T1 to T5 and E1 to E5: the files are read and keep the rules of names, and this is the first refusal of all that they break
+-- of the rules of types and effects.
 pub record IsMistyped (name : List ℕ) (files : List (List ℕ)) (refusal : Refusal) : Type 0 where
   pub sized : too_large files ≡ None
   pub read : Parsed
@@ -93,8 +93,8 @@ pub record IsOutOfBounds (name : List ℕ) (files : List (List ℕ)) (refusal : 
   pub types : KeepsTypes read
   pub first : out_of_bounds_at read ≡ Some refusal
 
--- L9: the files are read and keep all rules but that of suspension points, and of the methods that have too many this one's
--- refusal decides.
+-- L9: the files are read and keep all rules but that of suspension points, and this is the first refusal of the methods that
+-- have too many.
 pub record HasTooManyPoints (name : List ℕ) (files : List (List ℕ)) (refusal : Refusal) : Type 0 where
   pub sized : too_large files ≡ None
   pub read : Parsed

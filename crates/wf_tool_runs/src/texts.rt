@@ -32,7 +32,7 @@ pub enum TextFault {
     TooDeep { at: u64 },
     /// The token at this byte, from 0, can't stand there; at the end, the number of bytes.
     NotC { at: u64 },
-    /// The item with this number, from 0, is the first that breaks the unit form; the number of items, where there is none or a
+    /// The number, counted from 0, of the first item that breaks the unit form; the number of items, where there is none or a
     /// public function is missing.
     NoSuchForm { item: usize },
 }

@@ -82,8 +82,8 @@ fn typed(alloc: Global, named: &NamedNodes, judged: Judged) -> Result<Typed, NoM
     }
 }
 
-/// Gives the types of a package. `Refused` where it breaks rules of types and effects, T1 to T5 and E1 to E5: of all that it
-/// breaks by what has the least place, and of one place by the rule that is named first. `Memory` where memory was refused,
+/// Gives the types of a package. `Refused` where it breaks rules of types and effects, T1 to T5 and E1 to E5: by the
+/// first refusal of all that it breaks. `Memory` where memory was refused,
 /// or more is counted than there are numbers for. What the typed package declares has the names, the places and the types of the
 /// resolved one. Beside the expressions in bodies, it has one for each local of each method: its path, at the place of its name.
 /// What holds of every typed package is told of it too, for the phases after this one.
