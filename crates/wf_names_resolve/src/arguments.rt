@@ -76,8 +76,8 @@ fn method_args(
 ) -> Result<Sequence<ExprId>, NoMemory>
     ensures { IfOk result (λ values. values ≡ values_named given.now (args_at tables.now m)) }
 {
-    match tables.args.get(m) {
-        Some(args) => named_args(alloc, given, args.as_slice()),
+    match tables.variables.get(m) {
+        Some(known) => named_args(alloc, given, known.args.entries.keys().as_slice()),
         None => Ok(Sequence::new(alloc)),
     }
 }
