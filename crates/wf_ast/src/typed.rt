@@ -227,6 +227,13 @@ impl Typed {
     {
         self.nodes.order.as_slice()
     }
+
+    /// The structs in an order in which each stands after those that its fields hold.
+    pub fn struct_order(&self) -> &[u32]
+        ensures { result.now ≡ self.now.struct_order }
+    {
+        self.nodes.struct_order.as_slice()
+    }
 }
 
 fn same_place(a: Place, b: Place) -> bool

@@ -62,11 +62,6 @@ module _ (a b c : Nodes) where
   by_then xs ys (Ok u) g h = by_on xs ys g h
   by_then xs ys (Err refused) g h = h
 
-module _ (a b : Nodes) where
-  pub by_as : (xs ys : List ItemTree) (r : Result (Unit {0}) NoMemory) → xs ≡ ys → OnOk r (GrowsBy xs a b) → OnOk r (GrowsBy ys a b)
-  by_as xs ys (Ok u) e h = by_list e h
-  by_as xs ys (Err refused) e h = h
-
 -- A string is added.
 abbrev with_string : Nodes → List ℕ → Nodes
 with_string a bytes = record a { strings = a.strings ++ bytes ∷ [] }

@@ -322,6 +322,15 @@ abbrev pub all_whole : NamedPackageTree → (n : ℕ) → List NamedStructTree �
 all_whole p n [] = true
 all_whole p n (it ∷ ss) = is_whole p (length p.structs) n && all_whole p (suc n) ss
 
+-- Each struct of the list holds only those that stand before it.
+abbrev pub structs_in_front : NamedPackageTree → (front rest : List ℕ) → Bool
+structs_in_front p front [] = true
+structs_in_front p front (s ∷ ss) = is_whole_struct (is_among front) (slice_get p.structs s) && (not (is_among front s) && structs_in_front p (s ∷ front) ss)
+
+-- The order of the structs has them all, each after those that its fields hold.
+abbrev pub has_struct_order : NamedPackageTree → Bool
+has_struct_order p = nat_eq (length p.struct_order) (length p.structs) && structs_in_front p [] p.struct_order
+
 -- At most 64 arguments and 256 locals.
 abbrev pub has_few_variables : NamedMethodTree → Bool
 has_few_variables m = nat_le (length m.args) 64 && nat_le (length m.locals) 256
@@ -330,4 +339,4 @@ has_few_variables m = nat_le (length m.args) 64 && nat_le (length m.locals) 256
 unfoldable pub well_named : NamedPackageTree → Bool
 well_named p =
     named_consts p 0 p.consts && (named_structs p 0 p.structs && (list_all (named_method p) p.methods
-    && (all_whole p 0 p.structs && (nat_eq (length p.order) (length p.methods) && (calls_in_front p [] p.order && list_all has_few_variables p.methods)))))
+    && (all_whole p 0 p.structs && (nat_eq (length p.order) (length p.methods) && (calls_in_front p [] p.order && (has_struct_order p && list_all has_few_variables p.methods))))))

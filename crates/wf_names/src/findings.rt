@@ -37,6 +37,8 @@ pub(crate) struct Findings {
     pub tables: Tables,
     /// The numbers of all methods, each after those that it calls, apart from those that can reach it by calls.
     pub order: Vec<u32>,
+    /// The numbers of all structs, each after those that its fields hold, apart from those that hold it.
+    pub struct_order: Vec<u32>,
 }
 
 // What the declarations, the labels and the uses of names break joins what was found before. Answers the rows of the calls of
@@ -101,5 +103,6 @@ pub(crate) fn look_through(alloc: Global, parsed: &PackageNodes) -> Result<Findi
         refusal: found.first(),
         tables,
         order: methods.into_order(),
+        struct_order: structs.into_order(),
     })
 }

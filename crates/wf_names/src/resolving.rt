@@ -26,8 +26,9 @@ fn resolved_nodes(
         refusal: _,
         tables,
         order,
+        struct_order,
     } = found;
-    resolve_package(alloc, parsed, &tables, order)
+    resolve_package(alloc, parsed, &tables, order, struct_order)
 }
 
 // The same as a package that is known to be well named.

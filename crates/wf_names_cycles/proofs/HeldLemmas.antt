@@ -135,7 +135,7 @@ names-long : (ss : List Structure) → length (names_of ss) ≡ length ss
 names-long [] = refl
 names-long (s ∷ ss) = ap suc (names-long ss)
 
-rows-long : (f : ℕ → Option ℕ) (ss : List Structure) → length (held_rows f ss) ≡ length ss
+pub rows-long : (f : ℕ → Option ℕ) (ss : List Structure) → length (held_rows f ss) ≡ length ss
 rows-long f [] = refl
 rows-long f (s ∷ ss) = ap suc (rows-long f ss)
 
@@ -160,7 +160,7 @@ name-at (t ∷ ss) zero s e = let same : t ≡ s = cc e in ap (λ (x : Structure
 name-at (t ∷ ss) (suc i) s e = name-at ss i s e
 
 module _ (d : Declared) (f : ℕ → Option ℕ) (rows : List (List ℕ)) (numbered : (text : ℕ) → f text ≡ struct_named d text) (made : rows ≡ held_rows f d.structs) where
-  goes-is : (a b : ℕ) → goes rows a b ≡ holds_struct d a b
+  pub goes-is : (a b : ℕ) → goes rows a b ≡ holds_struct d a b
   goes-is a b = ap (λ rs. goes rs a b) made ∙ row-held d f numbered b d.structs a
 
   pub structs-within : AreWithin rows (length rows)

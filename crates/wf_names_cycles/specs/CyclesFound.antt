@@ -57,6 +57,12 @@ pub record AreMethodCycles (d : Declared) (named : NamedCycles) : Type 0 where
   pub names : named.names.items ≡ method_names d.methods
   pub cycles : AreCyclesOf rows named
 
+-- All structs of a package stand in the order, each after those that its fields hold, apart from those that hold it.
+pub record IsStructOrder (d : Declared) (order : List ℕ) : Type 0 where
+  pub rows : List (List ℕ)
+  pub made : AreStructRows d rows
+  pub order_of : IsOrderOffCycles rows order
+
 -- All methods of a package stand in the order, each after those that it calls, apart from those that can reach it.
 pub record IsCallOrder (d : Declared) (order : List ℕ) : Type 0 where
   pub rows : List (List ℕ)

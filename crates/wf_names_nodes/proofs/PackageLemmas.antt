@@ -179,8 +179,8 @@ others_counted d old new x e =
     omega (arith, methods_counted old, methods_counted new, ap (λ t. length t.methods) e, length-append (named_package old).methods (resolved_methods d (x ∷ [])), methods_of_one d x)
 
 -- The whole, of a package with nothing in it.
-pub package_new : (p : NamedParts) (name : List ℕ) → p ≡ record { package_name = name; texts = []; exprs = []; stmts = []; consts = []; statuses = []; structs = []; methods = []; order = [] }
-    → named_package p ≡ record { package_name = name; consts = []; statuses = []; structs = []; methods = []; order = [] }
+pub package_new : (p : NamedParts) (name : List ℕ) → p ≡ record { package_name = name; texts = []; exprs = []; stmts = []; consts = []; statuses = []; structs = []; methods = []; order = []; struct_order = [] }
+    → named_package p ≡ record { package_name = name; consts = []; statuses = []; structs = []; methods = []; order = []; struct_order = [] }
 unfolding named_package
 package_new p name e = ap named_package e
 
@@ -196,14 +196,14 @@ ok_equal_more (Ok x) a s t e h = h ∙ e
 ok_equal_more (Err f) a s t e h = tt
 
 -- The whole, from a package with nothing in it.
-pub package_made : (p : Parsed) (new : NamedParts) (name : List ℕ) (order : List ℕ) (all last : NamedPackageTree) → name ≡ p.name
-    → new ≡ record { package_name = name; texts = []; exprs = []; stmts = []; consts = []; statuses = []; structs = []; methods = []; order = [] }
+pub package_made : (p : Parsed) (new : NamedParts) (name : List ℕ) (order struct_order : List ℕ) (all last : NamedPackageTree) → name ≡ p.name
+    → new ≡ record { package_name = name; texts = []; exprs = []; stmts = []; consts = []; statuses = []; structs = []; methods = []; order = []; struct_order = [] }
     → all ≡ with_others (package_of p) (with_consts (named_package new) (resolved_consts (package_of p) [] (package_of p).constants)) (decl_trees p.exprs p.stmts p.decls)
-    → last ≡ record all { order = order } → last ≡ resolved_by (package_of p) p.name (decl_trees p.exprs p.stmts p.decls) order
-package_made p new name order all last e f g h =
+    → last ≡ record all { order = order; struct_order = struct_order } → last ≡ resolved_by (package_of p) p.name (decl_trees p.exprs p.stmts p.decls) order struct_order
+package_made p new name order struct_order all last e f g h =
     let d = package_of p in
     let decls = decl_trees p.exprs p.stmts p.decls in
     let whole : NamedPackageTree → NamedPackageTree = λ t. with_others d (with_consts t (resolved_consts d [] d.constants)) decls in
-    let ordered : NamedPackageTree → NamedPackageTree = λ t. record t { order = order } in
-    let empty : List ℕ → NamedPackageTree = λ n. record { package_name = n; consts = []; statuses = []; structs = []; methods = []; order = [] } in
+    let ordered : NamedPackageTree → NamedPackageTree = λ t. record t { order = order; struct_order = struct_order } in
+    let empty : List ℕ → NamedPackageTree = λ n. record { package_name = n; consts = []; statuses = []; structs = []; methods = []; order = []; struct_order = [] } in
     h ∙ ap ordered (g ∙ ap whole (package_new new name f)) ∙ ap (λ n. ordered (whole (empty n))) e

@@ -240,18 +240,21 @@ fn all_decls(
 }
 
 /// The nodes of the resolved package. `tables` are those of what the package declares; `order` has the numbers of all
-/// methods, each after those that it calls. `Err` where memory was refused or no number is left.
+/// methods, each after those that it calls, and `struct_order` those of all structs, each after those that its fields
+/// hold. `Err` where memory was refused or no number is left.
 pub fn resolve_package(
     alloc: Global,
     parsed: &PackageNodes,
     tables: &Tables,
     order: Vec<u32>,
+    struct_order: Vec<u32>,
 ) -> Result<NamedNodes, NoMemory>
     requires { TellsPackage (package_of parsed.now) tables.now }
-    ensures { IfOk result (λ nodes. named_package nodes ≡ resolved_by (package_of parsed.now) parsed.now.name (decl_trees parsed.now.exprs parsed.now.stmts parsed.now.decls) order.items) }
+    ensures { IfOk result (λ nodes. named_package nodes ≡ resolved_by (package_of parsed.now) parsed.now.name (decl_trees parsed.now.exprs parsed.now.stmts parsed.now.decls) order.items struct_order.items) }
 {
     let mut nodes = NamedNodes::new(alloc, parsed.name())?;
     all_decls(alloc, &mut nodes, parsed, tables)?;
     nodes.set_order(order);
+    nodes.set_struct_order(struct_order);
     Ok(nodes)
 }

@@ -134,7 +134,7 @@ module _ (d : Declared) where
   methods-are (parsed.method public owner name mark args result body at ∷ decls) a = (a.0 mark refl, methods-are decls a.1)
 
 pub packages-are-resolved : PackagesAreResolved
-packages-are-resolved name texts decls order distinct h =
+packages-are-resolved name texts decls order struct_order distinct h =
     let d = declared texts decls in
     record {
       consts = all-consts d h distinct;
@@ -144,4 +144,4 @@ packages-are-resolved name texts decls order distinct h =
     }
 
 pub read-packages-are-resolved : ReadPackagesAreResolved
-read-packages-are-resolved name files read is kept order = packages-are-resolved read.name read.texts (decls_of read) order (parsed_distinct name files read is) kept
+read-packages-are-resolved name files read is kept order struct_order = packages-are-resolved read.name read.texts (decls_of read) order struct_order (parsed_distinct name files read is) kept

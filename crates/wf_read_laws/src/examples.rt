@@ -37,5 +37,5 @@ pub fn statements_that_files_have()
 /// A package with a status, a constant, a struct and two methods is well formed, and resolved as the grammar gives.
 pub fn a_package_that_files_have()
     ensures formed { list_all well_formed counting_decls ≡ true }
-    ensures resolved { package_by_grammar (resolved_package (codes "count") counting_texts counting_decls (1 ∷ 0 ∷ [])) ≡ true }
+    ensures resolved { package_by_grammar (resolved_package (codes "count") counting_texts counting_decls (1 ∷ 0 ∷ []) (0 ∷ [])) ≡ true }
 {}

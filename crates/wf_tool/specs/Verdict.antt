@@ -24,7 +24,7 @@ KeepsNames read = (refusal : Refusal) → BreaksNames read refusal → ⊥
 -- The package with every name standing for what it names. No rule that comes after those of names asks in which order its
 -- methods call one another, so none is told here.
 abbrev pub resolved : Parsed → NamedPackageTree
-resolved read = resolved_package read.name read.texts (decls_of read) []
+resolved read = resolved_package read.name read.texts (decls_of read) [] []
 
 -- What it breaks of the rules of types and effects: T1 to T5 and E1 to E5.
 abbrev pub BreaksTypes : Parsed → Refusal → Type 0

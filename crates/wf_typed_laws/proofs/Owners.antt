@@ -53,18 +53,18 @@ module _ (d : Declared) where
           let within : n < length d.structs = omega (arith, below) in
           subst P (sym e) within
 
-have-owners : (name : List ℕ) (texts : List (List ℕ)) (decls : List DeclTree) (order : List ℕ) → AreDistinct texts → ((refusal : Refusal) → Breaks (declared texts decls) refusal → ⊥)
-    → AllByRecursion (StructureHas (NameIsSpelt texts)) (structs_of decls) → AllByRecursion (MethodHas (NameIsSpelt texts)) (methods_of decls) → HasOwners (typed_package (resolved_package name texts decls order))
+have-owners : (name : List ℕ) (texts : List (List ℕ)) (decls : List DeclTree) (order struct_order : List ℕ) → AreDistinct texts → ((refusal : Refusal) → Breaks (declared texts decls) refusal → ⊥)
+    → AllByRecursion (StructureHas (NameIsSpelt texts)) (structs_of decls) → AllByRecursion (MethodHas (NameIsSpelt texts)) (methods_of decls) → HasOwners (typed_package (resolved_package name texts decls order struct_order))
 unfolding typed_package
-have-owners name texts decls order distinct kept ss ms =
+have-owners name texts decls order struct_order distinct kept ss ms =
     let d = declared texts decls in
-    let p = resolved_package name texts decls order in
+    let p = resolved_package name texts decls order struct_order in
     let count : length (map (typed_struct p) (resolved_structs d decls)) ≡ length (structs_of decls) = length-map (resolved_structs d decls) (typed_struct p) ∙ structs-counted d decls in
     let all = all-from (IsOwned d) (methods_of decls) (λ i m e. owned d m (owner-known d distinct kept ss ms i m e)) in
     methods-kept d distinct kept ss ms p (IsOwned d) (λ m. m.of < length (map (typed_struct p) (resolved_structs d decls)))
     (λ mark m n h. subst (λ (k : ℕ). number_or (struct_named d m.owner.text.0) < k) (sym count) h) 0 decls all
 
 pub read_methods_have_owners : ReadMethodsHaveOwners
-read_methods_have_owners name files read is kept order =
+read_methods_have_owners name files read is kept order struct_order =
     let spelt = names-spelt name files read is in
-    have-owners read.name read.texts (decls_of read) order (parsed_distinct name files read is) kept (spelt-structs read.texts (decls_of read) spelt) (spelt-methods read.texts (decls_of read) spelt)
+    have-owners read.name read.texts (decls_of read) order struct_order (parsed_distinct name files read is) kept (spelt-structs read.texts (decls_of read) spelt) (spelt-methods read.texts (decls_of read) spelt)

@@ -156,15 +156,15 @@ all-append (x ∷ xs) ys a b =
     let others = all-append xs ys both.1 b in
     rw (first, others) refl
 
-plain-statuses : (name : List ℕ) (texts : List (List ℕ)) (decls : List DeclTree) (order : List ℕ) → AllByRecursion (DeclIsGood (IsSpelt texts) (IsQuoted texts)) decls → list_all is_run name ≡ true
-    → ((refusal : Refusal) → Breaks (resolved_package name texts decls []) refusal → ⊥) → list_all is_plain_text (typed_package (resolved_package name texts decls order)).statuses ≡ true
+plain-statuses : (name : List ℕ) (texts : List (List ℕ)) (decls : List DeclTree) (order struct_order : List ℕ) → AllByRecursion (DeclIsGood (IsSpelt texts) (IsQuoted texts)) decls → list_all is_run name ≡ true
+    → ((refusal : Refusal) → Breaks (resolved_package name texts decls [] []) refusal → ⊥) → list_all is_plain_text (typed_package (resolved_package name texts decls order struct_order)).statuses ≡ true
 unfolding typed_package
-plain-statuses name texts decls order spelt n kept =
-    let p = resolved_package name texts decls [] in
+plain-statuses name texts decls order struct_order spelt n kept =
+    let p = resolved_package name texts decls [] [] in
     let bytes = words-quotable texts decls (statuses_of decls) (quoted-statuses texts decls spelt) in
     all-append base_statuses (map (λ w. seen_text name w.text) p.statuses) refl (seen-statuses p kept n p.statuses bytes (statuses-right p kept))
 
 pub read_statuses_are_plain : ReadStatusesArePlain
-read_statuses_are_plain name files read is n kept order =
+read_statuses_are_plain name files read is n kept order struct_order =
     let named : list_all is_run read.name ≡ true = ap (list_all is_run) is.named ∙ n in
-    plain-statuses read.name read.texts (decls_of read) order (names-spelt name files read is) named kept
+    plain-statuses read.name read.texts (decls_of read) order struct_order (names-spelt name files read is) named kept

@@ -18,7 +18,7 @@ use Rattle.wf_ast.specs.WellTyped.{type_at, variable_at, field_at}
 use Rattle.wf_named.specs.declared.nodes.Variable.{Variable}
 use Rattle.wf_named.specs.declared.nodes.Variable.TheVariants as variables
 use Rattle.wf_named.specs.NamedTree.{NamedTypeTree, VarTree, ConstTree, NamedStructTree, NamedMethodTree, NamedPackageTree}
-use Rattle.wf_named.specs.WellNamed.{Scope, fields_in, type_of_variable, kind_of, has_kind, named_type, named_consts, named_structs, named_method, named_result, named_block, scope_of_const, scope_of_struct, scope_of_method, all_whole, calls_in_front, has_few_variables, well_named}
+use Rattle.wf_named.specs.WellNamed.{Scope, fields_in, type_of_variable, kind_of, has_kind, named_type, named_consts, named_structs, named_method, named_result, named_block, scope_of_const, scope_of_struct, scope_of_method, all_whole, calls_in_front, has_struct_order, has_few_variables, well_named}
 use Rattle.wf_types_rules.specs.declared.meanings.Constant.{Constant}
 use Rattle.wf_types_rules.specs.declared.meanings.Meaning.{Meaning}
 use Rattle.wf_types_rules.specs.declared.meanings.Meaning.TheVariants as meanings
@@ -49,6 +49,7 @@ pub record PackageIs (p : NamedPackageTree) : Type 0 where
   pub whole : all_whole p 0 p.structs ≡ true
   pub ordered : nat_eq (length p.order) (length p.methods) ≡ true
   pub in_front : calls_in_front p [] p.order ≡ true
+  pub held_in_front : has_struct_order p ≡ true
   pub few : list_all has_few_variables p.methods ≡ true
 
 struct-fine : (p : NamedPackageTree) (s : Setting) (ss : List NamedStructTree) → AllFine p s (flat_map (λ x. variables_parts roles.Field x.fields) ss) → (i : ℕ) (it : NamedStructTree)
@@ -86,6 +87,7 @@ package-is p none named =
     let whole = both (all_whole p 0 p.structs) _ methods_named.1 in
     let order = both (nat_eq (length p.order) (length p.methods)) _ whole.1 in
     let front = both (calls_in_front p [] p.order) _ order.1 in
+    let held = both (has_struct_order p) _ front.1 in
     record {
       constants = constants-are p [] p.consts tt consts.0 names.0;
       fields = λ i it e. struct-fine p (for_types p) p.structs (parts-fine p (for_types p) (flat_map (λ x. variables_parts roles.Field x.fields) p.structs) structs.0) i it e;
@@ -95,7 +97,8 @@ package-is p none named =
       whole = whole.0;
       ordered = order.0;
       in_front = front.0;
-      few = front.1;
+      held_in_front = held.0;
+      few = held.1;
     }
 
 -- Variables with declared types.

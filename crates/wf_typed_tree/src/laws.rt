@@ -3,7 +3,7 @@
 ghost use Rattle.std.specs.Prelude.{◌≡◌, ℕ, true, ◌&&◌, Some, None, [], length, nat_eq, slice_get};
 ghost use Rattle.std.specs.List.{list_all, flat_map};
 ghost use Rattle.wf_ast.specs.TypedInvariant.{numbers_in, numbers_from};
-ghost use Rattle.wf_ast.specs.WellTyped.{Context, all_structs_whole, may_be_arg, may_be_local, may_be_result, answers_always, calls_in_front, well_typed};
+ghost use Rattle.wf_ast.specs.WellTyped.{Context, all_structs_whole, may_be_arg, may_be_local, may_be_result, answers_always, calls_in_front, has_struct_order, well_typed};
 ghost use Rattle.wf_named.specs.NamedTree.{NamedExprTree, NamedMethodTree, NamedPackageTree};
 ghost use Rattle.wf_named.specs.WellNamed.{Scope, named_expr, scope_of_method, well_named};
 ghost use Rattle.wf_named.specs.Grammar.{by_grammar, block_by_grammar, package_by_grammar};
@@ -31,11 +31,13 @@ pub fn what_stands_round_a_body_agrees()
 {}
 
 /// The declarations of the typed tree of a package that breaks no rule keep the rules of typed packages: no struct
-/// holds itself, each type may stand where it does, a method calls only methods before it, and a method with a
+/// holds itself, each type may stand where it does, a method calls only methods before it, the fields
+/// of a struct hold only structs before it, and a method with a
 /// result never reaches its end.
 pub fn declarations_keep_the_rules()
     ensures structs { (p : NamedPackageTree) → deciding p ≡ None → well_named p ≡ true → all_structs_whole (typed_package p) 0 (typed_package p).structs ≡ true }
     ensures order { (p : NamedPackageTree) → deciding p ≡ None → well_named p ≡ true → (nat_eq (length (typed_package p).order) (length (typed_package p).methods) && calls_in_front (typed_package p) [] (typed_package p).order) ≡ true }
+    ensures struct_order { (p : NamedPackageTree) → deciding p ≡ None → well_named p ≡ true → has_struct_order (typed_package p) ≡ true }
     ensures args { (p : NamedPackageTree) → deciding p ≡ None → well_named p ≡ true → (n i : ℕ) (m : NamedMethodTree) → slice_get p.methods i ≡ Some m → list_all (λ x. may_be_arg x.ty) (typed_method p n m).args ≡ true }
     ensures locals { (p : NamedPackageTree) → deciding p ≡ None → well_named p ≡ true → (n i : ℕ) (m : NamedMethodTree) → slice_get p.methods i ≡ Some m → list_all (λ x. may_be_local x.ty) (typed_method p n m).locals ≡ true }
     ensures results { (p : NamedPackageTree) → deciding p ≡ None → well_named p ≡ true → (n i : ℕ) (m : NamedMethodTree) → slice_get p.methods i ≡ Some m → may_be_result m.mark (typed_method p n m).gives ≡ true }

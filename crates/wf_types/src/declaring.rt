@@ -21,6 +21,7 @@ struct Names {
     statuses: Sequence<Sequence<u8>>,
     texts: Sequence<Sequence<u8>>,
     order: Sequence<u32>,
+    struct_order: Sequence<u32>,
 }
 
 fn names_copied(
@@ -29,17 +30,19 @@ fn names_copied(
     statuses: &[Sequence<u8>],
 ) -> Result<Names, NoMemory>
     requires { statuses.now ≡ status_texts (named_package nodes.now) }
-    ensures { IfOk result (λ n. n ≡ record { package_name = nodes.now.package_name; statuses = statuses_seen nodes.now; texts = nodes.now.texts; order = nodes.now.order }) }
+    ensures { IfOk result (λ n. n ≡ record { package_name = nodes.now.package_name; statuses = statuses_seen nodes.now; texts = nodes.now.texts; order = nodes.now.order; struct_order = nodes.now.struct_order }) }
 {
     let package_name = Sequence::from_slice(alloc, nodes.package_name())?;
     let statuses = seen_statuses(alloc, nodes, statuses)?;
     let texts = texts_copied(alloc, nodes)?;
     let order = Sequence::from_slice(alloc, nodes.order())?;
+    let struct_order = Sequence::from_slice(alloc, nodes.struct_order())?;
     Ok(Names {
         package_name,
         statuses,
         texts,
         order,
+        struct_order,
     })
 }
 
@@ -68,5 +71,6 @@ pub(crate) fn declared(
         bodies: Sequence::new(alloc),
         first_locals: Sequence::new(alloc),
         order: names.order,
+        struct_order: names.struct_order,
     })
 }

@@ -4,7 +4,7 @@ use Rattle.wf_names_cycles.specs.CyclesFound.{AreMethodCycles}
 use Rattle.wf_names_cycles.specs.Held.{names_of}
 use Rattle.wf_names_cycles.proofs.MethodLemmas.{graph-few}
 use Rattle.wf_names_cycles.proofs.SectionLemmas.{methods-within}
-use Rattle.wf_names.proofs.DecidingLemmas.{order-of-calls}
+use Rattle.wf_names.proofs.DecidingLemmas.{order-of-calls, order-of-structs}
 use Rattle.wf_names.proofs.findings.look_through.Goals as goal
 
 pub struct_cycles-requires-clause-numbers : goal.struct_cycles-requires-clause-numbers
@@ -39,4 +39,5 @@ returns c =
       decides = rw c.first.ensures c.in_ok-deciding.ensures;
       tables = c.in_ok-tables.ensures;
       order = rw c.into_order.ensures (order-of-calls d c.in_ok-methods.methods cycles);
+      struct_order = rw c.into_order-2.ensures (order-of-structs d c.in_ok-structs.structs c.in_ok-structs.ensures);
     }

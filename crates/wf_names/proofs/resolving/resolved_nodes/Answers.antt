@@ -14,6 +14,7 @@ pub returns : goal.returns
 returns c =
     let p = c.args.parsed.now in
     let order = c.args.found.order.items in
-    if_ok (λ nodes. named_package nodes ≡ resolved_package p.name p.texts (decl_trees p.exprs p.stmts p.decls) order) (IsResolved p) c.resolve_package.result
-    (λ nodes made. tree-resolved p nodes order (subst (Decides (Breaks (package_of p))) c.requires.kept c.requires.found.decides) c.requires.found.order made)
+    let struct_order = c.args.found.struct_order.items in
+    if_ok (λ nodes. named_package nodes ≡ resolved_package p.name p.texts (decl_trees p.exprs p.stmts p.decls) order struct_order) (IsResolved p) c.resolve_package.result
+    (λ nodes made. tree-resolved p nodes order struct_order (subst (Decides (Breaks (package_of p))) c.requires.kept c.requires.found.decides) c.requires.found.order c.requires.found.struct_order made)
     c.resolve_package.ensures
