@@ -261,15 +261,11 @@ impl Unit {
         ensures { IfSome result (λ id. slice_get self.now.exprs id.0 ≡ Some e.now) }
     {
         let guess = self.recent_exprs.guess(place);
-        match self.exprs.get(guess) {
-            Some(known) => {
-                if sharing::is_same(known, e) {
-                    Some(CExprId(guess))
-                } else {
-                    None
-                }
-            }
-            None => None,
+        let known = self.exprs.get(guess)?;
+        if sharing::is_same(known, e) {
+            Some(CExprId(guess))
+        } else {
+            None
         }
     }
 

@@ -47,10 +47,8 @@ impl ZeroEngine {
     fn called(&self, what: &Call<'_>) -> Option<AnswerKind>
         ensures { option_map answer_kind_of result ≡ option_map (λ it. it.answers) (called_method self.now.0 self.now.1 (call_of what.now)) }
     {
-        match self.receivers.get(what.receiver as usize) {
-            Some(receiver) => self.surface.answers(*receiver, what.method),
-            None => None,
-        }
+        let receiver = self.receivers.get(what.receiver as usize)?;
+        self.surface.answers(*receiver, what.method)
     }
 }
 

@@ -9,21 +9,22 @@ ghost use Rattle.wf_names_decls.specs.NameLists.{AreNameLists};
 ghost use Rattle.wf_names_scopes.specs.Agreeing.{package_of, TellsPackage};
 ghost use Rattle.wf_names_scopes.specs.CallRows.{AreRows};
 ghost use Rattle.wf_names_scopes.specs.UsesFound.{names_found};
-ghost use Rattle.wf_names_cycles.specs.CyclesFound.{AreStructCycles, AreMethodCycles};
+ghost use Rattle.wf_names_cycles.specs.CyclesFound.{ArePackageCycles};
+ghost use Rattle.wf_names_sizes.specs.Settings.{TellsSizes};
 ghost use Rattle.wf_names.specs.Naming.{AreFindings};
 
 use graphs::rows::Row;
 use std::alloc::Global;
 use wf_ast::PackageNodes;
-use wf_names_cycles::cycles_found::{NamedCycles, cycle_breaks};
-use wf_names_cycles::methods::method_cycles;
-use wf_names_cycles::structs::struct_cycles;
+use wf_names_cycles::cycles_found::{PackageCycles, cycle_breaks, named_cycles};
 use wf_names_decls::declarations::declarations;
 use wf_names_decls::gathering::{NameLists, name_lists};
 use wf_names_rules::tables::Tables;
 use wf_names_scopes::tables::tables;
 use wf_names_scopes::uses::uses;
+use wf_names_sizes::holding::struct_rows;
 use wf_names_sizes::large::size_breaks;
+use wf_names_sizes::tables::{SizeTables, size_tables};
 use wf_text::faults::NoMemory;
 use wf_text::found::Found;
 use wf_text::rules::Refusal;
@@ -59,6 +60,30 @@ fn named(
     uses(alloc, found, parsed, tables)
 }
 
+// What the sizes of a package are made of, and the cycles of its structs and its methods; `calls` lists for each method those
+// that it calls.
+fn sizes_and_cycles(
+    alloc: Global,
+    parsed: &PackageNodes,
+    tables: &Tables,
+    names: NameLists,
+    calls: &[Row],
+) -> Result<(SizeTables, PackageCycles), NoMemory>
+    requires few { length parsed.now.decls < 2 ^ 32 - 1 }
+    requires tables { TellsPackage (package_of parsed.now) tables.now }
+    requires names { AreNameLists (package_of parsed.now) names }
+    requires calls { AreRows (package_of parsed.now) calls.now (length (package_of parsed.now).methods) }
+    ensures sizes { IfOk result (λ made. TellsSizes (package_of parsed.now) made.0) }
+    ensures cycles { IfOk result (λ made. ArePackageCycles (package_of parsed.now) made.1) }
+{
+    let (structs, methods) = names.into_structs_and_methods();
+    let sizes = size_tables(alloc, parsed, tables)?;
+    let holds = struct_rows(alloc, &sizes)?;
+    let structs = named_cycles(alloc, structs, holds.as_slice())?;
+    let methods = named_cycles(alloc, methods, calls)?;
+    Ok((sizes, PackageCycles { structs, methods }))
+}
+
 // What the cycles of structs and methods and the sizes break joins what the declarations, the labels and the uses of names
 // break: then the first refusal of all rules is found.
 fn deciding(
@@ -66,24 +91,17 @@ fn deciding(
     found: &mut Found,
     parsed: &PackageNodes,
     tables: &Tables,
-    structs: &NamedCycles,
-    methods: &NamedCycles,
+    sizes: &SizeTables,
+    cycles: &PackageCycles,
 ) -> Result<(), NoMemory>
     requires tables { TellsPackage (package_of parsed.now) tables.now }
     requires named { found.old ≡ names_found (package_of parsed.now) (declarations_found (package_of parsed.now) None) }
-    requires structs { AreStructCycles (package_of parsed.now) structs.now }
-    requires methods { AreMethodCycles (package_of parsed.now) methods.now }
+    requires sizes { TellsSizes (package_of parsed.now) sizes.now }
+    requires cycles { ArePackageCycles (package_of parsed.now) cycles.now }
     ensures { OnOk result (Decides (Breaks (package_of parsed.now)) found.new) }
 {
-    cycle_breaks(found, structs, methods);
-    size_breaks(
-        alloc,
-        found,
-        parsed,
-        &tables.structs,
-        structs.cycles.flags.as_slice(),
-        structs.cycles.order.as_slice(),
-    )
+    cycle_breaks(found, cycles);
+    size_breaks(alloc, found, parsed, tables, sizes, &cycles.structs.cycles)
 }
 
 /// Looks through a package for what it breaks of the rules of names. `Err` where memory was refused.
@@ -94,15 +112,14 @@ pub(crate) fn look_through(alloc: Global, parsed: &PackageNodes) -> Result<Findi
     let tables = tables(alloc, parsed)?;
     let names = name_lists(alloc, parsed)?;
     let mut found = Found::nothing();
-    let rows = named(alloc, &mut found, parsed, &tables, &names)?;
-    let (structs, methods) = names.into_structs_and_methods();
-    let structs = struct_cycles(alloc, parsed, &tables.structs, structs)?;
-    let methods = method_cycles(alloc, methods, rows.as_slice())?;
-    deciding(alloc, &mut found, parsed, &tables, &structs, &methods)?;
+    let calls = named(alloc, &mut found, parsed, &tables, &names)?;
+    let (sizes, cycles) = sizes_and_cycles(alloc, parsed, &tables, names, calls.as_slice())?;
+    deciding(alloc, &mut found, parsed, &tables, &sizes, &cycles)?;
+    let (struct_order, order) = cycles.into_orders();
     Ok(Findings {
         refusal: found.first(),
         tables,
-        order: methods.into_order(),
-        struct_order: structs.into_order(),
+        order,
+        struct_order,
     })
 }

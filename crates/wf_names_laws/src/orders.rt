@@ -11,7 +11,7 @@ ghost use Rattle.wf_names_rules.specs.Declarations.{Declared, declared, methods_
 ghost use Rattle.graphs.specs.Graphs.{AreWithin};
 ghost use Rattle.wf_names_rules.specs.NameRules.{Breaks, DeclarationBreaks, UseBreaks, CycleBreaks};
 ghost use Rattle.wf_names_scopes.specs.CallRows.{AreRows};
-ghost use Rattle.wf_names_cycles.specs.StructRows.{AreStructRows};
+ghost use Rattle.wf_names_rules.specs.StructRows.{AreStructRows};
 ghost use Rattle.wf_names_resolve.specs.Package.{resolved_package};
 ghost use Rattle.wf_names_laws.specs.Calling.{AreOpen};
 ghost use Rattle.graphs.specs.Orders.{IsOrder, HasCycle};

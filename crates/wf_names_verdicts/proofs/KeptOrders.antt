@@ -15,9 +15,9 @@ use Rattle.wf_names_rules.specs.Sizes.{struct_held, is_the, fields_at, holds_str
 use Rattle.wf_names_rules.specs.Uses.{method_uses, method_scope}
 use Rattle.wf_names_scopes.specs.CallRows.{called_in, AreRows}
 use Rattle.wf_names_scopes.proofs.CallRowLemmas.{row-is}
-use Rattle.wf_names_cycles.specs.Held.{held_rows}
-use Rattle.wf_names_cycles.proofs.HeldLemmas.{goes-is, rows-long, structs-within}
 use Rattle.wf_names_cycles.proofs.SectionLemmas.{methods-within}
+use Rattle.wf_names_sizes.specs.StructSizes.{row_of, structs_in}
+use Rattle.wf_names_sizes.proofs.HoldingLemmas.{row-goes, held-below, structs-listed}
 use Rattle.wf_names_laws.proofs.FrontLemmas.{order-long, order-front, calls-open}
 use Rattle.wf_names_laws.proofs.StructOrders.{struct-order-stands}
 use Rattle.wf_names_verdicts.specs.NameVerdicts.{KeptPackagesHaveAnOrder}
@@ -97,21 +97,18 @@ module _ (d : Declared) where
 
 module _ (d : Declared) where
   struct-rows : List (List ℕ)
-  struct-rows = held_rows (struct_named d) d.structs
+  struct-rows = map structs_in (map (row_of d) d.structs)
 
   struct-rows-long : length struct-rows ≡ length d.structs
   unfolding struct-rows
-  struct-rows-long = rows-long (struct_named d) d.structs
+  struct-rows-long = structs-listed d
 
   struct-rows-go : (a b : ℕ) → goes struct-rows a b ≡ holds_struct d a b
   unfolding struct-rows
-  struct-rows-go = goes-is d (struct_named d) (held_rows (struct_named d) d.structs) (λ text. refl) refl
+  struct-rows-go a b = row-goes d b d.structs a
 
   held-there : (a b : ℕ) → holds_struct d a b ≡ true → b < length d.structs
-  unfolding struct-rows
-  held-there a b h =
-      let below : b < length struct-rows = structs-within d (struct_named d) (held_rows (struct_named d) d.structs) (λ text. refl) refl a b (struct-rows-go a b ∙ h) in
-      omega (arith, below, struct-rows-long)
+  held-there a b h = held-below d b (fields_at (slice_get d.structs a)) h
 
   holder-there : (a b : ℕ) → holds_struct d a b ≡ true → a < length d.structs
   holder-there a b h = by_struct (slice_get d.structs a) refl h
