@@ -110,12 +110,9 @@ pub fn init_receiver(
         → AreCoded code.now st.old.frames.items st.old.args.items it.program it.program.functions
         → Replies (given it.surface (λ x. x) (init_of it (memory st.old.mem) s receiver turns)) result (memory st.new.mem) }
 {
-    let at = match initialize {
-        Some(own) => Some(Active {
-            own,
-            frame: room.objects,
-        }),
-        None => None,
-    };
+    let at = initialize.map(|own| Active {
+        own,
+        frame: room.objects,
+    });
     init_by_host(code, at, receiver, statuses, turns, st)
 }

@@ -112,13 +112,11 @@ fn step_by_two(t: &Typed, target: ExprId, op: Op, a: ExprId, b: ExprId) -> Optio
     requires right { is_number_at t.now b ≡ true }
     ensures { result ≡ step_of_two (node_number t.now target) (sort_of op) (node_number t.now a) (number_in (node_number t.now b)) }
 {
-    match number(t, b) {
-        Some(k) => if same_number(t, target, a) {
-            step_by(op, k)
-        } else {
-            None
-        },
-        None => None,
+    let k = number(t, b)?;
+    if same_number(t, target, a) {
+        step_by(op, k)
+    } else {
+        None
     }
 }
 

@@ -59,12 +59,11 @@ impl Machine {
         ensures refused { IfErr result (λ stop. KeepsAt stop self.old.maker.package self.new.maker.package) }
         ensures size { OnOk result (size self.new ≤ size self.old + 32) }
     {
-        match self.step(0 < most, token) {
-            Ok(()) if 0 < most => Ok(()),
-            Ok(()) => Err(StepFault::Refused(Rule::L3)),
-            Err(StepFault::Refused(rule)) => Err(StepFault::Refused(rule)),
-            Err(StepFault::Memory) => Err(StepFault::Memory),
+        self.step(0 < most, token)?;
+        if most == 0 {
+            return Err(StepFault::Refused(Rule::L3));
         }
+        Ok(())
     }
 
     /// Reads the bytes of the file with this number. `most` tokens may stand in it and the files after it; what is

@@ -35,7 +35,7 @@ use Rattle.wf_typed_tree.proofs.NumberLemmas.{both, and-true, or-left, or-right,
 use Rattle.wf_typed_tree.proofs.OperandLaws.{taken-parts, first-holds, one-width-parts}
 use Rattle.wf_typed_tree.proofs.AllOperators.{shift-parts}
 use Rattle.wf_typed_tree.proofs.ExprLaws.{expr-means}
-use Rattle.wf_typed_exprs.specs.declared.elaborated.MadeOperands.{MadeOperands}
+use Rattle.wf_typed_exprs.specs.declared.operands.MadeOperands.{MadeOperands}
 use Rattle.wf_typed_exprs.specs.Nodes.{number_meant, StandsForExpr, MakesExpr}
 use Rattle.wf_typed_exprs.specs.Chains.{StandForLinks, AreOperands}
 use Rattle.wf_typed_exprs.specs.Right.{Around, IsRight, AreRight}

@@ -1,8 +1,7 @@
 // What a walk over the resolved tree answers.
 
-use wf_ast::{ExprId, ExprNode, Sequence};
-use wf_text::Place;
-use wf_types_rules::{Meaning, Operand, Value};
+use wf_ast::{ExprId, ExprNode};
+use wf_types_rules::{Meaning, Value};
 
 /// An expression whose nodes are there: the number of its node, and what it means, with its place.
 #[derive(Clone, Copy, PartialEq, Eq)]
@@ -16,12 +15,4 @@ pub struct Elaborated {
 pub(crate) struct MadeNode {
     pub node: ExprNode,
     pub of: Option<Meaning>,
-}
-
-/// The operands of a chain so far: the numbers of their nodes, the signs between them, and what they mean.
-#[derive(Drop)]
-pub(crate) struct MadeOperands {
-    pub parts: Sequence<ExprId>,
-    pub signs: Sequence<Place>,
-    pub of: Option<Sequence<Operand>>,
 }

@@ -193,10 +193,8 @@ fn unfit_operand(op: Op, os: &[Operand]) -> Option<Place>
 pub fn chain_meaning(op: Op, operands: &Option<Sequence<Operand>>) -> Option<Meaning>
     ensures { result ≡ option_and_then (operator_means (sort_of op)) operands.now }
 {
-    match operands {
-        Some(os) => meaning_of_operator(op, os.as_slice()),
-        None => None,
-    }
+    let operands = operands.as_ref()?;
+    meaning_of_operator(op, operands.as_slice())
 }
 
 fn tell_chain(found: &mut Found, op: Op, os: &[Operand], at: Place)

@@ -1,4 +1,4 @@
-use Rattle.std.proofs.Common.{◌≡◌, ◌∙◌, ap}
+use Rattle.std.proofs.Common.{◌∙◌, ap}
 use Rattle.wf_names_rules.specs.StructRows.{AreStructRows}
 use Rattle.wf_names_scopes.specs.Agreeing.{package_of}
 use Rattle.wf_names_cycles.proofs.MethodLemmas.{graph-few}
@@ -6,24 +6,24 @@ use Rattle.wf_names_cycles.proofs.SectionLemmas.{methods-within}
 use Rattle.wf_names_cycles.proofs.StructLemmas.{package-structs-few}
 use Rattle.wf_names.proofs.findings.sizes_and_cycles.Goals as goal
 
-pub named_cycles-structs-requires-clause-few : goal.named_cycles-structs-requires-clause-few
-named_cycles-structs-requires-clause-few c =
+pub named_cycles-requires-clause-few : goal.named_cycles-requires-clause-few
+named_cycles-requires-clause-few c =
     let p = c.args.parsed.now in
     let rows : AreStructRows (package_of p) c.in_ok-holds.holds.items = c.in_ok-holds.ensures (package_of p) c.in_ok-sizes.ensures (package-structs-few p.exprs p.stmts p.decls _ c.requires.few) in
     rw c.as_slice.ensures.value rows.few
 
-pub named_cycles-structs-requires-clause-within : goal.named_cycles-structs-requires-clause-within
-named_cycles-structs-requires-clause-within c =
+pub named_cycles-requires-clause-within : goal.named_cycles-requires-clause-within
+named_cycles-requires-clause-within c =
     let p = c.args.parsed.now in
     let rows : AreStructRows (package_of p) c.in_ok-holds.holds.items = c.in_ok-holds.ensures (package_of p) c.in_ok-sizes.ensures (package-structs-few p.exprs p.stmts p.decls _ c.requires.few) in
     rw c.as_slice.ensures.value rows.within
 
-pub named_cycles-methods-requires-clause-few : goal.named_cycles-methods-requires-clause-few
-named_cycles-methods-requires-clause-few c =
+pub named_cycles-requires-2-clause-few : goal.named_cycles-requires-2-clause-few
+named_cycles-requires-2-clause-few c =
     let p = c.args.parsed.now in graph-few p.texts p.exprs p.stmts p.decls c.args.calls.now c.requires.calls _ c.requires.few
 
-pub named_cycles-methods-requires-clause-within : goal.named_cycles-methods-requires-clause-within
-named_cycles-methods-requires-clause-within c = methods-within (package_of c.args.parsed.now) c.args.calls.now c.requires.calls
+pub named_cycles-requires-2-clause-within : goal.named_cycles-requires-2-clause-within
+named_cycles-requires-2-clause-within c = methods-within (package_of c.args.parsed.now) c.args.calls.now c.requires.calls
 
 pub returns-clause-cycles : goal.returns-clause-cycles
 returns-clause-cycles c =

@@ -28,7 +28,7 @@ elaborate_chain-returns-clause-made t c =
     let es = expr_trees c.args.here.now.nodes.now.exprs in
     let nodes = c.elaborate_operands.new.nodes in
     let whole = chain c.args.op (expr_at es c.args.first) (links_at es c.args.links.now) c.args.at in
-    rw c.chain_meaning.ensures
+    rw c.chain.ensures
     (chain-makes s nodes c.args.op (expr_at es c.args.first) (links_at es c.args.links.now) c.args.at c.in_ok-operands.operands (right_kept s c.args.nodes.now nodes c.in_ok-operands.ensures.grows whole c.requires.right) c.in_ok-operands.ensures.all)
 
 pub elaborate_convert-elaborate_expr-requires : goal.elaborate_convert-elaborate_expr-requires
