@@ -10,7 +10,7 @@ use Rattle.wf_bufs.specs.declared.outcomes.Reply.TheVariants.{Done, Turns, Undef
 use Rattle.wf_bufs.specs.declared.calls.ReceiverDecl.{ReceiverDecl}
 use Rattle.wf_bufs.specs.SurfaceViews.{receiver_of, answer_kind_of}
 use Rattle.wf_bufs.specs.EngineLaw.{Replies, DoneFits, FitsCalled, SameSizes, KeepsSizes}
-use Rattle.c_meaning.specs.declared.values.Value.{Value}
+use Rattle.c_meaning.specs.declared.values.CValue.{CValue}
 use Rattle.c_meaning.specs.CMemory.{Memory}
 use Rattle.c_meaning.specs.CTypes.{Function}
 use Rattle.c_meaning.specs.CCall.{Program}
@@ -95,7 +95,7 @@ module _ (k : Known) (what : HostCall) (turns : ℕ) (c : Called) (calls : Calls
   comes_to_call m host n =
       ap (λ (o : Option PublicStruct). defined (option_and_then (λ s. option_and_then (λ method. option_map (call_of (loaded_of k) m s method what host n) (slice_get (loaded_of k).pointers what.receiver)) (called_method k.surface.value (map receiver_of k.receivers.items) what)) o)) calls.means.struct_is
       ∙ (ap (λ (o : Option PublicMethod). defined (option_and_then (λ method. option_map (call_of (loaded_of k) m calls.means.of method what host n) (slice_get (loaded_of k).pointers what.receiver)) o)) calls.means.method_is
-      ∙ ap (λ (o : Option Value). defined (option_map (call_of (loaded_of k) m calls.means.of calls.means.method what host n) o)) calls.pointer)
+      ∙ ap (λ (o : Option CValue). defined (option_map (call_of (loaded_of k) m calls.means.of calls.means.method what host n) o)) calls.pointer)
 
   method_fits : (buffers arrays : ℕ) → CanCall k.surface.value (map receiver_of k.receivers.items) buffers arrays what → FitKinds buffers arrays calls.means.method.args what.args
   method_fits buffers arrays can = subst (λ (o : Option PublicMethod). IsSomeAnd o (λ method. FitKinds buffers arrays method.args what.args)) calls.means.method_is can.fit
@@ -159,10 +159,10 @@ receiver_below k what buffers arrays can = by k.receivers.items what.receiver ca
 
 -- An init of a receiver.
 module _ (k : Known) (receiver : ℕ) (function : Option ℕ) (inited : IsInited k receiver function) where
-  pub comes_to_init : (v : Value) → slice_get (loaded_of k).pointers receiver ≡ Some v → (m : Memory) (n : ℕ) → c_init (loaded_of k) m receiver n ≡ init_of (loaded_of k) m inited.of v n
+  pub comes_to_init : (v : CValue) → slice_get (loaded_of k).pointers receiver ≡ Some v → (m : Memory) (n : ℕ) → c_init (loaded_of k) m receiver n ≡ init_of (loaded_of k) m inited.of v n
   comes_to_init v is m n =
       ap (λ (o : Option PublicStruct). defined (option_and_then (λ s. option_map (λ receiver. init_of (loaded_of k) m s receiver n) (slice_get (loaded_of k).pointers receiver)) o)) inited.struct_is
-      ∙ ap (λ (o : Option Value). defined (option_map (λ receiver. init_of (loaded_of k) m inited.of receiver n) o)) is
+      ∙ ap (λ (o : Option CValue). defined (option_map (λ receiver. init_of (loaded_of k) m inited.of receiver n) o)) is
 
   pub init_below : IsKnown k → IfSome function (λ own. own < length k.code.functions)
   init_below known = by function inited.function_is
@@ -171,7 +171,7 @@ module _ (k : Known) (receiver : ℕ) (function : Option ℕ) (inited : IsInited
       by None e = tt
       by (Some own) e = let a = number_below (loaded_of k).program.functions (initialize_name k.surface.value inited.of) own (sym e) in omega (arith, a, known.functions)
 
-pub init_is_fit : (k : Known) → IsKnown k → (m : Memory) (s : PublicStruct) (v : Value) (n : ℕ) (reply : Reply) (after : Memory) → Replies (given k.surface.value (λ (x : Memory). x) (init_of (loaded_of k) m s v n)) reply after → DoneFits k.surface.value status reply
+pub init_is_fit : (k : Known) → IsKnown k → (m : Memory) (s : PublicStruct) (v : CValue) (n : ℕ) (reply : Reply) (after : Memory) → Replies (given k.surface.value (λ (x : Memory). x) (init_of (loaded_of k) m s v n)) reply after → DoneFits k.surface.value status reply
 init_is_fit k known m s v n (Done outcome) after h = init_fits (unit_tree k.unit) (loaded_of k) known.form refl known.ok m s n v outcome after h
 init_is_fit k known m s v n Turns after h = tt
 init_is_fit k known m s v n Undefined after h = tt
@@ -240,7 +240,7 @@ no_function_there k what turns e means i = λ m host n.
     ∙ (ap (λ (o : Option PublicMethod). defined (option_and_then (λ method. option_map (call_of (loaded_of k) m means.of method what host n) (slice_get (loaded_of k).pointers what.receiver)) o)) means.method_is
     ∙ by m host n (slice_get (loaded_of k).pointers what.receiver))
   where
-    by : (m : Memory) (host : Host) (n : ℕ) (o : Option Value) → defined (option_map (call_of (loaded_of k) m means.of means.method what host n) o) ≡ not_defined
+    by : (m : Memory) (host : Host) (n : ℕ) (o : Option CValue) → defined (option_map (call_of (loaded_of k) m means.of means.method what host n) o) ≡ not_defined
     by m host n None = refl
     by m host n (Some v) =
         ap (response (call_ended (loaded_of k) m means.method what host (most_args k.surface.value.structs)))
@@ -274,7 +274,7 @@ mapped_length (x ∷ xs) = ap suc (mapped_length xs)
 
 pub as_many_pointers : (k : Known) → IsKnown k → length k.pointers.items ≡ length k.receivers.items
 as_many_pointers k known =
-    ap (λ (xs : List Value). length xs) known.pointers
+    ap (λ (xs : List CValue). length xs) known.pointers
     ∙ (pointers_length (loaded_of k).program k.surface.value (map receiver_of k.receivers.items) (map text_object (loaded_of k).program.texts) ∙ mapped_length k.receivers.items)
 
 pub receiver_exists : (k : Known) (n : ℕ) → n < length (map receiver_of k.receivers.items) → n < length k.receivers.items

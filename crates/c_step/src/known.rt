@@ -15,7 +15,7 @@ ghost use Rattle.c_step_engine.specs.Engines.{given, OnDone};
 ghost use Rattle.c_step_calls.specs.Resting.{RestsAgain};
 ghost use Rattle.c_step.specs.Machines.{loaded_of, IsKnown, IsReady, HasEntry, IsCallee, IsInited};
 
-use c_meaning::values::Value;
+use c_meaning::values::CValue;
 use c_step_calls::{Called, Room, call_on_host, init_receiver};
 use c_step_run::{Code, Store};
 use c_step_tables::{MethodEntry, StructEntry, struct_entry};
@@ -33,7 +33,7 @@ pub(crate) struct Known {
     /// The receivers.
     pub(crate) receivers: Vec<ReceiverDecl>,
     /// The pointers to them.
-    pub(crate) pointers: Vec<Value>,
+    pub(crate) pointers: Vec<CValue>,
     /// The public functions.
     pub(crate) structs: Vec<StructEntry>,
     /// The statuses of the strings that have one.
@@ -95,7 +95,7 @@ impl Known {
     }
 
     /// The pointer to a receiver.
-    fn pointer(&self, receiver: u16) -> Value
+    fn pointer(&self, receiver: u16) -> CValue
         requires known { IsKnown self.now }
         requires exists { receiver < length self.now.receivers.items }
         ensures { slice_get (loaded_of self.now).pointers receiver ≡ Some result }
@@ -104,7 +104,7 @@ impl Known {
     }
 
     /// A pointer in the list.
-    fn pointer_at(&self, k: u16) -> Value
+    fn pointer_at(&self, k: u16) -> CValue
         requires { k < length self.now.pointers.items }
         ensures { slice_get self.now.pointers.items k ≡ Some result }
     {

@@ -1,6 +1,6 @@
 // The engine that executes a text of C.
 
-ghost use Rattle.std.specs.Prelude.{◌≡◌, [], false, length, map, slice_get, Some, IfOk, OnOk, IfErr};
+ghost use Rattle.std.specs.Prelude.{◌≡◌, [], false, map, slice_get, Some, IfOk, OnOk, IfErr};
 ghost use Rattle.wf_base.specs.LawfulActions.{AreDeclared};
 ghost use Rattle.wf_bufs.specs.EngineLaw.{stops as stops_at};
 ghost use Rattle.wf_bufs.specs.SurfaceViews.{receiver_of};

@@ -1,6 +1,6 @@
 -- A typed package as mathematical data, and what a host sees of it.
 use Rattle.std.specs.Prelude.{ℕ, suc, Bool, Option, None, Some, List, [], ◌∷◌, map, if◌then◌else◌, nat_eq, ◌&&◌}
-use Rattle.wf_text.specs.Surface.{Surface, PublicStruct, PublicMethod, PublicArg, ArgKind, number, flag, reader, writer, slice, AnswerKind}
+use Rattle.wf_text.specs.Surface.{Surface, PublicStruct, PublicMethod, ArgKind, number, flag, reader, writer, slice, AnswerKind}
 use Rattle.wf_text.specs.Surface as surface
 use Rattle.wf_base.specs.declared.marks.Mark.{Mark}
 use Rattle.wf_base.specs.declared.marks.Mark.TheVariants.{Pure, Impure, Coroutine}

@@ -1,6 +1,6 @@
 // What every machine that runs a package is: the law under which one script drives any of them.
 
-ghost use Rattle.std.specs.Prelude.{◌≡◌, ℕ, ◌<◌, Bool, true, false, List, length};
+ghost use Rattle.std.specs.Prelude.{◌≡◌, ℕ, ◌<◌, Bool, false, List, length};
 ghost use Rattle.wf_text.specs.Surface.{Surface, status};
 ghost use Rattle.wf_text.specs.HostActions.{Receiver};
 ghost use Rattle.wf_base.specs.HostRun.{Host, HostCall};

@@ -1,6 +1,6 @@
 // Facts come into the list.
 
-ghost use Rattle.std.specs.Prelude.{◌≡◌, ◌≤◌, ◌<◌, not, true, false, length, map, is_some, OnOk, OnErr, IfOk, IfSome, IsTrue};
+ghost use Rattle.std.specs.Prelude.{◌≡◌, ◌≤◌, ◌<◌, not, true, length, map, is_some, OnOk, OnErr, IfOk, IfSome, IsTrue};
 ghost use Rattle.wf_facts_exprs.specs.Claims.{claim_in, claims_in, is_among, is_fact, AreFacts};
 ghost use Rattle.wf_facts.specs.FactLists.{added, common};
 ghost use Rattle.wf_facts.specs.IndexedFacts.{IsOver, IsFullFor};

@@ -92,11 +92,7 @@ fn put_into(items: &mut Vec<CItem>, item: CItem) -> Result<(), NoMemory>
     Ok(())
 }
 
-fn add_all_initialize(
-    p: &Source,
-    u: &mut Unit,
-    functions: &mut Vec<CItem>,
-) -> Result<(), NoMemory>
+fn add_all_initialize(p: &Source, u: &mut Unit, functions: &mut Vec<CItem>) -> Result<(), NoMemory>
     requires { IsReady p.now.t.now p.now.points.now.numbers }
     ensures grows { Grows u.old u.new }
     ensures made { OnOk result (AddsFunctions u.old u.new functions.old.items functions.new.items (initialize_functions (package_of p.now.t.now) (package_of p.now.t.now).struct_order)) }

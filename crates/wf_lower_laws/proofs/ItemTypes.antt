@@ -12,7 +12,7 @@ use Rattle.wf_meaning.specs.Entry.{bad_receiver}
 use Rattle.wf_meaning.specs.SourceState.{fields_of}
 use Rattle.c_text.specs.declared.kinds.Linkage.TheVariants.{External, Static}
 use Rattle.c_text.specs.CTree.{text, struct_pointer, FieldTree, ParamTree, LocalTree, ItemTree, struct_item, text_item, function_item}
-use Rattle.c_meaning.specs.CTypes.{Scope, structs_of, functions_of, scope_of, struct_named, local_name, held_type, variable_held}
+use Rattle.c_meaning.specs.CTypes.{CScope, structs_of, functions_of, scope_of, struct_named, local_name, held_type, variable_held}
 use Rattle.c_meaning.specs.UnitForm.{is_among, all_distinct, item_name}
 use Rattle.wf_exprs.specs.Names.{struct_type, initialize_name, body_name, entry_name, status_name}
 use Rattle.wf_exprs.specs.Exprs.{status_constant}
@@ -236,7 +236,7 @@ module _ (p : PackageTree) (well : well_typed p ≡ true) (named : HasItemNames 
       params : List ParamTree
       params = record { kind = struct_pointer (struct_type p s); name = codes "self" } ∷ []
 
-      full : Scope
+      full : CScope
       full = record { structs = []; texts = all_texts 0 p.statuses; functions = []; names = record { kind = struct_pointer (struct_type p s); name = codes "self" } ∷ [] }
 
       init_there : Stands (initialize_function p s) (all_functions p)

@@ -1,7 +1,7 @@
 -- Suspension points, their numbers, and what remains after each.
 -- In brackets stands the section of docs/SEMANTICS.md that a definition states, and with `note` the Wuffs document
 -- wuffs/doc/note/NAME.md that it follows.
-use Rattle.std.specs.Prelude.{ℕ, ◌+◌, Bool, true, false, not, ◌&&◌, ◌||◌, List, [], ◌∷◌, ◌++◌, Option, None, Some, nat_eq, nat_lt, count_by, if◌then◌else◌}
+use Rattle.std.specs.Prelude.{ℕ, ◌+◌, Bool, true, false, not, ◌&&◌, List, [], ◌∷◌, ◌++◌, Option, None, Some, nat_eq, count_by, if◌then◌else◌}
 use Rattle.wf_text.specs.declared.place.Place.{Place}
 use Rattle.wf_base.specs.declared.marks.Mark.{Mark}
 use Rattle.wf_ast.specs.TypedTree.{Simple, await, invoke, yield, Site, Head, Block, end, plain, choose, loop}

@@ -1,7 +1,7 @@
 // The nodes and declarations of a resolved package, as they are built and read. A node's parts stand before it, so
 // a walk from a node down to its parts ends.
 
-ghost use Rattle.std.specs.Prelude.{◌≡◌, ◌+◌, ◌<◌, ◌^◌, ◌++◌, [], ◌∷◌, ℕ, List, Some, length, map, slice_get, IfOk, OnOk, OnErr};
+ghost use Rattle.std.specs.Prelude.{◌≡◌, ◌+◌, ◌<◌, ◌++◌, [], ◌∷◌, Some, length, slice_get, IfOk, OnOk, OnErr};
 ghost use Rattle.wf_ast.specs.ParsedParts.{JoinsText};
 ghost use Rattle.wf_named.specs.NamedParts.{NamedParts, exprs_of, stmts_of, named_package, NamedExprParts, NamedStmtParts, NamedConstBelow, NamedStructBelow, NamedMethodBelow};
 ghost use Rattle.wf_named.specs.NamedTrees.{expr_made, stmt_made, const_made, struct_made, method_made, word_at, expr_at, stmt_at};

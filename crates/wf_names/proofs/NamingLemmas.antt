@@ -11,9 +11,8 @@ use Rattle.wf_named.specs.NamedTree.{NamedPackageTree}
 use Rattle.wf_named.specs.WellNamed.{well_named}
 use Rattle.wf_named.specs.Grammar.{package_by_grammar}
 use Rattle.wf_named.specs.NamedStatementPlaces.{named_bodies_rise}
-use Rattle.wf_names_rules.specs.Declarations.{Declared, declared}
+use Rattle.wf_names_rules.specs.Declarations.{Declared, declared, declared_in}
 use Rattle.wf_names_rules.specs.NameRules.{Breaks, by_use, by_cycle}
-use Rattle.wf_names_scopes.specs.Agreeing.{package_of}
 use Rattle.wf_names_scopes.specs.CallRows.{AreRows}
 use Rattle.wf_names_cycles.specs.CyclesFound.{IsCallOrder, IsStructOrder}
 use Rattle.wf_names_resolve.specs.Package.{resolved_package}
@@ -47,7 +46,7 @@ order-kept name texts decls order struct_order kept calls structs =
 
 -- The resolved tree of such a package, with such orders, is what its names stand for. It is well named, as the grammar
 -- gives, and has its statements in order.
-pub tree-resolved : (p : Parsed) (nodes : NamedParts) (order struct_order : List ℕ) → Decides (Breaks (package_of p)) None → IsCallOrder (package_of p) order → IsStructOrder (package_of p) struct_order
+pub tree-resolved : (p : Parsed) (nodes : NamedParts) (order struct_order : List ℕ) → Decides (Breaks (declared_in p)) None → IsCallOrder (declared_in p) order → IsStructOrder (declared_in p) struct_order
     → named_package nodes ≡ resolved_package p.name p.texts (decl_trees p.exprs p.stmts p.decls) order struct_order → IsResolved p nodes
 tree-resolved p nodes order struct_order kept calls structs made =
     let ordered = order-kept p.name p.texts (decl_trees p.exprs p.stmts p.decls) order struct_order kept calls structs in

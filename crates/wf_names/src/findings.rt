@@ -6,12 +6,13 @@ ghost use Rattle.wf_text.specs.Precedence.{Decides};
 ghost use Rattle.wf_names_rules.specs.NameRules.{Breaks};
 ghost use Rattle.wf_names_decls.specs.DeclarationPass.{declarations_found};
 ghost use Rattle.wf_names_decls.specs.NameLists.{AreNameLists};
-ghost use Rattle.wf_names_scopes.specs.Agreeing.{package_of, TellsPackage};
+ghost use Rattle.wf_names_scopes.specs.Agreeing.{TellsPackage};
 ghost use Rattle.wf_names_scopes.specs.CallRows.{AreRows};
 ghost use Rattle.wf_names_scopes.specs.UsesFound.{names_found};
 ghost use Rattle.wf_names_cycles.specs.CyclesFound.{ArePackageCycles};
 ghost use Rattle.wf_names_sizes.specs.Settings.{TellsSizes};
 ghost use Rattle.wf_names.specs.Naming.{AreFindings};
+ghost use Rattle.wf_names_rules.specs.Declarations.{declared_in};
 
 use graphs::rows::Row;
 use std::alloc::Global;
@@ -51,10 +52,10 @@ fn named(
     tables: &Tables,
     names: &NameLists,
 ) -> Result<Vec<Row>, NoMemory>
-    requires tables { TellsPackage (package_of parsed.now) tables.now }
-    requires names { AreNameLists (package_of parsed.now) names.now }
-    ensures found { OnOk result (found.new ≡ names_found (package_of parsed.now) (declarations_found (package_of parsed.now) found.old)) }
-    ensures rows { IfOk result (λ rows. AreRows (package_of parsed.now) rows.items (length (package_of parsed.now).methods)) }
+    requires tables { TellsPackage (declared_in parsed.now) tables.now }
+    requires names { AreNameLists (declared_in parsed.now) names.now }
+    ensures found { OnOk result (found.new ≡ names_found (declared_in parsed.now) (declarations_found (declared_in parsed.now) found.old)) }
+    ensures rows { IfOk result (λ rows. AreRows (declared_in parsed.now) rows.items (length (declared_in parsed.now).methods)) }
 {
     declarations(alloc, found, parsed, names, &tables.constants)?;
     uses(alloc, found, parsed, tables)
@@ -70,11 +71,11 @@ fn sizes_and_cycles(
     calls: &[Row],
 ) -> Result<(SizeTables, PackageCycles), NoMemory>
     requires few { length parsed.now.decls < 2 ^ 32 - 1 }
-    requires tables { TellsPackage (package_of parsed.now) tables.now }
-    requires names { AreNameLists (package_of parsed.now) names }
-    requires calls { AreRows (package_of parsed.now) calls.now (length (package_of parsed.now).methods) }
-    ensures sizes { IfOk result (λ made. TellsSizes (package_of parsed.now) made.0) }
-    ensures cycles { IfOk result (λ made. ArePackageCycles (package_of parsed.now) made.1) }
+    requires tables { TellsPackage (declared_in parsed.now) tables.now }
+    requires names { AreNameLists (declared_in parsed.now) names }
+    requires calls { AreRows (declared_in parsed.now) calls.now (length (declared_in parsed.now).methods) }
+    ensures sizes { IfOk result (λ made. TellsSizes (declared_in parsed.now) made.0) }
+    ensures cycles { IfOk result (λ made. ArePackageCycles (declared_in parsed.now) made.1) }
 {
     let (structs, methods) = names.into_structs_and_methods();
     let sizes = size_tables(alloc, parsed, tables)?;
@@ -94,11 +95,11 @@ fn deciding(
     sizes: &SizeTables,
     cycles: &PackageCycles,
 ) -> Result<(), NoMemory>
-    requires tables { TellsPackage (package_of parsed.now) tables.now }
-    requires named { found.old ≡ names_found (package_of parsed.now) (declarations_found (package_of parsed.now) None) }
-    requires sizes { TellsSizes (package_of parsed.now) sizes.now }
-    requires cycles { ArePackageCycles (package_of parsed.now) cycles.now }
-    ensures { OnOk result (Decides (Breaks (package_of parsed.now)) found.new) }
+    requires tables { TellsPackage (declared_in parsed.now) tables.now }
+    requires named { found.old ≡ names_found (declared_in parsed.now) (declarations_found (declared_in parsed.now) None) }
+    requires sizes { TellsSizes (declared_in parsed.now) sizes.now }
+    requires cycles { ArePackageCycles (declared_in parsed.now) cycles.now }
+    ensures { OnOk result (Decides (Breaks (declared_in parsed.now)) found.new) }
 {
     cycle_breaks(found, cycles);
     size_breaks(alloc, found, parsed, tables, sizes, &cycles.structs.cycles)
@@ -107,7 +108,7 @@ fn deciding(
 /// Looks through a package for what it breaks of the rules of names. `Err` where memory was refused.
 pub(crate) fn look_through(alloc: Global, parsed: &PackageNodes) -> Result<Findings, NoMemory>
     requires few { length parsed.now.decls < 2 ^ 32 - 1 }
-    ensures { IfOk result (AreFindings (package_of parsed.now)) }
+    ensures { IfOk result (AreFindings (declared_in parsed.now)) }
 {
     let tables = tables(alloc, parsed)?;
     let names = name_lists(alloc, parsed)?;

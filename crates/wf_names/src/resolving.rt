@@ -2,8 +2,8 @@
 
 ghost use Rattle.std.specs.Prelude.{◌≡◌, None, IfErr, IfOk};
 ghost use Rattle.wf_ast.specs.ReadPackage.{IsRead};
-ghost use Rattle.wf_names_scopes.specs.Agreeing.{package_of};
 ghost use Rattle.wf_names.specs.Naming.{AreFindings, IsMisnamed, IsResolved};
+ghost use Rattle.wf_names_rules.specs.Declarations.{declared_in};
 
 use crate::findings::{Findings, look_through};
 use std::alloc::Global;
@@ -18,7 +18,7 @@ fn resolved_nodes(
     parsed: &PackageNodes,
     found: Findings,
 ) -> Result<NamedNodes, NoMemory>
-    requires found { AreFindings (package_of parsed.now) found }
+    requires found { AreFindings (declared_in parsed.now) found }
     requires kept { found.refusal ≡ None }
     ensures { IfOk result (IsResolved parsed.now) }
 {
@@ -34,7 +34,7 @@ fn resolved_nodes(
 // The same as a package that is known to be well named.
 fn resolved(alloc: Global, parsed: &PackageNodes, found: Findings) -> Result<Named, NoMemory>
     requires read { IsRead parsed.now }
-    requires found { AreFindings (package_of parsed.now) found }
+    requires found { AreFindings (declared_in parsed.now) found }
     requires kept { found.refusal ≡ None }
     ensures { IfOk result (IsResolved parsed.now) }
 {

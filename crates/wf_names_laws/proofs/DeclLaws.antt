@@ -4,12 +4,12 @@ use Rattle.std.specs.List.{AllByRecursion, flat_map, list_all}
 use Rattle.wf_text.specs.Precedence.{Decides}
 use Rattle.wf_ast.specs.declared.parsed.WrittenMark.{WrittenMark}
 use Rattle.wf_ast.specs.ParsedTree as tree
-use Rattle.wf_ast.specs.ParsedTree.{TypeTree, ResultTree, BlockTree, StmtTree, DeclTree}
+use Rattle.wf_ast.specs.ParsedTree.{ResultTree, BlockTree, StmtTree, DeclTree}
 use Rattle.wf_named.specs.NamedTree.{VarTree, NamedStructTree, NamedPackageTree}
-use Rattle.wf_named.specs.WellNamed.{Scope as NamedScope, named_expr, named_type, named_block, scope_of_const, named_consts, scope_of_struct, named_structs, scope_of_method, named_result, named_method}
+use Rattle.wf_named.specs.WellNamed.{NamedScope as NamedScope, named_expr, named_type, named_block, scope_of_const, named_consts, scope_of_struct, named_structs, scope_of_method, named_result, named_method}
 use Rattle.wf_names_rules.specs.Declarations.{Variable, Constant, Structure, Method, Declared, declared, as_variable, local_of, locals_of}
 use Rattle.wf_names_rules.specs.Uses as uses
-use Rattle.wf_names_rules.specs.Uses.{Use, Scope, Site, uses_of, type_uses, stmt_uses, block_uses, result_uses, variable_uses, method_uses, constant_scope, struct_scope, method_scope, sites_in, constant_sites, struct_sites, method_sites, sites}
+use Rattle.wf_names_rules.specs.Uses.{Use, Scope, uses_of, type_uses, stmt_uses, block_uses, result_uses, variable_uses, method_uses, constant_scope, struct_scope, method_scope, sites_in, constant_sites, struct_sites, method_sites, sites}
 use Rattle.wf_names_rules.specs.NameRules.{Breaks}
 use Rattle.wf_names_uses.proofs.FoundLemmas.{both-so}
 use Rattle.wf_names_resolve.specs.Standing.{standing_at}

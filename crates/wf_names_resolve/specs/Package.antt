@@ -3,7 +3,7 @@ use Rattle.std.specs.Prelude.{ℕ, Bool, List, [], ◌∷◌, ◌++◌, map, Opt
 use Rattle.wf_ast.specs.declared.parsed.Name.{Name}
 use Rattle.wf_ast.specs.declared.parsed.WrittenMark.{WrittenMark}
 use Rattle.wf_ast.specs.ParsedTree as parsed
-use Rattle.wf_ast.specs.ParsedTree.{ExprTree, TypeTree, FieldTrees, ResultTree, BlockTree, DeclTree}
+use Rattle.wf_ast.specs.ParsedTree.{ExprTree, TypeTree, ResultTree, DeclTree}
 use Rattle.wf_named.specs.NamedTree.{NamedTypeTree, VarTree, ConstTree, NamedStructTree, NamedMethodTree, NamedPackageTree}
 use Rattle.wf_names_rules.specs.Declarations.{Variable, Constant, Structure, Method, Declared, declared, variables, locals_of, as_variable, text_of}
 use Rattle.wf_names_rules.specs.Uses.{constant_scope, struct_scope, method_scope}

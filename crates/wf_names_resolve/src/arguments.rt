@@ -1,7 +1,7 @@
 // The arguments of a call in the order in which its method declares them. A method has at most 64 arguments, so each is
 // looked for among those that are given.
 
-ghost use Rattle.std.specs.Prelude.{◌≡◌, ◌++◌, map, slice_get, bytes_eq, IfOk, OnOk};
+ghost use Rattle.std.specs.Prelude.{◌≡◌, ◌++◌, map, bytes_eq, IfOk, OnOk};
 ghost use Rattle.std.specs.List.{find};
 ghost use Rattle.wf_base.specs.BaseTable.{row_of};
 ghost use Rattle.wf_names_rules.specs.Declarations.{bytes_of, is_spelt};

@@ -12,7 +12,7 @@ use Rattle.wf_ast.specs.ParsedTree as tree
 use Rattle.wf_ast.specs.ParsedTree.{CallTree}
 use Rattle.wf_names_rules.specs.Declarations.{Variable, Constant, Structure, Method, Declared, is_spelt, text_of, status_named, struct_named}
 use Rattle.wf_names_rules.specs.Uses as uses
-use Rattle.wf_names_rules.specs.Uses.{Use, Scope, Site, sites, method_uses, method_scope}
+use Rattle.wf_names_rules.specs.Uses.{Use, Scope, sites, method_uses, method_scope}
 use Rattle.wf_names_rules.specs.Meanings.{GivenValue, is_base_status, known_at, path_sort, call_name, call_args, callee_of, call_has_meaning, parameters_of, is_parameter, lacks_one, passed_arg, is_io_arg}
 use Rattle.wf_names_rules.specs.declared.callees.Callee.{Callee}
 use Rattle.wf_names_rules.specs.declared.callees.Callee.TheVariants as callees

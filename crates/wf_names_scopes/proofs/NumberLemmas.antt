@@ -2,8 +2,8 @@
 use Rattle.std.proofs.Common.{◌≡◌, ℕ, ◌+◌, Bool, true, false, cond, if◌then◌else◌, List, [], ◌∷◌, ◌++◌, Option, Some, None, is_some, nat_eq, option_map, refl, sym, ap, ◌∙◌, length-append, arith}
 use Rattle.std.specs.Option.{option_or}
 use Rattle.std.specs.List.{position_from}
-use Rattle.std.specs.Map.{keys_of, lookup}
-use Rattle.indexmap.specs.IndexMap.{IndexMap, IsEmpty, get, keys, insert_entry}
+use Rattle.std.specs.Map.{keys_of}
+use Rattle.indexmap.specs.IndexMap.{IndexMap, get, keys, insert_entry}
 use Rattle.indexmap.specs.IndexSet.{insert_key}
 use Rattle.indexmap.proofs.CallerLemmas.{insert_entry-new}
 use Rattle.wf_ast.specs.declared.parsed.Name.{Name}
@@ -16,10 +16,6 @@ use Rattle.wf_names_rules.proofs.InsertLemmas.{known_names}
 use Rattle.wf_names_scopes.specs.Agreeing.{TellsNumbers}
 use Rattle.wf_names_scopes.specs.Growing.{with_first}
 use Rattle.wf_names_scopes.proofs.FirstLemmas.{mapped, position_pushed, map_pushed}
-
--- A table with no entries.
-pub nothing_yet : {K X S : Type 0} (same : K → K → Bool) (table : IndexMap K X S) → IsEmpty table → (key : K) → get same table key ≡ None
-nothing_yet same table e key = ap (lookup (same key)) e
 
 -- The names of the entries, after one that is known already and after one that is new.
 module _ {K X S : Type 0} (same : K → K → Bool) (table : IndexMap K X S) (key : K) where

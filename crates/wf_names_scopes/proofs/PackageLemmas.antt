@@ -17,11 +17,11 @@ use Rattle.wf_names_rules.specs.declared.tables.Numbers.{Numbers}
 use Rattle.wf_names_rules.specs.declared.tables.Tables.{Tables}
 use Rattle.wf_names_rules.specs.declared.tables.MethodVariables.{MethodVariables}
 use Rattle.wf_names_rules.specs.declared.tables.Variables.{Variables}
-use Rattle.wf_names_rules.specs.Declarations.{Variable, Constant, Structure, Method, Declared, declared, variables, as_variable, statuses_of, constants_of, structs_of, methods_of, is_spelt, struct_named, method_named, structure_in, fields_in, fields_of, locals_of}
+use Rattle.wf_names_rules.specs.Declarations.{Variable, Constant, Structure, Method, Declared, declared, variables, as_variable, statuses_of, constants_of, structs_of, methods_of, is_spelt, struct_named, method_named, structure_in, fields_in, fields_of, locals_of, declared_in}
 use Rattle.wf_names_rules.specs.Pairs.{Pair, same_pair}
 use Rattle.wf_names_rules.specs.Tables.{has_number}
 use Rattle.graphs.proofs.NumberLemmas.{same_number}
-use Rattle.wf_names_scopes.specs.Agreeing.{TellsNumbers, TellsVariables, TellsPackage, TellsMethod, TellMethods, package_of}
+use Rattle.wf_names_scopes.specs.Agreeing.{TellsNumbers, TellsVariables, TellsPackage, TellsMethod, TellMethods}
 use Rattle.wf_names_scopes.specs.Growing.{with_first, with_fields, with_status, with_constant, with_struct, with_method}
 use Rattle.wf_names_scopes.proofs.FirstLemmas.{or_none, position_pushed, position_any, find_any, find_pushed, any_pushed, map_pushed, map_length}
 use Rattle.wf_names_scopes.proofs.MethodLemmas.{tell-more}
@@ -269,7 +269,7 @@ node_next p i x t u at tells step =
     subst P (sym (ap (decls_made es ts) (take_at p.decls i x at) ∙ made_append es ts (take i p.decls) (x ∷ []))) (step (decls_made es ts (take i p.decls)) tells)
 
 pub nodes_done : (p : Parsed) (i : ℕ) (t : Tables) → length p.decls ≤ i
-    → TellsPackage (declared p.texts (decls_made (expr_trees p.exprs) (stmt_trees p.exprs p.stmts) (take i p.decls))) t → TellsPackage (package_of p) t
+    → TellsPackage (declared p.texts (decls_made (expr_trees p.exprs) (stmt_trees p.exprs p.stmts) (take i p.decls))) t → TellsPackage (declared_in p) t
 nodes_done p i t h tells =
     let P : List DeclTree → Type 0 = λ ds. TellsPackage (declared p.texts ds) t in
     let whole : take i p.decls ≡ p.decls = take_all i p.decls h in

@@ -9,9 +9,7 @@ use Rattle.wf_names_rules.specs.declared.tables.MethodVariables.{MethodVariables
 use Rattle.wf_names_rules.specs.declared.tables.Tables.{Tables}
 use Rattle.wf_names_rules.specs.declared.tables.Scope.{Scope as ScopeTables}
 use Rattle.wf_ast.specs.declared.parsed.Name.{Name}
-use Rattle.wf_ast.specs.ParsedParts.{Parsed}
-use Rattle.wf_ast.specs.ParsedTrees.{decl_trees}
-use Rattle.wf_names_rules.specs.Declarations.{Variable, Method, Declared, declared, as_variable, bytes_of, is_spelt, method_named, variable_named, place_in, fields_of}
+use Rattle.wf_names_rules.specs.Declarations.{Variable, Method, Declared, as_variable, bytes_of, is_spelt, method_named, variable_named, place_in, fields_of}
 use Rattle.wf_names_rules.specs.Meanings.{Known, sort_of, sort_in, names_once}
 use Rattle.wf_names_rules.specs.Pairs.{pair_at}
 use Rattle.wf_names_rules.specs.Tables.{number_at, pair_sort, pair_place, sort_at, place_at, names_known}
@@ -31,10 +29,6 @@ pub record Agree (a b : Known) : Type 0 where
   pub is_method : (text : ℕ) → a.is_method text ≡ b.is_method text
   pub is_public : (m : ℕ) → a.is_public m ≡ b.is_public m
   pub args : (m : ℕ) → a.args m ≡ b.args m
-
--- What a parsed package declares.
-abbrev pub package_of : Parsed → Declared
-package_of p = declared p.texts (decl_trees p.exprs p.stmts p.decls)
 
 -- A table tells by which number each of these names stands: by its place, counted from `first`. Of those that are spelt
 -- alike the first is meant.

@@ -7,9 +7,9 @@ ghost use Rattle.wf_ast.specs.declared.parsed.Name.{Name};
 ghost use Rattle.wf_ast.specs.ParsedTree.{ExprTree, DeclTree};
 ghost use Rattle.wf_ast.specs.ParsedTrees.{expr_trees, stmt_trees, type_at, fields_at, block_at, decl_made};
 ghost use Rattle.wf_ast.specs.ParsedParts.{BlockBelow, DeclParts};
-ghost use Rattle.wf_names_rules.specs.Declarations.{Declared, Constant, Structure, Method, declared, variables, locals_of};
+ghost use Rattle.wf_names_rules.specs.Declarations.{Declared, Constant, Structure, Method, declared, variables, locals_of, declared_in};
 ghost use Rattle.wf_names_rules.specs.Tables.{pair_sort, pair_place};
-ghost use Rattle.wf_names_scopes.specs.Agreeing.{TellsNumbers, TellsPackage, TellsMethod, package_of, sort_among};
+ghost use Rattle.wf_names_scopes.specs.Agreeing.{TellsNumbers, TellsPackage, TellsMethod, sort_among};
 ghost use Rattle.wf_names_scopes.specs.Growing.{with_fields, place_from, with_status, with_constant, with_struct, with_method};
 
 use crate::numbers::{add_field, add_number, next_number, put_pair};
@@ -198,7 +198,7 @@ fn add_decl(
 
 /// The tables of a package.
 pub fn tables(alloc: Global, parsed: &PackageNodes) -> Result<Tables, NoMemory>
-    ensures { IfOk result (λ tables. TellsPackage (package_of parsed.now) tables) }
+    ensures { IfOk result (λ tables. TellsPackage (declared_in parsed.now) tables) }
 {
     let mut tables = empty(alloc);
     for number in 0..parsed.decls().len() {

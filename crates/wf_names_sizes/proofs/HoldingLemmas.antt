@@ -26,10 +26,6 @@ either : (x y : Bool) → (x || y) ≡ true → (x ≡ true) ⊎ (y ≡ true)
 either true y h = inl refl
 either false y h = inr h
 
-pub append-assoc : (xs ys zs : List ℕ) → (xs ++ ys) ++ zs ≡ xs ++ (ys ++ zs)
-append-assoc [] ys zs = refl
-append-assoc (x ∷ xs) ys zs = ap (λ l. x ∷ l) (append-assoc xs ys zs)
-
 -- The structs in a row.
 holds-structs : (b : ℕ) (fields : List FieldPart) → holds (structs_in fields) b ≡ has_struct fields b
 holds-structs b [] = refl

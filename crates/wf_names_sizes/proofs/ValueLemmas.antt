@@ -29,7 +29,7 @@ use Rattle.wf_names_rules.specs.Declarations.{Declared, Constant, is_spelt, text
 use Rattle.wf_names_rules.specs.Meanings.{width_of}
 use Rattle.wf_names_rules.specs.ConstantValues.{Sized, Valued, Running, started, run_on, ended, converted, bounded, known_value, named_value, plain_width, value_of, links_value, low_value, refined_value, typed_value, constant_value, known_from}
 use Rattle.wf_names_sizes.specs.declared.environment.Environment.{Environment}
-use Rattle.wf_names_sizes.specs.declared.numbers.Value.{Value}
+use Rattle.wf_names_sizes.specs.declared.numbers.ConstantValue.{ConstantValue}
 use Rattle.wf_names_sizes.specs.Capped.{sized}
 use Rattle.wf_names_sizes.specs.ValuesBy.{with_first, stored, stored_value, valued, Knows, hides, constant_by, plain_by, value_by, links_by, low_by, refined_by}
 
@@ -148,17 +148,17 @@ constant_value_is d es env known outside k of width number name a r h e f =
     ∙ sym (typed_is d known es of.prefixes of.core of.bounds width (value_of d (λ text. false) known (expr_at es number)) h)
 
 -- One more constant in a table.
-or_valued : (x y : Option (Option Value)) (a b : Option Valued) → stored x ≡ valued a → stored y ≡ valued b → stored (option_or x y) ≡ valued (option_or a b)
+or_valued : (x y : Option (Option ConstantValue)) (a b : Option Valued) → stored x ≡ valued a → stored y ≡ valued b → stored (option_or x y) ≡ valued (option_or a b)
 or_valued None y None b h k = k
 or_valued None y (Some a) b h k = absurd (cc h)
 or_valued (Some x) y None b h k = absurd (cc h)
 or_valued (Some x) y (Some a) b h k = h
 
-one_valued : (t : Bool) (v : Option Value) (k : Valued) → sized v ≡ k.value → stored (cond t (Some v) None) ≡ valued (cond t (Some k) None)
+one_valued : (t : Bool) (v : Option ConstantValue) (k : Valued) → sized v ≡ k.value → stored (cond t (Some v) None) ≡ valued (cond t (Some k) None)
 one_valued true v k h = ap (λ x. Some x) h
 one_valued false v k h = refl
 
-pub knows_more : {S T : Type 0} (old : IndexMap ℕ (Option Value) S) (new : IndexMap ℕ (Option Value) T) (known : List Valued) (k : Valued) (v : Option Value)
+pub knows_more : {S T : Type 0} (old : IndexMap ℕ (Option ConstantValue) S) (new : IndexMap ℕ (Option ConstantValue) T) (known : List Valued) (k : Valued) (v : Option ConstantValue)
     → ((other : ℕ) → get nat_eq new other ≡ with_first (get nat_eq old) k.name.text.0 v other) → sized v ≡ k.value → Knows old known → Knows new (known ++ k ∷ [])
 knows_more old new known k v grows same knows text =
     ap stored (grows text) ∙ or_valued (get nat_eq old text) (cond (nat_eq k.name.text.0 text) (Some v) None) (find (λ x. is_spelt text x.name) known) (find (λ x. is_spelt text x.name) (k ∷ [])) (knows text) (one_valued (nat_eq k.name.text.0 text) v k same)
@@ -229,7 +229,7 @@ on_ok (Ok x) f h = f h
 on_ok (Err e) f h = h
 
 -- A table without entries.
-pub empty_knows : {S : Type 0} (table : IndexMap ℕ (Option Value) S) → table.entries ≡ [] → Knows table []
+pub empty_knows : {S : Type 0} (table : IndexMap ℕ (Option ConstantValue) S) → table.entries ≡ [] → Knows table []
 empty_knows table h text = ap (λ entries. stored (lookup (nat_eq text) entries)) h
 
 pub if_ok : {X Y : Type 0} (P Q : X → Type 0) (r : Result X Y) → ((x : X) → P x → Q x) → IfOk r P → IfOk r Q

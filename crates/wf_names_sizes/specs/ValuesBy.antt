@@ -15,11 +15,11 @@ use Rattle.wf_names_rules.specs.Declarations.{is_spelt, bytes_of}
 use Rattle.wf_names_rules.specs.Meanings.{width_named}
 use Rattle.wf_names_rules.specs.ConstantValues.{Sized, Valued, Running, fitted, started, run_on, ended, converted, bounded}
 use Rattle.wf_names_sizes.specs.declared.environment.Environment.{Environment}
-use Rattle.wf_names_sizes.specs.declared.numbers.Value.{Value}
+use Rattle.wf_names_sizes.specs.declared.numbers.ConstantValue.{ConstantValue}
 use Rattle.wf_names_sizes.specs.Capped.{sized}
 
 -- What a table has under a name, and the value of that.
-abbrev pub stored : Option (Option Value) → Option (Option Sized)
+abbrev pub stored : Option (Option ConstantValue) → Option (Option Sized)
 stored None = None
 stored (Some value) = Some (sized value)
 
@@ -36,7 +36,7 @@ abbrev pub with_first : {X : Type 0} → (look : ℕ → Option X) → ℕ → X
 with_first look key value other = option_or (look other) (cond (nat_eq key other) (Some value) None)
 
 -- A table has of each name what the list has first.
-abbrev pub Knows : {S : Type 0} → IndexMap ℕ (Option Value) S → List Valued → Type 0
+abbrev pub Knows : {S : Type 0} → IndexMap ℕ (Option ConstantValue) S → List Valued → Type 0
 Knows table known = (text : ℕ) → stored (get nat_eq table text) ≡ valued (find (λ k. is_spelt text k.name) known)
 
 -- Whether a local hides a name.

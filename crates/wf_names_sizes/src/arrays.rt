@@ -7,10 +7,10 @@ ghost use Rattle.wf_ast.specs.declared.parsed.DeclNode.{DeclNode};
 ghost use Rattle.wf_ast.specs.ParsedTree.{TypeTree};
 ghost use Rattle.wf_ast.specs.ParsedTrees.{expr_trees, expr_at, type_at, stmt_trees, stmt_at, block_at, fields_at, prefixed, decl_made, decl_trees};
 ghost use Rattle.wf_ast.specs.ParsedParts.{PrefixBelow, TypeBelow, FieldsBelow, BlockBelow};
-ghost use Rattle.wf_names_rules.specs.Declarations.{variables, local_of, locals_of, structs_of, methods_of};
+ghost use Rattle.wf_names_rules.specs.Declarations.{variables, local_of, locals_of, structs_of, methods_of, declared_in};
 ghost use Rattle.wf_names_rules.specs.ConstantValues.{known_constants};
 ghost use Rattle.wf_names_rules.specs.Sizes.{number_or_zero};
-ghost use Rattle.wf_names_scopes.specs.Agreeing.{TellsVariables, TellMethods, package_of};
+ghost use Rattle.wf_names_scopes.specs.Agreeing.{TellsVariables, TellMethods};
 ghost use Rattle.wf_names_sizes.specs.Settings.{TellsSetting};
 ghost use Rattle.wf_names_sizes.specs.ValuesBy.{Knows, value_in};
 ghost use Rattle.wf_names_sizes.specs.LongArrays.{is_long_by, too_long_array_by, too_long_array as is_too_long_array, struct_longs, method_longs, arrays_found};
@@ -114,9 +114,9 @@ fn long_locals(found: &mut Found, env: &Environment<'_>, body: &Block)
 // Fields with arrays that are too long, of the struct that a declaration declares, if it declares one. Nothing is hidden.
 fn long_in_struct(found: &mut Found, env: &Environment<'_>, number: usize)
     requires number { number < length env.now.parsed.now.decls }
-    requires knows { Knows env.now.constants.now (known_constants (package_of env.now.parsed.now)) }
+    requires knows { Knows env.now.constants.now (known_constants (declared_in env.now.parsed.now)) }
     requires outside { env.now.locals ≡ None }
-    ensures { (node : DeclNode) → slice_get env.now.parsed.now.decls number ≡ Some node → found.new ≡ soonest found.old (flat_map (struct_longs (package_of env.now.parsed.now)) (structs_of (decl_made (expr_trees env.now.parsed.now.exprs) (stmt_trees env.now.parsed.now.exprs env.now.parsed.now.stmts) node.public node.decl node.at ∷ []))) }
+    ensures { (node : DeclNode) → slice_get env.now.parsed.now.decls number ≡ Some node → found.new ≡ soonest found.old (flat_map (struct_longs (declared_in env.now.parsed.now)) (structs_of (decl_made (expr_trees env.now.parsed.now.exprs) (stmt_trees env.now.parsed.now.exprs env.now.parsed.now.stmts) node.public node.decl node.at ∷ []))) }
 {
     let node = env.parsed.decl(number);
     match &node.decl {
@@ -130,7 +130,7 @@ fn long_in_struct(found: &mut Found, env: &Environment<'_>, number: usize)
 // Fields with arrays that are too long.
 fn long_in_structs(found: &mut Found, setting: &Setting<'_>)
     requires { TellsSetting setting.now }
-    ensures { found.new ≡ soonest found.old (flat_map (struct_longs (package_of setting.now.parsed.now)) (structs_of (decl_trees setting.now.parsed.now.exprs setting.now.parsed.now.stmts setting.now.parsed.now.decls))) }
+    ensures { found.new ≡ soonest found.old (flat_map (struct_longs (declared_in setting.now.parsed.now)) (structs_of (decl_trees setting.now.parsed.now.exprs setting.now.parsed.now.stmts setting.now.parsed.now.decls))) }
 {
     let env = Environment {
         parsed: setting.parsed,
@@ -154,7 +154,7 @@ fn long_variables<'a>(
     requires args { FieldsBelow (length setting.now.parsed.now.exprs) args.now }
     requires body { BlockBelow (length setting.now.parsed.now.stmts) body.now }
     requires locals { TellsVariables setting.now.parsed.now.texts (locals_of (block_at (stmt_trees setting.now.parsed.now.exprs setting.now.parsed.now.stmts) body.now)) locals.now }
-    ensures { found.new ≡ soonest found.old (map (is_too_long_array (package_of setting.now.parsed.now) (locals_of (block_at (stmt_trees setting.now.parsed.now.exprs setting.now.parsed.now.stmts) body.now))) (variables (fields_at (expr_trees setting.now.parsed.now.exprs) args.now)) ++ map (is_too_long_array (package_of setting.now.parsed.now) (locals_of (block_at (stmt_trees setting.now.parsed.now.exprs setting.now.parsed.now.stmts) body.now))) (locals_of (block_at (stmt_trees setting.now.parsed.now.exprs setting.now.parsed.now.stmts) body.now))) }
+    ensures { found.new ≡ soonest found.old (map (is_too_long_array (declared_in setting.now.parsed.now) (locals_of (block_at (stmt_trees setting.now.parsed.now.exprs setting.now.parsed.now.stmts) body.now))) (variables (fields_at (expr_trees setting.now.parsed.now.exprs) args.now)) ++ map (is_too_long_array (declared_in setting.now.parsed.now) (locals_of (block_at (stmt_trees setting.now.parsed.now.exprs setting.now.parsed.now.stmts) body.now))) (locals_of (block_at (stmt_trees setting.now.parsed.now.exprs setting.now.parsed.now.stmts) body.now))) }
 {
     let env = Environment {
         parsed: setting.parsed,
@@ -176,7 +176,7 @@ fn long_in_method<'a>(
     requires number { number < length setting.now.parsed.now.decls }
     requires setting { TellsSetting setting.now }
     requires left { TellMethods setting.now.parsed.now.texts (methods_of (drop number (decl_trees setting.now.parsed.now.exprs setting.now.parsed.now.stmts setting.now.parsed.now.decls))) left.now }
-    ensures found { (node : DeclNode) → slice_get setting.now.parsed.now.decls number ≡ Some node → found.new ≡ soonest found.old (flat_map (method_longs (package_of setting.now.parsed.now)) (methods_of (decl_made (expr_trees setting.now.parsed.now.exprs) (stmt_trees setting.now.parsed.now.exprs setting.now.parsed.now.stmts) node.public node.decl node.at ∷ []))) }
+    ensures found { (node : DeclNode) → slice_get setting.now.parsed.now.decls number ≡ Some node → found.new ≡ soonest found.old (flat_map (method_longs (declared_in setting.now.parsed.now)) (methods_of (decl_made (expr_trees setting.now.parsed.now.exprs) (stmt_trees setting.now.parsed.now.exprs setting.now.parsed.now.stmts) node.public node.decl node.at ∷ []))) }
     ensures left { TellMethods setting.now.parsed.now.texts (methods_of (drop (number + 1) (decl_trees setting.now.parsed.now.exprs setting.now.parsed.now.stmts setting.now.parsed.now.decls))) result.now }
 {
     let node = setting.parsed.decl(number);
@@ -197,7 +197,7 @@ fn long_in_method<'a>(
 // Arguments and locals with arrays that are too long.
 fn long_in_methods(found: &mut Found, setting: &Setting<'_>)
     requires { TellsSetting setting.now }
-    ensures { found.new ≡ soonest found.old (flat_map (method_longs (package_of setting.now.parsed.now)) (methods_of (decl_trees setting.now.parsed.now.exprs setting.now.parsed.now.stmts setting.now.parsed.now.decls))) }
+    ensures { found.new ≡ soonest found.old (flat_map (method_longs (declared_in setting.now.parsed.now)) (methods_of (decl_trees setting.now.parsed.now.exprs setting.now.parsed.now.stmts setting.now.parsed.now.decls))) }
 {
     let mut left = setting.tables.variables.as_slice();
     for number in 0..setting.parsed.decls().len() {
@@ -209,7 +209,7 @@ fn long_in_methods(found: &mut Found, setting: &Setting<'_>)
 /// name, join what was found before.
 pub(crate) fn long_by_constants(found: &mut Found, setting: &Setting<'_>)
     requires { TellsSetting setting.now }
-    ensures { found.new ≡ arrays_found (package_of setting.now.parsed.now) found.old }
+    ensures { found.new ≡ arrays_found (declared_in setting.now.parsed.now) found.old }
 {
     long_in_structs(found, setting);
     long_in_methods(found, setting);

@@ -1,6 +1,6 @@
 // What gives names in constant expressions their values.
 
-use crate::numbers::Value;
+use crate::numbers::ConstantValue;
 use indexmap::IndexMap;
 use wf_ast::PackageNodes;
 use wf_names_rules::tables::Variables;
@@ -9,7 +9,7 @@ use wf_names_rules::tables::Variables;
 #[derive(Clone, Copy)]
 pub(crate) struct Environment<'a> {
     pub parsed: &'a PackageNodes,
-    pub constants: &'a IndexMap<u32, Option<Value>>,
+    pub constants: &'a IndexMap<u32, Option<ConstantValue>>,
     /// The locals of the method; None outside methods, where nothing is hidden.
     pub locals: Option<&'a Variables>,
 }

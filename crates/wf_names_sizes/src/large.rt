@@ -3,9 +3,9 @@
 ghost use Rattle.std.specs.Prelude.{◌≡◌, Some, map, OnOk};
 ghost use Rattle.std.specs.List.{flat_map};
 ghost use Rattle.wf_text.specs.Precedence.{soonest};
-ghost use Rattle.wf_names_rules.specs.Declarations.{Declared};
+ghost use Rattle.wf_names_rules.specs.Declarations.{Declared, declared_in};
 ghost use Rattle.wf_names_rules.specs.NameRules.{SizeBreaks};
-ghost use Rattle.wf_names_scopes.specs.Agreeing.{TellsPackage, package_of};
+ghost use Rattle.wf_names_scopes.specs.Agreeing.{TellsPackage};
 ghost use Rattle.wf_names_sizes.specs.Deciding.{DecidesBehind};
 ghost use Rattle.wf_names_sizes.specs.Orders.{IsHoldingOrder, IsSettlingOrder};
 ghost use Rattle.wf_names_sizes.specs.Settings.{TellsSizes};
@@ -95,11 +95,11 @@ pub fn size_breaks(
     sizes: &SizeTables,
     cycles: &Cycles,
 ) -> Result<(), NoMemory>
-    requires tables { TellsPackage (package_of parsed.now) tables.now }
-    requires sizes { TellsSizes (package_of parsed.now) sizes.now }
-    requires holding { AreHolding (package_of parsed.now) cycles.now.flags.items }
-    requires order { IsHoldingOrder (package_of parsed.now) cycles.now.order.items }
-    ensures { OnOk result (DecidesBehind (SizeBreaks (package_of parsed.now)) found.old found.new) }
+    requires tables { TellsPackage (declared_in parsed.now) tables.now }
+    requires sizes { TellsSizes (declared_in parsed.now) sizes.now }
+    requires holding { AreHolding (declared_in parsed.now) cycles.now.flags.items }
+    requires order { IsHoldingOrder (declared_in parsed.now) cycles.now.order.items }
+    ensures { OnOk result (DecidesBehind (SizeBreaks (declared_in parsed.now)) found.old found.new) }
 {
     let setting = Setting {
         parsed,

@@ -1,6 +1,6 @@
 // What stays the same along a walk over the declarations of a package.
 
-use crate::numbers::Value;
+use crate::numbers::ConstantValue;
 use indexmap::IndexMap;
 use wf_ast::PackageNodes;
 use wf_names_rules::tables::Tables;
@@ -10,5 +10,5 @@ use wf_names_rules::tables::Tables;
 pub(crate) struct Setting<'a> {
     pub parsed: &'a PackageNodes,
     pub tables: &'a Tables,
-    pub constants: &'a IndexMap<u32, Option<Value>>,
+    pub constants: &'a IndexMap<u32, Option<ConstantValue>>,
 }

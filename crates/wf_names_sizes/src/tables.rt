@@ -3,13 +3,13 @@
 ghost use Rattle.std.specs.Prelude.{◌≡◌, ◌<◌, ◌++◌, [], ◌∷◌, Some, length, map, slice_get, IfOk, OnOk};
 ghost use Rattle.wf_ast.specs.declared.parsed.DeclNode.{DeclNode};
 ghost use Rattle.wf_ast.specs.ParsedTrees.{expr_trees, stmt_trees, decl_made};
-ghost use Rattle.wf_names_rules.specs.Declarations.{structs_of};
-ghost use Rattle.wf_names_scopes.specs.Agreeing.{TellsPackage, package_of};
+ghost use Rattle.wf_names_rules.specs.Declarations.{structs_of, declared_in};
+ghost use Rattle.wf_names_scopes.specs.Agreeing.{TellsPackage};
 ghost use Rattle.wf_names_sizes.specs.Settings.{TellsSetting, TellsSizes};
 ghost use Rattle.wf_names_sizes.specs.StructSizes.{row_of};
 
 use crate::constants::constants;
-use crate::numbers::Value;
+use crate::numbers::ConstantValue;
 use crate::parts::{FieldPart, row};
 use crate::setting::Setting;
 use indexmap::IndexMap;
@@ -23,7 +23,7 @@ use wf_text::faults::NoMemory;
 /// What the lengths of arrays and the sizes of structs are made of.
 pub struct SizeTables {
     // The values of the constants, by their names.
-    pub(crate) constants: IndexMap<u32, Option<Value>>,
+    pub(crate) constants: IndexMap<u32, Option<ConstantValue>>,
     // The fields of each struct, by its number.
     pub(crate) structs: Vec<Sequence<FieldPart>>,
 }
@@ -47,7 +47,7 @@ fn add_row(
     requires number { number < length setting.now.parsed.now.decls }
     requires setting { TellsSetting setting.now }
     ensures { OnOk result ((node : DeclNode) → slice_get setting.now.parsed.now.decls number ≡ Some node
-        → rows.new.items ≡ rows.old.items ++ map (row_of (package_of setting.now.parsed.now)) (structs_of (decl_made (expr_trees setting.now.parsed.now.exprs) (stmt_trees setting.now.parsed.now.exprs setting.now.parsed.now.stmts) node.public node.decl node.at ∷ []))) }
+        → rows.new.items ≡ rows.old.items ++ map (row_of (declared_in setting.now.parsed.now)) (structs_of (decl_made (expr_trees setting.now.parsed.now.exprs) (stmt_trees setting.now.parsed.now.exprs setting.now.parsed.now.stmts) node.public node.decl node.at ∷ []))) }
 {
     let node = setting.parsed.decl(number);
     match &node.decl {
@@ -65,7 +65,7 @@ fn add_row(
 // The fields of each struct, by its number.
 fn rows(alloc: Global, setting: &Setting<'_>) -> Result<Vec<Sequence<FieldPart>>, NoMemory>
     requires setting { TellsSetting setting.now }
-    ensures { IfOk result (λ rows. rows.items ≡ map (row_of (package_of setting.now.parsed.now)) (package_of setting.now.parsed.now).structs) }
+    ensures { IfOk result (λ rows. rows.items ≡ map (row_of (declared_in setting.now.parsed.now)) (declared_in setting.now.parsed.now).structs) }
 {
     let mut rows = Vec::new(alloc);
     for number in 0..setting.parsed.decls().len() {
@@ -81,8 +81,8 @@ pub fn size_tables(
     parsed: &PackageNodes,
     tables: &Tables,
 ) -> Result<SizeTables, NoMemory>
-    requires { TellsPackage (package_of parsed.now) tables.now }
-    ensures { IfOk result (TellsSizes (package_of parsed.now)) }
+    requires { TellsPackage (declared_in parsed.now) tables.now }
+    ensures { IfOk result (TellsSizes (declared_in parsed.now)) }
 {
     let constants = constants(alloc, parsed)?;
     let setting = Setting {

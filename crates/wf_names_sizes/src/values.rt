@@ -12,7 +12,7 @@ ghost use Rattle.wf_names_sizes.specs.ValuesBy.{hides, constant_by, plain_by, va
 
 use crate::chains::{ended, run, started};
 use crate::environment::Environment;
-use crate::numbers::{Value, fitted};
+use crate::numbers::{ConstantValue, fitted};
 use wf_ast::operators::Op;
 use wf_ast::parsed::{Expr, Link, Path, Root, TypeExpr};
 use wf_ast::{ExprId, PackageNodes, TextId};
@@ -51,7 +51,7 @@ fn is_hidden(locals: Option<&Variables>, name: TextId) -> bool
 }
 
 // The value of a constant, where no local hides it.
-fn constant(env: &Environment<'_>, name: TextId) -> Option<Value>
+fn constant(env: &Environment<'_>, name: TextId) -> Option<ConstantValue>
     ensures { sized result ≡ constant_by env.now Bare name.0 }
 {
     if is_hidden(env.locals, name) {
@@ -62,7 +62,7 @@ fn constant(env: &Environment<'_>, name: TextId) -> Option<Value>
 }
 
 // The value of a path.
-fn path_value(env: &Environment<'_>, path: Path) -> Option<Value>
+fn path_value(env: &Environment<'_>, path: Path) -> Option<ConstantValue>
     ensures { sized result ≡ constant_by env.now path.root path.name.text.0 }
 {
     match path.root {
@@ -72,7 +72,7 @@ fn path_value(env: &Environment<'_>, path: Path) -> Option<Value>
     }
 }
 
-fn converted(width: Option<Width>, of: Option<Value>) -> Option<Value>
+fn converted(width: Option<Width>, of: Option<ConstantValue>) -> Option<ConstantValue>
     ensures { sized result ≡ converts width (sized of) }
 {
     match (width, of) {
@@ -84,7 +84,7 @@ fn converted(width: Option<Width>, of: Option<Value>) -> Option<Value>
 
 /// The value of an expression in an environment. None where it isn't constant, or breaks a rule of values.
 #[cycle(values)]
-pub(crate) fn value(env: &Environment<'_>, e: ExprId) -> Option<Value>
+pub(crate) fn value(env: &Environment<'_>, e: ExprId) -> Option<ConstantValue>
     requires { e.0 < length env.now.parsed.now.exprs }
     ensures { sized result ≡ value_in env.now (expr_at (expr_trees env.now.parsed.now.exprs) e) }
 {
@@ -110,7 +110,12 @@ pub(crate) fn value(env: &Environment<'_>, e: ExprId) -> Option<Value>
 
 // The value of a chain whose first operand has this one.
 #[cycle(values)]
-fn chain_value(env: &Environment<'_>, op: Op, first: Option<Value>, links: &[Link]) -> Option<Value>
+fn chain_value(
+    env: &Environment<'_>,
+    op: Op,
+    first: Option<ConstantValue>,
+    links: &[Link],
+) -> Option<ConstantValue>
     requires { LinksBelow (length env.now.parsed.now.exprs) links.now }
     ensures { sized result ≡ end_of (links_by (bytes_of env.now.parsed.now.texts) (constant_by env.now) op (start_of (sized first)) (links_at (expr_trees env.now.parsed.now.exprs) links.now)) }
 {

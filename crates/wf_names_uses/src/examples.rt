@@ -1,11 +1,11 @@
 // Worked examples: small packages with what is found of their uses of names, computed. Each is the contract of a
 // function that does nothing.
 
-ghost use Rattle.std.specs.Prelude.{◌≡◌, Some, None, ◌∷◌, [], map};
+ghost use Rattle.std.specs.Prelude.{◌≡◌, None, ◌∷◌, [], map};
 ghost use Rattle.wf_text.specs.declared.rules.Rule.TheVariants.{N1, N2, N6, N7, N8};
 ghost use Rattle.wf_ast.specs.ParsedTree as tree;
 ghost use Rattle.wf_names_scopes.specs.UsesFound.{uses_found};
-ghost use Rattle.wf_names_uses.specs.Examples.{at, here, refused, name, bare, field, arg, one, sum, base, up_to, struct, variable, constant, constant_k, constant_l, package_with, fields_of_s, owner_s, body_of, doing, with_constants, with_field, owned_by, give, set, set_v, given, calls_this, calls_on, statements_with, packages_with};
+ghost use Rattle.wf_names_uses.specs.Examples.{at, here, refused, name, bare, field, arg, one, sum, up_to, struct, variable, constant, constant_k, constant_l, package_with, fields_of_s, owner_s, body_of, doing, with_constants, with_field, owned_by, give, set, set_v, given, calls_this, calls_on, statements_with, packages_with};
 
 /// Statuses: one that the package declares and one that it doesn't; one of the language, one that isn't, and one of the
 /// package where one of the language should stand.

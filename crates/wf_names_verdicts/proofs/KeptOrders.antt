@@ -1,6 +1,6 @@
 -- The methods of a package that keeps the rules of names have an order in which each stands after those that it calls, and its
 -- structs one in which each stands after those that its fields hold: those that reach fewer come first.
-use Rattle.std.proofs.Common.{◌≡◌, ℕ, ◌<◌, true, false, List, map, length, slice_get, Option, None, Some, refl, sym, ◌∙◌, ap, arith}
+use Rattle.std.proofs.Common.{◌≡◌, ℕ, ◌<◌, Bool, true, false, List, map, length, slice_get, Option, None, Some, refl, sym, ◌∙◌, ap, arith}
 use Rattle.std.specs.List.{list_any}
 use Rattle.std.specs.Option.{option_map}
 use Rattle.std.proofs.lemmas.List.{length-map}
@@ -8,7 +8,7 @@ use Rattle.std.proofs.lemmas.Option.{slice_get_within}
 use Rattle.graphs.specs.Graphs.{Path, last, more, holds, row_in, goes}
 use Rattle.graphs.specs.Orders.{IsOrder}
 use Rattle.wf_text.specs.declared.rules.Refusal.{Refusal}
-use Rattle.wf_names_rules.specs.Declarations.{Structure, Method, Declared, declared, struct_named}
+use Rattle.wf_names_rules.specs.Declarations.{Structure, Method, Declared, declared}
 use Rattle.wf_names_rules.specs.Meanings.{known_at}
 use Rattle.wf_names_rules.specs.NameRules.{calls, method_calls, Breaks, by_use, by_cycle, recursion, holds_itself}
 use Rattle.wf_names_rules.specs.Sizes.{struct_held, is_the, fields_at, holds_struct}
@@ -146,12 +146,10 @@ kept-have-orders name texts decls kept =
     let holding = struct-order d kept in
     let ordered = order-stands d kept in (
       calling,
-      (
-        holding,
-        record {
-          long = order-long texts decls name calling holding (rows d) (rows-made d) ordered;
-          in_front = order-front texts decls name calling holding (rows d) (rows-made d) ordered (calls-open d (λ s b. kept s (by_use s b)));
-          structs = struct-order-stands name texts decls calling holding kept (struct-rows d) (struct-rows-long d) (struct-rows-go d) (struct-order-is d kept);
-        },
-      ),
+      holding,
+      record {
+        long = order-long texts decls name calling holding (rows d) (rows-made d) ordered;
+        in_front = order-front texts decls name calling holding (rows d) (rows-made d) ordered (calls-open d (λ s b. kept s (by_use s b)));
+        structs = struct-order-stands name texts decls calling holding kept (struct-rows d) (struct-rows-long d) (struct-rows-go d) (struct-order-is d kept);
+      },
     )

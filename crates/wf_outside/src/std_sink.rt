@@ -2,7 +2,7 @@
 // edge that is trusted, and the loop over a writer, which has the bytes where the writer tells them, is the
 // part that is proved.
 
-ghost use Rattle.std.specs.Prelude.{◌≡◌, ℕ, None};
+ghost use Rattle.std.specs.Prelude.{◌≡◌, None};
 ghost use Rattle.wf_outside.specs.Sinks.{Puts};
 
 use crate::sinks::{Sink, SinkFault};

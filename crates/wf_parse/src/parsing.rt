@@ -1,6 +1,6 @@
 // Reading a package.
 
-ghost use Rattle.std.specs.Prelude.{◌≡◌, ◌+◌, ◌*◌, ◌<◌, ◌≤◌, ◌^◌, List, [], length, map, sum_by, IfOk, IfErr, OnOk};
+ghost use Rattle.std.specs.Prelude.{◌≡◌, ◌+◌, ◌*◌, ◌<◌, ◌≤◌, ◌^◌, [], length, map, sum_by, IfOk, IfErr, OnOk};
 ghost use Rattle.wf_ast.specs.ReadPackage.{decls_of};
 ghost use Rattle.wf_parse_nodes.specs.Makers.{nodes, IsSound, KeepsTexts};
 ghost use Rattle.wf_parse.specs.Machines.{size, state_of, file_start, KeepsAt};

@@ -1,7 +1,7 @@
 // Worked examples: parsed trees that files have, and others that none has. Each is the contract of a function that does
 // nothing.
 
-ghost use Rattle.std.specs.Prelude.{◌≡◌, ◌^◌, true, false, None, Some, [], ◌∷◌, codes};
+ghost use Rattle.std.specs.Prelude.{◌≡◌, true, false, None, Some, [], ◌∷◌, codes};
 ghost use Rattle.std.specs.List.{list_all, list_any};
 ghost use Rattle.wf_ast.specs.declared.operators.Op.TheVariants.{Add, Mul, BitAnd, BitOr, BitXor, And, Or, Sub, Div, Rem, Shl, Shr, Same, Differs, Less, LessOrSame, Greater, GreaterOrSame, ModAdd, ModSub, ModMul, ModShl, SatAdd, SatSub};
 ghost use Rattle.wf_ast.specs.declared.parsed.WrittenMark.TheVariants.{Unmarked, Exclamation, Question};

@@ -14,7 +14,7 @@ use Rattle.wf_names_resolve.specs.Package.{resolved_package}
 use Rattle.wf_types_rules.specs.TypeRules as types
 use Rattle.wf_bounds_laws.specs.BoundsRules as bounds
 use Rattle.wf_tool.specs.Verdict as verdicts
-use Rattle.wf_tool.specs.Verdict.{BreaksNames, BreaksTypes, out_of_bounds_at, BreaksPoints, IsAccepted, IsMisread, IsMisnamed, IsMistyped, IsOutOfBounds, HasTooManyPoints, IsRefused, VerdictsExclude, large, misread, misnamed, mistyped, out_of_bounds, has_too_many_points}
+use Rattle.wf_tool.specs.Verdict.{BreaksNames, BreaksTypes, out_of_bounds_at, BreaksPoints, IsAccepted, IsMisread, IsMisnamed, IsMistyped, IsOutOfBounds, IsRefused, VerdictsExclude, large, misread, misnamed, mistyped, out_of_bounds, has_too_many_points}
 
 some-once : (refusal other : Refusal) → Some refusal ≡ Some other → refusal ≡ other
 some-once refusal other is = cc is

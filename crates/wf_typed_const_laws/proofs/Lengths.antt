@@ -24,7 +24,7 @@ use Rattle.wf_parse.proofs.ReadForms.{packages_are_well_formed}
 use Rattle.wf_names_rules.specs.Declarations.{Declared, Structure, Variable, declared, variables, structs_of, as_variable, struct_named, text_of}
 use Rattle.wf_names_rules.specs.NameRules.{Breaks, by_use, by_size, unknown_variable, too_long_array, unknown, field}
 use Rattle.wf_names_rules.specs.Uses as uses
-use Rattle.wf_names_rules.specs.Uses.{Use, Scope, Site, struct_scope, constant_sites, struct_sites, method_sites, sites, sites_in, type_uses, uses_of, variable_uses}
+use Rattle.wf_names_rules.specs.Uses.{Use, Site, struct_scope, constant_sites, struct_sites, method_sites, sites, type_uses, uses_of, variable_uses}
 use Rattle.wf_names_rules.specs.Sizes.{is_too_long, number_or_zero, hidden_by}
 use Rattle.wf_names_rules.specs.ConstantValues.{Sized, Valued, value_of, known_constants}
 use Rattle.wf_names_resolve.specs.Standing.{Standing, standing_at}

@@ -1,7 +1,7 @@
 // The operands of a chain as they grow.
 
 ghost use Rattle.std.specs.Prelude.{◌≡◌, ◌++◌, ◌∷◌, [], Some, IfOk, option_and_then};
-ghost use Rattle.wf_ast.specs.TypedTrees.{sort_of};
+ghost use Rattle.wf_ast.specs.TypedTrees.{operator_kind};
 ghost use Rattle.wf_ast.specs.declared.typed_code.Expr.TheVariants as exprs;
 ghost use Rattle.wf_types_rules.specs.Operands.{meaning_of_operator};
 ghost use Rattle.wf_types_exprs.specs.Judged.{operand_behind as behind};
@@ -69,7 +69,7 @@ impl MadeOperands {
 
     /// The node of the chain of these operands, whose first token is at this place.
     pub(crate) fn chain(self, op: Op, at: Place) -> MadeNode
-        ensures { result ≡ record { node = record { expr = exprs.Chain op self.parts; at = at; signs = self.signs }; of = option_and_then (meaning_of_operator (sort_of op)) self.of } }
+        ensures { result ≡ record { node = record { expr = exprs.Chain op self.parts; at = at; signs = self.signs }; of = option_and_then (meaning_of_operator (operator_kind op)) self.of } }
     {
         let MadeOperands { parts, signs, of } = self;
         let meaning = chain_meaning(op, &of);

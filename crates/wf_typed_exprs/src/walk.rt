@@ -30,7 +30,7 @@ use wf_types_exprs::Here;
 use wf_types_exprs::parts::{index_meaning, inner_answer, slice_meaning};
 use wf_types_exprs::reading::place_of;
 use wf_types_meanings::values::{as_flag, as_value, conversion, number_in};
-use wf_types_rules::{Meaning, Value};
+use wf_types_rules::{Meaning, PlacedMeaning};
 
 // Adds a node whose parts are there.
 fn put(nodes: &mut Building, made: MadeNode, at: Place) -> Result<Elaborated, NoMemory>
@@ -52,7 +52,7 @@ fn put(nodes: &mut Building, made: MadeNode, at: Place) -> Result<Elaborated, No
     let node = nodes.push_expr(one)?;
     Ok(Elaborated {
         node,
-        value: Value { of, at },
+        value: PlacedMeaning { of, at },
     })
 }
 

@@ -1,13 +1,12 @@
 -- The struct of each method is declared, so it has a number below how many there are.
-use Rattle.std.proofs.Common.{◌≡◌, ◌∙◌, ◌+◌, ◌<◌, ℕ, suc, Bool, true, false, List, [], ◌∷◌, length, map, Option, Some, None, slice_get, refl, sym, ap, subst, arith}
+use Rattle.std.proofs.Common.{◌≡◌, ◌∙◌, ◌+◌, ◌<◌, ℕ, suc, Bool, true, false, List, [], ◌∷◌, length, map, Option, Some, None, refl, sym, ap, subst, arith}
 use Rattle.std.specs.Prelude.{cond}
 use Rattle.std.specs.List.{AllByRecursion, position_from}
 use Rattle.std.proofs.lemmas.List.{length-map}
 use Rattle.wf_text.specs.declared.rules.Refusal.{Refusal}
-use Rattle.wf_ast.specs.ParsedParts.{Parsed, AreDistinct}
+use Rattle.wf_ast.specs.ParsedParts.{AreDistinct}
 use Rattle.wf_ast.specs.ParsedTree as parsed
 use Rattle.wf_ast.specs.ParsedTree.{DeclTree}
-use Rattle.wf_ast.specs.TypedPackage.{MethodTree}
 use Rattle.wf_ast.specs.ReadPackage.{decls_of}
 use Rattle.wf_parse.proofs.OneReadings.{parsed_distinct}
 use Rattle.wf_names_rules.specs.Declarations.{Declared, Structure, Method, declared, structs_of, methods_of, is_spelt, struct_named}

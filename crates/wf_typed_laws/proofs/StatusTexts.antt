@@ -1,6 +1,6 @@
 -- The texts of statuses hold what may stand between quotes, and no two `?` in a row: the package's name and what stands round it
 -- bring none.
-use Rattle.std.proofs.Common.{◌≡◌, ◌∙◌, ℕ, Bool, true, false, not, ◌&&◌, ◌||◌, nat_eq, nat_le, List, [], ◌∷◌, ◌++◌, map, codes, Option, None, Some, slice_get, refl, sym, ap, subst, arith}
+use Rattle.std.proofs.Common.{◌≡◌, ◌∙◌, ℕ, Bool, true, false, not, ◌&&◌, ◌||◌, nat_eq, List, [], ◌∷◌, ◌++◌, map, Option, None, Some, slice_get, refl, ap, arith}
 use Rattle.std.proofs.lemmas.Bool.Decides.{nat_tests}
 use Rattle.std.specs.List.{AllByRecursion, list_all}
 use Rattle.wf_text.specs.Precedence.{refused}
@@ -24,7 +24,7 @@ use Rattle.wf_types_rules.proofs.TypeRows as rows
 use Rattle.wf_text.specs.declared.rules.Rule.TheVariants.{T5}
 use Rattle.wf_typed_tree.specs.ElaboratedPackage.{seen_text, typed_package}
 use Rattle.wf_typed_laws.specs.StatusTexts.{is_plain_text, ReadStatusesArePlain}
-use Rattle.wf_typed_laws.proofs.ListLemmas.{all-from, all-front, all-behind, all-of-map, all-both}
+use Rattle.wf_typed_laws.proofs.ListLemmas.{all-from, all-front, all-behind, all-of-map}
 use Rattle.wf_typed_laws.proofs.DeclNames.{DeclIsGood}
 use Rattle.wf_typed_laws.proofs.ReadNames.{IsQuoted, IsSpelt, names-spelt}
 

@@ -12,13 +12,13 @@ use Rattle.wf_base.specs.BaseTable.{bits_of}
 use Rattle.wf_ast.specs.declared.types.Ty.{Ty}
 use Rattle.wf_ast.specs.declared.types.Ty.TheVariants as types
 use Rattle.wf_ast.specs.BaseStatuses.{base_statuses}
-use Rattle.wf_ast.specs.TypedPackage.{StructTree, MethodTree, PackageTree}
+use Rattle.wf_ast.specs.TypedPackage.{StructTree}
 use Rattle.wf_ast.specs.TypedPackage as trees
 use Rattle.wf_ast.specs.WellTyped.{type_at, variable_at, field_at}
 use Rattle.wf_named.specs.declared.nodes.Variable.{Variable}
 use Rattle.wf_named.specs.declared.nodes.Variable.TheVariants as variables
 use Rattle.wf_named.specs.NamedTree.{NamedTypeTree, VarTree, ConstTree, NamedStructTree, NamedMethodTree, NamedPackageTree}
-use Rattle.wf_named.specs.WellNamed.{Scope, fields_in, type_of_variable, kind_of, has_kind, named_type, named_consts, named_structs, named_method, named_result, named_block, scope_of_const, scope_of_struct, scope_of_method, all_whole, calls_in_front, has_struct_order, has_few_variables, well_named}
+use Rattle.wf_named.specs.WellNamed.{NamedScope, fields_in, type_of_variable, kind_of, has_kind, named_type, named_consts, named_structs, named_method, named_result, named_block, scope_of_const, scope_of_struct, scope_of_method, all_whole, calls_in_front, has_struct_order, has_few_variables, well_named}
 use Rattle.wf_types_rules.specs.declared.meanings.Constant.{Constant}
 use Rattle.wf_types_rules.specs.declared.meanings.Meaning.{Meaning}
 use Rattle.wf_types_rules.specs.declared.meanings.Meaning.TheVariants as meanings
@@ -113,14 +113,14 @@ types-known p are =
     let count : length (constants_of p) ≡ length p.consts = are.count ∙ plain in
     subst N count (constants-known p (constants_of p) are.made)
 
-pub declared-known : (p : NamedPackageTree) → ConstantsAre [] p.consts → (names : Scope) → only_constants names ≡ scope_of_const p (length p.consts) → (role : Role) → (role ≡ roles.Conversion → ⊥)
+pub declared-known : (p : NamedPackageTree) → ConstantsAre [] p.consts → (names : NamedScope) → only_constants names ≡ scope_of_const p (length p.consts) → (role : Role) → (role ≡ roles.Conversion → ⊥)
     → (t : NamedTypeTree) → AllFine p (for_types p) (declared_parts role t) → named_type names t ≡ true → HasValue (declared (for_types p) role t)
 declared-known p are names same role other t h n =
-    let T : Scope → Type 0 = λ scope. named_type scope t ≡ true in
+    let T : NamedScope → Type 0 = λ scope. named_type scope t ≡ true in
     let renamed = subst T same (type-renamed p names (for_types p) t h.1 n) in
     placed-known p (for_types p) role t other h.0 h.1 (type-known p (scope_of_const p (length p.consts)) (for_types p) (types-known p are) t h.1 renamed)
 
-pub all-declared : (p : NamedPackageTree) → ConstantsAre [] p.consts → (names : Scope) → only_constants names ≡ scope_of_const p (length p.consts) → (role : Role) → (role ≡ roles.Conversion → ⊥)
+pub all-declared : (p : NamedPackageTree) → ConstantsAre [] p.consts → (names : NamedScope) → only_constants names ≡ scope_of_const p (length p.consts) → (role : Role) → (role ≡ roles.Conversion → ⊥)
     → (xs : List VarTree) → AllFine p (for_types p) (variables_parts role xs) → list_all (λ x. named_type names x.of) xs ≡ true → AllDeclared p role xs
 all-declared p are names same role other [] h n = tt
 all-declared p are names same role other (x ∷ xs) h n =

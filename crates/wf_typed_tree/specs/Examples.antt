@@ -8,7 +8,7 @@ use Rattle.wf_base.specs.declared.base_methods.ReadForm.TheVariants.{ReadU8}
 use Rattle.wf_ast.specs.BaseStatuses.{base_statuses}
 use Rattle.wf_ast.specs.declared.operators.Op.{Op}
 use Rattle.wf_ast.specs.declared.types.Ty.TheVariants as types
-use Rattle.wf_ast.specs.TypedTree.{NumType, NumTree, ValueTree, Block, numeric, state, plain, choose, end, await, take_number, give_back, break_from, invoke, own, to_number, to_nothing, mod_plus, compare, equal, less, read}
+use Rattle.wf_ast.specs.TypedTree.{NumType, NumTree, Block, numeric, state, plain, choose, end, await, take_number, give_back, break_from, invoke, own, to_number, to_nothing, mod_plus, compare, equal, less, read}
 use Rattle.wf_ast.specs.TypedTree as typed
 use Rattle.wf_ast.specs.TypedPackage.{MethodTree, PackageTree}
 use Rattle.wf_named.specs.declared.nodes.BaseType.TheVariants as bases

@@ -5,7 +5,7 @@ ghost use Rattle.std.specs.List.{list_all, flat_map};
 ghost use Rattle.wf_ast.specs.TypedInvariant.{numbers_in, numbers_from};
 ghost use Rattle.wf_ast.specs.WellTyped.{Context, all_structs_whole, may_be_arg, may_be_local, may_be_result, answers_always, calls_in_front, has_struct_order, well_typed};
 ghost use Rattle.wf_named.specs.NamedTree.{NamedExprTree, NamedMethodTree, NamedPackageTree};
-ghost use Rattle.wf_named.specs.WellNamed.{Scope, named_expr, scope_of_method, well_named};
+ghost use Rattle.wf_named.specs.WellNamed.{NamedScope, named_expr, scope_of_method, well_named};
 ghost use Rattle.wf_named.specs.Grammar.{by_grammar, block_by_grammar, package_by_grammar};
 ghost use Rattle.wf_types_rules.specs.declared.meanings.Meaning.{Meaning};
 ghost use Rattle.wf_types_rules.specs.declared.settings.Setting.{Setting};
@@ -21,7 +21,7 @@ ghost use Rattle.wf_typed_tree.specs.TypedOrder.{TypedBodiesKeepOrder, TypedPack
 /// stands as its number, a number has its width. What stands round the expression has to be what stands round the
 /// tree.
 pub fn expressions_have_the_trees_of_their_meanings()
-    ensures { (names : Scope) (s : Setting) (c : Context) → Agree names s c → (e : NamedExprTree) (m : Meaning) → by_grammar e ≡ true → named_expr names e ≡ true → meaning s e ≡ Some m → HasMeaning c m (expr_tree s e) }
+    ensures { (names : NamedScope) (s : Setting) (c : Context) → Agree names s c → (e : NamedExprTree) (m : Meaning) → by_grammar e ≡ true → named_expr names e ≡ true → meaning s e ≡ Some m → HasMeaning c m (expr_tree s e) }
 {}
 
 /// In a package that breaks no rule of names and types, what stands round the body of a method is what stands round

@@ -1,7 +1,7 @@
 // The typed tree of a resolved package, where the package breaks no rule of types and effects; else the first
 // refusal.
 
-ghost use Rattle.std.specs.Prelude.{◌≡◌, ◌&&◌, true, None, length, nat_lt, IfErr, IfOk};
+ghost use Rattle.std.specs.Prelude.{◌≡◌, ◌&&◌, true, None, IfErr, IfOk};
 ghost use Rattle.wf_ast.specs.StatementOrder.{stand_in_order};
 ghost use Rattle.wf_ast.specs.TypedInvariant.{IsTyped};
 ghost use Rattle.wf_ast.specs.TypedPackage.{package_of};

@@ -7,5 +7,5 @@ pub mod laws;
 pub mod meanings;
 pub mod settings;
 
-pub use meanings::{Bound, Constant, Meaning, MethodType, Operand, Value};
+pub use meanings::{Bound, Constant, Meaning, MethodType, Operand, PlacedMeaning};
 pub use settings::{Around, Form, Role, Setting};

@@ -1,7 +1,7 @@
-use Rattle.wf_names_scopes.specs.Agreeing.{package_of}
 use Rattle.wf_names_cycles.specs.CyclesFound.{ArePackageCycles}
 use Rattle.wf_names.proofs.DecidingLemmas.{order-of-calls, order-of-structs}
 use Rattle.wf_names.proofs.findings.look_through.Goals as goal
+use Rattle.wf_names_rules.specs.Declarations.{declared_in}
 
 pub sizes_and_cycles-requires-clause-calls : goal.sizes_and_cycles-requires-clause-calls
 sizes_and_cycles-requires-clause-calls c = rw c.as_slice.ensures.value c.in_ok-calls.ensures.rows
@@ -11,7 +11,7 @@ deciding-requires-clause-named c = rw c.nothing-found.ensures at c.in_ok-calls.e
 
 pub returns : goal.returns
 returns c =
-    let d = package_of c.args.parsed.now in
+    let d = declared_in c.args.parsed.now in
     let cycles : ArePackageCycles d c.in_ok-sizes.cycles = c.in_ok-sizes.ensures.cycles in
     record {
       decides = rw c.first.ensures c.in_ok-deciding.ensures;

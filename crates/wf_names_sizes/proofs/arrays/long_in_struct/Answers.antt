@@ -4,8 +4,7 @@ use Rattle.std.proofs.lemmas.List.{append-nil}
 use Rattle.wf_text.specs.Precedence.{soonest}
 use Rattle.wf_ast.specs.declared.parsed.DeclNode.{DeclNode}
 use Rattle.wf_ast.specs.ParsedTrees.{expr_trees, stmt_trees, fields_at, decl_made}
-use Rattle.wf_names_rules.specs.Declarations.{variables, structs_of}
-use Rattle.wf_names_scopes.specs.Agreeing.{package_of}
+use Rattle.wf_names_rules.specs.Declarations.{variables, structs_of, declared_in}
 use Rattle.wf_names_sizes.specs.LongArrays.{too_long_array, struct_longs}
 use Rattle.wf_names_sizes.proofs.ArrayLemmas.{longs_by}
 use Rattle.wf_names_sizes.proofs.ValueLemmas.{not_hidden}
@@ -13,7 +12,7 @@ use Rattle.wf_names_sizes.proofs.arrays.long_in_struct.Goals as goal
 
 pub returns-in-Struct : goal.returns-in-Struct
 returns-in-Struct c = λ node h.
-    let d = package_of c.args.env.now.parsed.now in
+    let d = declared_in c.args.env.now.parsed.now in
     let es = expr_trees c.args.env.now.parsed.now.exprs in
     let ts = stmt_trees c.args.env.now.parsed.now.exprs c.args.env.now.parsed.now.stmts in
     let vs = variables (fields_at es c.in-Struct.fields) in

@@ -1,16 +1,15 @@
 use Rattle.std.proofs.Common.{◌≡◌, Some, ◌∷◌, [], ◌∙◌, sym, subst}
 use Rattle.wf_ast.specs.declared.parsed.DeclNode.{DeclNode}
 use Rattle.wf_ast.specs.ParsedTrees.{expr_trees, stmt_trees, expr_at, type_at, decl_made}
-use Rattle.wf_names_rules.specs.Declarations.{Constant, constants_of}
+use Rattle.wf_names_rules.specs.Declarations.{Constant, constants_of, declared_in}
 use Rattle.wf_names_rules.specs.ConstantValues.{Valued, constant_value, known_from}
-use Rattle.wf_names_scopes.specs.Agreeing.{package_of}
 use Rattle.wf_names_sizes.specs.ValuesBy.{Knows}
 use Rattle.wf_names_sizes.proofs.ValueLemmas.{knows_more, on_ok}
 use Rattle.wf_names_sizes.proofs.constants.note_decl.Goals as goal
 
 pub returns-in-Const : goal.returns-in-Const
 returns-in-Const c =
-    let d = package_of c.args.parsed.now in
+    let d = declared_in c.args.parsed.now in
     let es = expr_trees c.args.parsed.now.exprs in
     let ts = stmt_trees c.args.parsed.now.exprs c.args.parsed.now.stmts in
     let number = c.noted_value-value.result in
